@@ -47,7 +47,7 @@ remove
 mkdir -p "$to/share/bin65"
 echo share/bin65/FILES > "$files"
 put 755 "$from/bin65" bin/bin65
-for it in VERSION COMMIT example/labels.sh example/second/second.py; do put 644 "$from/$it" "share/bin65/${it##*/}"; done
+for it in VERSION COMMIT example/labels.sh; do put 644 "$from/$it" "share/bin65/${it##*/}"; done
 # The pages of docs/ stand beside README.md where they are installed, so links from the one to the other lose a folder.
 for it in README.md CHANGELOG.md CONTRIBUTING.md; do page 's|](docs/|](|g' "$from/$it" "share/doc/bin65/$it"; done
 for it in "$from"/docs/*.md; do page 's|](\.\./|](|g' "$it" "share/doc/bin65/${it##*/}"; done

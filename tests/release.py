@@ -67,7 +67,7 @@ def tracked(*parts):
 
 def wanted():
     """The files that have to be installed."""
-    found = {"bin/bin65", "bin/work65", *(f"share/bin65/{it}" for it in ("FILES", "VERSION", "COMMIT", "labels.sh", "second.py"))}
+    found = {"bin/bin65", "bin/work65", *(f"share/bin65/{it}" for it in ("FILES", "VERSION", "COMMIT", "labels.sh"))}
     found |= {f"share/doc/bin65/{it}" for it in tracked("README.md", "CHANGELOG.md", "CONTRIBUTING.md", "example")}
     found |= {f"share/doc/bin65/{it[len('docs/'):]}" for it in tracked("docs")}
     found |= {f"share/man/man1/{os.path.basename(it)}" for it in tracked("man")}

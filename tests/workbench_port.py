@@ -29,6 +29,7 @@ SCRIPT = """MEMORY {
 }
 SEGMENTS {
     ZEROPAGE: load = Z, type = zp, optional = yes;
+    EXTZP: load = Z, type = zp, optional = yes;
     CODE: load = M, type = rw;
     RODATA: load = M, type = rw, optional = yes;
     DATA: load = M, type = rw, optional = yes;
@@ -50,13 +51,14 @@ REFUSED = {
     "other-shifts": ">>", "mix-org": ".org", "mix-condes": ".constructor", "mix-65c02": '"65C02"', "mix-scope-used": "n", "mix-align": "3",
 }
 MUTATIONS, MIXED = 150, 80
+ALONE = "compared: each source alone at two placements: the same 1 of 1\n"
 
 
 class Tries:
     """What passed and failed."""
 
     def __init__(self, program):
-        self.program = os.path.abspath(program)
+        self.program = os.environ["BIN65"] = os.path.abspath(program)
         self.passed = self.failed = 0
 
     def check(self, name, is_so, found=""):
@@ -119,6 +121,11 @@ def ported(tries, name, target, text, has_cc65):
         if has_cc65:
             theirs = image(["ca65", *(["-t", target] if target else [])], ["ld65"], "a.s", folder)
             tries.check(name, theirs == ours, f"cc65 {theirs if isinstance(theirs, str) else theirs.hex(' ')}, bin65 {ours.hex(' ')}")
+            tries.check(f"{name}, what was compared", ran.stdout == ALONE, ran.stdout)
+        if has_cc65 and name.startswith("kept-"):
+            with open(f"{folder}/out/a.s", encoding="utf-8") as it:
+                copy = it.read()
+            tries.check(f"{name}, to the byte", copy == text, copy)
         left = tries.inside("check", "out", folder=folder)
         # What a condition on the processor leaves out is known to port alone.
         tries.check(f"{name}, nothing left", left.returncode == 0 or name == "apple-cpu", left.stdout)
@@ -147,12 +154,12 @@ def pairs(tries, has_cc65):
 def scripts(tries):
     """cc65's own scripts are taken once they are ported, or what is left is said."""
     with tempfile.TemporaryDirectory() as folder:
-        ran = tries.work65("port", stock.SCRIPTS, "-o", "out", folder=folder)
+        ran = tries.work65("port", stock.SCRIPTS, "-o", "out", "--no-verify", folder=folder)
         said = set(re.findall(r"([\w-]+\.cfg):\d+:", ran.stdout))
         brought = re.search(r"brings (\d+) of them over; the other (\d+)", pages.read("docs/MIGRATING.md"))
         counts = (len(os.listdir(stock.SCRIPTS)) - len(said), len(said))
         tries.check("the page's numbers of scripts", counts == (int(brought[1]), int(brought[2])), counts)
-        for name in sorted(os.listdir(f"{folder}/out")):
+        for name in sorted(set(os.listdir(f"{folder}/out")) - {".work65"}):
             link = subprocess.run([tries.program, "ld65", "-C", f"{folder}/out/{name}", "-o", "/dev/null", "/dev/null"],
                                   capture_output=True, text=True, check=False)
             is_read = not link.stderr.startswith(f"{folder}/out/{name}:")
@@ -232,8 +239,9 @@ def tree(tries):
             pages.put(f"{folder}/{name}", text)
         shutil.copy(f"{stock.SCRIPTS}/nes.cfg", f"{folder}/src/nes.cfg")
         before = {it: pages.read(os.path.relpath(f"{folder}/{it}", pages.ROOT)) for it in TREE}
-        ran = tries.work65("port", "src", "-o", "out", "--target", "nes", "--verify", folder=folder)
-        tries.check("a tree", ran.returncode == 0 and not ran.stdout + ran.stderr, ran.stdout + ran.stderr)
+        ran = tries.work65("port", "src", "-o", "out", "--target", "nes", folder=folder)
+        good = "compared: the program by nes.cfg: the same (the image, 40976 bytes)\n"
+        tries.check("a tree", (ran.returncode, ran.stdout, ran.stderr) == (0, good, ""), ran.stdout + ran.stderr)
         after = {it: pages.read(os.path.relpath(f"{folder}/{it}", pages.ROOT)) for it in TREE}
         tries.check("a tree stays as it was", before == after)
         for it in ("src/main.s", "src/lib/wait.s"):
@@ -242,8 +250,9 @@ def tree(tries):
             tries.check(f"{it} needs no options", ran.returncode == 0, ran.stderr)
         # An image that differs: .ifdef in a scope that has used the name, behind a macro that port doesn't look into.
         pages.put(f"{folder}/src/lib/wait.s", TREE["src/lib/wait.s"] + ".macro ask name\n.ifdef name\n nop\n.endif\n.endmacro\nn = 5\n.proc p\n lda n\n ask n\n.endproc\n")
-        ran = tries.work65("port", "src", "-o", "out2", "--target", "nes", "--verify", folder=folder)
-        tries.check("a tree whose image differs", ran.returncode == 1 and "nes.cfg: the images differ" in ran.stdout, ran.stdout + ran.stderr)
+        ran = tries.work65("port", "src", "-o", "out2", "--target", "nes", folder=folder)
+        good = "src/lib/wait.s: the image differs from byte 10 of 10 and 11 on (cc65 and bin65: no byte and EA): "
+        tries.check("a tree whose image differs", ran.returncode == 1 and good in ran.stdout, ran.stdout + ran.stderr)
         left = sorted(os.listdir(folder))
         tries.check("nothing but the copies", left == ["main.s.o", "out", "out2", "src", "wait.s.o"], left)
 
@@ -289,10 +298,11 @@ def mixed(tries):
 def examples(tries):
     """What bin65 takes comes out as it was."""
     with tempfile.TemporaryDirectory() as folder:
-        ran = tries.work65("port", f"{pages.ROOT}/example", "-o", "out", folder=folder)
-        tries.check("the examples", ran.returncode == 0 and not ran.stdout, ran.stdout)
+        shutil.copytree(f"{pages.ROOT}/example", f"{folder}/example", ignore=shutil.ignore_patterns("out", "second"))
+        ran = tries.work65("port", "example", "-o", "out", "--no-verify", folder=folder)
+        tries.check("the examples", ran.returncode == 0 and ran.stdout == "not compared: --no-verify\n", ran.stdout)
         for top, _, names in os.walk(f"{folder}/out"):
-            for name in names:
+            for name in set(names) - {".work65"}:
                 file = os.path.relpath(f"{top}/{name}", f"{folder}/out")
                 same = pages.read(f"example/{file}") == pages.read(os.path.relpath(f"{top}/{name}", pages.ROOT))
                 tries.check(f"example/{file} stays", same)
@@ -318,6 +328,82 @@ def bad_input(tries):
         tries.check("nothing is left behind", left == ["a.s", "b.s", "empty", "file", "out"], left)
 
 
+def copies(tries):
+    """What was changed by hand in a copy stays; a copy is never made over its originals, nor of a copy."""
+    with tempfile.TemporaryDirectory() as folder:
+        os.makedirs(f"{folder}/src")
+        pages.put(f"{folder}/src/a.s", " nop\n")
+        os.mkdir(f"{folder}/out", 0o755)
+
+        def port(name, status, said, *words):
+            ran = tries.work65("port", *words, "--no-verify", folder=folder)
+            tries.check(name, (ran.returncode, ran.stdout + ran.stderr) == (status, said), ran)
+
+        last = "not compared: --no-verify\n"
+        port("a copy", 0, last, "src", "-o", "out")
+        tries.check("a folder keeps its mode", os.stat(f"{folder}/out").st_mode & 0o777 == 0o755)
+        pages.put(f"{folder}/src/a.s", " iny\n")
+        port("a copy once more", 0, last, "src", "-o", "out")
+        pages.put(f"{folder}/out/a.s", " nop ; by hand\n")
+        port("a copy with an edit", 1, "work65: out/a.s: port didn't write it as it is now: --force overwrites it\n", "src", "-o", "out")
+        with open(f"{folder}/out/a.s", encoding="utf-8") as it:
+            tries.check("the edit stays", it.read() == " nop ; by hand\n")
+        port("a copy that is forced", 0, last, "src", "-o", "out", "--force")
+        over = "the copy would lie over what it is made of\n"
+        port("a folder into itself", 1, f"work65: src: {over}", "src", "-o", "src")
+        port("a file over itself", 1, f"work65: src/a.s: {over}", "src/a.s", "-o", "src")
+        port("a copy within", 0, last, "src", "-o", "src/one")
+        port("a second copy within", 0, last, "src", "-o", "src/two")
+        tries.check("a copy of no copy", sorted(os.listdir(f"{folder}/src/two")) == [".work65", "a.s"], os.listdir(f"{folder}/src/two"))
+
+
+def names(tries, has_cc65):
+    """Names outside of ASCII, data that lies elsewhere, and files that include each other deep."""
+    with tempfile.TemporaryDirectory() as folder:
+        for name in ("src", "gfx", "deep"):
+            os.makedirs(f"{folder}/{name}")
+        pages.put(f"{folder}/\u00f6.inc", "N = 5\n")
+        pages.put(f"{folder}/\u00e4.bin", "AB")
+        pages.put(f"{folder}/gfx/t.chr", "CD")
+        pages.put(f"{folder}/src/\u00fc.s", '.include "../\u00f6.inc"\n.incbin "../\u00e4.bin"\n.incbin "t.chr"\n.incbin "gfx/t.chr"\n .byte N\n')
+        ran = tries.work65("port", "src", "-o", "out", "--bin-include-dir", "gfx", folder=folder)
+        tries.check("names outside of ASCII", ran.returncode == 0 and (not has_cc65 or ran.stdout == ALONE), ran)
+        ours = subprocess.run([tries.program, "ca65", "-o", "a.o", "\u00fc.s"], cwd=f"{folder}/out", capture_output=True, check=False)
+        tries.check("the copy has all that it needs", ours.returncode == 0, ours)
+        for number in range(2000):
+            pages.put(f"{folder}/deep/i{number}.inc", f'.include "i{number + 1}.inc"\n')
+        pages.put(f"{folder}/deep/i2000.inc", " nop\n")
+        pages.put(f"{folder}/deep/m.s", '.include "i0.inc"\n')
+        ran = tries.work65("port", "deep/m.s", "-o", "out2", folder=folder)
+        tries.check("2,000 files deep", ran.returncode in (0, 1) and not ran.stderr, ran.stderr[-500:])
+        nested = ".if 1\n" * 3000 + " nop\n" + ".else\n.endif\n" * 3000
+        pages.put(f"{folder}/nested.s", nested)
+        begun = time.monotonic()
+        ran = tries.work65("port", "nested.s", "-o", "out3", "--no-verify", folder=folder)
+        tries.check("3,000 conditions deep", ran.returncode == 0 and time.monotonic() - begun < 10, ran)
+
+
+def ended(tries):
+    """A run that is ended leaves nothing behind."""
+    with tempfile.TemporaryDirectory() as folder:
+        for name in ("tools", "temporary"):
+            os.mkdir(f"{folder}/{name}")
+        pages.put(f"{folder}/a.s", " nop\n")
+        pages.put(f"{folder}/l.cfg", SCRIPT)
+        pages.put(f"{folder}/tools/ca65", f"#!/bin/sh\n: > {folder}/here\nexec sleep 60\n")
+        os.chmod(f"{folder}/tools/ca65", 0o755)
+        how = {**os.environ, "PATH": f"{folder}/tools:{os.environ['PATH']}", "TMPDIR": f"{folder}/temporary"}
+        for words in (("port", "a.s", "-o", "out"), ("second", "-C", "l.cfg", "a.s")):
+            ran = subprocess.Popen(["sh", WORK65, *words], cwd=folder, env=how, stdout=subprocess.PIPE, stderr=subprocess.STDOUT)
+            while not os.path.exists(f"{folder}/here") and ran.poll() is None:
+                time.sleep(0.02)
+            ran.terminate()
+            said = ran.communicate()[0]
+            os.remove(f"{folder}/here")
+            left = os.listdir(f"{folder}/temporary"), sorted(os.listdir(folder))
+            tries.check(f"{words[0]} that is ended", (said, left) == (b"", ([], ["a.s", "l.cfg", "temporary", "tools"])), (said, left))
+
+
 # Sources that would go on without an end.
 ENDLESS = (
     ".define again(x1) again x1 x1\n.byte again 3\n", ".define both both both\n lda #both\n",
@@ -336,7 +422,7 @@ def endless(tries):
             begun = time.monotonic()
             ran = tries.work65("port", "a.s", "-o", "out", folder=folder)
             took = time.monotonic() - begun
-            tries.check(f"without an end: {text!r}", took < 20 and ran.returncode in (0, 1) and not ran.stderr, ran.stderr[-500:])
+            tries.check(f"without an end: {text!r}", took < 40 and ran.returncode in (0, 1) and not ran.stderr, ran.stderr[-500:])
 
 
 def mutated(tries):
@@ -371,7 +457,10 @@ def main():
         tree(tries)
     if has_cc65:
         mixed(tries)
+        ended(tries)
     examples(tries)
+    copies(tries)
+    names(tries, has_cc65)
     bad_input(tries)
     endless(tries)
     mutated(tries)

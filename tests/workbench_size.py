@@ -106,6 +106,16 @@ def written(results: builds.Results, program: str, folder: str) -> None:
     results.check("half a map", "bad.map" in ran.stderr and ran.stderr.count("\n") == 1, ran.stderr)
 
 
+def pictured(results: builds.Results, program: str) -> None:
+    """The picture of the page WORKBENCH is the one of example/nes."""
+    sources = [f"nes/{it}.s" for it in ("main", "controller", "player", "tiles")]
+    with tempfile.TemporaryDirectory() as folder:
+        words = ("size", "-C", "nes.cfg", *sources, "--svg", f"{folder}/size.svg")
+        builds.work65(program, f"{builds.pages.ROOT}/example", *words)
+        with open(f"{folder}/size.svg", encoding="utf-8") as made, open(f"{builds.pages.ROOT}/docs/screens/size.svg", encoding="utf-8") as kept:
+            results.check("docs/screens/size.svg", made.read() == kept.read())
+
+
 def on_terminal(program: str, folder: str) -> str:
     """What is said on a terminal."""
     reads, writes = pty.openpty()
@@ -156,6 +166,7 @@ def main() -> None:
     results = builds.Results()
     with tempfile.TemporaryDirectory() as folder:
         written(results, program, folder)
+        pictured(results, program)
         for it in builds.programs(folder) if builds.has_cc65() else []:
             said = builds.work65(program, f"{folder}/{it.folder}", "size", "--json", *it.words()).stdout
             compare(results, it.name, json.loads(said), builds.by_cc65(it, folder))

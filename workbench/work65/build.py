@@ -3,7 +3,7 @@ import argparse
 import gc
 import os
 from dataclasses import dataclass, field
-from typing import Dict, List, Optional
+from typing import Dict, List, Optional, Tuple
 
 from work65.instrument import Constants, Copies, How, instrument
 from work65.language.files import want_regular
@@ -18,7 +18,7 @@ from work65.progress import Progress
 from work65.replay import Told, replay
 from work65.scripts import OUTPUT, read_script, with_files
 from work65.sources import Closure, read_bytes, read_text
-from work65.trace import met
+from work65.trace import Met, met
 
 
 @dataclass(frozen=True)
@@ -224,6 +224,12 @@ class Builder:
 
     def tell(self, unit: Unit, closure: Closure, mirror: Mirror) -> None:
         """Has a copy of a source say where its lines are."""
+        marks, sizes = self.marks(unit, closure, mirror)
+        unit.closure = closure
+        unit.told = replay(closure, marks, sizes)
+
+    def marks(self, unit: Unit, closure: Closure, mirror: Mirror) -> Tuple[List[Met], Dict[str, int]]:
+        """The marks that a copy of a source writes, and the sizes of the source's own sections."""
         try:
             copies = self.copy(unit, closure, mirror, self.constants)
         except Problem:
@@ -233,8 +239,7 @@ class Builder:
         copy, plain = self.read(self.path("copy")), self.read(self.path(unit.object))
         if not plain.is_same_program(copy.without(copies.names.segment)):
             raise Problem(f"{unit.source}: a copy that says where its lines are isn't the same program: nothing can be said of it")
-        unit.closure = closure
-        unit.told = replay(closure, met(copy, copies), {it.name: it.size for it in plain.sections})
+        return met(copy, copies), {it.name: it.size for it in plain.sections}
 
     def copy(self, unit: Unit, closure: Closure, mirror: Mirror, constants: Constants) -> Copies:
         """Assembles a copy of a source."""

@@ -6,10 +6,12 @@ from typing import List
 from work65.commands.check import said
 from work65.language import words
 from work65.language.files import walked
-from work65.porting import port
-from work65.porting.verify import verified
+from work65.porting import copying, port, verdict
+from work65.porting.project import Spread
+from work65.porting.tools import Options, missing
 from work65.problem import Problem
 from work65.program import Program
+from work65.signals import folder_for_a_while
 
 HELP = "writes a copy of sources and scripts that bin65 takes, and says what can't be brought over"
 
@@ -18,28 +20,62 @@ def add_arguments(parser: argparse.ArgumentParser) -> None:
     """Adds what this subcommand takes."""
     parser.add_argument("paths", nargs="+", metavar="PATH", help="a source, an include file, a script, or a folder of them")
     parser.add_argument("-o", dest="folder", required=True, metavar="FOLDER", help="where the copy goes")
-    parser.add_argument("-I", dest="include", action="append", default=[], metavar="DIR", help="where included files are looked for")
-    parser.add_argument("-D", dest="define", action="append", default=[], metavar="NAME[=NUMBER]", help="what -D gives to ca65")
-    parser.add_argument("--target", choices=sorted(words.TARGETS), metavar="T", help="what -t gives to ca65")
-    parser.add_argument("--verify", action="store_true", help="build both with cc65's tools and with bin65, and compare the images")
+    add_options(parser)
+    parser.add_argument("--force", action="store_true", help="overwrite what was changed by hand in an earlier copy")
+    parser.add_argument("--no-verify", action="store_true", help="don't build both with cc65's tools and with bin65 to compare them")
+    parser.add_argument("--verify", action="store_true", help="compare, or end with status 1 where cc65's tools aren't there")
+
+
+def add_options(parser: argparse.ArgumentParser) -> None:
+    """Adds what a Makefile hands to ca65."""
+    add = parser.add_argument
+    add("-I", dest="include", action="append", default=[], metavar="DIR", help="where included files are looked for")
+    add("--bin-include-dir", dest="data", action="append", default=[], metavar="DIR", help="where files of .incbin are looked for")
+    add("-D", dest="define", action="append", default=[], metavar="NAME[=NUMBER]", help="what -D gives to ca65")
+    add("-t", "--target", dest="target", choices=sorted(words.TARGETS), metavar="T", help="what -t gives to ca65")
+
+
+def options_of(arguments: argparse.Namespace) -> Options:
+    """What a line hands to ca65."""
+    return Options(arguments.target, arguments.include, arguments.data, arguments.define)
 
 
 def run(arguments: argparse.Namespace) -> int:
     """Ports; the status is 1 where something stays behind or images differ."""
-    program = Program.find(arguments.bin65) if arguments.verify else None
     if os.path.lexists(arguments.folder) and not os.path.isdir(arguments.folder):
         raise Problem(f"{arguments.folder}: is no folder")
-    paths = list(walked(arguments.paths))
-    if not paths:
-        raise Problem(f"no sources and no scripts in {', '.join(arguments.paths)}")
-    inside = os.path.realpath(arguments.folder)
-    paths = [it for it in paths if not os.path.realpath(it).startswith(inside + os.sep)]
-    project = port.read_project(paths, arguments.include, arguments.target, frozenset(it.split("=")[0] for it in arguments.define))
-    found, findings = port.ported(project)
-    port.write(found, arguments.folder, project)
-    port.copy_data(project, arguments.folder)
-    lines: List[str] = [said(it) for it in findings]
-    wrong = list(verified(program, project, arguments.folder, arguments)) if program is not None else []
-    for it in [*lines, *wrong]:
+    reason = "--no-verify" if arguments.no_verify else f"cc65's {missing()} isn't on the path" if missing() else ""
+    if reason and arguments.verify:
+        raise Problem(f"--verify can't compare: {reason}")
+    options, paths = options_of(arguments), sources_of(arguments)
+    program = None if reason else Program.find(arguments.bin65)
+
+    def made(spread: Spread) -> port.Ported:
+        return port.ported(port.read_project(paths, options), program is not None, spread)
+
+    with folder_for_a_while() as room:
+        if program is None:
+            judged = verdict.Verdict(made(Spread()), [], f"not compared: {reason}")
+        else:
+            judged = verdict.compared(program, options, room, made)
+        originals = [it.path for it in judged.ported.project.texts.values()]
+        copying.write(copying.files_of(judged.ported, options.data), arguments.folder, originals, arguments.force)
+    lines: List[str] = [said(it) for it in judged.ported.findings]
+    for it in [*lines, *judged.lines, judged.last]:
         print(it)
-    return 1 if lines or wrong else 0
+    return 1 if lines or judged.lines else 0
+
+
+def sources_of(arguments: argparse.Namespace) -> List[str]:
+    """The files that are ported: none of an earlier copy."""
+    inside = os.path.realpath(arguments.folder)
+    folders = [it for it in arguments.paths if os.path.isdir(it)]
+    same = next((it for it in folders if os.path.realpath(it) == inside), None)
+    if same is not None:
+        raise Problem(f"{arguments.folder}: the copy would lie over what it is made of")
+    plain = [it for it in arguments.paths if it not in folders]
+    found = [*walked(plain), *(it for it in walked(folders) if not os.path.realpath(it).startswith(inside + os.sep))]
+    found = [it for it in found if it in plain or not copying.is_in_copy(it, folders)]
+    if not found:
+        raise Problem(f"no sources and no scripts in {', '.join(arguments.paths)}")
+    return found

@@ -1,7 +1,7 @@
 """Conditions that ask `.defined`, `.blank` and the like, as those of bin65."""
 import re
 from dataclasses import dataclass
-from typing import List, Optional, Sequence
+from typing import Dict, List, Optional, Sequence
 
 from work65.language import words
 from work65.language.statements import Statement, statement_of
@@ -28,23 +28,21 @@ def asks(tokens: Sequence[Token]) -> bool:
     return any(it.lower in ASKING for it in tokens)
 
 
-def alternatives(lines: Sequence[Logical], at: int) -> List[str]:
-    """The .elseif and .else of the condition that a line opens."""
-    found: List[str] = []
-    depth = 0
-    for place in range(at + 1, len(lines)):
-        text = lines[place].text
+def alternatives(lines: Sequence[Logical]) -> Dict[int, List[str]]:
+    """The .elseif and .else of each condition, by the line that opens it."""
+    found: Dict[int, List[str]] = {}
+    opened: List[int] = []
+    for place, (_, text) in enumerate(lines):
         if "." not in text:
             continue
         head = statement_of(line_of(text).tokens, lambda _: False).head
         if head in words.CONDITIONS:
-            depth += 1
-        elif head == ".endif":
-            if depth == 0:
-                return found
-            depth -= 1
-        elif depth == 0 and head in (".else", ".elseif"):
-            found.append(head)
+            opened.append(place)
+            found[place] = []
+        elif head == ".endif" and opened:
+            opened.pop()
+        elif head in (".else", ".elseif") and opened:
+            found[opened[-1]].append(head)
     return found
 
 

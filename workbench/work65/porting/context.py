@@ -94,6 +94,7 @@ class Context:
     locals: Set[str] = field(default_factory=set)
     repeats: List[str] = field(default_factory=list)
     segment: str = "CODE"
+    zero_page: Set[str] = field(default_factory=lambda: {"ZEROPAGE", "EXTZP"})
     saved_segments: List[str] = field(default_factory=list)
     processor: str = "6502"
 

@@ -43,14 +43,15 @@ class Macro:
                 self.names.add(it.text)
 
 
-def hard_macros(macros: Dict[str, Macro], also: FrozenSet[str]) -> FrozenSet[str]:
-    """The macros that have to be written out: for what is in their lines, or for a macro that they call."""
+def hard_macros(macros: Dict[str, Macro], also: FrozenSet[str], spread: Optional[Set[str]]) -> FrozenSet[str]:
+    """The macros that have to be written out: for what is in their lines, or for a macro that they call. `spread` are those whose
+    lines take several forms, where forms are measured."""
     branches = BRANCHES.keys() - macros.keys()
-    found = {
-        name
-        for name, it in macros.items()
-        if it.directives & HARD or it.directives & SCOPES or it.names & also or it.names & branches or it.is_placed
-    }
+    found = {name for name, it in macros.items() if it.directives & HARD or it.directives & SCOPES or it.names & also}
+    if spread is not None:
+        found |= spread & macros.keys()
+    else:
+        found |= {name for name, it in macros.items() if it.names & branches or it.is_placed}
     while True:
         more = {name for name, it in macros.items() if name not in found and not it.names.isdisjoint(found)}
         if not more:

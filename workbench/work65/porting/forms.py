@@ -13,12 +13,16 @@ SHIFTS = frozenset((">>", ".shr"))
 # Instructions whose operand is no address of a byte.
 OTHERS = words.BRANCHES | {"jmp", "jsr", "brk"}
 LESS = frozenset(("-", "~"))
+# What an operand begins with that has one byte, or is no address.
+NEVER = frozenset(("#", "(", "a", "<", ">", "^", ".lobyte", ".hibyte", ".bankbyte"))
 
 
-def may_differ(tokens: Sequence[Token], names: AbstractSet[str], context: Context) -> bool:
+def may_differ(tokens: Sequence[Token], names: AbstractSet[str], context: Context, is_measured: bool) -> bool:
     """Whether a line that bin65 takes has to be looked at."""
     if any(it.lower in SHIFTS for it in tokens):
         return True
+    if is_measured:
+        return False
     if len(context.scopes) > 1 and any(not names.isdisjoint(it.used) for it in context.scopes[:-1]):
         return True
     if any(it.text == "-" for it in tokens) and (len(names) > 1 or star_in(tokens)):
@@ -29,12 +33,12 @@ def may_differ(tokens: Sequence[Token], names: AbstractSet[str], context: Contex
 def absolute(text: str, statement: Statement, context: Context) -> str:
     """An instruction with `a:` before its operand where cc65 takes the absolute form and bin65 may take the short one."""
     rest = statement.rest
-    if not rest or statement.head in OTHERS or rest[0].text in ("#", "(") or rest[0].kind is Kind.PREFIX or rest[0].lower == "a":
+    if not rest or statement.head in OTHERS or rest[0].text in NEVER or rest[0].kind is Kind.PREFIX or rest[0].lower in NEVER:
         return text
     label = statement.label
     if label is not None and label.kind is Kind.NAME:
         context.labels.setdefault((*context.path, label.text), context.segment)
-    names = [it for at, it in enumerate(rest) if it.kind is Kind.NAME and not _is_scoped(rest, at)]
+    names = [it for at, it in enumerate(rest) if it.kind is Kind.NAME and it.lower not in words.REGISTERS and not _is_scoped(rest, at)]
     if any(_is_used_outside(it, context) or it.text in context.differences for it in names) or is_difference(rest, context):
         if statement.head in ("stx", "sty") and rest[-1].lower in ("x", "y") and rest[-2].text == ",":
             return text
@@ -60,8 +64,10 @@ def is_difference(rest: Sequence[Token], context: Context) -> bool:
     """Whether an operand is a difference of labels that don't lie in the zero page."""
     if not any(it.text == "-" for it in rest):
         return False
+    is_far = context.segment not in context.zero_page
     labels = [it for it in rest if it.kind is Kind.NAME and _is_far(it.text, context)]
-    return len(labels) + (star_in(rest) and context.segment != "ZEROPAGE") > 1
+    labels += [it for it in rest if it.kind in (Kind.CHEAP, Kind.UNNAMED) and is_far]
+    return len(labels) + (star_in(rest) and is_far) > 1
 
 
 def segment_of(tokens: Sequence[Token], context: Context) -> str:
@@ -81,7 +87,7 @@ def _is_far(name: str, context: Context) -> bool:
     for depth in range(len(path), -1, -1):
         key = path[:depth] + (name,)
         if key in context.labels:
-            return context.labels[key] != "ZEROPAGE" and context.constants.get(key) is None
+            return context.labels[key] not in context.zero_page and context.constants.get(key) is None
     return False
 
 

@@ -31,6 +31,7 @@ class Known:
         self.rows: List[Row] = []
         self.path = module
         self.lines: List[Logical] = []
+        self.others: Optional[Tuple[List[Logical], Dict[int, List[str]]]] = None
         self.screen = ""
         self.given: Dict[int, int] = {}
         self.hard_key: Tuple[int, int, str] = (0, 0, "")
@@ -40,10 +41,11 @@ class Known:
     @property
     def hard(self) -> FrozenSet[str]:
         """The macros that have to be written out."""
-        macros = self.context.macros
+        macros, project = self.context.macros, self.project
         key = (len(macros), sum(len(it.lines) for it in macros.values()), self.screen)
         if key != self.hard_key:
-            self.hard_key, self.hard_names = key, hard_macros(macros, frozenset(("scrcode",)) if self.screen else frozenset())
+            also = frozenset(("scrcode",)) if self.screen else frozenset()
+            self.hard_key, self.hard_names = key, hard_macros(macros, also, project.spread.macros if project.is_measured else None)
         return self.hard_names
 
     def cannot(self, number: int, why: Unportable) -> None:
@@ -100,7 +102,7 @@ class Known:
         else:
             self.note_segment(statement)
         if context.scopes:
-            context.scopes[-1].used |= {it.text for it in rest if it.kind is Kind.NAME}
+            context.scopes[-1].used |= {it.text for it in rest if it.kind is Kind.NAME and it.lower not in words.REGISTERS}
             if statement.body and statement.body[0].text in context.macros:
                 context.scopes[-1].used |= context.macros[statement.body[0].text].names
 
@@ -124,6 +126,8 @@ class Known:
             context.segment = head[1:].upper()
         elif head == ".segment" and statement.rest:
             context.segment = statement.rest[0].text.strip('"')
+            if statement.rest[-1].lower in ("zeropage", "zp", "direct"):
+                context.zero_page.add(context.segment)
         elif head == ".pushseg":
             context.saved_segments.append(context.segment)
         elif head == ".popseg" and context.saved_segments:

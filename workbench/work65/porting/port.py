@@ -1,8 +1,8 @@
 """Ports a tree: reads it, walks its modules, writes the copy, and says what can't be brought over."""
 import os
-import shutil
-import tempfile
-from typing import Dict, FrozenSet, Iterator, List, Optional, Sequence, Tuple
+import sys
+from dataclasses import dataclass
+from typing import Dict, Iterator, List, Optional, Sequence, Tuple
 
 from work65.habits import scripts as script_habits
 from work65.habits import sources as source_habits
@@ -11,34 +11,66 @@ from work65.language import words
 from work65.language.files import Text, text_of
 from work65.language.tree import surveyed
 from work65.porting import packages, scripts
-from work65.porting.project import OWN, Project
+from work65.porting.leaves import Line
+from work65.porting.project import OWN, Project, Spread
+from work65.porting.tools import Options
 from work65.porting.walk import Walk
-from work65.problem import Problem
 from work65.progress import Progress
 
 
-def read_project(paths: Sequence[str], include: Sequence[str], target: Optional[str], names: FrozenSet[str]) -> Project:
+# How many calls are open at once where files include each other as deep as they may.
+FRAMES = 8000
+
+
+def read_project(paths: Sequence[str], options: Options) -> Project:
     """The project of these files, by their paths below the folder that they have in common."""
-    found = [os.path.abspath(it) for it in paths]
-    base: str = os.path.commonpath([os.path.dirname(it) for it in found])
+    base: str = os.path.commonpath([os.path.dirname(os.path.abspath(it)) for it in paths])
     texts: Dict[str, Text] = {}
-    progress = Progress("files", len(found))
-    for it in found:
+    progress = Progress("files", len(paths))
+    for it in paths:
         if os.path.isfile(it):
-            texts[os.path.relpath(it, base)] = text_of(it)
+            texts[os.path.relpath(os.path.abspath(it), base)] = text_of(it)
         progress.step()
     progress.end()
-    return Project(base, texts, [os.path.abspath(it) for it in include], target, names)
+    names = frozenset(it.split("=")[0] for it in options.define)
+    return Project(base, texts, [os.path.abspath(it) for it in options.include], options.target, names)
 
 
-def ported(project: Project) -> "Tuple[Dict[str, Text], List[Finding]]":
-    """What each file becomes, and what can't be brought over."""
-    plain = {path: it for path, it in project.texts.items() if not it.is_script}
+@dataclass
+class Ported:
+    """What each file becomes, which line each of its lines was, and what can't be brought over."""
+
+    project: Project
+    texts: Dict[str, Text]
+    origins: Dict[str, List[int]]
+    findings: List[Finding]
+
+    def __post_init__(self) -> None:
+        self.names = {name: path for path, names in self.project.variants.items() for name in names}
+        self.places = {os.path.realpath(self.project.texts[path].path): path for path in self.project.variants}
+
+    def origin(self, line: Line) -> Optional[Line]:
+        """The line of the original that a line of the copy was; None where it was none."""
+        path, numbers = self.names.get(line.path), self.origins.get(line.path, [])
+        if path is None or not 0 < line.number <= len(numbers) or numbers[line.number - 1] == 0:
+            return None
+        return Line(path, numbers[line.number - 1])
+
+    def place(self, path: str, number: int) -> str:
+        """A line of the copy as the user knows it."""
+        line = self.origin(Line(path, number))
+        return f"{path}:{number}" if line is None else f"{self.project.texts[line.path].path}:{line.number}"
+
+
+def ported(project: Project, is_measured: bool = False, spread: Optional[Spread] = None) -> Ported:
+    """Brings all files over. Where forms are measured later, none is guessed; `spread` is what has to be written out by then."""
+    project.is_measured, project.spread = is_measured, spread or Spread()
     all_scripts = {path: it for path, it in project.texts.items() if it.is_script}
-    project.texts = plain
+    project.texts = {path: it for path, it in project.texts.items() if not it.is_script}
     project.survey()
-    project.scripts = list(all_scripts)
+    project.scripts = all_scripts
     modules = project.modules_walked = project.modules()
+    sys.setrecursionlimit(max(sys.getrecursionlimit(), FRAMES))
     progress = Progress("sources", len(modules))
     for it in modules:
         Walk(project, it).whole()
@@ -53,7 +85,7 @@ def ported(project: Project) -> "Tuple[Dict[str, Text], List[Finding]]":
         found[path] = _as_text(path, scripts.ported(text), text)
         findings += [_moved(it, text.path) for it in script_habits.found_in(found[path])]
     unique = {(it.path, it.line): it for it in reversed(findings)}
-    return found, sorted(unique.values(), key=lambda it: (it.path, it.line))
+    return Ported(project, found, origins, sorted(unique.values(), key=lambda it: (it.path, it.line)))
 
 
 def _as_text(path: str, lines: List[str], like: Text) -> Text:
@@ -106,36 +138,3 @@ def _left(project: Project, found: Dict[str, Text], origins: Dict[str, List[int]
         original = project.texts[it.path].path if it.path in project.texts else it.path
         yield Finding(original, numbers[min(it.line, len(numbers)) - 1], it.word, it.habit, it.note)
 
-
-def write(found: Dict[str, Text], folder: str, project: Project) -> None:
-    """Writes the copy whole, or nothing: it is made beside the folder and moved there."""
-    above = os.path.dirname(os.path.abspath(folder))
-    try:
-        os.makedirs(above, exist_ok=True)
-        with tempfile.TemporaryDirectory(prefix=".work65-", dir=above) as room:
-            for path, text in found.items():
-                place = os.path.join(room, path)
-                os.makedirs(os.path.dirname(place), exist_ok=True)
-                with open(place, "w", encoding="latin-1", newline="") as it:
-                    it.write("".join(line + end for line, end in zip(text.lines, text.ends)))
-            shutil.copytree(room, folder, dirs_exist_ok=True)
-    except OSError as error:
-        raise Problem(f"{error.filename or folder}: {error.strerror}") from error
-
-
-def copy_data(project: Project, folder: str) -> None:
-    """Copies the files that .incbin names beside the sources."""
-    for path, text in project.texts.items():
-        for line in text.lines:
-            at = line.lower().find(".incbin")
-            if at < 0 or '"' not in line[at:]:
-                continue
-            name = line[at:].split('"')[1]
-            here = os.path.join(os.path.dirname(text.path), name)
-            there = os.path.join(folder, os.path.dirname(path), name)
-            if not os.path.isabs(name) and os.path.isfile(here) and not os.path.exists(there):
-                try:
-                    os.makedirs(os.path.dirname(there), exist_ok=True)
-                    shutil.copyfile(here, there)
-                except OSError as error:
-                    raise Problem(f"{there}: {error.strerror}") from error

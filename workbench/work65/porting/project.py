@@ -10,12 +10,26 @@ from work65.language.files import Text, text_of
 from work65.language.statements import Statement, statement_of
 from work65.language.tokens import Kind, line_of
 from work65.language.tree import Tree, asminc_file, surveyed
+from work65.output import words as words_of_path
 from work65.porting.context import Row
+from work65.porting.leaves import Line
 from work65.porting.line import Unportable
 from work65.porting.logical import Logical, logical_lines
+from work65.sources import path_of_bytes
 
 OWN = "work65"
 ALL_TARGET_NAMES = frozenset().union(*map(words.defined_by, words.TARGETS))
+
+
+@dataclass
+class Spread:
+    """What has to be written out, since its lines take several forms: macros by their names, repeats by their lines."""
+
+    macros: Set[str] = field(default_factory=set)
+    repeats: Set[Line] = field(default_factory=set)
+
+    def __bool__(self) -> bool:
+        return bool(self.macros or self.repeats)
 
 
 @dataclass
@@ -40,7 +54,11 @@ class Project:
     places: Dict[str, str] = field(default_factory=dict)
     variants: Dict[str, List[str]] = field(default_factory=dict)
     modules_walked: List[str] = field(default_factory=list)
-    scripts: List[str] = field(default_factory=list)
+    scripts: Dict[str, Text] = field(default_factory=dict)
+    is_measured: bool = False
+    spread: Spread = field(default_factory=Spread)
+    _waiting: List[str] = field(default_factory=list)
+    _is_looking: bool = False
     _logical: Dict[str, List[Logical]] = field(default_factory=dict)
     _globals: Dict[str, List[str]] = field(default_factory=dict)
 
@@ -51,6 +69,16 @@ class Project:
             self._look(path)
 
     def _look(self, path: str) -> None:
+        """Looks at a file and at those that come into the tree by it, one after the other: they may nest deeply."""
+        self._waiting.append(path)
+        if self._is_looking:
+            return
+        self._is_looking = True
+        while self._waiting:
+            self._look_at(self._waiting.pop())
+        self._is_looking = False
+
+    def _look_at(self, path: str) -> None:
         """Notes what a file includes, which sizes it asks for, and what it defines."""
         counts = self.defined_in.setdefault(path, {})
         targets = words.defined_by(self.target)
@@ -132,7 +160,15 @@ class Project:
         return self._globals[module]
 
     def include(self, path: str, name: str) -> Tuple[Optional[str], str]:
-        """The file that an .include names, and the name by which bin65 finds it."""
+        """The file that an .include names, and the name by which bin65 finds it. A name in a source has a sign for each byte."""
+        wanted = path_of_bytes(name)
+        if wanted is None:
+            return None, name
+        found, spelled = self._include(path, wanted)
+        return found, name if spelled == wanted else words_of_path(spelled)
+
+    def _include(self, path: str, name: str) -> Tuple[Optional[str], str]:
+        """The same, of paths."""
         beside = os.path.normpath(os.path.join(os.path.dirname(path), name))
         if beside in self.texts:
             return beside, name
@@ -151,7 +187,11 @@ class Project:
 
     def _added(self, found: str, text: Optional[Text], path: str, name: str) -> Tuple[str, str]:
         """A file that wasn't named and is included: it comes into the tree, one from outside of it into a folder of its own."""
-        key = os.path.join(OWN, os.path.basename(found)) if found.startswith("..") else found
+        key = found
+        if found.startswith(".."):
+            key = os.path.join(OWN, os.path.basename(found))
+            while text is not None and self.places.get(key, found) != os.path.relpath(text.path, self.base):
+                key = os.path.join(os.path.dirname(key), f"other_{os.path.basename(key)}")
         if key not in self.texts and text is not None:
             self.texts[key] = text
             self.places[key] = os.path.relpath(text.path, self.base)

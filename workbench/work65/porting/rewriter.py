@@ -49,7 +49,7 @@ class Rewriter(Known):
                 return statements.as_data(text, statement, context)
             if first.text == "scrcode" and self.screen:
                 return self.screen_codes(text, statement)
-        if head in words.MNEMONICS:
+        if head in words.MNEMONICS and not self.project.is_measured:
             text = forms.absolute(text, statement, context)
         forms.shifted(statement, context)
         if head in words.DATA:
@@ -104,7 +104,9 @@ class Rewriter(Known):
 
     def condition(self, at: int, text: str, statement: Statement) -> List[str]:
         """The line of a condition."""
-        others = conditions.alternatives(self.lines, at)
+        if self.others is None or self.others[0] is not self.lines:
+            self.others = self.lines, conditions.alternatives(self.lines)
+        others = self.others[1].get(at, [])
         if statement.head in (".ifdef", ".ifndef") and self.context.scopes and len(statement.rest) == 1:
             name = statement.rest[0].text
             if name in self.context.scopes[-1].used and self.context.path + (name,) not in self.context.labels:
@@ -243,6 +245,8 @@ class Rewriter(Known):
         context, target = self.context, statement.rest
         self.note(statement)
         if self.project.is_own_macro(statement.body[0].text):
+            return [text]
+        if self.project.is_measured and context.macro is not None:
             return [text]
         if context.macro is not None and any(it.text in context.parameters for it in target):
             raise Unportable(statement.head, "longbranch", "its target is a parameter: write the short or the long way")

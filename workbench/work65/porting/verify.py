@@ -1,140 +1,292 @@
-"""Builds a tree with cc65's tools and its copy with bin65, and compares the images."""
-import argparse
+"""Builds a tree with cc65's tools and its copy with bin65, compares what comes out, and mends forms in the copy by what it finds."""
 import os
-import re
 import shutil
-import subprocess
 import tempfile
-from typing import Iterator, List, Optional, Sequence, Tuple
+from dataclasses import dataclass, field
+from typing import Callable, Dict, List, Optional, Sequence, Set, Tuple, Union
 
-from work65.porting.project import Project
+from work65.build import Builder, Wanted
+from work65.instrument import Constants
+from work65.porting import alone, copying, unasserted
+from work65.porting.difference import Finder, Module
+from work65.porting.leaves import Leaf, of_debug_file, of_marks
+from work65.porting.measuring import Measure
+from work65.porting.port import Ported
+from work65.porting.project import Spread
+from work65.porting.tools import Linked, Options, Ours, Refused, Theirs
 from work65.problem import Problem
 from work65.program import Program
+from work65.progress import Progress
+from work65.sources import Closure
 
-Tool = Sequence[str]
-FIRST = "STARTUP ONCE INIT CODE LOWCODE RODATA DATA BSS ZEROPAGE EXTZP".split()
-IMPORTED, SEGMENT = re.compile(r'Name:\s+"([^"]+)"'), re.compile(r"^\s+(\w+):\s+\d+", re.M)
-
-
-def verified(program: Program, project: Project, folder: str, arguments: argparse.Namespace) -> Iterator[str]:
-    """What differs: with one script in the tree the whole program, else each source alone."""
-    for it in ("ca65", "ld65", "od65"):
-        if shutil.which(it) is None:
-            raise Problem(f"{it} of cc65 isn't there: --verify builds with it")
-    build = Build(program, project, os.path.abspath(folder), arguments)
-    modules = [it for it in project.modules_walked if it.lower().endswith((".s", ".asm", ".a65", ".s65"))]
-    with tempfile.TemporaryDirectory(prefix="work65-") as room:
-        if len(project.scripts) == 1:
-            yield from build.whole(room, modules, project.scripts[0])
-        else:
-            for it in modules:
-                yield from build.alone(room, it)
+# Files that are no sources by themselves, where nothing includes them either.
+PARTS = (".inc", ".mac", ".i65", ".h")
+ROUNDS = 8
+Port = Callable[[Spread], Ported]
 
 
-class Build:
-    """Builds by both tools."""
+@dataclass
+class Outcome:
+    """What came of a source alone: what each tool said that refuses it, whether a link by both was compared and was the same, and
+    cc65's debug file."""
 
-    def __init__(self, program: Program, project: Project, folder: str, arguments: argparse.Namespace) -> None:
-        self.program, self.project, self.folder = program, project, folder
-        self.defines = [f"-D{it}" for it in arguments.define]
-        self.options = [*self.defines, *(["-t", project.target] if project.target and project.target != "none" else [])]
-        self.include = [os.path.relpath(it, project.base) for it in project.include_folders]
+    theirs: str = ""
+    ours: str = ""
+    is_compared: bool = False
+    is_same: bool = True
+    debug: str = ""
+    refusal: str = ""
+    sides: Optional[Tuple[str, Linked, Linked]] = None
 
-    def objects(self, room: str, module: str) -> Tuple[List[str], Optional[str]]:
-        """Assembles a source twice: the two objects, or what was said."""
-        stem = os.path.join(room, re.sub(r"[^0-9A-Za-z]", "_", module))
-        theirs = ["ca65", *self.options, "-o", f"{stem}.cc.o", *(w for it in self.include for w in ("-I", it)), module]
-        ours = [self.program.path, "ca65", *self.defines, "-o", f"{stem}.b.o"]
-        ours += [w for it in self.include if os.path.isdir(os.path.join(self.folder, it)) for w in ("-I", it)] + [module]
-        for words, where in ((theirs, self.project.base), (ours, self.folder)):
-            said = _run(words, where)
-            if said is not None:
-                return [], f"{module}: {os.path.basename(words[0])} refuses it: {said}"
-        return [f"{stem}.cc.o", f"{stem}.b.o"], None
 
-    def whole(self, room: str, modules: Sequence[str], script: str) -> Iterator[str]:
-        """Builds the program."""
-        both: List[List[str]] = []
-        for it in modules:
-            objects, said = self.objects(room, it)
-            if said is not None:
-                yield said
-            both.append(objects)
-        if all(both):
-            yield from self.compared(room, [it[0] for it in both], [it[1] for it in both],
-                                     os.path.join(self.project.base, script), os.path.join(self.folder, script), script)
+@dataclass
+class Verdict:
+    """The copy, what differs or is refused, and what was compared."""
 
-    def alone(self, room: str, module: str) -> Iterator[str]:
-        """Builds a source alone, with a script in which each of its imports is an export."""
-        objects, said = self.objects(room, module)
-        if said is not None:
-            yield said
-            return
-        script = os.path.join(room, "alone.cfg")
-        with open(script, "w", encoding="utf-8") as it:
-            it.write(_script(objects[0]))
-        yield from self.compared(room, objects[:1], objects[1:], script, script, module)
+    ported: Ported
+    lines: List[str] = field(default_factory=list)
+    last: str = ""
 
-    def compared(self, room: str, theirs: Sequence[str], ours: Sequence[str], script: str, ported: str, name: str) -> Iterator[str]:
-        """Links twice and compares all files that were written."""
-        images = []
-        for side, words in (("cc", ["ld65", "-C", script]), ("b", [self.program.path, "ld65", "-C", ported])):
-            folder = os.path.join(room, side)
+
+@dataclass(frozen=True)
+class Library:
+    """A library: its name, and the sources of its members in their order."""
+
+    name: str
+    members: List[str]
+
+
+@dataclass(frozen=True)
+class Whole:
+    """A program: the texts of its script for both linkers, its sources in the order of the link, and its libraries."""
+
+    theirs: str
+    ours: str
+    sources: List[str]
+    libraries: List[Library] = field(default_factory=list)
+
+    def modules(self) -> List[str]:
+        """All sources."""
+        return [*self.sources, *(it for library in self.libraries for it in library.members)]
+
+
+class Verifier:
+    """Compares a tree with its copy, and mends the copy."""
+
+    def __init__(self, program: Program, options: Options, room: str, port: Port) -> None:
+        self.program, self.options, self.room, self.port = program, options, room, port
+        self.theirs = Theirs(options)
+        self.made: Dict[str, Union[str, Refused]] = {}
+        self.needs: Dict[str, alone.Needs] = {}
+        self.spread = Spread()
+        self.ported = port(self.spread)
+        self.outcomes: Dict[str, Outcome] = {}
+        self.mirrors: List[str] = []
+
+    # The copy and its build.
+
+    @property
+    def copy(self) -> str:
+        """Where the copy lies for now."""
+        return os.path.join(self.room, "copy")
+
+    @property
+    def modules(self) -> List[str]:
+        """The sources of the tree that no other file takes in."""
+        project = self.ported.project
+        inside: Set[str] = set().union(*project.included.values()) if project.included else set()
+        return [it for it in project.modules_walked if it not in inside and not it.lower().endswith(PARTS)]
+
+    def ours(self) -> Ours:
+        """bin65 in the copy."""
+        project = self.ported.project
+        include = [os.path.relpath(it, project.base) for it in project.include_folders]
+        return Ours(self.program, self.copy, [it for it in include if not it.startswith("..")], self.options.define)
+
+    def put(self) -> None:
+        """Writes the copy as it is by now."""
+        shutil.rmtree(self.copy, ignore_errors=True)
+        copying.put(copying.files_of(self.ported, self.options.data), self.copy)
+
+    def their_object(self, module: str) -> str:
+        """The object that ca65 makes of a source, made once."""
+        if module not in self.made:
+            path = os.path.join(self.room, f"theirs{len(self.made)}.o")
+            try:
+                self.theirs.assemble(self.ported.project.texts[module].path, path)
+                self.made[module] = path
+            except Refused as said:
+                self.made[module] = said
+        found = self.made[module]
+        if isinstance(found, Refused):
+            raise found
+        return found
+
+    def our_object(self, module: str, name: str = "ours.o") -> str:
+        """The object that bin65 makes of a source's copy."""
+        path = os.path.join(self.room, name)
+        self.ours().assemble(module, path)
+        return path
+
+    # The program.
+
+    def linked_by_cc65(self, whole: Whole) -> Linked:
+        """The program as cc65's tools link the original."""
+        inputs = [self.their_object(it) for it in whole.sources]
+        for library in whole.libraries:
+            made = os.path.join(self.room, f"theirs-{os.path.basename(library.name)}")
+            self.theirs.archive(made, [self.their_object(it) for it in library.members], self.room)
+            inputs.append(made)
+        return self.theirs.link(whole.theirs, inputs, os.path.join(self.room, "link"))
+
+    def linked_by_bin65(self, whole: Whole) -> Linked:
+        """The program as bin65 links the copy. Objects bear the numbers of their sources."""
+        numbers = {it: number for number, it in enumerate(whole.modules())}
+        made = {it: self.our_object(it, f"{number}.o") for it, number in numbers.items()}
+        inputs = [made[it] for it in whole.sources]
+        for library in whole.libraries:
+            name = os.path.join(self.room, os.path.basename(library.name))
+            self.ours().archive(name, [made[it] for it in library.members], self.room)
+            inputs.append(name)
+        return self.ours().link(whole.ours, inputs, os.path.join(self.room, "link"))
+
+    def finder(self, whole: Whole, bin65: Linked) -> Finder:
+        """What finds the lines of bytes of the program."""
+        modules: Dict[str, Module] = {}
+        for number, it in enumerate(whole.modules()):
+            modules[f"{number}.o"] = Module(it, self.leaves(it) or [])
+        return Finder(self.ported, whole.ours, bin65, modules)
+
+    # Sources alone.
+
+    def settle(self, modules: Sequence[str]) -> None:
+        """Compares each source alone, and mends forms until nothing changes."""
+        pending = set(modules)
+        for _ in range(ROUNDS):
+            self.put()
+            progress = Progress("sources compared", len(pending))
+            for it in sorted(pending):
+                self.outcomes[it] = self.alone(it)
+                progress.step()
+            progress.end()
+            differing = {it for it in pending if self.outcomes[it].debug and not self.outcomes[it].is_same}
+            measure = self.measured(differing)
+            count, spread = measure.settled()
+            if spread and not (spread.macros <= self.spread.macros and spread.repeats <= self.spread.repeats):
+                self.spread.macros |= spread.macros
+                self.spread.repeats |= spread.repeats
+                self.ported = self.port(self.spread)
+                pending = set(modules)
+            elif count:
+                changed = {self.ported.names.get(it, it) for it in measure.files()}
+                pending = {it for it in modules if it in differing or self.ported.project.closure(it) & changed}
+            else:
+                break
+
+    def alone(self, module: str) -> Outcome:
+        """Builds a source alone by both tools and compares."""
+        found = Outcome()
+        try:
+            theirs = self.their_object(module)
+        except Refused as said:
+            found.theirs = str(said)
+            return found
+        try:
+            ours = self.our_object(module)
+        except Refused as said:
+            found.ours = str(said)
+            return found
+        if module not in self.needs:
+            self.needs[module] = alone.needs_of(theirs)
+        self.linked(found, module, theirs, ours)
+        project = self.ported.project
+        if not found.is_compared and unasserted.has_assertions(self.ported, project.closure(module)):
+            try:
+                self.linked(found, module, *self.unasserted(module))
+            except (Refused, Problem):
+                return found
+        return found
+
+    def unasserted(self, module: str) -> Tuple[str, str]:
+        """The two objects of a source without its assertions."""
+        folder = tempfile.mkdtemp(dir=self.room)
+        theirs, ours = os.path.join(folder, "theirs.o"), os.path.join(self.room, "ours.o")
+        unasserted.their_object(self.ported, self.theirs, module, os.path.join(folder, "root"), theirs)
+        files = copying.files_of(self.ported, self.options.data)
+        unasserted.our_copy(files, self.ours(), os.path.join(folder, "copy")).assemble(module, ours)
+        self.mirrors.append(os.path.join(folder, "root"))
+        return theirs, ours
+
+    def linked(self, found: Outcome, module: str, theirs: str, ours: str) -> None:
+        """Links a source's two objects by the first two placements by which they link."""
+        links = 0
+        for placement in alone.PLACEMENTS:
+            links += self.placed(found, alone.script_of(self.needs[module], placement), theirs, ours)
+            if links == alone.ENOUGH:
+                break
+
+    def placed(self, found: Outcome, script: str, theirs: str, ours: str) -> bool:
+        """Links a source's two objects by one script; False where neither linker links, which tells nothing."""
+        sides: List[Union[Linked, Refused]] = []
+        for link, made in ((self.theirs.link, theirs), (self.ours().link, ours)):
+            try:
+                sides.append(link(script, [made], os.path.join(self.room, "link")))
+            except Refused as said:
+                sides.append(said)
+        cc65, bin65 = sides
+        if isinstance(cc65, Linked):
+            found.debug = cc65.debug
+        if isinstance(cc65, Linked) and isinstance(bin65, Linked):
+            found.is_compared = True
+            if found.is_same and not is_same(cc65, bin65):
+                found.is_same, found.sides = False, (script, cc65, bin65)
+        elif isinstance(cc65, Linked) or isinstance(bin65, Linked):
+            found.is_compared, found.is_same = True, False
+            tool, why = ("bin65", bin65) if isinstance(cc65, Linked) else ("ld65", cc65)
+            found.refusal = f"{tool} alone refuses to link it: {why}"
+        return isinstance(cc65, Linked) or isinstance(bin65, Linked)
+
+    # Forms.
+
+    def measured(self, modules: Set[str]) -> Measure:
+        """The sizes of the lines of these sources, and of those that share a file with them in which a line differs."""
+        measure, done = Measure(self.ported), set()
+        waiting = set(modules)
+        while waiting:
+            for it in sorted(waiting):
+                done.add(it)
+                leaves, debug = self.leaves(it), self.outcomes[it].debug
+                if leaves is not None and debug:
+                    measure.take(of_debug_file(debug, self.key), leaves)
+            files = {self.ported.names.get(it, it) for it in measure.files()}
+            waiting = {it for it in self.outcomes if it not in done and self.ported.project.closure(it) & files}
+        return measure
+
+    def key(self, name: str) -> str:
+        """The file of the tree that a path of a debug file names; nothing for another file."""
+        path = os.fsdecode(name.encode("latin-1"))
+        root = next((it for it in self.mirrors if path.startswith(it + "/")), "")
+        place = os.path.realpath(path[len(root) :])
+        return self.ported.places.get(place, "")
+
+    def leaves(self, module: str) -> Optional[List[Leaf]]:
+        """Which lines of the copy put which bytes, where bin65 takes it."""
+        ours, folder = self.ours(), tempfile.mkdtemp(dir=self.room)
+        source = os.path.join(self.copy, module)
+        wanted = Wanted("", [source], [os.path.join(self.copy, it) for it in ours.include], ours.define, [], "")
+        builder = Builder(self.program, wanted, folder, Constants.NONE)
+        try:
+            unit = builder.assemble(source, "object", "object")
+            closure = Closure(source, wanted.folders)
+            marks, sizes = builder.marks(unit, closure, builder.mirror([closure]))
+        except Problem:
+            return None
+        finally:
             shutil.rmtree(folder, ignore_errors=True)
-            os.mkdir(folder)
-            said = _run([*words, "-o", "image", *(theirs if side == "cc" else ours)], folder)
-            if said is not None:
-                yield f"{name}: {os.path.basename(words[0])} refuses to link it: {said}"
-                return
-            images.append(_files(folder))
-        if images[0] != images[1]:
-            yield f"{name}: the images differ{_difference(*images)}"
+        return of_marks(marks, sizes, lambda place: os.path.relpath(place, self.copy))
 
 
-def _run(words: Sequence[str], folder: str) -> Optional[str]:
-    """Runs a tool; what it said where it refused."""
-    try:
-        ran = subprocess.run(words, cwd=folder, stdin=subprocess.DEVNULL, capture_output=True)
-    except OSError as error:
-        raise Problem(f"{words[0]} can't be run: {error.strerror}") from error
-    said = (ran.stderr + ran.stdout).decode("latin-1").strip().split("\n")
-    return None if ran.returncode == 0 else next((it for it in said if "rror" in it), said[0])
-
-
-def _files(folder: str) -> "dict[str, bytes]":
-    """The files of a folder that aren't empty."""
-    found = {}
-    for name in sorted(os.listdir(folder)):
-        with open(os.path.join(folder, name), "rb") as it:
-            found[name] = it.read()
-    return {name: it for name, it in found.items() if it}
-
-
-def _difference(one: "dict[str, bytes]", other: "dict[str, bytes]") -> str:
-    """Where two builds first differ."""
-    for name in sorted({*one, *other}):
-        a, b = one.get(name, b""), other.get(name, b"")
-        if a != b:
-            at = next((at for at, (x, y) in enumerate(zip(a, b)) if x != y), min(len(a), len(b)))
-            return f": {name} from byte {at} on ({len(a)} bytes and {len(b)})"
-    return ""
-
-
-def _script(object_file: str) -> str:
-    """A script for an object of cc65's: all its segments, and all its imports as exports."""
-    ran = subprocess.run(["od65", "--dump-imports", "--dump-segsize", object_file], capture_output=True, text=True)
-    found = ran.stdout
-    rows = ""
-    for it in dict.fromkeys([*FIRST, *SEGMENT.findall(found)]):
-        area = "ZP" if it in ("ZEROPAGE", "EXTZP") else "RAM" if it == "BSS" else "ROM"
-        rows += f"  {it}: load = {area}, type = {({'ZP': 'zp', 'RAM': 'bss'}).get(area, 'rw')}, optional = yes;\n"
-    short = set()
-    for part in re.split(r"Index:", found):
-        if "zeropage" in part.lower():
-            short |= set(IMPORTED.findall(part))
-    symbols = "".join(
-        f"  {name}: type = export, value = ${(0x40 + at % 0x80) if name in short else 0x1200 + 3 * at:04X};\n"
-        for at, name in enumerate(sorted(set(IMPORTED.findall(found))))
-    )
-    areas = 'ZP: start = $02, size = $FE, file = ""; RAM: start = $8000, size = $4000, file = ""; ROM: start = $2000, size = $6000;'
-    return f"MEMORY {{ {areas} }}\nSEGMENTS {{\n{rows}}}\n" + (f"SYMBOLS {{\n{symbols}}}\n" if symbols else "")
+def is_same(cc65: Linked, bin65: Linked) -> bool:
+    """Whether two links have the same files, segments of the same sizes, and exports of the same values."""
+    exports = {it: value for it, value in cc65.exports.items() if not it.startswith("__")}
+    return cc65.files == bin65.files and cc65.sizes == bin65.sizes and all(bin65.exports.get(it) == value for it, value in exports.items())

@@ -9,12 +9,14 @@ from work65.porting.context import Block, Row
 from work65.porting.expansion import HARD, Expander, end_of_repeat
 from work65.porting.facts import Facts, facts_of
 from work65.porting.functions import FUNCTIONS
+from work65.porting.leaves import Line
 from work65.porting.line import Unportable, commented_out, edited
 from work65.porting.logical import Logical
 from work65.porting.project import Project
 from work65.porting.rewriter import UNLABELLED, Rewriter
 
-DEEPEST = 60
+# How deep files are included: bin65 takes 256.
+DEEPEST = 256
 ASKED = frozenset((".if", ".elseif"))
 
 
@@ -29,7 +31,7 @@ class Walk(Rewriter):
         """Walks a file, and answers by which name it is written."""
         if self.depth > DEEPEST:
             return path
-        saved = self.path, self.lines, self.rows, self.given
+        saved, others = (self.path, self.lines, self.rows, self.given), self.others
         self.path, self.lines, self.rows, self.given = path, self.project.logical(path), [], {}
         self.depth += 1
         at = 0
@@ -38,6 +40,7 @@ class Walk(Rewriter):
         self.depth -= 1
         written = self.project.keep(path, self.rows, self.module)
         self.path, self.lines, self.rows, self.given = saved
+        self.others = others
         return written
 
     def line(self, at: int) -> int:
@@ -100,6 +103,8 @@ class Walk(Rewriter):
             return True
         names = self.context.macros[name].names | {it.text for it in statement.rest}
         asks = ".ifdef" in self.context.macros[name].directives or ".ifndef" in self.context.macros[name].directives
+        if self.project.is_measured and not asks:
+            return False
         scopes = self.context.scopes if asks else self.context.scopes[:-1]
         return any(not names.isdisjoint(it.used) for it in scopes)
 
@@ -112,7 +117,8 @@ class Walk(Rewriter):
         end = end_of_repeat(self.lines, at + 1) - at - 1
         texts = [it.text for it in self.lines[at + 1 : at + 1 + end]]
         tokens = [it for text in texts for it in line_of(text).tokens]
-        if not any(it.lower in HARD or it.text in self.hard for it in tokens):
+        is_spread = Line(self.path, self.lines[at].number) in self.project.spread.repeats
+        if not is_spread and not any(it.lower in HARD or it.text in self.hard for it in tokens):
             return None
         expander = self.expander(at)
         expander.repeat([*texts, ".endrepeat"], 0, self.lines[at].text, statement, {})
@@ -121,7 +127,7 @@ class Walk(Rewriter):
 
     def virtual(self, at: int, texts: List[str]) -> List[str]:
         """Rewrites lines that stand in place of one."""
-        saved = self.lines, self.rows
+        saved, others = (self.lines, self.rows), self.others
         self.lines, self.rows = [Logical(saved[0][at].number, it) for it in texts], []
         here = 0
         try:
@@ -130,6 +136,7 @@ class Walk(Rewriter):
             return [line for row in self.rows for line in row.lines]
         finally:
             self.lines, self.rows = saved
+            self.others = others
 
     def goes_on(self, text: str) -> bool:
         """Whether a line ends the lines that are left out, or begins others."""
@@ -190,7 +197,7 @@ class Walk(Rewriter):
         if facts.directives & FUNCTIONS or ".include" in facts.directives:
             return False
         names = facts.names
-        if forms.may_differ(facts.tokens, names, context):
+        if forms.may_differ(facts.tokens, names, context, self.project.is_measured):
             return False
         if not self.project.sized_names.isdisjoint(names) or self.label_splits(facts):
             return False

@@ -1,0 +1,2 @@
+.export unused
+unused: brk

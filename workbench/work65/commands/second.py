@@ -1,0 +1,51 @@
+"""work65 second: whether bin65 makes the image of a cc65 project that cc65's own tools make. The project stays as it is."""
+import argparse
+import os
+
+from work65.commands.port import add_options, options_of
+from work65.library import sources_of
+from work65.porting.program import NOT_COMPARED, Comparison, Line
+from work65.porting.tools import missing
+from work65.porting.verify import Library
+from work65.problem import Problem
+from work65.program import Program
+from work65.signals import folder_for_a_while
+
+HELP = "says whether bin65 makes the image that cc65's tools make of a project, as it stands"
+
+
+def add_arguments(parser: argparse.ArgumentParser) -> None:
+    """Adds what this subcommand takes."""
+    add = parser.add_argument
+    add("-C", dest="script", metavar="SCRIPT", required=True, help="the linker script, as ld65 takes it")
+    add_options(parser)
+    add("--library", dest="libraries", action="append", default=[], metavar="NAME=FOLDER|FILES",
+        help="a library of the sources in FOLDER, or of FILE,FILE.. in this order, after all sources")
+    add("--image", metavar="FILE", help="the image to compare with, where cc65's tools aren't to make it")
+    add("sources", nargs="+", metavar="SOURCE", help="the sources, in the order of the link")
+
+
+def run(arguments: argparse.Namespace) -> int:
+    """Compares; the status is 0 for the same image, 1 for another one, 2 where nothing can be compared."""
+    try:
+        return compared(arguments)
+    except Problem as problem:
+        raise Problem(str(problem), NOT_COMPARED) from problem
+
+
+def compared(arguments: argparse.Namespace) -> int:
+    """Compares, and says what came of it."""
+    lacking = missing()
+    if lacking is not None and arguments.image is None:
+        raise Problem(f"cc65's {lacking} isn't on the path: --image names an image to compare with")
+    program = Program.find(arguments.bin65)
+    libraries = [Library(it.partition("=")[0], sources_of(it, program)) for it in arguments.libraries]
+    for it in [arguments.script, *arguments.sources, *(member for library in libraries for member in library.members)]:
+        if not os.path.isfile(it):
+            raise Problem(f"{it}: no such file")
+    line = Line(arguments.script, arguments.sources, libraries, options_of(arguments), arguments.image)
+    with folder_for_a_while() as room:
+        answer = Comparison(program, line, room, lacking is None).answer()
+    for said in answer.lines:
+        print(said)
+    return answer.status

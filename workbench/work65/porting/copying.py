@@ -1,0 +1,140 @@
+"""Writes a copy: sources, scripts and the data that they take in. What was changed by hand in an earlier copy stays."""
+import hashlib
+import os
+import shutil
+import tempfile
+from typing import Dict, Iterator, List, Optional, Sequence, Tuple
+
+from work65.language.tokens import Kind, Token, line_of
+from work65.output import words
+from work65.porting.line import edited
+from work65.porting.port import Ported
+from work65.porting.project import OWN
+from work65.problem import Problem
+from work65.sources import path_of_bytes, read_bytes
+
+# The list of what was written, in the format of sha256sum. A folder that has it is a copy.
+SUMS = ".work65"
+Files = Dict[str, bytes]
+
+
+def files_of(ported: Ported, folders: Sequence[str]) -> Files:
+    """All files of a copy. `folders` are those in which data is looked for."""
+    found: Files = {}
+    moved: Dict[str, str] = {}
+    for path, text in ported.texts.items():
+        lines = list(_with_data(ported, path, folders, moved, found))
+        found[path] = "".join(line + end for line, end in zip(lines, text.ends)).encode("latin-1")
+    return found
+
+
+def _with_data(ported: Ported, path: str, folders: Sequence[str], moved: Dict[str, str], found: Files) -> Iterator[str]:
+    """The lines of a file. The data that .incbin takes in is put where bin65 looks for it; what lies outside of the copy gets a
+    place within it."""
+    original = ported.project.texts.get(ported.names.get(path, path))
+    for line in ported.texts[path].lines:
+        token = _incbin(line)
+        name = None if token is None or original is None else path_of_bytes(token.text.strip('"'))
+        if token is None or original is None or name is None or os.path.isabs(name):
+            yield line
+            continue
+        here = _first(name, ["", os.path.dirname(original.path), *folders])
+        if here is None:
+            yield line
+            continue
+        there = os.path.normpath(os.path.join(os.path.dirname(path), name))
+        if there.startswith(".."):
+            there = _moved(os.path.realpath(here), moved)
+            spelled = words(os.path.relpath(there, os.path.dirname(path) or "."))
+            line = edited(line, [(token.start, token.end, f'"{spelled}"')])
+        found[there] = read_bytes(here)
+        yield line
+
+
+def _moved(here: str, moved: Dict[str, str]) -> str:
+    """The place within the copy of a file that lies outside of it."""
+    if here not in moved:
+        there = os.path.join(OWN, "data", os.path.basename(here))
+        while there in moved.values():
+            there = os.path.join(os.path.dirname(there), f"other_{os.path.basename(there)}")
+        moved[here] = there
+    return moved[here]
+
+
+def _incbin(line: str) -> Optional[Token]:
+    """The name of the file that a line takes in as data."""
+    if ".incbin" not in line.lower():
+        return None
+    tokens = line_of(line).tokens
+    at = next((at for at, it in enumerate(tokens) if it.lower == ".incbin"), len(tokens))
+    return tokens[at + 1] if at + 1 < len(tokens) and tokens[at + 1].kind is Kind.STRING else None
+
+
+def _first(name: str, folders: Sequence[str]) -> Optional[str]:
+    """The first file of a name in some folders."""
+    return next((it for it in (os.path.join(folder, name) for folder in folders) if os.path.isfile(it)), None)
+
+
+def put(files: Files, folder: str) -> None:
+    """Writes files into a folder."""
+    for path, data in files.items():
+        place = os.path.join(folder, path)
+        os.makedirs(os.path.dirname(place), exist_ok=True)
+        with open(place, "wb") as it:
+            it.write(data)
+
+
+def write(files: Files, folder: str, originals: Sequence[str], is_forced: bool) -> None:
+    """Writes a copy whole, or nothing: it is made beside its folder and moved there."""
+    places = {path: os.path.join(folder, path) for path in files}
+    own = {os.path.realpath(it) for it in originals}
+    over = next((it for it in places.values() if os.path.realpath(it) in own), None)
+    if over is not None:
+        raise Problem(f"{over}: the copy would lie over what it is made of")
+    changed = [] if is_forced else list(_changed(files, places, folder))
+    if changed:
+        more = f" (and {len(changed) - 1} more)" if len(changed) > 1 else ""
+        raise Problem(f"{changed[0]}{more}: port didn't write it as it is now: --force overwrites it")
+    sums = "".join(f"{hashlib.sha256(data).hexdigest()}  {path}\n" for path, data in sorted(files.items()))
+    above = os.path.dirname(os.path.abspath(folder))
+    try:
+        os.makedirs(above, exist_ok=True)
+        with tempfile.TemporaryDirectory(prefix=".work65-", dir=above) as room:
+            put({**files, SUMS: os.fsencode(sums)}, room)
+            os.makedirs(folder, exist_ok=True)
+            for path in [*files, SUMS]:
+                os.makedirs(os.path.dirname(os.path.join(folder, path)), exist_ok=True)
+                shutil.move(os.path.join(room, path), os.path.join(folder, path))
+    except OSError as error:
+        raise Problem(f"{error.filename or folder}: {error.strerror}") from error
+
+
+def _changed(files: Files, places: Dict[str, str], folder: str) -> Iterator[str]:
+    """The files that are there, would become others, and aren't as port wrote them."""
+    written = dict(sums_of(folder))
+    for path, place in places.items():
+        if os.path.isfile(place):
+            now = read_bytes(place)
+            if now != files[path] and written.get(path) != hashlib.sha256(now).hexdigest():
+                yield place
+
+
+def is_in_copy(path: str, folders: Sequence[str]) -> bool:
+    """Whether a file lies in an earlier copy within one of these folders."""
+    tops = {os.path.realpath(it) for it in folders}
+    above = os.path.dirname(os.path.realpath(path))
+    while above not in tops and above != os.path.dirname(above):
+        if os.path.isfile(os.path.join(above, SUMS)):
+            return True
+        above = os.path.dirname(above)
+    return False
+
+
+def sums_of(folder: str) -> Iterator[Tuple[str, str]]:
+    """The files that port wrote into a folder, and their sums."""
+    place = os.path.join(folder, SUMS)
+    lines: List[str] = os.fsdecode(read_bytes(place)).split("\n") if os.path.isfile(place) else []
+    for line in lines:
+        total, _, path = line.partition("  ")
+        if path:
+            yield path, total

@@ -1,0 +1,153 @@
+"""Forms as cc65 takes them: the sizes of lines are compared, and `a:` or `z:` stands where bin65 takes another one."""
+from typing import Callable, Dict, Iterator, List, NamedTuple, Optional, Sequence, Set, Tuple
+
+from work65.language import words
+from work65.language.files import Text
+from work65.language.statements import Statement, statement_of
+from work65.language.tokens import Kind, line_of
+from work65.porting.leaves import Leaf, Line, grouped
+from work65.porting.line import edited
+from work65.porting.packages import BRANCHES, NEAR
+from work65.porting.port import Ported
+from work65.porting.project import Spread
+
+PREFIXES = {2: "z:", 3: "a:"}
+FORMS, FAR = frozenset((2, 3)), frozenset((2, 5))
+
+
+class Pair(NamedTuple):
+    """How many bytes cc65 has where bin65 has a leaf."""
+
+    size: int
+    leaf: Leaf
+
+
+class Measure:
+    """The sizes of a copy's lines, of all modules that were looked at."""
+
+    def __init__(self, ported: Ported) -> None:
+        self.texts, self.origin, self.originals = ported.texts, ported.origin, ported.project.texts
+        self.pairs: Dict[Line, List[Pair]] = {}
+        self.begun: Dict[str, Dict[int, int]] = {}
+
+    def take(self, theirs: Sequence[Leaf], ours: Sequence[Leaf]) -> None:
+        """Compares a module's leaves."""
+        sides = grouped(_joined(theirs, lambda it: bool(it.path)), lambda it: self.begin(it.lines[0]))
+        mine = grouped(_joined(ours, lambda it: self.origin(it) is not None), lambda it: self.origin(it.lines[0]))
+        for key, groups in mine.items():
+            for group, other in zip(groups, sides.get(key, [])):
+                for it in self.paired(other, group):
+                    self.pairs.setdefault(it.leaf.lines[-1], []).append(it)
+
+    def begin(self, line: Line) -> Line:
+        """The line that begins a repeat, for the one that ends it: cc65 has all that a repeat puts there."""
+        if line.path not in self.begun:
+            text = self.originals.get(line.path)
+            self.begun[line.path] = {} if text is None else _begins(text.lines)
+        return Line(line.path, self.begun[line.path].get(line.number, line.number))
+
+    def paired(self, theirs: Sequence[Leaf], ours: Sequence[Leaf]) -> Iterator[Pair]:
+        """The leaves of one line of the original, side by side; data may be cut into other pieces."""
+        left, at = [it.size for it in theirs], 0
+        for it in ours:
+            while at < len(left) and not left[at]:
+                at += 1
+            if at == len(left):
+                return
+            sizes = {left[at], it.size}
+            if len(sizes) == 1 or sizes == FAR or sizes == FORMS and self.head(it.lines[-1]) not in words.STORAGE:
+                yield Pair(left[at], it)
+                at += 1
+                continue
+            rest = it.size
+            while rest and at < len(left):
+                taken = min(rest, left[at])
+                rest, left[at] = rest - taken, left[at] - taken
+                at += not left[at]
+
+    def statement(self, line: Line) -> Statement:
+        """The statement of a line of the copy."""
+        return statement_of(line_of(self.texts[line.path].lines[line.number - 1]).tokens, lambda _: False)
+
+    def head(self, line: Line) -> str:
+        """The first word of a line's statement."""
+        return self.statement(line).head
+
+    def files(self) -> Set[str]:
+        """The files of the copy in which a line has another size than in cc65."""
+        return {line.path for line, pairs in self.pairs.items() if any(it.size != it.leaf.size for it in pairs)}
+
+    def settled(self) -> "Tuple[int, Spread]":
+        """Puts the forms into the copy where one does for all: how many, and what has to be written out for the others."""
+        count, spread = 0, Spread()
+        for line, pairs in self.pairs.items():
+            if all(it.size == it.leaf.size for it in pairs):
+                continue
+            if len({it.size for it in pairs}) == 1 and self.put(line, pairs[0]):
+                count += 1
+            else:
+                for it in pairs:
+                    self.spread(it.leaf, spread)
+        return count, spread
+
+    def put(self, line: Line, pair: Pair) -> bool:
+        """Puts one form into the copy; False where the line can't have one."""
+        statement, text = self.statement(line), self.texts[line.path]
+        body = statement.body
+        if len(body) < 2:
+            return False
+        word = body[0].text.lower()
+        plain = word[: -len(NEAR)] if word.endswith(NEAR) else word
+        if plain in BRANCHES and {pair.size, pair.leaf.size} == FAR:
+            edit = (body[0].start, body[0].end, plain + (NEAR if pair.size == 2 else ""))
+        elif {pair.size, pair.leaf.size} == FORMS and body[1].text not in ("#", "("):
+            blank = " " if body[1].text.startswith(":") else ""
+            edit = (body[1].start, body[1].end if body[1].kind is Kind.PREFIX else body[1].start, PREFIXES[pair.size] + blank)
+        else:
+            return False
+        text.lines[line.number - 1] = edited(text.lines[line.number - 1], [edit])
+        return True
+
+    def spread(self, leaf: Leaf, found: Spread) -> None:
+        """Notes the macro or the repeat in which a line takes several forms."""
+        if len(leaf.lines) < 2:
+            return
+        line, around = leaf.lines[-1], leaf.lines[-2]
+        if self.head(around) in words.REPEAT_BEGINS:
+            origin = self.origin(around)
+            found.repeats |= {origin} if origin is not None else set()
+            return
+        for number in range(line.number - 1, 0, -1):
+            statement = self.statement(Line(line.path, number))
+            if statement.head in words.MACRO_BEGINS and statement.rest:
+                found.macros.add(statement.rest[0].text)
+                return
+
+
+def _begins(lines: Sequence[str]) -> Dict[int, int]:
+    """The lines that begin repeats, by those that end them."""
+    found: Dict[int, int] = {}
+    opened: List[int] = []
+    for number, text in enumerate(lines, 1):
+        head = statement_of(line_of(text).tokens, lambda _: False).head if "." in text else ""
+        if head in words.REPEAT_BEGINS:
+            opened.append(number)
+        elif head in words.REPEAT_ENDS and opened:
+            found[number] = opened.pop()
+    return found
+
+
+def _joined(leaves: Sequence[Leaf], is_known: Callable[[Line], bool]) -> List[Leaf]:
+    """Leaves without the lines of macros that aren't the user's: what these put counts for the line of the call."""
+    found: List[Leaf] = []
+    for it in leaves:
+        lines = it.lines
+        while len(lines) > 1 and not is_known(lines[-1]):
+            lines = lines[:-1]
+        last = found[-1] if found else None
+        is_same = last is not None and lines != it.lines and (last.segment, last.lines) == (it.segment, lines)
+        if last is not None and is_same and last.offset + last.size == it.offset:
+            found[-1] = last._replace(size=last.size + it.size)
+        else:
+            found.append(it._replace(lines=lines))
+    return found

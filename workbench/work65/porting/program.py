@@ -1,0 +1,149 @@
+"""A program of cc65's, built by its own tools as it stands and by bin65 from a copy within the profile; the images are compared."""
+import os
+from dataclasses import dataclass, field
+from typing import Dict, List, Optional, Sequence, Union
+
+from work65.commands.check import said
+from work65.habits import scripts as script_habits
+from work65.habits.habit import Finding
+from work65.language.files import Text, text_of
+from work65.porting import known_differences, scripts
+from work65.porting.difference import difference, first_file
+from work65.porting.measuring import FORMS, Measure, Pair
+from work65.porting.port import Ported, ported, read_project
+from work65.porting.project import Spread
+from work65.porting.tools import Linked, Options, Refused
+from work65.porting.verdict import Judge
+from work65.porting.verify import Library, Verifier, Whole, is_same
+from work65.program import Program
+from work65.scripts import OUTPUT
+from work65.sources import read_bytes
+
+SAME, OTHER, NOT_COMPARED = 0, 1, 2
+# The opcode of an absolute form is that of the short one and this; so many forms are mended by an image.
+SHORT_TO_FAR, MOST = 8, 200
+
+
+@dataclass(frozen=True)
+class Line:
+    """What a line of second asks for. `image` is the image to compare with in place of the one that cc65's tools make."""
+
+    script: str
+    sources: List[str]
+    libraries: List[Library]
+    options: Options
+    image: Optional[str] = None
+
+
+@dataclass
+class Answer:
+    """What is said, and the status."""
+
+    lines: List[str] = field(default_factory=list)
+    status: int = SAME
+
+
+def with_lines(text: Text, lines: List[str]) -> str:
+    """A script's text."""
+    return "\n".join(lines) + "\n"
+
+
+class Comparison:
+    """Compares one program."""
+
+    def __init__(self, program: Program, line: Line, room: str, has_cc65: bool) -> None:
+        self.line, self.has_cc65 = line, has_cc65
+        self.script = text_of(line.script)
+        paths = [*line.sources, *(it for library in line.libraries for it in library.members)]
+
+        def port(spread: Spread) -> Ported:
+            return ported(read_project(paths, line.options), has_cc65, spread)
+
+        self.verifier = Verifier(program, line.options, room, port)
+        base = self.verifier.ported.project.base
+
+        def keys(names: Sequence[str]) -> List[str]:
+            return [os.path.relpath(os.path.abspath(it), base) for it in names]
+
+        theirs, ours = (with_lines(self.script, it) for it in (self.script.lines, scripts.ported(self.script)))
+        libraries = [Library(it.name, keys(it.members)) for it in line.libraries]
+        self.whole = Whole(theirs, ours, keys(line.sources), libraries)
+
+    def answer(self) -> Answer:
+        """What is said of the program."""
+        try:
+            cc65 = self.theirs()
+        except Refused as why:
+            return Answer([f"cc65's own tools refuse it: {why}"], NOT_COMPARED)
+        self.verifier.put()
+        bin65 = self.ours()
+        if self.has_cc65 and not (isinstance(bin65, Linked) and self.is_same(cc65, bin65)):
+            self.verifier.settle(self.whole.modules())
+            bin65 = self.ours()
+        for _ in range(MOST):
+            if self.has_cc65 or not isinstance(bin65, Linked) or not self.is_mended(cc65, bin65):
+                break
+            self.verifier.put()
+            bin65 = self.ours()
+        if isinstance(bin65, Refused):
+            return Answer(self.refused(bin65), NOT_COMPARED)
+        if self.is_same(cc65, bin65):
+            return Answer([f"the same image: {self.named(name)}, {len(data)} bytes" for name, data in cc65.files.items()])
+        differs = difference(cc65, bin65, self.verifier.finder(self.whole, bin65))
+        heading = known_differences.heading(self.script, bin65, differs)
+        return Answer([differs, *([f"MIGRATING: {heading}"] if heading else [])], OTHER)
+
+    def is_mended(self, cc65: Linked, bin65: Linked) -> bool:
+        """Whether an instruction took the other form at the first byte that differs, and has it now."""
+        found = first_file(cc65, bin65)
+        spot = None if found is None else self.verifier.finder(self.whole, bin65).leaf(*found)
+        if found is None or spot is None or spot[1] != 0 or spot[0].size not in FORMS:
+            return False
+        theirs, ours = (side.files.get(found[0], b"")[found[1] :][:1] for side in (cc65, bin65))
+        step = SHORT_TO_FAR if spot[0].size == 2 else -SHORT_TO_FAR
+        if not theirs or not ours or theirs[0] - ours[0] != step:
+            return False
+        measure = Measure(self.verifier.ported)
+        return measure.put(spot[0].lines[-1], Pair(spot[0].size ^ 1, spot[0]))
+
+    def theirs(self) -> Linked:
+        """What cc65's tools make, or what is there in its place."""
+        return self.verifier.linked_by_cc65(self.whole) if self.line.image is None else self.given(self.line.image)
+
+    def given(self, image: str) -> Linked:
+        """The image that was named, and beside it the files that the script names."""
+        files: Dict[str, bytes] = {}
+        for name in known_differences.files_of(self.script):
+            place = image if name == OUTPUT else os.path.join(os.path.dirname(image), name)
+            files[name] = read_bytes(place)
+        return Linked({name: it for name, it in files.items() if it})
+
+    def ours(self) -> Union[Linked, Refused]:
+        """What bin65 makes of the copy, or what it says."""
+        try:
+            return self.verifier.linked_by_bin65(self.whole)
+        except Refused as why:
+            return why
+
+    def is_same(self, cc65: Linked, bin65: Linked) -> bool:
+        """Whether both have the same files; beside cc65's own link also segments and exports."""
+        return cc65.files == bin65.files if self.line.image is not None else is_same(cc65, bin65)
+
+    def named(self, file: str) -> str:
+        """A file's name: the linker's output is called as the image is, or as ld65 calls it."""
+        return (self.line.image or "a.out") if file == OUTPUT else file
+
+    def refused(self, why: Refused) -> List[str]:
+        """The places that can't be brought over; where none was seen, what bin65 says of the copy."""
+        copy = self.verifier.ported
+        found = [said(it) for it in [*copy.findings, *self.script_findings()]]
+        if found:
+            return found
+        text = str(why)
+        return [Judge(self.verifier).translated(text) if not text.startswith("script:") else f"{self.line.script}{text[6:]}"]
+
+    def script_findings(self) -> List[Finding]:
+        """What can't be brought over of the script."""
+        lines = scripts.ported(self.script)
+        return script_habits.found_in(Text(self.line.script, lines, ["\n"] * len(lines)))
+

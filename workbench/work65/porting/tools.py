@@ -1,0 +1,163 @@
+"""The tools of cc65 and bin65, run side by side: objects, and links with the files, the maps and the debug file that come of them."""
+import os
+import re
+import resource
+import shutil
+import subprocess
+from dataclasses import dataclass, field
+from typing import Dict, Iterable, Optional, Sequence
+
+from work65.mapfile import Map, read_map
+from work65.mirror import Mirror
+from work65.problem import Problem
+from work65.program import Program
+from work65.scripts import OUTPUT, with_files
+from work65.sources import read_bytes
+
+NAMES = ("ca65", "ld65", "od65", "ar65")
+# A segment in ld65's map, with its start, end and size; and an export with its value.
+SEGMENT = re.compile(r"^(\S+) +[0-9A-F]{6,} +[0-9A-F]{6,} +([0-9A-F]{6,}) +[0-9A-F]+$")
+EXPORT = re.compile(r"(\S+) +([0-9A-F]{6,16}) +[A-Z]{1,6}(?= |$)")
+WIDTH = 0xFFFFFFFF
+SECONDS, MEMORY, MOST_SAID = 8, 1 << 30, 1 << 16
+
+
+class Refused(Exception):
+    """What a tool said of a source or a link that it refuses."""
+
+
+@dataclass(frozen=True)
+class Options:
+    """What a Makefile hands to ca65."""
+
+    target: Optional[str] = None
+    include: Sequence[str] = ()
+    data: Sequence[str] = ()
+    define: Sequence[str] = ()
+
+
+@dataclass
+class Linked:
+    """What came of a link: its files, the sizes of segments, the values of exports, and cc65's debug file or bin65's map."""
+
+    files: Dict[str, bytes]
+    sizes: Dict[str, int] = field(default_factory=dict)
+    exports: Dict[str, int] = field(default_factory=dict)
+    debug: str = ""
+    map: Optional[Map] = None
+
+
+def missing() -> Optional[str]:
+    """The first of cc65's tools that isn't on the path."""
+    return next((it for it in NAMES if shutil.which(it) is None), None)
+
+
+def _limit() -> None:
+    """Limits a tool's time and memory: ca65 expands some sources without an end."""
+    resource.setrlimit(resource.RLIMIT_CPU, (SECONDS, SECONDS))
+    resource.setrlimit(resource.RLIMIT_AS, (MEMORY, MEMORY))
+
+
+def ran(words: Sequence[str], folder: str, is_limited: bool = False) -> None:
+    """Runs a tool; where it refuses, the first line with its error is raised. One that says no end of it is ended."""
+    how = _limit if is_limited else None
+    try:
+        tool = subprocess.Popen(words, cwd=folder, stdin=subprocess.DEVNULL, stdout=subprocess.PIPE, stderr=subprocess.STDOUT, preexec_fn=how)
+    except OSError as error:
+        raise Problem(f"{words[0]} can't be run: {error.strerror}") from error
+    with tool:
+        try:
+            text = b"" if tool.stdout is None else tool.stdout.read(MOST_SAID)
+            if len(text) < MOST_SAID:
+                tool.wait()
+        finally:
+            tool.kill()
+    if tool.returncode:
+        said = text.decode("utf-8", "replace").strip().split("\n")
+        if not said[0]:
+            said = [f"it comes to no end in {SECONDS} seconds and {MEMORY >> 20} MB"]
+        raise Refused(next((line for line in said if "rror" in line), said[0]))
+
+
+def _files(room: str, names: Dict[str, str]) -> Dict[str, bytes]:
+    """The files of a link that aren't empty, by the names that the script gives."""
+    found = {}
+    for made, name in sorted(names.items(), key=lambda it: it[1] != OUTPUT):
+        if os.path.isfile(os.path.join(room, made)):
+            found[name] = read_bytes(os.path.join(room, made))
+    return {name: it for name, it in found.items() if it}
+
+
+def _room(room: str, script: str) -> Dict[str, str]:
+    """Puts a script into an empty folder, with plain names for its files; answers what these stand for."""
+    shutil.rmtree(room, ignore_errors=True)
+    os.makedirs(room)
+    text, names = with_files(script, "image")
+    with open(os.path.join(room, "script"), "w", encoding="latin-1", newline="") as it:
+        it.write(text)
+    return {**names, "image": OUTPUT}
+
+
+class Theirs:
+    """cc65's tools, run where the user runs them."""
+
+    def __init__(self, options: Options) -> None:
+        self.words = [f"-D{it}" for it in options.define] + [f"-I{it}" for it in options.include]
+        self.words += [w for it in options.data for w in ("--bin-include-dir", it)]
+        self.words += ["-t", options.target] if options.target and options.target != "none" else []
+
+    def assemble(self, source: str, made: str, mirror: Optional[Mirror] = None) -> None:
+        """Assembles a source, with what the debug file needs; or what stands for it in a mirror."""
+        if mirror is None:
+            ran(["ca65", "-g", *self.words, "-o", made, source], os.getcwd(), True)
+            return
+        words = [f"-I{mirror.inside(os.path.realpath(it[2:]))}" if it.startswith("-I") else it for it in self.words]
+        ran(["ca65", "-g", *words, "-o", made, mirror.inside(source)], mirror.inside(os.path.realpath(".")), True)
+
+    def archive(self, library: str, members: Sequence[str], folder: str) -> None:
+        """Makes a library of objects."""
+        ran(["ar65", "r", library, *members], folder)
+
+    def link(self, script: str, inputs: Sequence[str], room: str) -> Linked:
+        """Links objects by the text of a script."""
+        names = _room(room, script)
+        ran(["ld65", "-C", "script", "-o", "image", "-m", "map", "-vm", "--dbgfile", "debug", *inputs], room)
+        found = Linked(_files(room, names), debug=_text(room, "debug"))
+        lines = _text(room, "map").split("\n")
+        rows, first, last = (lines.index(it) for it in ("Segment list:", "Exports list by name:", "Exports list by value:"))
+        sizes = [it for it in map(SEGMENT.match, lines[rows:first]) if it is not None]
+        found.sizes = {it[1]: int(it[2], 16) for it in sizes if int(it[2], 16)}
+        found.exports = {it[1]: int(it[2], 16) & WIDTH for line in lines[first + 2 : last] for it in EXPORT.finditer(line)}
+        return found
+
+
+class Ours:
+    """bin65, run in the copy."""
+
+    def __init__(self, program: Program, copy: str, include: Iterable[str], define: Sequence[str]) -> None:
+        self.program, self.copy, self.define = program, copy, list(define)
+        self.include = [it for it in include if os.path.isdir(os.path.join(copy, it))]
+        self.words = [f"-D{it}" for it in self.define] + [f"-I{it}" for it in self.include]
+
+    def assemble(self, source: str, made: str) -> None:
+        """Assembles a source of the copy."""
+        ran([self.program.path, "ca65", *self.words, "-o", made, "--", source], self.copy)
+
+    def archive(self, library: str, members: Sequence[str], folder: str) -> None:
+        """Makes a library of objects."""
+        ran([self.program.path, "ar65", "r", library, *members], folder)
+
+    def link(self, script: str, inputs: Sequence[str], room: str) -> Linked:
+        """Links objects by the text of a script."""
+        names = _room(room, script)
+        ran([self.program.path, "ld65", "-Cscript", "-oimage", "-mmap", *inputs], room)
+        links = read_map(read_bytes(os.path.join(room, "map")), "the map")
+        found = Linked(_files(room, names), map=links)
+        found.sizes = {it.name: it.size for it in links.rows if it.size}
+        found.exports = {name: value & WIDTH for name, value in links.symbols.items()}
+        return found
+
+
+def _text(room: str, name: str) -> str:
+    """A text that a tool wrote."""
+    return read_bytes(os.path.join(room, name)).decode("latin-1")

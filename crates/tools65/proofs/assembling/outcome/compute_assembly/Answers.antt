@@ -1,7 +1,7 @@
 use Rattle.std.proofs.Common.{◌≡◌, map, rules}
 use Rattle.cli65.specs.Line.{Assembling, assembling}
 use Rattle.asm65.specs.Assembly.{define_of}
-use Rattle.semantics65.specs.Reading.{Job}
+use Rattle.sources65.specs.Reading.{Job}
 use Rattle.tools65.specs.Assembling.{define_in}
 use Rattle.tools65.proofs.Computed.{assembly_fails_so, computes_assembly, same_job}
 use Rattle.tools65.proofs.assembling.outcome.compute_assembly.Goals as goal

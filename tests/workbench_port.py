@@ -68,14 +68,14 @@ class Tries:
 
     def inside(self, *words, folder):
         """What work65 says, run within this process: its status, and what it writes."""
-        said, here = io.StringIO(), os.getcwd()
+        said, here = io.TextIOWrapper(io.BytesIO(), encoding="utf-8", write_through=True), os.getcwd()
         os.chdir(folder)
         try:
             with contextlib.redirect_stdout(said), contextlib.redirect_stderr(said):
                 status = work65(list(words))
         finally:
             os.chdir(here)
-        return subprocess.CompletedProcess(words, status, said.getvalue(), "")
+        return subprocess.CompletedProcess(words, status, said.buffer.getvalue().decode("utf-8", "replace"), "")
 
     def work65(self, *words, folder):
         how = {**os.environ, "BIN65": self.program, "TMPDIR": folder}

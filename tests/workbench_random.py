@@ -2,7 +2,8 @@
 """Tries `work65 port` on random programs: each has cc65's image once it is brought over, or something is said of it. Where cc65
 isn't installed nothing is tried.
 
-usage: workbench_random.py BIN65 [COUNT [SEED]]: COUNT programs of each kind (30). The last line is 'N passed, M failed'."""
+usage: workbench_random.py BIN65 [COUNT [SEED [KIND]]]: COUNT programs of each kind (30), or of one. The last line is 'N passed,
+M failed'."""
 import collections
 import contextlib
 import io
@@ -260,13 +261,17 @@ def tried(program, text):
 
 def main():
     program = os.path.abspath(sys.argv[1])
-    count, seed = (int(it) for it in [*sys.argv[2:], "30", "1"][:2]) if len(sys.argv) < 4 else map(int, sys.argv[2:4])
+    given = sys.argv[2:]
+    count, seed, only = (given + ["30", "1", ""][len(given) :])[:3]
+    count, seed = int(count), int(seed)
     os.environ["BIN65"] = program
     failed = passed = 0
     if shutil.which("ca65") is None or shutil.which("ld65") is None:
         print("cc65 isn't installed: nothing is compared")
         count = 0
     for kind, write in KINDS.items() if count else ():
+        if only not in ("", kind):
+            continue
         counts = collections.Counter()
         for number in range(count):
             source = Source(random.Random(f"{kind} {seed} {number}"))

@@ -156,6 +156,7 @@ class Module:
         self.file, self.number, self.unit, self.told = file, number, unit, told
         self.resolver = Resolver(file.build, unit)
         self.sizes = None if unit.closure is None else AddressSizes(file.layout, unit.closure, told)
+        self.numbers: Dict[str, int] = {}
         self.scope_of = {it.label: it for it in told.scopes if it.label is not None}
         self.first_scope = len(file.kinds["scope"].lines)
         self.first_symbol = len(file.kinds["sym"].lines)
@@ -184,22 +185,28 @@ class Module:
 
     def lines(self) -> None:
         """The lines that put something, and calls and repeats with all that came of them."""
+        offsets, spans = self.resolver.offsets, self.file.line_spans
         for row in self.told.rows:
             number = self.line_of(row.source, row.line, row.depth, row.in_macro)
-            self.put(number, self.runs([row], type_of(row)))
+            if row.size:
+                name, offset = row.place
+                spans[number][self.file.span(name, offsets[name] + offset, row.size, type_of(row))] = None
         for block in self.told.blocks:
             number = self.line_of(block.source, block.line, block.depth, block.in_macro)
             self.put(number, self.runs(block.rows))
 
     def line_of(self, source: Source, line: int, depth: int, in_macro: bool) -> int:
         """The number of a line."""
-        return self.file.line_number((self.file.file_number(source, self.number), line, depth, in_macro))
+        file = self.numbers.get(source.place)
+        if file is None:
+            file = self.numbers[source.place] = self.file.file_number(source, self.number)
+        return self.file.line_number((file, line, depth, in_macro))
 
     def put(self, line: int, spans: Sequence[int]) -> None:
         """Gives a line its spans, each but once."""
         self.file.line_spans[line].update(dict.fromkeys(spans))
 
-    def runs(self, rows: Sequence[Row], kind: str = "") -> List[int]:
+    def runs(self, rows: Sequence[Row]) -> List[int]:
         """The spans of rows: bytes that follow each other are one."""
         found: Dict[str, List[List[int]]] = {}
         for row in rows:
@@ -210,7 +217,7 @@ class Module:
                 else:
                     runs.append([row.place.offset, row.place.offset + row.size])
         offsets = self.resolver.offsets
-        return [self.file.span(name, offsets[name] + it[0], it[1] - it[0], kind) for name, runs in found.items() for it in runs]
+        return [self.file.span(name, offsets[name] + it[0], it[1] - it[0], "") for name, runs in found.items() for it in runs]
 
     def scope(self, scope: Scope) -> None:
         """A scope."""

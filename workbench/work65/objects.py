@@ -80,6 +80,7 @@ class Object:
 
 
 WIDTHS = (1, 2, 2, 4, 1)
+HEAD, SECTION, PLACE, NUMBER, INDEX = map(struct.Struct, ("<BH", "<IB", "<Iq", "<q", "<I"))
 
 
 class Reader:
@@ -92,34 +93,39 @@ class Reader:
 
     def read(self) -> Object:
         """The object."""
-        if self.data[:5] != b"R65o\x02":
+        data = self.data
+        if data[:5] != b"R65o\x02":
             raise Problem("an object isn't of version 2: another bin65 is needed")
-        at = 5
-        while at < len(self.data):
-            kind, length = struct.unpack_from("<BH", self.data, at)
-            self.record(kind, self.data[at + 3 : at + 3 + length])
-            at += 3 + length
+        at, end = 5, len(data)
+        while at < end:
+            kind, length = HEAD.unpack_from(data, at)
+            at += 3
+            if kind == 5:
+                self.fragment(Value(data[at], self.form(at + 9)[0]), WIDTHS[data[at]])
+            elif kind == 3:
+                self.fragment(data[at : at + length], length)
+            else:
+                self.record(kind, at, length)
+            at += length
         return self.object
 
-    def record(self, kind: int, body: bytes) -> None:
-        """Takes one record."""
-        if kind == 5:
-            self.fragment(Value(body[0], self.form(body, 9)[0]), WIDTHS[body[0]])
-        elif kind == 3:
-            self.fragment(body, len(body))
-        elif kind == 4:
+    def record(self, kind: int, at: int, length: int) -> None:
+        """Takes a record that is no content of a section, or room."""
+        body = self.data[at : at + length]
+        if kind == 4:
             count = int.from_bytes(body, "little")
             self.fragment(Fill(count), count)
         elif kind == 1:
             self.object.imports.append(body.decode("latin-1"))
         elif kind == 2:
-            size, alignment = struct.unpack_from("<IB", body)
+            size, alignment = SECTION.unpack_from(body)
             self.object.sections.append(Section(body[5:].decode("latin-1"), size, 1 << alignment))
         elif kind == 6:
-            length = body[0]
-            self.object.exports.append((body[1 : 1 + length].decode("latin-1"), self.form(body, length + 9)[0]))
+            size = body[0]
+            self.object.exports.append((body[1 : 1 + size].decode("latin-1"), self.form(at + size + 9)[0]))
         elif kind == 7:
-            self.object.asserts.append((body[0], body[10 : 10 + body[9]], self.form(body, 10 + body[9])[0]))
+            size = body[9]
+            self.object.asserts.append((body[0], body[10 : 10 + size], self.form(at + 10 + size)[0]))
 
     def fragment(self, fragment: Fragment, size: int) -> None:
         """Puts a fragment into the first section that isn't full."""
@@ -129,20 +135,20 @@ class Reader:
         sections[self.current].fragments.append(fragment)
         self.filled += size
 
-    def form(self, body: bytes, at: int) -> Tuple[Form, int]:
-        """A form, and where it ends."""
-        code = body[at]
-        if code == 0:
-            return int(struct.unpack_from("<q", body, at + 1)[0]), at + 9
+    def form(self, at: int) -> Tuple[Form, int]:
+        """The form at a place of the object, and where it ends."""
+        code = self.data[at]
         if code == 1:
-            section, offset = struct.unpack_from("<Iq", body, at + 1)
+            section, offset = PLACE.unpack_from(self.data, at + 1)
             return Place(self.object.sections[section].name, offset), at + 13
+        if code == 0:
+            return int(NUMBER.unpack_from(self.data, at + 1)[0]), at + 9
         if code == 2:
-            return Import(self.object.imports[struct.unpack_from("<I", body, at + 1)[0]]), at + 5
+            return Import(self.object.imports[INDEX.unpack_from(self.data, at + 1)[0]]), at + 5
         parts = []
         at += 1
         for _ in range(1 if code < 0x20 else 2):
-            part, at = self.form(body, at)
+            part, at = self.form(at)
             parts.append(part)
         return Operation(code, tuple(parts)), at
 

@@ -159,8 +159,10 @@ class Search:
         for file in dict.fromkeys(it.file for it in found):
             lines = self.lines_of(file)
             of_file = [it for it in found if it.file == file]
+            marked: Set[int] = set()
             for it, said in zip(of_file, judge.said_of(of_file)):
-                if said is not None:
+                if said is not None and it.at not in marked:
+                    marked.add(it.at)
                     mark = f"w65 {len(self.suspects)} w65"
                     self.suspects[mark] = replace(it, said=said)
                     lines[it.at] = f'{leaving_out.left(lines[it.at])} .out "{mark}"'

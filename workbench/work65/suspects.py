@@ -1,7 +1,7 @@
 """Lines that are refused whatever stands around them: each is judged by bin65 in a small source of such lines."""
 import os
 from dataclasses import dataclass
-from typing import Callable, Dict, Iterator, List, Optional, Sequence, Set, Tuple
+from typing import Callable, Dict, Iterator, List, NamedTuple, Optional, Sequence, Set, Tuple
 
 from work65.language import grammar, words
 from work65.language.files import Text, text_of
@@ -22,24 +22,36 @@ LINKED = (
     | set(BLOCKS.values()) | {".elseif", ".else", ".endif", ".proc", ".scope", ".endproc", ".endscope", ".end", ".include", ".incbin",
                               ".exitmacro", ".exitmac", ".local", ".segment", ".assert", ".autoimport"}
 )
+OPENING = words.CONDITIONS | {".scope", ".proc"}
+CLOSING = frozenset((".endif", ".endscope", ".endproc"))
 FORM = "no such addressing form"
 HEADS = (".import n", ".importzp n")
 
 
 @dataclass(frozen=True)
 class Suspect:
-    """A line that may be refused: its file, its place from 0, its text, what of it is judged, and what bin65 says of that. Of a
-    form the names are all `n`, which is judged as a long and as a short one."""
+    """A line that may be refused: its file, its place from 0, its text, what of it is judged, below which lines, and what bin65
+    says of it there. Of a form the names are all `n`, which is judged as a long and as a short one."""
 
     file: str
     at: int
     line: str
     judged: str
-    is_form: bool = False
+    heads: Tuple[str, ...] = ("",)
     said: str = ""
 
 
-def outside(lines: Sequence[str], tree: Tree) -> Iterator[Tuple[int, Statement, Tuple[Token, ...]]]:
+Plain = Tuple[int, Statement, Tuple[Token, ...]]
+
+
+class File(NamedTuple):
+    """A file as it stands in the copy, and its lines outside of macros, repeats and structures."""
+
+    text: Text
+    plain: List[Plain]
+
+
+def outside(lines: Sequence[str], tree: Tree) -> Iterator[Plain]:
     """The lines outside of macros, repeats and structures."""
     depth = 0
     for at, text in enumerate(lines):
@@ -62,12 +74,14 @@ def suspects_in(source: str, folders: Sequence[str], defines: Sequence[str], lin
     if any("/*" in line for it in texts for line in it.lines):
         return []
     tree = surveyed(texts, folders)
+    files = [File(it, list(outside(it.lines, tree))) for it in texts]
     found: List[Suspect] = []
-    for text in texts:
-        found += _by_form(text, tree)
-    known = _defined(texts, tree, {(it.file, it.at) for it in found}) | {it.split("=")[0] for it in defines}
-    for text in texts:
-        found += _undefined(text, tree, known)
+    for file in files:
+        found += _by_form(file, tree)
+    known = _defined(files, tree, {(it.file, it.at) for it in found}) | {it.split("=")[0] for it in defines}
+    constants = constants_in(files)
+    for file in files:
+        found += _with_names(file, tree, known, constants)
     order = {it.path: number for number, it in enumerate(texts)}
     return sorted(found, key=lambda it: (order[it.file], it.at))
 
@@ -97,28 +111,29 @@ def _form(statement: Statement) -> str:
     return f"{statement.head} " + " ".join("n" if named else it.text for named, it in zip(is_name, statement.rest))
 
 
-def _by_form(text: Text, tree: Tree) -> Iterator[Suspect]:
+def _by_form(file: File, tree: Tree) -> Iterator[Suspect]:
     """Lines that no grammar has, lines without names, and forms that an instruction hasn't."""
-    for at, statement, tokens in outside(text.lines, tree):
+    path = file.text.path
+    for at, statement, tokens in file.plain:
         head = statement.head
         if not statement.body or head in LINKED or _is_call(statement, tree):
             continue
-        line = text.lines[at]
+        line = file.text.lines[at]
         if grammar.wrong(tuple(map(grammar.shape_of, tokens))) is not None:
-            yield Suspect(text.path, at, line, _without_label(line, statement))
+            yield Suspect(path, at, line, _without_label(line, statement))
         elif head in ALONE and not _is_bound(statement):
             if not _names(statement):
                 if head not in words.BRANCHES:
-                    yield Suspect(text.path, at, line, _without_label(line, statement))
+                    yield Suspect(path, at, line, _without_label(line, statement))
             elif head in words.MNEMONICS and statement.rest[0].text != "#":
-                yield Suspect(text.path, at, line, _form(statement), True)
+                yield Suspect(path, at, line, _form(statement), HEADS)
 
 
-def _defined(texts: Sequence[Text], tree: Tree, without: Set[Tuple[str, int]]) -> Set[str]:
+def _defined(files: Sequence[File], tree: Tree, without: Set[Tuple[str, int]]) -> Set[str]:
     """All names that something may define: in macros, repeats, structures and calls any name counts."""
     found: Set[str] = set()
-    for text in texts:
-        plain = {at: statement for at, statement, _ in outside(text.lines, tree)}
+    for text, plain_lines in files:
+        plain = {at: statement for at, statement, _ in plain_lines}
         for at, line in enumerate(text.lines):
             statement = plain.get(at)
             if statement is None or _is_call(statement, tree):
@@ -128,13 +143,51 @@ def _defined(texts: Sequence[Text], tree: Tree, without: Set[Tuple[str, int]]) -
     return found
 
 
-def _undefined(text: Text, tree: Tree, known: Set[str]) -> Iterator[Suspect]:
-    """Lines whose only names are such that nothing defines."""
-    for at, statement, tokens in outside(text.lines, tree):
-        if statement.head in words.MNEMONICS | words.DATA and not _is_bound(statement) and not _is_call(statement, tree):
-            names = _names(statement)
-            if names and not known.intersection(names) and grammar.wrong(tuple(map(grammar.shape_of, tokens))) is None:
-                yield Suspect(text.path, at, text.lines[at], _without_label(text.lines[at], statement))
+def _with_names(file: File, tree: Tree, known: Set[str], constants: Dict[str, str]) -> Iterator[Suspect]:
+    """Lines whose only names are such that nothing defines; data and immediate operands whose only names are constants that are
+    known alone."""
+    head = "\n".join(constants.values())
+    for at, statement, tokens in file.plain:
+        is_data = statement.head in words.DATA
+        if not is_data and statement.head not in words.MNEMONICS or _is_bound(statement) or _is_call(statement, tree):
+            continue
+        names = _names(statement)
+        if not names or grammar.wrong(tuple(map(grammar.shape_of, tokens))) is not None:
+            continue
+        line = file.text.lines[at]
+        if not known.intersection(names):
+            yield Suspect(file.text.path, at, line, _without_label(line, statement))
+        elif (is_data or statement.rest[0].text == "#") and all(it in constants for it in names):
+            yield Suspect(file.text.path, at, line, _without_label(line, statement), (head,))
+
+
+def constants_in(files: Sequence[File]) -> Dict[str, str]:
+    """The definitions of constants outside of scopes and conditions that hang on numbers and such constants alone, by their names,
+    which nothing else defines."""
+    times: Dict[str, int] = {}
+    found: Dict[str, Tuple[str, Set[str]]] = {}
+    for text, plain_lines in files:
+        plain, depth = {at: it for at, it, _ in plain_lines}, 0
+        for at, line in enumerate(text.lines):
+            statement = plain.get(at)
+            names = {it.text for it in line_of(line).tokens if it.kind is Kind.NAME} if statement is None else defined_by(statement)
+            times.update({it: times.get(it, 0) + 1 for it in names})
+            if statement is not None:
+                depth += (statement.head in OPENING) - (statement.head in CLOSING)
+                if depth == 0 and _is_constant(statement):
+                    found[statement.body[0].text] = (line, set(_names(statement)))
+    found = {name: it for name, it in found.items() if times[name] == 1}
+    while True:
+        kept = {name: it for name, it in found.items() if it[1] <= found.keys()}
+        if len(kept) == len(found):
+            return {name: line for name, (line, _) in found.items()}
+        found = kept
+
+
+def _is_constant(statement: Statement) -> bool:
+    """Whether a line defines a constant, and has no place in it."""
+    is_definition = bool(statement.rest) and statement.rest[0].text in ("=", ":=")
+    return is_definition and statement.label is None and not _is_bound(statement)
 
 
 class Judge:
@@ -146,17 +199,14 @@ class Judge:
 
     def said_of(self, suspects: Sequence[Suspect]) -> List[Optional[str]]:
         """What bin65 says of each line; None where it takes it, or where that hangs on what a name is."""
-        self.judge([it.judged for it in suspects if not it.is_form], "")
-        for head in HEADS:
-            self.judge([it.judged for it in suspects if it.is_form], head)
+        for head in dict.fromkeys(head for it in suspects for head in it.heads):
+            self.judge([it.judged for it in suspects if head in it.heads], head)
         return [self.verdict(it) for it in suspects]
 
     def verdict(self, it: Suspect) -> Optional[str]:
         """What is known of a line."""
-        if not it.is_form:
-            return self.known.get(("", it.judged))
-        said = [self.known.get((head, it.judged)) for head in HEADS]
-        return FORM if said == [FORM, FORM] else None
+        said = [self.known.get((head, it.judged)) for head in it.heads]
+        return said[0] if len(said) == 1 or said == [FORM, FORM] else None
 
     def judge(self, lines: Sequence[str], head: str) -> None:
         """Judges lines that aren't known yet, a few at a time, below another line."""
@@ -166,13 +216,14 @@ class Judge:
 
     def judge_some(self, lines: Sequence[str], head: str) -> None:
         """Judges a few lines: bin65 names one that it refuses, which is taken out, until it refuses none."""
-        left = list(lines)
+        left, before = list(lines), head.count("\n") + 1
         while True:
             said = self.run([head, *left])
-            if said is None or not 1 < said[0] <= len(left) + 1 or not left[said[0] - 2]:
+            at = -1 if said is None else said[0] - 1 - before
+            if said is None or not 0 <= at < len(left) or not left[at]:
                 break
-            self.known[head, left[said[0] - 2]] = None if said[1] == "section too large" else said[1]
-            left[said[0] - 2] = ""
+            self.known[head, left[at]] = None if said[1] == "section too large" else said[1]
+            left[at] = ""
         for it in filter(None, left):
             self.known.setdefault((head, it), None)
 

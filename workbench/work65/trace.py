@@ -21,7 +21,9 @@ def words(copy: Object, segment: str) -> Iterator[Union[int, Form]]:
     section = copy.section(segment)
     rest = b""
     for fragment in section.fragments if section else []:
-        if isinstance(fragment, bytes):
+        if isinstance(fragment, bytes) and len(fragment) == 4 and not rest:
+            yield int.from_bytes(fragment, "little")
+        elif isinstance(fragment, bytes):
             rest += fragment
             whole = len(rest) - len(rest) % 4
             for at in range(0, whole, 4):

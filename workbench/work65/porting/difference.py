@@ -4,7 +4,7 @@ from dataclasses import dataclass
 from typing import Dict, List, Optional, Tuple
 
 from work65.layout import Layout, layout_of
-from work65.porting.leaves import Leaf
+from work65.porting.leaves import Leaf, of_debug_file, records
 from work65.porting.port import Ported
 from work65.porting.tools import Linked
 from work65.scripts import OUTPUT, read_script, with_files
@@ -87,6 +87,19 @@ class Finder:
         return f"{said}, module {part[0] if module is None else module.source}{', ' if line else ''}{line}"
 
 
+    def told_of_cc65(self, cc65: Linked, file: str, at: int) -> str:
+        """The same of a byte that cc65's image alone has."""
+        for it in records(cc65.debug, "seg"):
+            if self.names.get(it.get("oname", ""), OUTPUT) == file and "ooffs" in it:
+                offset = at - int(it["ooffs"])
+                if 0 <= offset < int(it["size"], 16):
+                    leaves = of_debug_file(cc65.debug, lambda name: name)
+                    put = next((one for one in leaves if one.segment == it["name"] and one.offset <= offset < one.offset + one.size), None)
+                    line = "" if put is None else f", {put.lines[-1].path}:{put.lines[-1].number}"
+                    return f"segment {it['name']}{line}"
+        return self.told(file, at)
+
+
 def difference(cc65: Linked, bin65: Linked, finder: Finder) -> str:
     """What differs first between two links."""
     found = first_file(cc65, bin65)
@@ -96,8 +109,9 @@ def difference(cc65: Linked, bin65: Linked, finder: Finder) -> str:
     sides = [side.files.get(name, b"") for side in (cc65, bin65)]
     said = " and ".join(f"{it[at]:02X}" if at < len(it) else "no byte" for it in sides)
     file = "the image" if name == OUTPUT else name
+    where = finder.told(name, at) if at < len(sides[1]) else finder.told_of_cc65(cc65, name, at)
     sizes = "" if len(sides[0]) == len(sides[1]) else f" of {len(sides[0])} and {len(sides[1])}"
-    return f"{file} differs from byte {at}{sizes} on (cc65 and bin65: {said}): {finder.told(name, at)}"
+    return f"{file} differs from byte {at}{sizes} on (cc65 and bin65: {said}): {where}"
 
 
 def _unwritten(cc65: Linked, bin65: Linked) -> str:

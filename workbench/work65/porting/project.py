@@ -23,13 +23,21 @@ ALL_TARGET_NAMES = frozenset().union(*map(words.defined_by, words.TARGETS))
 
 @dataclass
 class Spread:
-    """What has to be written out, since its lines take several forms: macros by their names, repeats by their lines."""
+    """What has to be written out, since its lines take several forms: macros by their names, repeats by their lines. And how many
+    bytes cc65 has of lines whose size can't be told from their text."""
 
     macros: Set[str] = field(default_factory=set)
     repeats: Set[Line] = field(default_factory=set)
+    sizes: Dict[Line, int] = field(default_factory=dict)
 
-    def __bool__(self) -> bool:
-        return bool(self.macros or self.repeats)
+    def __le__(self, other: "Spread") -> bool:
+        return self.macros <= other.macros and self.repeats <= other.repeats and self.sizes.keys() <= other.sizes.keys()
+
+    def add(self, other: "Spread") -> None:
+        """Takes up what another one has."""
+        self.macros |= other.macros
+        self.repeats |= other.repeats
+        self.sizes.update(other.sizes)
 
 
 @dataclass

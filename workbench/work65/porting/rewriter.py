@@ -10,6 +10,7 @@ from work65.porting.characters import as_elements
 from work65.porting.context import Scope
 from work65.porting.expansion import Macro
 from work65.porting.facts import facts_of
+from work65.porting.leaves import Line
 from work65.porting.line import Unportable, commented_out, edited, replaced
 from work65.porting.project import Project
 from work65.porting.known import Known
@@ -46,7 +47,8 @@ class Rewriter(Known):
                 return self.long_branch(text, statement)
             is_undocumented = head in words.UNDOCUMENTED or head == "nop" and bool(statement.rest)
             if is_undocumented and not self.project.is_macro(first.text) and context.processor == "6502x":
-                return statements.as_data(text, statement, context)
+                size = self.project.spread.sizes.get(Line(self.path, self.lines[at].number))
+                return statements.as_data(text, statement, context, size)
             if first.text == "scrcode" and self.screen:
                 return self.screen_codes(text, statement)
         if head in words.MNEMONICS and not self.project.is_measured:

@@ -12,6 +12,8 @@ from work65.porting.undocumented import OPCODES
 from work65.porting.structures import size_named
 
 Rewrite = Callable[[str, Statement, Context], List[str]]
+SIZE_UNKNOWN = "whether the operand is short isn't known here: write z: or a: before it"
+SIZES = {2: "zp", 3: "abs"}
 GOES = frozenset(
     (".case", ".fopt", ".fileopt", ".dbg", ".list", ".listbytes", ".pagelength", ".pagelen", ".debuginfo", ".linecont", ".localchar")
 )
@@ -133,17 +135,19 @@ def split_stars(text: str, statement: Statement, context: Context) -> List[str]:
     return replaced(text, statement, [f"{statement.body[0].text} {text_of_tokens(text, it)}" for it in parts])
 
 
-def as_data(text: str, statement: Statement, context: Context) -> List[str]:
-    """An instruction that isn't documented, as its opcode and its operand."""
+def as_data(text: str, statement: Statement, context: Context, size: Optional[int] = None) -> List[str]:
+    """An instruction that isn't documented, as its opcode and its operand. `size` is that of the line, where it is known."""
     forms = OPCODES.get(statement.head)
     if forms is None:
         raise Unportable(statement.body[0].text, "undocumented")
     rest = statement.rest
     form, operand = _form(rest, context)
+    if form.startswith("?") and size in SIZES:
+        form = SIZES[size] + form[1:]
     if form not in forms:
         form = _only(form, forms)
     if form not in forms:
-        raise Unportable(statement.body[0].text, "undocumented", "whether the operand is short isn't known here: write z: or a: before it")
+        raise Unportable(statement.body[0].text, "undocumented", SIZE_UNKNOWN)
     opcode = f".byte ${forms[form]:02X}"
     if form.startswith("abs"):
         return replaced(text, statement, [opcode, f".word {text_of_tokens(text, operand)}"])

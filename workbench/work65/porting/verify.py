@@ -9,10 +9,11 @@ from work65.build import Builder, Wanted
 from work65.instrument import Constants
 from work65.porting import alone, copying, unasserted
 from work65.porting.difference import Finder, Module
-from work65.porting.leaves import Leaf, of_debug_file, of_marks
+from work65.porting.leaves import Leaf, Line, of_debug_file, of_marks
 from work65.porting.measuring import Measure
 from work65.porting.port import Ported
 from work65.porting.project import Spread
+from work65.porting.statements import SIZE_UNKNOWN
 from work65.porting.tools import Linked, Options, Ours, Refused, Theirs
 from work65.problem import Problem
 from work65.program import Program
@@ -166,15 +167,15 @@ class Verifier:
             self.put()
             progress = Progress("sources compared", len(pending))
             for it in sorted(pending):
-                self.outcomes[it] = self.alone(it)
+                self.outcomes[it] = self.outcome(it)
                 progress.step()
             progress.end()
             differing = {it for it in pending if self.outcomes[it].debug and not self.outcomes[it].is_same}
             measure = self.measured(differing)
             count, spread = measure.settled()
-            if spread and not (spread.macros <= self.spread.macros and spread.repeats <= self.spread.repeats):
-                self.spread.macros |= spread.macros
-                self.spread.repeats |= spread.repeats
+            spread.sizes = self.sizes()
+            if not spread <= self.spread:
+                self.spread.add(spread)
                 self.ported = self.port(self.spread)
                 pending = set(modules)
             elif count:
@@ -183,7 +184,7 @@ class Verifier:
             else:
                 break
 
-    def alone(self, module: str) -> Outcome:
+    def outcome(self, module: str) -> Outcome:
         """Builds a source alone by both tools and compares."""
         found = Outcome()
         try:
@@ -195,9 +196,8 @@ class Verifier:
             ours = self.our_object(module)
         except Refused as said:
             found.ours = str(said)
+            found.debug = self.debug(module, theirs) if self.unsized() else ""
             return found
-        if module not in self.needs:
-            self.needs[module] = alone.needs_of(theirs)
         self.linked(found, module, theirs, ours)
         project = self.ported.project
         if not found.is_compared and unasserted.has_assertions(self.ported, project.closure(module)):
@@ -221,7 +221,7 @@ class Verifier:
         """Links a source's two objects by the first two placements by which they link."""
         links = 0
         for placement in alone.PLACEMENTS:
-            links += self.placed(found, alone.script_of(self.needs[module], placement), theirs, ours)
+            links += self.placed(found, self.script(module, theirs, placement), theirs, ours)
             if links == alone.ENOUGH:
                 break
 
@@ -261,6 +261,35 @@ class Verifier:
             files = {self.ported.names.get(it, it) for it in measure.files()}
             waiting = {it for it in self.outcomes if it not in done and self.ported.project.closure(it) & files}
         return measure
+
+    def script(self, module: str, theirs: str, placement: alone.Placement) -> str:
+        """A script that links a source alone."""
+        if module not in self.needs:
+            self.needs[module] = alone.needs_of(theirs)
+        return alone.script_of(self.needs[module], placement)
+
+    def debug(self, module: str, theirs: str) -> str:
+        """The debug file of a source that cc65 alone takes; nothing where it can't be linked alone."""
+        for placement in alone.PLACEMENTS:
+            try:
+                return self.theirs.link(self.script(module, theirs, placement), [theirs], os.path.join(self.room, "link")).debug
+            except Refused:
+                continue
+        return ""
+
+    def unsized(self) -> Set[Line]:
+        """The lines that were said since their size isn't known."""
+        return {Line(self.ported.places[os.path.realpath(it.path)], it.line) for it in self.ported.findings if it.note == SIZE_UNKNOWN}
+
+    def sizes(self) -> Dict[Line, int]:
+        """How many bytes cc65 has of the lines whose size wasn't known, where each time they are the same."""
+        wanted = self.unsized()
+        found: Dict[Line, Set[int]] = {}
+        for outcome in self.outcomes.values() if wanted else ():
+            for leaf in of_debug_file(outcome.debug, self.key):
+                if leaf.lines[-1] in wanted:
+                    found.setdefault(leaf.lines[-1], set()).add(leaf.size)
+        return {line: next(iter(sizes)) for line, sizes in found.items() if len(sizes) == 1}
 
     def key(self, name: str) -> str:
         """The file of the tree that a path of a debug file names; nothing for another file."""

@@ -38,6 +38,8 @@ SYMBOLS {
 }
 """
 LONGEST = 600
+# Pages whose modules of definitions and files have to be there, as gate/texts.py looks at those of PROVED and ARCHITECTURE.
+CITING = ("docs/THEOREM", "docs/one-program")
 PAGES = ("README", "docs/LANGUAGE", "docs/TUTORIAL", "docs/DEBUGGING", "docs/RELEASE", "docs/SCRIPTS", "docs/EDITORS", "docs/MESSAGES", "docs/FORMATS",
          "docs/THEOREM", "docs/one-program", "CONTRIBUTING", "CHANGELOG")
 
@@ -110,6 +112,8 @@ def main():
     for name in PAGES:
         long = [it for it in cited.paragraphs(cited.without_code(pages.read(f"{name}.md"))) if len(it) > LONGEST]
         faults[name] = "; ".join(f"a paragraph of {len(it)} characters: {it[:60]}" for it in long) or None
+    for name in CITING:
+        faults[f"what {name} cites"] = "; ".join(cited.why_cited(pages.ROOT, cited.without_code(pages.read(f"{name}.md")))) or None
     for name, why in faults.items():
         if why:
             print(f"{name}: {why}")

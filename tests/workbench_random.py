@@ -218,7 +218,58 @@ def nested(source):
         source.put(chance.choice((f"{it} = {source.number()}", f"{it}: nop", f"{it} = zp0 + 1")))
 
 
-KINDS = {"everyday": everyday, "nested": nested}
+# ---- Forms.
+
+
+def forms(source):
+    """Macros, repeats, long branches and sums whose operands take other forms in inner scopes."""
+    chance = source.chance
+    source.put(".macpack longbranch", ".macpack generic", ".zeropage", "z0: .res 2", "z1: .res 2", ".bss", "f0: .res 2", ".code", "e0: nop", "e1: nop")
+    source.put("k0 = e1 - e0", "k1 = 5", "k2 = z0 + 1")
+    operands = ["z0", "z1", "f0", "k0", "k1", "k2", "z1 + 1", "e1 - e0", "<z0", "z1 - z0", "12", "$1234", "::z0", "k0 + k1"]
+    macros = []
+
+    def operand():
+        return chance.choice(operands)
+
+    for _ in range(chance.randint(1, 4)):
+        name = source.fresh("mac")
+        source.put(f".macro {name} arg")
+        for _ in range(chance.randint(1, 4)):
+            part = chance.randrange(6)
+            if part == 0:
+                source.put(f".repeat {chance.randint(1, 3)}, i", f"        lda {chance.choice(('i', 'arg + i', 'arg', operand()))}", ".endrepeat")
+            elif part == 1 and macros:
+                source.put(f"        {chance.choice(macros)} {chance.choice(('arg', operand()))}")
+            else:
+                source.put(f"        {chance.choice(('lda', 'inc', 'sta', 'ldx', 'cmp'))} {chance.choice(('arg', 'arg', operand()))}")
+        source.put(".endmacro")
+        macros.append(name)
+
+    def body(depth):
+        for _ in range(chance.randint(2, 7)):
+            part = chance.randrange(9)
+            if part < 2 and depth < 3:
+                kind = chance.choice(("scope", "proc"))
+                source.put(f".{kind} {source.fresh('s')}")
+                body(depth + 1)
+                source.put(f".end{kind}")
+            elif part < 4:
+                source.put(f"        {chance.choice(macros)} {operand()}")
+            elif part == 4:
+                source.put(f".repeat {chance.randint(1, 3)}, i", f"        {chance.choice(('lda', 'dec'))} {operand()}", "        lda i", ".endrepeat")
+            elif part == 5:
+                name = source.fresh("l")
+                source.put(f"{name}:", *["        nop"] * chance.choice((1, 140)), f"        {chance.choice(('jne', 'jcc'))} {name}")
+            elif part == 6:
+                source.put(f"        {chance.choice(('add', 'sub'))} {chance.choice(('#1', operand(), operand() + ',x'))}")
+            else:
+                source.put(f"        {chance.choice(('lda', 'sta', 'adc', 'asl'))} {operand()}{chance.choice(('', ',x'))}")
+
+    body(0)
+
+
+KINDS = {"everyday": everyday, "nested": nested, "forms": forms}
 
 
 def image(assembler, linker, source, folder):

@@ -1,7 +1,7 @@
 """work65 port: a copy of a tree that bin65 takes, and which places of cc65's can't be brought over."""
 import argparse
 import os
-from typing import List
+from typing import List, Optional, Tuple
 
 from work65.commands.check import said
 from work65.language import words
@@ -44,11 +44,10 @@ def run(arguments: argparse.Namespace) -> int:
     """Ports; the status is 1 where something stays behind or images differ."""
     if os.path.lexists(arguments.folder) and not os.path.isdir(arguments.folder):
         raise Problem(f"{arguments.folder}: is no folder")
-    reason = "--no-verify" if arguments.no_verify else f"cc65's {missing()} isn't on the path" if missing() else ""
+    options, paths = options_of(arguments), sources_of(arguments)
+    program, reason = tools_of(arguments)
     if reason and arguments.verify:
         raise Problem(f"--verify can't compare: {reason}")
-    options, paths = options_of(arguments), sources_of(arguments)
-    program = None if reason else Program.find(arguments.bin65)
 
     def made(spread: Spread) -> port.Ported:
         return port.ported(port.read_project(paths, options), program is not None, spread)
@@ -64,6 +63,17 @@ def run(arguments: argparse.Namespace) -> int:
     for it in [*lines, *judged.lines, judged.last]:
         print(it)
     return 1 if lines or judged.lines else 0
+
+
+def tools_of(arguments: argparse.Namespace) -> "Tuple[Optional[Program], str]":
+    """The program to compare with, or why nothing is compared."""
+    lacking = missing()
+    if arguments.no_verify or lacking is not None:
+        return None, "--no-verify" if arguments.no_verify else f"cc65's {lacking} isn't on the path"
+    try:
+        return Program.find(arguments.bin65), ""
+    except Problem as problem:
+        return None, str(problem)
 
 
 def sources_of(arguments: argparse.Namespace) -> List[str]:

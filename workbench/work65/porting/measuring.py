@@ -1,5 +1,5 @@
 """Forms as cc65 takes them: the sizes of lines are compared, and `a:` or `z:` stands where bin65 takes another one."""
-from typing import Callable, Dict, Iterator, List, NamedTuple, Optional, Sequence, Set, Tuple
+from typing import AbstractSet, Callable, Dict, Iterator, List, NamedTuple, Optional, Sequence, Set, Tuple
 
 from work65.language import words
 from work65.language.files import Text
@@ -11,8 +11,9 @@ from work65.porting.packages import BRANCHES, NEAR
 from work65.porting.port import Ported
 from work65.porting.project import Spread
 
-PREFIXES = {2: "z:", 3: "a:"}
 FORMS, FAR = frozenset((2, 3)), frozenset((2, 5))
+# The macros of the package generic that have an operand in memory, and their sizes.
+SUMS, ADDING = frozenset(("add", "sub")), frozenset((3, 4))
 
 
 class Pair(NamedTuple):
@@ -55,7 +56,7 @@ class Measure:
             if at == len(left):
                 return
             sizes = {left[at], it.size}
-            if len(sizes) == 1 or sizes == FAR or sizes == FORMS and self.head(it.lines[-1]) not in words.STORAGE:
+            if len(sizes) == 1 or sizes == FAR or self.is_form(sizes, it):
                 yield Pair(left[at], it)
                 at += 1
                 continue
@@ -64,6 +65,11 @@ class Measure:
                 taken = min(rest, left[at])
                 rest, left[at] = rest - taken, left[at] - taken
                 at += not left[at]
+
+    def is_form(self, sizes: AbstractSet[int], leaf: Leaf) -> bool:
+        """Whether two sizes are those of a short and of an absolute operand."""
+        head = self.head(leaf.lines[-1])
+        return sizes == FORMS and head not in words.STORAGE or sizes == ADDING and head in SUMS
 
     def statement(self, line: Line) -> Statement:
         """The statement of a line of the copy."""
@@ -100,9 +106,10 @@ class Measure:
         plain = word[: -len(NEAR)] if word.endswith(NEAR) else word
         if plain in BRANCHES and {pair.size, pair.leaf.size} == FAR:
             edit = (body[0].start, body[0].end, plain + (NEAR if pair.size == 2 else ""))
-        elif {pair.size, pair.leaf.size} == FORMS and body[1].text not in ("#", "("):
+        elif self.is_form({pair.size, pair.leaf.size}, pair.leaf) and body[1].text not in ("#", "("):
             blank = " " if body[1].text.startswith(":") else ""
-            edit = (body[1].start, body[1].end if body[1].kind is Kind.PREFIX else body[1].start, PREFIXES[pair.size] + blank)
+            prefix = "a:" if pair.size > pair.leaf.size else "z:"
+            edit = (body[1].start, body[1].end if body[1].kind is Kind.PREFIX else body[1].start, prefix + blank)
         else:
             return False
         text.lines[line.number - 1] = edited(text.lines[line.number - 1], [edit])
@@ -116,9 +123,10 @@ class Measure:
         if self.head(around) in words.REPEAT_BEGINS:
             origin = self.origin(around)
             found.repeats |= {origin} if origin is not None else set()
-            return
         for number in range(line.number - 1, 0, -1):
             statement = self.statement(Line(line.path, number))
+            if statement.head in words.MACRO_ENDS:
+                return
             if statement.head in words.MACRO_BEGINS and statement.rest:
                 found.macros.add(statement.rest[0].text)
                 return

@@ -12,6 +12,10 @@ from work65.program import Program
 from work65.scripts import OUTPUT
 
 
+# So many sources that weren't compared are named.
+SHOWN = 3
+
+
 @dataclass
 class Verdict:
     """The copy, what differs or is refused, and what was compared."""
@@ -91,17 +95,19 @@ class Judge:
     def said_of_sources(self) -> "tuple[List[str], str]":
         """What differs or is refused, and the last line."""
         lines: List[str] = []
-        same = others = 0
+        same = 0
+        others: List[str] = []
         for module in self.verifier.modules:
             it = self.verifier.outcomes[module]
             said = self.said(module, it)
             lines += [said] if said else []
             same += it.is_compared and it.is_same
-            others += not it.is_compared
+            others += [] if it.is_compared else [self.verifier.ported.project.texts[module].path]
         if not self.verifier.modules:
             return [], "not compared: there are no sources"
         parts = [f"compared: each source alone at two placements: the same {same} of {len(self.verifier.modules)}"]
-        parts += [f"not compared: {others}"] if others else []
+        more = f" and {len(others) - SHOWN} more" if len(others) > SHOWN else ""
+        parts += [f"not compared: {', '.join(others[:SHOWN])}{more}"] if others else []
         parts += [self.refusal] if self.refusal else []
         return lines, "; ".join(parts)
 

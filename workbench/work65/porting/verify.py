@@ -316,6 +316,7 @@ class Verifier:
 
 
 def is_same(cc65: Linked, bin65: Linked) -> bool:
-    """Whether two links have the same files, segments of the same sizes, and exports of the same values."""
-    exports = {it: value for it, value in cc65.exports.items() if not it.startswith("__")}
+    """Whether two links have the same files, segments of the same sizes, and exports of the same values. ld65 lists names of its
+    own, too."""
+    exports = {it: value for it, value in cc65.exports.items() if it in bin65.exports or not it.startswith("__")}
     return cc65.files == bin65.files and cc65.sizes == bin65.sizes and all(bin65.exports.get(it) == value for it, value in exports.items())

@@ -22,7 +22,8 @@ from work65.habits import page, table  # noqa: E402
 WORK65 = f"{pages.ROOT}/workbench/work65.sh"
 # A source or script for each habit: the line that is found is the first with a mark of '<'.
 CASES = {
-    "colon": "start lda #1 <", "digit": " nop\n@1: rts <", "define": ".define W 40 <", "define-list": '.define T "a", 1 <',
+    "colon": "start lda #1 <", "digit": " nop\n@1: rts <", "cheap-constant": "l1: nop\n@x = 5 <",
+    "global-constant": "::GUARD = 1 <", "define": ".define W 40 <", "define-list": '.define T "a", 1 <',
     "define-parameters": ".define f(x1) x1 <", "define-empty": ".define GUARD <", "undefine": ".undefine W <",
     "struct": ".struct P <\nx1 .byte\n.endstruct", "union": ".union U <\n.endunion", "enum": ".enum <\nA1\n.endenum",
     "sizeof": " .byte .sizeof(p) <", "longbranch": ".macpack longbranch <", "generic": ".macpack generic <",

@@ -47,8 +47,8 @@ SYMBOLS {
 """
 # Sources of which a place can't be brought over: what is said of it names this word.
 REFUSED = {
-    "game-exports": "far", "game-counter": "count", "game-processor": "lax", "game-enums": ".if",
-    "other-shifts": ">>", "mix-org": ".org", "mix-condes": ".constructor", "mix-65c02": '"65C02"', "mix-scope-used": "n", "mix-align": "3",
+    "game-exports": "far", "game-processor": "lax", "game-enums": ".if",
+    "other-shifts": ">>", "mix-org": ".org", "mix-65c02": '"65C02"', "mix-scope-used": "n", "mix-align": "3",
 }
 MUTATIONS, MIXED = 150, 80
 ALONE = "compared: each source alone at two placements: the same 1 of 1\n"

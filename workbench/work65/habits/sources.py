@@ -35,6 +35,7 @@ class Places:
         self.parameters: Set[str] = set()
         self.scopes = 0
         self.segments = Segments()
+        self.short: Set[str] = set()
         self.structures: List[str] = []
         self.is_comment = False
         self.is_continued = False
@@ -152,9 +153,11 @@ class Reader:
         for word, name in marks.statement(statement, self.places.scopes, self.places.parameters, self.tree):
             if name not in seen:
                 yield word, BY_NAME[name], ""
+        if statement.head in (".importzp", ".globalzp"):
+            self.places.short |= {it.text for it in statement.rest if it.kind is Kind.NAME}
         if self.places.segments.is_zero_page and statement.head in words.LISTS and self.places.macro is None:
             own = self.own_names() if statement.head == ".global" else frozenset()
-            for word in short_names(statement, own):
+            for word in short_names(statement, own | self.places.short):
                 yield word, BY_NAME["zero-page-import"], ""
 
     def named(self, statement: Statement, files: Files) -> Iterator[Tuple[str, Habit, str]]:

@@ -4,13 +4,12 @@ from dataclasses import dataclass, field
 from typing import Dict, List, Optional, Sequence, Union
 
 from work65.commands.check import said
-from work65.habits import scripts as script_habits
 from work65.habits.habit import Finding
 from work65.language.files import Text, text_of
-from work65.porting import known_differences, scripts
+from work65.porting import known_differences
 from work65.porting.difference import difference, first_file
 from work65.porting.measuring import FORMS, Measure, Pair
-from work65.porting.port import Ported, ported, read_project
+from work65.porting.port import Ported, ported, read_project, script_lines
 from work65.porting.project import Spread
 from work65.porting.tools import Linked, Options, Refused
 from work65.porting.verdict import Judge
@@ -57,7 +56,7 @@ class Comparison:
         paths = [*line.sources, *(it for library in line.libraries for it in library.members)]
 
         def port(spread: Spread) -> Ported:
-            return ported(read_project(paths, line.options), has_cc65, spread)
+            return ported(read_project(paths, line.options), has_cc65, spread, [self.script])
 
         self.verifier = Verifier(program, line.options, room, port)
         base = self.verifier.ported.project.base
@@ -65,7 +64,9 @@ class Comparison:
         def keys(names: Sequence[str]) -> List[str]:
             return [os.path.relpath(os.path.abspath(it), base) for it in names]
 
-        theirs, ours = (with_lines(self.script, it) for it in (self.script.lines, scripts.ported(self.script)))
+        self.left: List[Finding] = []
+        lines, _ = script_lines(self.verifier.ported.project, self.script, self.left)
+        theirs, ours = (with_lines(self.script, it) for it in (self.script.lines, lines))
         libraries = [Library(it.name, keys(it.members)) for it in line.libraries]
         self.whole = Whole(theirs, ours, keys(line.sources), libraries)
 
@@ -136,14 +137,8 @@ class Comparison:
     def refused(self, why: Refused) -> List[str]:
         """The places that can't be brought over; where none was seen, what bin65 says of the copy."""
         copy = self.verifier.ported
-        found = [said(it) for it in [*copy.findings, *self.script_findings()]]
+        found = [said(it) for it in [*copy.findings, *self.left]]
         if found:
             return found
         text = str(why)
         return [Judge(self.verifier).translated(text) if not text.startswith("script:") else f"{self.line.script}{text[6:]}"]
-
-    def script_findings(self) -> List[Finding]:
-        """What can't be brought over of the script."""
-        lines = scripts.ported(self.script)
-        return script_habits.found_in(Text(self.line.script, lines, ["\n"] * len(lines)))
-

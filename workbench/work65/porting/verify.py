@@ -149,6 +149,7 @@ class Verifier:
             name = os.path.join(self.room, os.path.basename(library.name))
             self.ours().archive(name, [made[it] for it in library.members], self.room)
             inputs.append(name)
+        inputs += [self.our_object(it, f"own{number}.o") for number, it in enumerate(self.ported.project.own_sources)]
         return self.ours().link(whole.ours, inputs, os.path.join(self.room, "link"))
 
     def finder(self, whole: Whole, bin65: Linked) -> Finder:

@@ -43,14 +43,14 @@ def put_tree(folder, files):
 
 def port(folder, target="none", *more):
     """Ports the folder's `in` to its `out`: the status, and what was said."""
-    said, here = io.StringIO(), os.getcwd()
+    said, here = io.TextIOWrapper(io.BytesIO(), encoding="utf-8", write_through=True), os.getcwd()
     os.chdir(folder)
     try:
         with contextlib.redirect_stdout(said), contextlib.redirect_stderr(said):
             status = work65(["port", "in", "-o", "out", "--target", target, *more])
     finally:
         os.chdir(here)
-    return status, said.getvalue()
+    return status, said.buffer.getvalue().decode("utf-8", "replace")
 
 
 def image(assembler, linker, folder, room):

@@ -13,13 +13,14 @@ import sys
 import tempfile
 from typing import Counter, Dict, List, Sequence, Union
 
-from random_modules import Module, Shared
+from random_expressions import Shared
+from random_modules import INCLUDED, Module
 
 PROGRAMS = 150
 SCRIPT = """MEMORY {{
-    ZP:  start = ${zp:02X}, size = $90, file = "", define = yes;
-    RAM: start = $0200, size = $0800, file = {ram}{ram_fill}, define = yes;
-    ROM: start = ${rom:04X}, size = $4000{fill}, define = yes;
+    ZP:  start = ${zp:02X}, size = $100 - $70, file = "", define = yes;
+    RAM: start = {ram_start}, size = $0800, file = {ram}, define = yes;
+    ROM: start = ${rom:04X}, size = {size}{fill}, define = yes;
     TOP: start = $E000, size = $1000, file = {top};
 }}
 SEGMENTS {{
@@ -28,7 +29,7 @@ SEGMENTS {{
     CODE:     load = ROM, type = ro{code}, define = yes;
     RODATA:   load = {area}, type = ro{rodata};
     DATA:     load = ROM, run = RAM, type = rw{data}, define = yes;
-    LATE:     load = TOP, type = ro{late}, optional = yes;
+    LATE:     load = TOP, type = ro{late}, define = yes, optional = yes;
     BSS:      load = RAM, type = bss, define = yes;
 }}
 """
@@ -43,9 +44,9 @@ def script(chance: random.Random) -> str:
         return chance.choice(("", ", align = 4", ", align = 8", ", align = 256"))
 
     return SCRIPT.format(
-        zp=chance.choice((0, 2, 0x10)), ram=chance.choice(('""', '"ram.bin"', '""')), ram_fill="", rom=chance.choice((0x8000, 0x8001, 0x9003)),
-        fill=chance.choice(("", ", fill = yes", ", fill = yes, fillval = $FF")), top=chance.choice(("%O", '"top.bin"')),
-        area=chance.choice(("ROM", "ROM", "TOP")), code=align(), rodata=align(), data=align(), late=chance.choice(("", ", align = 2")),
+        zp=chance.choice((0, 2, 0x10)), ram=chance.choice(('""', '"ram.bin"', '""')), ram_start=chance.choice(("$0200", "$0100 + __ZP_LAST__")), rom=chance.choice((0x8000, 0x8001, 0x9003)),
+        size=chance.choice(("$4000", "$C000 - $8000")), fill=chance.choice(("", ", fill = yes", ", fill = yes, fillval = $FF")), top=chance.choice(("%O", '"top.bin"')),
+        area=chance.choice(("ROM", "ROM", "TOP")), code=align(), rodata=align(), data=align(), late=chance.choice(("", ", align = 2", ", offset = $800", ", start = $E900, fillval = $55")),
     )
 
 
@@ -57,7 +58,7 @@ def program(seed: str) -> Dict[str, str]:
         for it in range(chance.randrange(most + 1)):
             kind[f"{begin}{it}"] = chance.randrange(2)
     files = {f"m{it}.s": Module(chance, it, shared).text() for it in range(2)}
-    return {**files, "s.cfg": script(chance)}
+    return {**files, "s.cfg": script(chance), "both.inc": INCLUDED, "data.bin": "0123456789"}
 
 
 def built(folder: str, files: Dict[str, str], tools: Sequence[str]) -> Built:
@@ -67,7 +68,7 @@ def built(folder: str, files: Dict[str, str], tools: Sequence[str]) -> Built:
         with open(f"{folder}/{name}", "w", encoding="latin-1") as it:
             it.write(text)
     before = {*files, "m0.o", "m1.o"}
-    lines = [["ca65", "-o", "m0.o", "m0.s"], ["ca65", "-o", "m1.o", "m1.s"], ["ld65", "-C", "s.cfg", "-o", "image", "m0.o", "m1.o"]]
+    lines = [["ca65", "-DN2=7", "-o", "m0.o", "m0.s"], ["ca65", "-o", "m1.o", "m1.s"], ["ld65", "-C", "s.cfg", "-o", "image", "m0.o", "m1.o"]]
     for words in lines:
         ran = subprocess.run([*tools, *words], cwd=folder, capture_output=True, encoding="latin-1", check=False)
         if ran.returncode:

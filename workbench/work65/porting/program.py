@@ -92,7 +92,8 @@ class Comparison:
             return Answer([f"the same image: {self.named(name)}, {len(data)} bytes" for name, data in cc65.files.items()])
         differs = difference(cc65, bin65, self.verifier.finder(self.whole, bin65))
         heading = known_differences.heading(self.script, bin65, differs)
-        return Answer([differs, *([f"MIGRATING: {heading}"] if heading else [])], OTHER)
+        causes = [f"MIGRATING: {heading}"] if heading else []
+        return Answer([differs, *causes, *(said(it) for it in self.verifier.ported.findings)], OTHER)
 
     def is_mended(self, cc65: Linked, bin65: Linked) -> bool:
         """Whether an instruction took the other form at the first byte that differs, and has it now."""

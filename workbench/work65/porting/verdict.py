@@ -36,8 +36,8 @@ def compared(program: Program, options: Options, room: str, port: Port) -> Verdi
     lines, last = judge.said_of_sources()
     if judge.can_link and judge.is_same_program():
         last = judge.said_of_program()
-    elif judge.can_link and not lines:
-        lines = [judge.difference()]
+    elif judge.can_link and judge.where and not lines:
+        lines = [judge.where]
     return Verdict(verifier.ported, lines, last)
 
 
@@ -74,7 +74,9 @@ class Judge:
         try:
             bin65 = self.verifier.linked_by_bin65(whole)
         except Refused as said:
-            self.where = f"{self.script}: bin65 refuses the program: {said}"
+            path = self.verifier.ported.project.scripts[self.script].path
+            is_said = any(it.path == path for it in self.verifier.ported.findings)
+            self.where = "" if is_said else f"{self.script}: bin65 refuses the program: {said}"
             return False
         self.files = ", ".join(f"{'the image' if name == OUTPUT else name}, {len(data)} bytes" for name, data in cc65.files.items())
         if is_same(cc65, bin65):
@@ -85,10 +87,6 @@ class Judge:
     def said_of_program(self) -> str:
         """The last line, where the program is the same."""
         return f"compared: the program by {self.script}: the same ({self.files})"
-
-    def difference(self) -> str:
-        """Where the program differs."""
-        return self.where
 
     # Sources alone.
 

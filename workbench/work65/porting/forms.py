@@ -3,8 +3,8 @@ from typing import AbstractSet, Sequence
 
 from work65.language import words
 from work65.language.expression import value
-from work65.language.statements import Statement
-from work65.language.tokens import Kind, Token
+from work65.language.statements import Statement, statement_of
+from work65.language.tokens import Kind, Token, line_of
 from work65.porting.context import Context
 from work65.porting.facts import star_in
 from work65.porting.line import edited
@@ -41,8 +41,14 @@ def absolute(text: str, statement: Statement, context: Context) -> str:
     if any(_is_used_outside(it, context) or it.text in context.differences for it in names) or is_difference(rest, context):
         if statement.head in ("stx", "sty") and rest[-1].lower in ("x", "y") and rest[-2].text == ",":
             return text
-        return edited(text, [(rest[0].start, rest[0].start, "a:")])
+        return edited(text, [(rest[0].start, rest[0].start, "a: " if rest[0].text.startswith(":") else "a:")])
     return text
+
+
+def prefixed(text: str) -> str:
+    """A line with `a:` before the operand of its instruction."""
+    rest = statement_of(line_of(text).tokens, lambda _: False).rest
+    return edited(text, [(rest[0].start, rest[0].start, "a: " if rest[0].text.startswith(":") else "a:")]) if rest else text
 
 
 def _is_scoped(rest: Sequence[Token], at: int) -> bool:

@@ -77,6 +77,7 @@ class Project:
     label_segments: Dict[str, Dict[Tuple[str, ...], str]] = field(default_factory=dict)
     doubtful: List[Tuple[str, int, Unportable]] = field(default_factory=list)
     own_sources: List[str] = field(default_factory=list)
+    guessed: Set[Line] = field(default_factory=set)
     _waiting: List[str] = field(default_factory=list)
     _is_looking: bool = False
     _words: Optional[Set[str]] = None

@@ -59,7 +59,9 @@ class Rewriter(Renaming):
                 return self.with_size(statements.as_data(text, statement, context, size), statement)
             if first.text == "scrcode" and self.screen:
                 return self.screen_codes(text, statement)
-        if head in words.MNEMONICS and not self.project.is_measured:
+        if head in words.MNEMONICS and self.project.is_measured:
+            self.guess(at, text, statement)
+        elif head in words.MNEMONICS:
             text = forms.absolute(text, statement, context)
         shifts.refuse(statement.body, context)
         if "force_range" in context.features:
@@ -72,6 +74,11 @@ class Rewriter(Renaming):
                 return self.with_size(found, statement)
         self.note(statement)
         return self.with_size([text], statement)
+
+    def guess(self, at: int, text: str, statement: Statement) -> None:
+        """Notes a line that takes the absolute form by the rules: they count where the line isn't assembled, so isn't measured."""
+        if self.lines is self.project.logical(self.path) and forms.absolute(text, statement, self.context) != text:
+            self.project.guessed.add(Line(self.path, self.lines[at].number))
 
     def all_handlers(self) -> Dict[str, Callable[[int, str, Statement], List[str]]]:
         """What is done for a directive."""

@@ -31,8 +31,10 @@ def compared(program: Program, options: Options, room: str, port: Port) -> Verdi
     verifier.put()
     judge = Judge(verifier)
     if judge.is_same_program():
+        verifier.guess([judge.debug])
         return Verdict(verifier.ported, [], judge.said_of_program())
     verifier.settle(verifier.modules)
+    verifier.guess(it.debug for it in verifier.outcomes.values())
     lines, last = judge.said_of_sources()
     if judge.can_link and judge.is_same_program():
         last = judge.said_of_program()
@@ -50,7 +52,7 @@ class Judge:
         self.script: Optional[str] = next(iter(scripts)) if len(scripts) == 1 else None
         self.can_link = self.script is not None
         self.refusal = ""
-        self.files = ""
+        self.files = self.debug = ""
         self.where = ""
 
     # The program.
@@ -78,6 +80,7 @@ class Judge:
             is_said = any(it.path == path for it in self.verifier.ported.findings)
             self.where = "" if is_said else f"{self.script}: bin65 refuses the program: {said}"
             return False
+        self.debug = cc65.debug
         self.files = ", ".join(f"{'the image' if name == OUTPUT else name}, {len(data)} bytes" for name, data in cc65.files.items())
         if is_same(cc65, bin65):
             return True

@@ -209,6 +209,10 @@ class Walk(Calls):
         facts = facts_of(text, has_escapes)
         self.keep_line(text)
         if self.is_left(facts, has_escapes):
+            if self.project.is_measured and forms.may_differ(facts.tokens, facts.names, context, False):
+                plain = statement_of(facts.tokens, self.project.is_macro)
+                if plain.head in words.MNEMONICS:
+                    self.guess(at, text, plain)
             self.note_plain(facts)
             return [text]
         if not facts.tokens:

@@ -124,6 +124,7 @@ FOLLOWING = (
     (".if .defined(A)\nn = 1\n.elseif .defined(B)\nm = 2\n.endif\n lda #n\n lda #m\n", [None, 1]),
     (".macro load a1, a1\n lda #a1\n.endmacro\n load 5\n nop\n", [None, 1]),
     (".repeat 2\nl:\n.byte oops(\n.endrepeat\n jmp l\n", [None, 1]), (".import f: far\n jsr f\n", [None, 1]),
+    (".macro table name, what\nname: .byte .strlen(what)\n.endmacro\n table t1, \"ab\"\n lda t1\n lda t2\n", [None, 4, None]),
     (".define W 1\n lda #W\n.undefine W\n.define W 2\n", [None, 1, 1, None]),
 )
 # A name that is defined twice: the lines that are said, and the next ones are looked at.
@@ -193,7 +194,7 @@ def many(tries):
         tries.check("what follows of a thousand", follows and all("follows from a.s:" in it for it in follows), follows[:3])
         pages.put(f"{folder}/b.s", "".join(f" lda no{it}\n" for it in range(1100)))
         ran = tries.work65("faults", "b.s", folder=folder)
-        said = "work65: b.s: there are more than 1000 faults; the rest isn't said\n"
+        said = "work65: b.s: there are more than 1000 errors; only the first 1000 are shown\n"
         tries.check("more faults", (ran.stdout.count("\n"), ran.stderr, ran.returncode) == (1000, said, 1), ran.stdout[-200:] + ran.stderr)
 
 

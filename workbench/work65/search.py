@@ -6,8 +6,11 @@ from dataclasses import dataclass, field, replace
 from typing import Dict, List, Optional, Set, Tuple
 
 from work65 import leaving_out
+from work65.language import words
 from work65.language.files import text_of
+from work65.language.includes import followed
 from work65.language.tokens import Kind, line_of
+from work65.language.tree import Tree, surveyed
 from work65.message import Message, message_of
 from work65.problem import Problem
 from work65.program import Program, Ran
@@ -44,6 +47,7 @@ class Search:
     names: Dict[str, str] = field(default_factory=dict)
     faults: List[Fault] = field(default_factory=list)
     suspects: Dict[str, Suspect] = field(default_factory=dict)
+    tree: Optional[Tree] = None
     has_more: bool = False
     was_looked: bool = False
 
@@ -114,12 +118,29 @@ class Search:
         """Leaves a line out, or a block: at first but for its label, and then the label, too."""
         first, last = leaving_out.span_of(lines, at, message.text)
         where = f"{message.file}:{first + 1}"
-        for name in leaving_out.names_of(lines, first, last):
+        for name in leaving_out.names_of(lines, first, last) | self.names_of_call(lines[first]):
             self.names.setdefault(name, where)
         for it in range(first, last + 1):
             times = self.steps.get((message.file, it), 0)
             lines[it] = leaving_out.left(lines[it]) if first == last and not times else ""
             self.steps[(message.file, it)] = times + 1
+
+    def names_of_call(self, line: str) -> Set[str]:
+        """The names that a call of a macro would have defined: those that it is given, and those that the macro's lines define."""
+        statement = leaving_out.statement_in(line)
+        if not statement.body or statement.body[0].kind is not Kind.NAME or statement.body[0].lower in words.MNEMONICS:
+            return set()
+        if self.tree is None:
+            first = text_of(self.arguments.source)
+            self.tree = surveyed([first, *followed([first], self.arguments.include)], self.arguments.include)
+        places = self.tree.macros.get(statement.body[0].text)
+        if places is None:
+            return set()
+        found = {it.text for it in statement.rest if it.kind is Kind.NAME}
+        for path, number in places:
+            body = text_of(path).lines
+            found |= leaving_out.names_of(body, *leaving_out.span_of(body, number - 1))
+        return found
 
     def as_it_was(self, message: Message) -> Message:
         """A message about the last line, with the number that this has in the user's file."""

@@ -26,11 +26,9 @@ SCRIPT = """MEMORY {{
 SEGMENTS {{
     ZEROPAGE: load = ZP, type = zp;
     EXTZP:    load = ZP, type = zp, optional = yes;
-    CODE:     load = ROM, type = ro{code}, define = yes;
-    RODATA:   load = {area}, type = ro{rodata};
-    DATA:     load = ROM, run = RAM, type = rw{data}, define = yes;
-    LATE:     load = TOP, type = ro{late}, define = yes, optional = yes;
-    BSS:      load = RAM, type = bss, define = yes;
+    CODE:     load = ROM, type = {kind}{code}{value}, define = yes;
+{rows}
+    BSS:      load = RAM, type = bss{bss}, define = yes;
 }}
 """
 # What bin65 alone refuses of these programs, and MIGRATING says so.
@@ -38,15 +36,30 @@ LISTED = ()
 Built = Union[str, Dict[str, bytes]]
 
 
+def rows(chance: random.Random) -> str:
+    """The rows of three segments in any order; one of them may have an address of its own."""
+    def some(*texts: str) -> str:
+        return chance.choice(texts)
+
+    align = [some("", "", ", align = 2", ", align = 8", ", align = 256") for _ in range(3)]
+    value = [some("", "", ", fillval = $55") for _ in range(3)]
+    found = [
+        f"    RODATA:   load = {some('ROM', 'ROM', 'TOP')}, type = ro{some(align[0], align[0], ', offset = $E00')}{value[0]};",
+        f"    DATA:     load = ROM, run = RAM, type = rw{align[1]}{some('', ', align_load = 4')}{value[1]}, define = yes;",
+        f"    LATE:     load = TOP, type = ro{some(align[2], ', offset = $800', ', start = $E900')}{value[2]}, define = yes, optional = yes;",
+    ]
+    chance.shuffle(found)
+    return "\n".join(found)
+
+
 def script(chance: random.Random) -> str:
     """A script."""
-    def align() -> str:
-        return chance.choice(("", ", align = 4", ", align = 8", ", align = 256"))
-
     return SCRIPT.format(
-        zp=chance.choice((0, 2, 0x10)), ram=chance.choice(('""', '"ram.bin"', '""')), ram_start=chance.choice(("$0200", "$0100 + __ZP_LAST__")), rom=chance.choice((0x8000, 0x8001, 0x9003)),
-        size=chance.choice(("$4000", "$C000 - $8000")), fill=chance.choice(("", ", fill = yes", ", fill = yes, fillval = $FF")), top=chance.choice(("%O", '"top.bin"')),
-        area=chance.choice(("ROM", "ROM", "TOP")), code=align(), rodata=align(), data=align(), late=chance.choice(("", ", align = 2", ", offset = $800", ", start = $E900, fillval = $55")),
+        zp=chance.choice((0, 2, 0x10)), ram=chance.choice(('""', '"ram.bin"', '""')), ram_start=chance.choice(("$0200", "$0100 + __ZP_LAST__")),
+        rom=chance.choice((0x8000, 0x8001, 0x9003)), size=chance.choice(("$4000", "$C000 - $8000")), kind=chance.choice(("ro", "rw")),
+        fill=chance.choice(("", ", fill = yes", ", fill = yes, fillval = $FF", ", fillval = $EA")), top=chance.choice(("%O", '"top.bin"')),
+        code=chance.choice(("", "", ", align = 4", ", align = 256")), value=chance.choice(("", ", fillval = 1")),
+        bss=chance.choice(("", ", align = 16")), rows=rows(chance),
     )
 
 

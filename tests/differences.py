@@ -86,10 +86,10 @@ def built(folder: str, files: Dict[str, str], tools: Sequence[str]) -> Built:
         ran = subprocess.run([*tools, *words], cwd=folder, capture_output=True, encoding="latin-1", check=False)
         if ran.returncode:
             return next((it for it in ran.stderr.splitlines() if "Error" in it), ran.stderr)
-    found = {}
+    found: Dict[str, bytes] = {}
     for name in sorted(set(os.listdir(folder)) - before):
-        with open(f"{folder}/{name}", "rb") as it:
-            found[name] = it.read()
+        with open(f"{folder}/{name}", "rb") as file:
+            found[name] = file.read()
     return found
 
 
@@ -119,7 +119,7 @@ class Differences:
     def compare(self, seed: str, folder: str) -> None:
         """One program."""
         files = program(seed)
-        ours, others = (built(f"{folder}/{name}", files, tools) for name, tools in (("ours", [self.program]), ("cc65", [])))
+        ours, others = built(f"{folder}/ours", files, [self.program]), built(f"{folder}/cc65", files, [])
         if isinstance(ours, dict) and isinstance(others, dict):
             self.counts["equal" if ours == others else "different"] += 1
             if ours != others:

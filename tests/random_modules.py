@@ -263,7 +263,7 @@ class Module(Expressions):
             if module == self.module:
                 self.exported(it)
                 self.block(0)
-        for it in range(self.chance.randrange(2, 5)):
+        for _ in range(self.chance.randrange(2, 5)):
             self.block(0)
         self.write(".rodata", "\t.byte 1", ".data", "\t.byte 2", ".bss")
         for it, module in self.shared.room.items():

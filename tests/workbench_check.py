@@ -70,6 +70,9 @@ TREES = {
     "data elsewhere": ({"a.s": ' .incbin "g.bin"\n .incbin "gfx/g.bin"\n', "gfx/g.bin": ""}, "a.s", "a.s:1:incbin-file"),
     "data beside the caller": (
         {"a.s": ' .include "inc/m.inc"\n load\n', "inc/m.inc": '.macro load\n .incbin "g.bin"\n.endmacro\n', "g.bin": ""}, "a.s", ""),
+    "strings with escapes": (
+        {"a.s": '.feature string_escapes\n .byte "a\\n", "b"\n .asciiz "b"\n'}, "a.s", "a.s:1:escapes a.s:2:escapes"),
+    "a string without escapes": ({"a.s": ' .byte "a\\n"\n'}, "a.s", ""),
     "a long line": ({"a.s": f" .byte 1{', 1' * 1362}00\n .byte 1{', 1' * 1362}000\n"}, "a.s", "a.s:2:long-line"),
     "a long line left out": ({"a.s": f".if 0\n .byte 1{', 1' * 1400}\n.endif\n"}, "a.s", "a.s:2:long-line"),
     "imports in the zero page": (

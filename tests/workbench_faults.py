@@ -150,8 +150,8 @@ def following(tries):
 
 
 def twice(tries):
-    """It goes on after a name that is defined twice."""
-    for text, wanted in TWICE:
+    """It goes on after a name that is defined twice; and what is judged alone is said where bin65 says it."""
+    for text, wanted in (*TWICE, ALONE):
         with tempfile.TemporaryDirectory() as folder:
             pages.put(f"{folder}/a.s", text)
             ran = tries.work65("faults", "a.s", folder=folder)
@@ -159,6 +159,9 @@ def twice(tries):
             tries.check(f"twice in {text!r}", said == wanted and not ran.stderr, ran.stdout + ran.stderr)
 
 
+# After a few faults lines are judged alone: those of branches that aren't taken only if they can't be split into tokens.
+ALONE = (" foo 1\n foo 2\n foo 3\n foo 4\n.if 0\n foo 5\n lda #$1G\n.endif\n lda #$2G\n.macro m\n foo 6\n.endmacro\n.end\n foo 7\n lda #$3G\n",
+         [*(f"{it} statement not understood" for it in (1, 2, 3, 4)), "7 bad number", "9 bad number"])
 # Lines with one fault each, of which N is a number: by their form, by a value, by names that nothing defines or a line left out
 # would have defined. Every 50th hangs on the value of a name. The others are right.
 KINDS = (

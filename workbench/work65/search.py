@@ -21,6 +21,8 @@ from work65.suspects import Judge, Suspect, suspects_in
 MOST = 1000
 # After so many faults lines are looked for that are refused whatever stands around them.
 FEW = 4
+# What bin65 says of skipped lines, too.
+LEXICAL = ("bad character", "bad number", "string not closed", "line too long", "name too long")
 UNCLOSED = ("block not closed", "scope not open or not closed")
 FOLLOWING = ("statement not understood", "directive not understood", "not constant", "operand not constant or out of range", "undefined name")
 Place = Tuple[str, int]
@@ -59,6 +61,8 @@ class Search:
             message = self.message_of(ran)
             if message is None or not self.take(message):
                 self.judged(ran, progress)
+                if message is None and self.restored():
+                    continue
                 break
             progress.step()
             if len(self.faults) == FEW and not self.was_looked:
@@ -203,6 +207,16 @@ class Search:
             for name in leaving_out.names_of([it.line], 0, 0):
                 self.names.setdefault(name, f"{it.file}:{it.at + 1}")
             progress.step()
+
+    def restored(self) -> bool:
+        """Puts back lines that no run came to, but that bin65 splits into tokens all the same; False if there are none."""
+        left = [(mark, it) for mark, it in self.suspects.items() if it.said in LEXICAL]
+        for mark, it in left:
+            del self.suspects[mark]
+            self.lines_of(it.file)[it.at] = it.line
+        for file in {it.file for _, it in left}:
+            self.write(file)
+        return bool(left)
 
     # What follows from another fault.
 

@@ -11,7 +11,7 @@ from work65.porting.long_lines import MOST_BYTES
 
 
 class Facts(NamedTuple):
-    """The tokens of a line, whether bin65 takes it as it is, its names, and whether it has text or a `*` in a list, and whether it is too long."""
+    """The tokens of a line, whether bin65 takes it as it is, its names, and whether it has text or a `*` in a list, and is too long."""
 
     tokens: Tuple[Token, ...]
     is_plain: bool

@@ -38,7 +38,7 @@ def read_project(paths: Sequence[str], options: Options) -> Project:
         progress.step()
     progress.end()
     names = frozenset(it.split("=")[0] for it in options.define)
-    return Project(base, texts, [os.path.abspath(it) for it in options.include], options.target, names)
+    return Project(base, texts, [os.path.abspath(it) for it in options.include], options.target, names, symbols=dict(options.symbols))
 
 
 @dataclass

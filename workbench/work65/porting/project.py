@@ -263,7 +263,8 @@ class Project:
 
     def _joined(self, before: List[Row], rows: List[Row]) -> bool:
         """Joins two readings of a file where they agree in all lines that either of them assembles."""
-        if any((one.lines, one.before) != (other.lines, other.before) and not one.is_dead and not other.is_dead for one, other in zip(before, rows)):
+        living = [(one, other) for one, other in zip(before, rows) if not one.is_dead and not other.is_dead]
+        if any((one.lines, one.before) != (other.lines, other.before) for one, other in living):
             return False
         for one, other in zip(before, rows):
             if one.is_dead and not other.is_dead:

@@ -44,21 +44,15 @@ class Rewriter(Renaming):
                 return self.scope(found, statement)
             self.note(statement)
             return self.with_size(found, statement)
-        if statement.rest and statement.rest[0].lower == ".set" or head == "::" and len(statement.body) > 2 and statement.body[2].lower == ".set":
+        if statement.rest and statement.rest[0].lower == ".set":
             return self.set(text, statement)
         first = statement.body[0] if statement.body else None
         if first is not None and first.kind is Kind.CHEAP and statement.rest and statement.rest[0].text in ("=", ":="):
             return self.cheap_constant(text, statement)
         if first is not None and first.kind is Kind.NAME:
-            if head in packages.BRANCHES and statement.rest:
-                return self.long_branch(text, statement)
-            is_undocumented = head in words.UNDOCUMENTED or head == "nop" and bool(statement.rest)
-            if is_undocumented and not self.project.is_macro(first.text) and context.processor == "6502x":
-                self.note(statement)
-                size = self.project.spread.sizes.get(Line(self.path, self.lines[at].number))
-                return self.with_size(statements.as_data(text, statement, context, size), statement)
-            if first.text == "scrcode" and self.screen:
-                return self.screen_codes(text, statement)
+            named = self.named(at, text, statement)
+            if named is not None:
+                return named
         if head in words.MNEMONICS and self.project.is_measured:
             self.guess(at, text, statement)
         elif head in words.MNEMONICS:
@@ -79,6 +73,18 @@ class Rewriter(Renaming):
         """Notes a line that takes the absolute form by the rules: they count where the line isn't assembled, so isn't measured."""
         if self.lines is self.project.logical(self.path) and forms.absolute(text, statement, self.context) != text:
             self.project.guessed.add(Line(self.path, self.lines[at].number))
+
+    def named(self, at: int, text: str, statement: Statement) -> Optional[List[str]]:
+        """The lines in place of a long branch, an undocumented instruction or a call of scrcode; None for anything else."""
+        head, first, context = statement.head, statement.body[0], self.context
+        if head in packages.BRANCHES and statement.rest:
+            return self.long_branch(text, statement)
+        is_undocumented = head in words.UNDOCUMENTED or head == "nop" and bool(statement.rest)
+        if is_undocumented and not self.project.is_macro(first.text) and context.processor == "6502x":
+            self.note(statement)
+            size = self.project.spread.sizes.get(Line(self.path, self.lines[at].number))
+            return self.with_size(statements.as_data(text, statement, context, size), statement)
+        return self.screen_codes(text, statement) if first.text == "scrcode" and self.screen else None
 
     def all_handlers(self) -> Dict[str, Callable[[int, str, Statement], List[str]]]:
         """What is done for a directive."""

@@ -60,7 +60,7 @@ class Rows:
         """Looks at all areas, where the sources are known."""
         for area in self.areas if self.usage.is_known else ():
             rows = list(self.rows_of(area.name.text))
-            if rows and f"__{area.name.text}_LAST__" in self.usage.words | self.script_words and _text(area, "FILE") == '""':
+            if rows and self.is_asked(area, "LAST") and _text(area, "FILE") == '""':
                 self.move_placing(area, rows)
             elif rows and _text(area, "FILE") != '""':
                 self.move_placing(area, rows)
@@ -113,6 +113,15 @@ class Rows:
         late = self.ends_late(rows) if _text(area, "FILL").upper() in NO | {""} else None
         if late is not None:
             self.said.append((late.entry.name, "it has no bytes: cc65's file goes on to where it would begin, bin65's doesn't"))
+        if late is None and self.is_asked(area, "LAST"):
+            unused = [it for it in rows if it.name in ALWAYS and self.usage.is_used(it.name) is False and _placing(it)]
+            last = next((at for at in range(len(rows) - 1, -1, -1) if self.usage.is_used(rows[at].name) is not False), -1)
+            note = f"nobody uses it: __{area.name.text}_LAST__ counts it in cc65"
+            self.said += [(it.entry.name, note) for it in unused if rows.index(it) > last]
+
+    def is_asked(self, area: Entry, what: str) -> bool:
+        """Whether anything names a symbol of an area."""
+        return f"__{area.name.text}_{what}__" in self.usage.words | self.script_words
 
     def ends_late(self, rows: List[Row]) -> Optional[Row]:
         """A row that is placed behind all bytes of these rows and has none itself."""
@@ -129,7 +138,8 @@ class Rows:
         if "START" in own or "OFFSET" in own:
             return
         align = max(waiting.get("ALIGN", 1), own.get("ALIGN", 1))
-        if len(waiting) > 1 or not row.is_written or (own and "ALIGN" not in waiting) or any(align % it.get("ALIGN", 1) for it in (own, waiting)):
+        is_whole = not any(align % it.get("ALIGN", 1) for it in (own, waiting))
+        if len(waiting) > 1 or not row.is_written or (own and "ALIGN" not in waiting) or not is_whole:
             self.said.append((row.entry.name, ROW_BEFORE))
             return
         name, number = next(iter(waiting.items()))
@@ -179,11 +189,9 @@ class Rows:
 
     def may_be_parted(self, area: Entry) -> bool:
         """Whether nothing asks for an area's size or end, and its size is a sum of numbers."""
-        name = area.name.text
-        asked = {f"__{name}_SIZE__", f"__{name}_LAST__"}
         sums = [*area.get("START"), *area.get("SIZE")]
         is_plain = bool(sums) and all(it.kind == "number" and it.text[0] != "%" or it.text == "+" for it in sums)
-        return is_plain and not asked & (self.usage.words | self.script_words)
+        return is_plain and not self.is_asked(area, "SIZE") and not self.is_asked(area, "LAST")
 
     def next_part(self, area: Entry, before: str, number: int) -> str:
         """An area that begins where another one ends, in the same file."""

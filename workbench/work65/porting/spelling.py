@@ -100,7 +100,8 @@ def elements_of(it: Token, context: Context) -> List[str]:
 def with_comment(text: str, strings: Sequence[str]) -> str:
     """A line with the strings that became numbers as a comment, where it has none and they can be read."""
     line = line_of(text)
-    if not strings or line.comment < len(text) or not all(it.isprintable() for it in strings) or len(text) + sum(map(len, strings)) > LONGEST:
+    is_shown = all(it.isprintable() for it in strings) and len(text) + sum(map(len, strings)) <= LONGEST
+    if not strings or line.comment < len(text) or not is_shown:
         return text
     return f"{text}    ; {', '.join(dict.fromkeys(strings))}"
 

@@ -28,12 +28,13 @@ class Refused(Exception):
 
 @dataclass(frozen=True)
 class Options:
-    """What a Makefile hands to ca65."""
+    """What a Makefile hands to ca65, and the symbols that it hands to ld65."""
 
     target: Optional[str] = None
     include: Sequence[str] = ()
     data: Sequence[str] = ()
     define: Sequence[str] = ()
+    symbols: Dict[str, int] = field(default_factory=dict)
 
 
 @dataclass
@@ -120,8 +121,13 @@ class Theirs:
 
     def link(self, script: str, inputs: Sequence[str], room: str) -> Linked:
         """Links objects by the text of a script."""
+        return self.link_with(script, inputs, room, {})
+
+    def link_with(self, script: str, inputs: Sequence[str], room: str, symbols: Dict[str, int]) -> Linked:
+        """Links objects by the text of a script, with symbols more."""
         names = _room(room, script)
-        ran(["ld65", "-C", "script", "-o", "image", "-m", "map", "-vm", "--dbgfile", "debug", *inputs], room)
+        more = [word for name, number in symbols.items() for word in ("-D", f"{name}={number}")]
+        ran(["ld65", *more, "-C", "script", "-o", "image", "-m", "map", "-vm", "--dbgfile", "debug", *inputs], room)
         found = Linked(_files(room, names), debug=_text(room, "debug"))
         lines = _text(room, "map").split("\n")
         rows, first, last = (lines.index(it) for it in ("Segment list:", "Exports list by name:", "Exports list by value:"))

@@ -139,7 +139,7 @@ class Verifier:
             made = os.path.join(self.room, f"theirs-{os.path.basename(library.name)}")
             self.theirs.archive(made, [self.their_object(it) for it in library.members], self.room)
             inputs.append(made)
-        return self.theirs.link(whole.theirs, inputs, os.path.join(self.room, "link"))
+        return self.theirs.link_with(whole.theirs, inputs, os.path.join(self.room, "link"), self.options.symbols)
 
     def linked_by_bin65(self, whole: Whole) -> Linked:
         """The program as bin65 links the copy. Objects bear the numbers of their sources."""

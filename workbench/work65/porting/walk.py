@@ -240,7 +240,9 @@ class Walk(Calls):
     def is_left(self, facts: Facts, has_escapes: bool) -> bool:
         """Whether a line stays as it is."""
         context = self.context
-        if not facts.is_plain or context.features & ALL_LINES or facts.has_star or context.structures or context.place is not None or has_escapes and facts.has_text:
+        if not facts.is_plain or context.features & ALL_LINES or facts.has_star or has_escapes and facts.has_text:
+            return False
+        if context.structures or context.place is not None:
             return False
         if facts.has_text and context.charmap.codes:
             return False

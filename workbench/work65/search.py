@@ -25,6 +25,8 @@ FEW = 4
 LEXICAL = ("bad character", "bad number", "string not closed", "line too long", "name too long")
 UNCLOSED = ("block not closed", "scope not open or not closed")
 FOLLOWING = ("statement not understood", "directive not understood", "not constant", "operand not constant or out of range", "undefined name")
+# What doesn't follow from earlier lines of its file alone.
+ANYWHERE = ("undefined name", "export not defined")
 Place = Tuple[str, int]
 
 
@@ -46,7 +48,7 @@ class Search:
     folder: str
     lines: Dict[str, List[str]] = field(default_factory=dict)
     steps: Dict[Place, int] = field(default_factory=dict)
-    names: Dict[str, str] = field(default_factory=dict)
+    names: Dict[str, Set[Place]] = field(default_factory=dict)
     faults: List[Fault] = field(default_factory=list)
     suspects: Dict[str, Suspect] = field(default_factory=dict)
     tree: Optional[Tree] = None
@@ -71,7 +73,7 @@ class Search:
             self.has_more = self.message_of(self.run()) is not None or bool(self.suspects)
         progress.end()
         files = list(dict.fromkeys([self.arguments.source, *(it.message.file for it in self.faults)]))
-        return [self.said(it) for it in sorted(self.faults, key=lambda it: (files.index(it.message.file), it.message.line or 0))]
+        return [self.said(it) for it in sorted(self.faults, key=lambda it: (files.index(it.message.file), it.message.line or 0, it.message.text))]
 
     def run(self) -> Ran:
         """Runs bin65 on the copy."""
@@ -121,9 +123,8 @@ class Search:
     def leave_out(self, message: Message, lines: List[str], at: int) -> None:
         """Leaves a line out, or a block: at first but for its label, and then the label, too."""
         first, last = leaving_out.span_of(lines, at, message.text)
-        where = f"{message.file}:{first + 1}"
         for name in leaving_out.names_of(lines, first, last) | self.names_of_call(lines[first]):
-            self.names.setdefault(name, where)
+            self.names.setdefault(name, set()).add((message.file, first + 1))
         for it in range(first, last + 1):
             times = self.steps.get((message.file, it), 0)
             lines[it] = leaving_out.left(lines[it]) if first == last and not times else ""
@@ -205,7 +206,7 @@ class Search:
             whole = f"{it.file}:{it.at + 1}: Error: {it.said}"
             self.faults.append(Fault(Message(whole, it.file, it.at + 1, True, it.said), it.line))
             for name in leaving_out.names_of([it.line], 0, 0):
-                self.names.setdefault(name, f"{it.file}:{it.at + 1}")
+                self.names.setdefault(name, set()).add((it.file, it.at + 1))
             progress.step()
 
     def restored(self) -> bool:
@@ -235,6 +236,9 @@ class Search:
             wanted -= leaving_out.defined_by(leaving_out.statement_in(fault.line))
         if kind.endswith(" twice"):
             return ""
-        here = f"{message.file}:{message.line}"
-        places = (self.names[it] for it in sorted(wanted) if it in self.names)
-        return next((it for it in places if it != here), "")
+        line = message.line or 0
+        places = {place for name in wanted for place in self.names.get(name, ()) if place != (message.file, line)}
+        if kind not in ANYWHERE:
+            places = {it for it in places if it[0] != message.file or it[1] < line}
+        first = min(places, key=lambda it: (it[0] != message.file, it), default=None)
+        return "" if first is None else f"{first[0]}:{first[1]}"

@@ -203,7 +203,7 @@ def documented(tries):
     """A difference that MIGRATING tells of has its heading; each such heading is there."""
     pages.put(f"{tries.top}/d.cfg", "MEMORY { M: start = $8000, size = $20; }\nSEGMENTS { BSS: load = M, type = bss; CODE: load = M; }\n")
     pages.put(f"{tries.top}/d.s", ".bss\n .res 2\n.code\n nop\n")
-    tries.says("room before bytes", tries.second("-C", "d.cfg", "d.s"), 0, "the same image: a.out, 3 bytes\n")
+    tries.says("room before bytes", tries.second("-C", "d.cfg", "d.s"), 0, "the same image: a.out, 1 bytes\n")
     rows = "CODE: load = M; DATA: load = M, align = 16, optional = yes;"
     pages.put(f"{tries.top}/e.cfg", f"MEMORY {{ M: start = $8000, size = $20; }}\nSEGMENTS {{ {rows} }}\n")
     pages.put(f"{tries.top}/e.s", " nop\n")

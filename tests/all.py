@@ -28,7 +28,8 @@ TEXTS = [
 ]
 # With the program that `rt ci` builds, the longest first.
 SCRIPTS = [
-    "hostile", "large", "workbench_port", "workbench_random", "failing_disk", "memory", "trial", "measured", "one_program", "cases", "disk", "sums", "version1",
+    "hostile", "large", "workbench_port", "workbench_random", "workbench_trees", "workbench_idioms", "failing_disk", "memory", "trial",
+    "measured", "one_program", "cases", "disk", "sums", "version1",
     "migrating", "differences", "stock_scripts", "tutorial", "language", "messages", "editors", "trying", "makefile", "machines", "second", "labels",
     "workbench_list", "workbench_labels", "workbench_debug", "workbench_deps", "workbench_size", "workbench_bad", "workbench_check",
     "workbench_faults", "release", "bench",

@@ -13,23 +13,22 @@ import sys
 import tempfile
 from typing import Counter, Dict, List, Sequence, Union
 
-from random_modules import Module, Shared
+from random_expressions import Shared
+from random_modules import INCLUDED, Module
 
 PROGRAMS = 150
 SCRIPT = """MEMORY {{
-    ZP:  start = ${zp:02X}, size = $90, file = "", define = yes;
-    RAM: start = $0200, size = $0800, file = {ram}{ram_fill}, define = yes;
-    ROM: start = ${rom:04X}, size = $4000{fill}, define = yes;
+    ZP:  start = ${zp:02X}, size = $100 - $70, file = "", define = yes;
+    RAM: start = {ram_start}, size = $0800, file = {ram}, define = yes;
+    ROM: start = ${rom:04X}, size = {size}{fill}, define = yes;
     TOP: start = $E000, size = $1000, file = {top};
 }}
 SEGMENTS {{
     ZEROPAGE: load = ZP, type = zp;
     EXTZP:    load = ZP, type = zp, optional = yes;
-    CODE:     load = ROM, type = ro{code}, define = yes;
-    RODATA:   load = {area}, type = ro{rodata};
-    DATA:     load = ROM, run = RAM, type = rw{data}, define = yes;
-    LATE:     load = TOP, type = ro{late}, optional = yes;
-    BSS:      load = RAM, type = bss, define = yes;
+    CODE:     load = ROM, type = {kind}{code}{value}, define = yes;
+{rows}
+    BSS:      load = RAM, type = bss{bss}, define = yes;
 }}
 """
 # What bin65 alone refuses of these programs, and MIGRATING says so.
@@ -37,15 +36,30 @@ LISTED = ()
 Built = Union[str, Dict[str, bytes]]
 
 
+def rows(chance: random.Random) -> str:
+    """The rows of three segments in any order; one of them may have an address of its own."""
+    def some(*texts: str) -> str:
+        return chance.choice(texts)
+
+    align = [some("", "", ", align = 2", ", align = 8", ", align = 256") for _ in range(3)]
+    value = [some("", "", ", fillval = $55") for _ in range(3)]
+    found = [
+        f"    RODATA:   load = {some('ROM', 'ROM', 'TOP')}, type = ro{some(align[0], align[0], ', offset = $E00')}{value[0]};",
+        f"    DATA:     load = ROM, run = RAM, type = rw{align[1]}{some('', ', align_load = 4')}{value[1]}, define = yes;",
+        f"    LATE:     load = TOP, type = ro{some(align[2], ', offset = $800', ', start = $E900')}{value[2]}, define = yes, optional = yes;",
+    ]
+    chance.shuffle(found)
+    return "\n".join(found)
+
+
 def script(chance: random.Random) -> str:
     """A script."""
-    def align() -> str:
-        return chance.choice(("", ", align = 4", ", align = 8", ", align = 256"))
-
     return SCRIPT.format(
-        zp=chance.choice((0, 2, 0x10)), ram=chance.choice(('""', '"ram.bin"', '""')), ram_fill="", rom=chance.choice((0x8000, 0x8001, 0x9003)),
-        fill=chance.choice(("", ", fill = yes", ", fill = yes, fillval = $FF")), top=chance.choice(("%O", '"top.bin"')),
-        area=chance.choice(("ROM", "ROM", "TOP")), code=align(), rodata=align(), data=align(), late=chance.choice(("", ", align = 2")),
+        zp=chance.choice((0, 2, 0x10)), ram=chance.choice(('""', '"ram.bin"', '""')), ram_start=chance.choice(("$0200", "$0100 + __ZP_LAST__")),
+        rom=chance.choice((0x8000, 0x8001, 0x9003)), size=chance.choice(("$4000", "$C000 - $8000")), kind=chance.choice(("ro", "rw")),
+        fill=chance.choice(("", ", fill = yes", ", fill = yes, fillval = $FF", ", fillval = $EA")), top=chance.choice(("%O", '"top.bin"')),
+        code=chance.choice(("", "", ", align = 4", ", align = 256")), value=chance.choice(("", ", fillval = 1")),
+        bss=chance.choice(("", ", align = 16")), rows=rows(chance),
     )
 
 
@@ -57,7 +71,7 @@ def program(seed: str) -> Dict[str, str]:
         for it in range(chance.randrange(most + 1)):
             kind[f"{begin}{it}"] = chance.randrange(2)
     files = {f"m{it}.s": Module(chance, it, shared).text() for it in range(2)}
-    return {**files, "s.cfg": script(chance)}
+    return {**files, "s.cfg": script(chance), "both.inc": INCLUDED, "data.bin": "0123456789"}
 
 
 def built(folder: str, files: Dict[str, str], tools: Sequence[str]) -> Built:
@@ -67,15 +81,15 @@ def built(folder: str, files: Dict[str, str], tools: Sequence[str]) -> Built:
         with open(f"{folder}/{name}", "w", encoding="latin-1") as it:
             it.write(text)
     before = {*files, "m0.o", "m1.o"}
-    lines = [["ca65", "-o", "m0.o", "m0.s"], ["ca65", "-o", "m1.o", "m1.s"], ["ld65", "-C", "s.cfg", "-o", "image", "m0.o", "m1.o"]]
+    lines = [["ca65", "-DN2=7", "-o", "m0.o", "m0.s"], ["ca65", "-o", "m1.o", "m1.s"], ["ld65", "-C", "s.cfg", "-o", "image", "m0.o", "m1.o"]]
     for words in lines:
         ran = subprocess.run([*tools, *words], cwd=folder, capture_output=True, encoding="latin-1", check=False)
         if ran.returncode:
             return next((it for it in ran.stderr.splitlines() if "Error" in it), ran.stderr)
-    found = {}
+    found: Dict[str, bytes] = {}
     for name in sorted(set(os.listdir(folder)) - before):
-        with open(f"{folder}/{name}", "rb") as it:
-            found[name] = it.read()
+        with open(f"{folder}/{name}", "rb") as file:
+            found[name] = file.read()
     return found
 
 
@@ -105,7 +119,7 @@ class Differences:
     def compare(self, seed: str, folder: str) -> None:
         """One program."""
         files = program(seed)
-        ours, others = (built(f"{folder}/{name}", files, tools) for name, tools in (("ours", [self.program]), ("cc65", [])))
+        ours, others = built(f"{folder}/ours", files, [self.program]), built(f"{folder}/cc65", files, [])
         if isinstance(ours, dict) and isinstance(others, dict):
             self.counts["equal" if ours == others else "different"] += 1
             if ours != others:

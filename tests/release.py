@@ -47,8 +47,8 @@ cd ../bin65-NUMBER
 make uninstall
 """
 # The program's crates, each of which has to have a log.
-CRATES = ("ar65 asm65 ast65 base65 bin65 cli65 emit65 expand65 ld65 library65 link65 object65 output65 script65 semantics65 symbols65 "
-          "syntax65 tools65 whole65").split()
+CRATES = ("ar65 asm65 ast65 base65 bin65 cli65 emit65 expand65 ld65 library65 link65 object65 output65 script65 semantics65 sources65 "
+          "symbols65 syntax65 tools65 whole65").split()
 
 
 def run(folder, *words, **how):

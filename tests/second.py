@@ -199,6 +199,26 @@ def others(tries):
     tries.check("nothing is left", not os.listdir(f"{tries.top}/temporary"), os.listdir(f"{tries.top}/temporary"))
 
 
+def documented(tries):
+    """A difference that MIGRATING tells of has its heading; each such heading is there."""
+    pages.put(f"{tries.top}/d.cfg", "MEMORY { M: start = $8000, size = $20; }\nSEGMENTS { BSS: load = M, type = bss; CODE: load = M; }\n")
+    pages.put(f"{tries.top}/d.s", ".bss\n .res 2\n.code\n nop\n")
+    tries.says("room before bytes", tries.second("-C", "d.cfg", "d.s"), 0, "the same image: a.out, 1 bytes\n")
+    rows = "CODE: load = M; DATA: load = M, align = 16, optional = yes;"
+    pages.put(f"{tries.top}/e.cfg", f"MEMORY {{ M: start = $8000, size = $20; }}\nSEGMENTS {{ {rows} }}\n")
+    pages.put(f"{tries.top}/e.s", " nop\n")
+    note = "e.cfg: DATA has no bytes: bin65's file is filled up to it (MIGRATING: A row with `align`, `start` or `offset` whose segment nobody uses)\n"
+    tries.says("a row without bytes", tries.second("-C", "e.cfg", "e.s"), 0, f"the same image: a.out, 16 bytes\n{note}")
+    ran = tries.second("-C", "b.cfg", "diff.s")
+    good = "\ndiff.s:4: n: cc65 takes it for not defined in a scope that has used it: " in ran.stdout
+    tries.check("a place that was said", ran.returncode == 1 and good, ran)
+    sys.path.insert(0, f"{pages.ROOT}/workbench")
+    from work65.porting import known_differences
+    text = pages.read("docs/MIGRATING.md")
+    for heading in (known_differences.UNUSED, known_differences.UNWRITTEN, *(it[1] for it in known_differences.BY_TEXT)):
+        tries.check(f"MIGRATING has {heading}", f"\n### {heading}\n" in text)
+
+
 def steps_of_the_workflow():
     """Its steps that run something, as (name, line)."""
     return re.findall(r"- name: (.*)\n +run: (.*)\n", pages.read("example/second/workflow.yml"))
@@ -237,7 +257,7 @@ def main():
         alone(tries)
         images(tries)
         if all(map(shutil.which, ("ca65", "ld65", "ar65"))):
-            for part in (readme, places, others, workflow):
+            for part in (readme, places, others, documented, workflow):
                 part(tries)
         else:
             print("cc65 isn't here: nothing is built twice and compared")

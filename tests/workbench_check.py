@@ -22,7 +22,8 @@ from work65.habits import page, table  # noqa: E402
 WORK65 = f"{pages.ROOT}/workbench/work65.sh"
 # A source or script for each habit: the line that is found is the first with a mark of '<'.
 CASES = {
-    "colon": "start lda #1 <", "digit": " nop\n@1: rts <", "define": ".define W 40 <", "define-list": '.define T "a", 1 <',
+    "colon": "start lda #1 <", "digit": " nop\n@1: rts <", "cheap-constant": "l1: nop\n@x = 5 <",
+    "global-constant": "::GUARD = 1 <", "define": ".define W 40 <", "define-list": '.define T "a", 1 <',
     "define-parameters": ".define f(x1) x1 <", "define-empty": ".define GUARD <", "undefine": ".undefine W <",
     "struct": ".struct P <\nx1 .byte\n.endstruct", "union": ".union U <\n.endunion", "enum": ".enum <\nA1\n.endenum",
     "sizeof": " .byte .sizeof(p) <", "longbranch": ".macpack longbranch <", "generic": ".macpack generic <",
@@ -69,6 +70,9 @@ TREES = {
     "data elsewhere": ({"a.s": ' .incbin "g.bin"\n .incbin "gfx/g.bin"\n', "gfx/g.bin": ""}, "a.s", "a.s:1:incbin-file"),
     "data beside the caller": (
         {"a.s": ' .include "inc/m.inc"\n load\n', "inc/m.inc": '.macro load\n .incbin "g.bin"\n.endmacro\n', "g.bin": ""}, "a.s", ""),
+    "strings with escapes": (
+        {"a.s": '.feature string_escapes\n .byte "a\\n", "b"\n .asciiz "b"\n'}, "a.s", "a.s:1:escapes a.s:2:escapes"),
+    "a string without escapes": ({"a.s": ' .byte "a\\n"\n'}, "a.s", ""),
     "a long line": ({"a.s": f" .byte 1{', 1' * 1362}00\n .byte 1{', 1' * 1362}000\n"}, "a.s", "a.s:2:long-line"),
     "a long line left out": ({"a.s": f".if 0\n .byte 1{', 1' * 1400}\n.endif\n"}, "a.s", "a.s:2:long-line"),
     "imports in the zero page": (

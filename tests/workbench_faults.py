@@ -124,6 +124,7 @@ FOLLOWING = (
     (".if .defined(A)\nn = 1\n.elseif .defined(B)\nm = 2\n.endif\n lda #n\n lda #m\n", [None, 1]),
     (".macro load a1, a1\n lda #a1\n.endmacro\n load 5\n nop\n", [None, 1]),
     (".repeat 2\nl:\n.byte oops(\n.endrepeat\n jmp l\n", [None, 1]), (".import f: far\n jsr f\n", [None, 1]),
+    (".macro table name, what\nname: .byte .strlen(what)\n.endmacro\n table t1, \"ab\"\n lda t1\n lda t2\n", [None, 4, None]),
     (".define W 1\n lda #W\n.undefine W\n.define W 2\n", [None, 1, 1, None]),
 )
 # A name that is defined twice: the lines that are said, and the next ones are looked at.
@@ -149,8 +150,8 @@ def following(tries):
 
 
 def twice(tries):
-    """It goes on after a name that is defined twice."""
-    for text, wanted in TWICE:
+    """It goes on after a name that is defined twice; and what is judged alone is said where bin65 says it."""
+    for text, wanted in (*TWICE, ALONE):
         with tempfile.TemporaryDirectory() as folder:
             pages.put(f"{folder}/a.s", text)
             ran = tries.work65("faults", "a.s", folder=folder)
@@ -158,6 +159,9 @@ def twice(tries):
             tries.check(f"twice in {text!r}", said == wanted and not ran.stderr, ran.stdout + ran.stderr)
 
 
+# After a few faults lines are judged alone: those of branches that aren't taken only if they can't be split into tokens.
+ALONE = (" foo 1\n foo 2\n foo 3\n foo 4\n.if 0\n foo 5\n lda #$1G\n.endif\n lda #$2G\n.macro m\n foo 6\n.endmacro\n.end\n foo 7\n lda #$3G\n",
+         [*(f"{it} statement not understood" for it in (1, 2, 3, 4)), "7 bad number", "9 bad number"])
 # Lines with one fault each, of which N is a number: by their form, by a value, by names that nothing defines or a line left out
 # would have defined. Every 50th hangs on the value of a name. The others are right.
 KINDS = (
@@ -193,7 +197,7 @@ def many(tries):
         tries.check("what follows of a thousand", follows and all("follows from a.s:" in it for it in follows), follows[:3])
         pages.put(f"{folder}/b.s", "".join(f" lda no{it}\n" for it in range(1100)))
         ran = tries.work65("faults", "b.s", folder=folder)
-        said = "work65: b.s: there are more than 1000 faults; the rest isn't said\n"
+        said = "work65: b.s: there are more than 1000 errors; only the first 1000 are shown\n"
         tries.check("more faults", (ran.stdout.count("\n"), ran.stderr, ran.returncode) == (1000, said, 1), ran.stdout[-200:] + ran.stderr)
 
 

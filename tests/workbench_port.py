@@ -47,8 +47,8 @@ SYMBOLS {
 """
 # Sources of which a place can't be brought over: what is said of it names this word.
 REFUSED = {
-    "game-exports": "far", "game-counter": "count", "game-processor": "lax", "game-enums": ".if",
-    "other-shifts": ">>", "mix-org": ".org", "mix-condes": ".constructor", "mix-65c02": '"65C02"', "mix-scope-used": "n", "mix-align": "3",
+    "game-exports": "far", "game-processor": "lax", "game-enums": ".if",
+    "other-shifts": ">>", "mix-org": ".org", "mix-65c02": '"65C02"', "mix-scope-used": "n", "mix-align": "3",
 }
 MUTATIONS, MIXED = 150, 80
 ALONE = "compared: each source alone at two placements: the same 1 of 1\n"
@@ -383,6 +383,42 @@ def names(tries, has_cc65):
         tries.check("3,000 conditions deep", ran.returncode == 0 and time.monotonic() - begun < 10, ran)
 
 
+# Ported without a name that -D may give: its other branch isn't assembled then.
+OTHER_NAMES = """.zeropage
+n1:     .res    1
+.code
+c1:     nop
+d1:     nop
+.proc o
+        lda     n1
+.proc i
+.ifdef FOO
+        lda     n1
+        lda     d1-c1
+        lda     n1,x
+.else
+        ldx     n1
+        lda     #0
+.endif
+        lda     n1
+.endproc
+.endproc
+"""
+
+
+def other_names(tries):
+    """A copy has cc65's image also with a name that it wasn't ported with."""
+    with tempfile.TemporaryDirectory() as folder:
+        for file, content in (("a.s", OTHER_NAMES), ("l.cfg", SCRIPT)):
+            pages.put(f"{folder}/{file}", content)
+        tries.inside("port", "a.s", "-o", "out", folder=folder)
+        shutil.copy(f"{folder}/l.cfg", f"{folder}/out/l.cfg")
+        for names in ([], ["-DFOO=1"]):
+            ours = image([tries.program, "ca65", *names], [tries.program, "ld65"], "a.s", f"{folder}/out")
+            theirs = image(["ca65", *names], ["ld65"], "a.s", folder)
+            tries.check(f"ported without a name, built with {names}", isinstance(ours, bytes) and ours == theirs, (ours, theirs))
+
+
 def ended(tries):
     """A run that is ended leaves nothing behind."""
     with tempfile.TemporaryDirectory() as folder:
@@ -458,6 +494,7 @@ def main():
     if has_cc65:
         mixed(tries)
         ended(tries)
+        other_names(tries)
     examples(tries)
     copies(tries)
     names(tries, has_cc65)

@@ -6,8 +6,11 @@ from dataclasses import dataclass, field, replace
 from typing import Dict, List, Optional, Set, Tuple
 
 from work65 import leaving_out
+from work65.language import words
 from work65.language.files import text_of
+from work65.language.includes import followed
 from work65.language.tokens import Kind, line_of
+from work65.language.tree import Tree, surveyed
 from work65.message import Message, message_of
 from work65.problem import Problem
 from work65.program import Program, Ran
@@ -18,8 +21,12 @@ from work65.suspects import Judge, Suspect, suspects_in
 MOST = 1000
 # After so many faults lines are looked for that are refused whatever stands around them.
 FEW = 4
+# What bin65 says of skipped lines, too.
+LEXICAL = ("bad character", "bad number", "string not closed", "line too long", "name too long")
 UNCLOSED = ("block not closed", "scope not open or not closed")
 FOLLOWING = ("statement not understood", "directive not understood", "not constant", "operand not constant or out of range", "undefined name")
+# What doesn't follow from earlier lines of its file alone.
+ANYWHERE = ("undefined name", "export not defined")
 Place = Tuple[str, int]
 
 
@@ -41,9 +48,10 @@ class Search:
     folder: str
     lines: Dict[str, List[str]] = field(default_factory=dict)
     steps: Dict[Place, int] = field(default_factory=dict)
-    names: Dict[str, str] = field(default_factory=dict)
+    names: Dict[str, Set[Place]] = field(default_factory=dict)
     faults: List[Fault] = field(default_factory=list)
     suspects: Dict[str, Suspect] = field(default_factory=dict)
+    tree: Optional[Tree] = None
     has_more: bool = False
     was_looked: bool = False
 
@@ -55,6 +63,8 @@ class Search:
             message = self.message_of(ran)
             if message is None or not self.take(message):
                 self.judged(ran, progress)
+                if message is None and self.restored():
+                    continue
                 break
             progress.step()
             if len(self.faults) == FEW and not self.was_looked:
@@ -63,7 +73,7 @@ class Search:
             self.has_more = self.message_of(self.run()) is not None or bool(self.suspects)
         progress.end()
         files = list(dict.fromkeys([self.arguments.source, *(it.message.file for it in self.faults)]))
-        return [self.said(it) for it in sorted(self.faults, key=lambda it: (files.index(it.message.file), it.message.line or 0))]
+        return [self.said(it) for it in sorted(self.faults, key=lambda it: (files.index(it.message.file), it.message.line or 0, it.message.text))]
 
     def run(self) -> Ran:
         """Runs bin65 on the copy."""
@@ -113,13 +123,29 @@ class Search:
     def leave_out(self, message: Message, lines: List[str], at: int) -> None:
         """Leaves a line out, or a block: at first but for its label, and then the label, too."""
         first, last = leaving_out.span_of(lines, at, message.text)
-        where = f"{message.file}:{first + 1}"
-        for name in leaving_out.names_of(lines, first, last):
-            self.names.setdefault(name, where)
+        for name in leaving_out.names_of(lines, first, last) | self.names_of_call(lines[first]):
+            self.names.setdefault(name, set()).add((message.file, first + 1))
         for it in range(first, last + 1):
             times = self.steps.get((message.file, it), 0)
             lines[it] = leaving_out.left(lines[it]) if first == last and not times else ""
             self.steps[(message.file, it)] = times + 1
+
+    def names_of_call(self, line: str) -> Set[str]:
+        """The names that a call of a macro would have defined: those that it is given, and those that the macro's lines define."""
+        statement = leaving_out.statement_in(line)
+        if not statement.body or statement.body[0].kind is not Kind.NAME or statement.body[0].lower in words.MNEMONICS:
+            return set()
+        if self.tree is None:
+            first = text_of(self.arguments.source)
+            self.tree = surveyed([first, *followed([first], self.arguments.include)], self.arguments.include)
+        places = self.tree.macros.get(statement.body[0].text)
+        if places is None:
+            return set()
+        found = {it.text for it in statement.rest if it.kind is Kind.NAME}
+        for path, number in places:
+            body = text_of(path).lines
+            found |= leaving_out.names_of(body, *leaving_out.span_of(body, number - 1))
+        return found
 
     def as_it_was(self, message: Message) -> Message:
         """A message about the last line, with the number that this has in the user's file."""
@@ -180,8 +206,18 @@ class Search:
             whole = f"{it.file}:{it.at + 1}: Error: {it.said}"
             self.faults.append(Fault(Message(whole, it.file, it.at + 1, True, it.said), it.line))
             for name in leaving_out.names_of([it.line], 0, 0):
-                self.names.setdefault(name, f"{it.file}:{it.at + 1}")
+                self.names.setdefault(name, set()).add((it.file, it.at + 1))
             progress.step()
+
+    def restored(self) -> bool:
+        """Puts back lines that no run came to, but that bin65 splits into tokens all the same; False if there are none."""
+        left = [(mark, it) for mark, it in self.suspects.items() if it.said in LEXICAL]
+        for mark, it in left:
+            del self.suspects[mark]
+            self.lines_of(it.file)[it.at] = it.line
+        for file in {it.file for _, it in left}:
+            self.write(file)
+        return bool(left)
 
     # What follows from another fault.
 
@@ -200,6 +236,9 @@ class Search:
             wanted -= leaving_out.defined_by(leaving_out.statement_in(fault.line))
         if kind.endswith(" twice"):
             return ""
-        here = f"{message.file}:{message.line}"
-        places = (self.names[it] for it in sorted(wanted) if it in self.names)
-        return next((it for it in places if it != here), "")
+        line = message.line or 0
+        places = {place for name in wanted for place in self.names.get(name, ()) if place != (message.file, line)}
+        if kind not in ANYWHERE:
+            places = {it for it in places if it[0] != message.file or it[1] < line}
+        first = min(places, key=lambda it: (it[0] != message.file, it), default=None)
+        return "" if first is None else f"{first[0]}:{first[1]}"

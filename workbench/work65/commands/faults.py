@@ -32,5 +32,5 @@ def run(arguments: argparse.Namespace) -> int:
         found = search.all()
     write(None, os.fsencode("".join(f"{it}\n" for it in found)))
     if search.has_more:
-        complain(f"{arguments.source}: there are more than {MOST} faults; the rest isn't said")
+        complain(f"{arguments.source}: there are more than {MOST} errors; only the first {MOST} are shown")
     return 1 if found else 0

@@ -6,6 +6,7 @@ from typing import List, Optional, Tuple
 from work65.commands.check import said
 from work65.language import words
 from work65.language.files import walked
+from work65.language.tokens import value_of
 from work65.porting import copying, port, verdict
 from work65.porting.project import Spread
 from work65.porting.tools import Options, missing
@@ -32,12 +33,23 @@ def add_options(parser: argparse.ArgumentParser) -> None:
     add("-I", dest="include", action="append", default=[], metavar="DIR", help="where included files are looked for")
     add("--bin-include-dir", dest="data", action="append", default=[], metavar="DIR", help="where files of .incbin are looked for")
     add("-D", dest="define", action="append", default=[], metavar="NAME[=NUMBER]", help="what -D gives to ca65")
+    add("--symbol", dest="symbols", action="append", default=[], metavar="NAME=NUMBER", help="what -D gives to ld65")
     add("-t", "--target", dest="target", choices=sorted(words.TARGETS), metavar="T", help="what -t gives to ca65")
 
 
 def options_of(arguments: argparse.Namespace) -> Options:
     """What a line hands to ca65."""
-    return Options(arguments.target, arguments.include, arguments.data, arguments.define)
+    symbols = dict(_symbol(it) for it in arguments.symbols)
+    return Options(arguments.target, arguments.include, arguments.data, arguments.define, symbols)
+
+
+def _symbol(text: str) -> "Tuple[str, int]":
+    """A symbol and its number."""
+    name, _, number = text.partition("=")
+    value = value_of(number)
+    if not name.isidentifier() or value is None:
+        raise Problem(f"--symbol {text}: a name and a number belong there, as NAME=$20")
+    return name, value
 
 
 def run(arguments: argparse.Namespace) -> int:
@@ -60,7 +72,8 @@ def run(arguments: argparse.Namespace) -> int:
         originals = [it.path for it in judged.ported.project.texts.values()]
         copying.write(copying.files_of(judged.ported, options.data), arguments.folder, originals, arguments.force)
     lines: List[str] = [said(it) for it in judged.ported.findings]
-    for it in [*lines, *judged.lines, judged.last]:
+    own = [f"{os.path.join(arguments.folder, it)}: a source of its own: link it last" for it in judged.ported.project.own_sources]
+    for it in [*lines, *judged.lines, *own, judged.last]:
         print(it)
     return 1 if lines or judged.lines else 0
 

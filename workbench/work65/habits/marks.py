@@ -74,6 +74,10 @@ def statement(one: Statement, scopes: int, parameters: AbstractSet[str], tree: T
             yield from _operand(one)
         elif is_newer(one):
             yield first.text, "processor"
+    elif first.kind is Kind.CHEAP and one.rest and one.rest[0].text in ("=", ":="):
+        yield first.text, "cheap-constant"
+    elif head == "::" and len(one.rest) > 1 and one.rest[1].text in ("=", ":="):
+        yield f"::{one.rest[0].text}", "global-constant"
     elif head == "*" and one.rest and one.rest[0].text == "=":
         yield "* =", "org"
     elif head in words.LISTS:

@@ -41,9 +41,9 @@ class Segments:
 
 def short_names(statement: Statement, own: AbstractSet[str]) -> Iterator[str]:
     """The names that cc65 takes as short where the line stands in a segment of the zero page: imports without a size. A
-    `.global` of a name of the file's own is none."""
+    `.global` of a name of the file's own is none, nor any of a name that was declared as short before."""
     if statement.head not in LISTS:
         return
     for part in parts_of(statement.rest):
-        if len(part) == 1 and part[0].kind is Kind.NAME and not (statement.head == ".global" and part[0].text in own):
+        if len(part) == 1 and part[0].kind is Kind.NAME and not (statement.head != ".import" and part[0].text in own):
             yield part[0].text

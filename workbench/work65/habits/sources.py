@@ -35,6 +35,7 @@ class Places:
         self.parameters: Set[str] = set()
         self.scopes = 0
         self.segments = Segments()
+        self.short: Set[str] = set()
         self.structures: List[str] = []
         self.is_comment = False
         self.is_continued = False
@@ -50,7 +51,7 @@ def is_plain(text: str, has_escapes: bool) -> bool:
     """Whether a line is one of bin65's, opens and closes nothing, and calls no macro."""
     tokens = line_of(text, has_escapes).tokens
     shapes = tuple(map(grammar.shape_of, tokens))
-    if len(text) > LONGEST or not LOOKED_AT.isdisjoint(shapes) or grammar.wrong(shapes) is not None:
+    if len(text) > LONGEST or has_escapes and "\\" in text or not LOOKED_AT.isdisjoint(shapes) or grammar.wrong(shapes) is not None:
         return False
     return not ({"#", "(", "a", "x", "nop", "inc", "dec"} & set(shapes) and marks.is_newer(statement_of(tokens, lambda _: False)))
 
@@ -66,6 +67,7 @@ class Reader:
         self.conditions = Conditions(tree.names)
         self.calls: List[Tuple[Optional[str], str, int]] = []
         self.includes: Set[str] = set()
+        self.own: Optional[Set[str]] = None
 
     def findings(self) -> Iterator[Tuple[Optional[str], Finding]]:
         """What is found, each with the macro in whose lines it stands."""
@@ -144,6 +146,8 @@ class Reader:
                 if name not in seen:
                     seen.add(name)
                     yield token.text, BY_NAME[name], note
+            if token.kind is Kind.STRING and "\\" in token.text and "string_escapes" in self.tree.features:
+                yield token.text, BY_NAME["escapes"], ""
             if token.lower in TELLING:
                 habit = marks.habit_of(token, statement)
                 if habit.name not in seen:
@@ -152,9 +156,11 @@ class Reader:
         for word, name in marks.statement(statement, self.places.scopes, self.places.parameters, self.tree):
             if name not in seen:
                 yield word, BY_NAME[name], ""
+        if statement.head in (".importzp", ".globalzp"):
+            self.places.short |= {it.text for it in statement.rest if it.kind is Kind.NAME}
         if self.places.segments.is_zero_page and statement.head in words.LISTS and self.places.macro is None:
             own = self.own_names() if statement.head == ".global" else frozenset()
-            for word in short_names(statement, own):
+            for word in short_names(statement, own | self.places.short):
                 yield word, BY_NAME["zero-page-import"], ""
 
     def named(self, statement: Statement, files: Files) -> Iterator[Tuple[str, Habit, str]]:
@@ -169,8 +175,13 @@ class Reader:
 
     def own_names(self) -> Set[str]:
         """The names that the file defines; those of all files if it isn't a source of its own."""
-        if not self.text.path.lower().endswith((".s", ".asm", ".a65", ".s65")):
-            return self.tree.names
+        if self.own is None:
+            is_source = self.text.path.lower().endswith((".s", ".asm", ".a65", ".s65"))
+            self.own = self.defined() if is_source else self.tree.names
+        return self.own
+
+    def defined(self) -> Set[str]:
+        """The names that the lines of the file define."""
         statements = [statement_of(line_of(it).tokens, self.tree.is_macro) for it in self.text.lines]
         found = {it.label.text for it in statements if it.label is not None}
         found |= {it.body[0].text for it in statements if it.rest and it.rest[0].text in ("=", ":=")}

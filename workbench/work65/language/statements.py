@@ -49,7 +49,8 @@ def _is_bare_label(tokens: Sequence[Token], is_macro: Callable[[str], bool]) -> 
     """Whether a line begins with a label that lacks its colon."""
     first = tokens[0]
     if first.kind is Kind.CHEAP:
-        return first.start == 0 or len(tokens) > 1
+        is_definition = len(tokens) > 1 and tokens[1].lower in ("=", ":=", ".set")
+        return not is_definition and (first.start == 0 or len(tokens) > 1)
     if first.kind is not Kind.NAME or first.start > 0 or is_macro(first.text):
         return False
     if first.lower in words.MNEMONICS or first.lower in words.REGISTERS:

@@ -9,11 +9,12 @@ from work65.porting.expansion import Macro
 
 @dataclass
 class Row:
-    """A line of a file, by its number, and the lines in its place."""
+    """A line of a file, by its number, the lines in its place, and those that go before them."""
 
     number: int
     lines: List[str]
     is_dead: bool = False
+    before: List[str] = field(default_factory=list)
 
 
 @dataclass
@@ -30,13 +31,14 @@ class Define:
 @dataclass
 class Scope:
     """An open scope: its name, its first line, the names used in it, and what is put
-    behind its end."""
+    behind its end; and the constant that has its size."""
 
     name: str
     word: str
     row: Row
     path: str
     segment: str
+    size: str = ""
     used: Set[str] = field(default_factory=set)
     behind: List[str] = field(default_factory=list)
 
@@ -62,11 +64,12 @@ class Structure:
 @dataclass
 class Block:
     """An open condition: how many .endif of bin65 end it, whether its lines are assembled, and whether those of an .else are
-    (None where it isn't known)."""
+    (None where it isn't known); of an .ifndef, the name that it asks for."""
 
     ends: int = 1
     is_live: Optional[bool] = None
     is_else_live: Optional[bool] = None
+    guarded: str = ""
 
 
 @dataclass
@@ -85,9 +88,19 @@ class Context:
     sizes: Dict[str, Optional[int]] = field(default_factory=dict)
     labels: Dict[Tuple[str, ...], str] = field(default_factory=dict)
     cheap: Set[str] = field(default_factory=set)
+    cheap_before: Set[str] = field(default_factory=set)
+    cheap_used: Set[str] = field(default_factory=set)
+    cheap_constants: Dict[str, str] = field(default_factory=dict)
+    region: str = ""
+    part: int = 0
+    short_segments: Set[str] = field(default_factory=lambda: {"ZEROPAGE"})
+    hoisted: Dict[Tuple[str, ...], str] = field(default_factory=dict)
     differences: Set[str] = field(default_factory=set)
     uncertain: Set[Tuple[str, ...]] = field(default_factory=set)
+    variables: Dict[Tuple[str, ...], str] = field(default_factory=dict)
     versions: Dict[str, int] = field(default_factory=dict)
+    changing: Set[str] = field(default_factory=set)
+    seen: Set[str] = field(default_factory=set)
     macro: Optional[str] = None
     macros: Dict[str, Macro] = field(default_factory=dict)
     parameters: List[str] = field(default_factory=list)
@@ -97,6 +110,7 @@ class Context:
     zero_page: Set[str] = field(default_factory=lambda: {"ZEROPAGE", "EXTZP"})
     saved_segments: List[str] = field(default_factory=list)
     processor: str = "6502"
+    place: Optional[int] = None
 
     @property
     def path(self) -> Tuple[str, ...]:

@@ -11,15 +11,16 @@ from work65.porting.line import Unportable, commented_out, edited, text_of_token
 BEFORE = frozenset((",", "#", "(", "=", ":=", "{"))
 AFTER = frozenset((",", ")", "}"))
 UNEXPANDED = frozenset((".define", ".undefine", ".undef"))
+SIGNS = frozenset("<>=:&|*/-+")
 MOST, LONGEST = 200, 10000
 
 
-def expanded(text: str, context: Context, has_escapes: bool) -> str:
-    """A line with the defines in it replaced, as often as one comes out."""
+def expanded(text: str, context: Context, has_escapes: bool, is_whole: bool = False) -> str:
+    """A line with the defines in it replaced, as often as one comes out; as a whole, also those that are constants."""
     for _ in range(MOST):
         tokens = line_of(text, has_escapes).tokens
         skip = 2 if tokens and tokens[0].lower in UNEXPANDED else 0
-        at = next((at for at, it in enumerate(tokens) if at >= skip and _is_use(tokens, at, context)), None)
+        at = next((at for at, it in enumerate(tokens) if at >= skip and _is_use(tokens, at, context, is_whole)), None)
         if at is None:
             return text
         text = _replaced(text, tokens, at, context.defines[tokens[at].text])
@@ -28,7 +29,7 @@ def expanded(text: str, context: Context, has_escapes: bool) -> str:
     raise Unportable(tokens[0].text, "define-list", "a .define that uses itself")
 
 
-def _is_use(tokens: Sequence[Token], at: int, context: Context) -> bool:
+def _is_use(tokens: Sequence[Token], at: int, context: Context, is_whole: bool) -> bool:
     """Whether a token stands for a define that has to be replaced."""
     one = tokens[at]
     if one.kind is not Kind.NAME or one.text not in context.defines:
@@ -40,7 +41,7 @@ def _is_use(tokens: Sequence[Token], at: int, context: Context) -> bool:
         return False
     if define.is_ambiguous and not define.is_constant:
         raise Unportable(one.text, "define", "it has several values: write the constant or the text out")
-    if not define.is_constant:
+    if not define.is_constant or is_whole and not define.is_ambiguous:
         return True
     return len(define.tokens) > 1 and not _is_closed(define.tokens) and not _stands_alone(tokens, at)
 
@@ -70,7 +71,7 @@ def _stands_alone(tokens: Sequence[Token], at: int) -> bool:
 def _replaced(text: str, tokens: Sequence[Token], at: int, define: Define) -> str:
     """A line with one use replaced."""
     if define.parameters is None:
-        return edited(text, [(tokens[at].start, tokens[at].end, define.text)])
+        return edited(text, [(tokens[at].start, tokens[at].end, _apart(text, tokens[at].start, define.text))])
     values, end = _arguments(text, tokens, at, len(define.parameters))
     pieces = [
         (it.start, it.end, values[define.parameters.index(it.text)])
@@ -79,7 +80,12 @@ def _replaced(text: str, tokens: Sequence[Token], at: int, define: Define) -> st
     ]
     offset = define.tokens[0].start if define.tokens else 0
     body = edited(define.text, [(start - offset, stop - offset, new) for start, stop, new in pieces])
-    return edited(text, [(tokens[at].start, end, body)])
+    return edited(text, [(tokens[at].start, end, _apart(text, tokens[at].start, body))])
+
+
+def _apart(text: str, start: int, body: str) -> str:
+    """A define's text; behind a sign with which its first one would be another sign, with a blank."""
+    return f" {body}" if text[start - 1 : start] in SIGNS and body[:1] in SIGNS and start > 0 and body else body
 
 
 def _arguments(text: str, tokens: Sequence[Token], at: int, count: int) -> Tuple[List[str], int]:

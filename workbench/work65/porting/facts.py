@@ -7,10 +7,11 @@ from work65.language import words
 from work65.language.statements import parts_of
 from work65.language.tokens import Kind, Token, line_of
 from work65.porting.characters import has_text
+from work65.porting.long_lines import MOST_BYTES
 
 
 class Facts(NamedTuple):
-    """The tokens of a line, whether bin65 takes it as it is, its names, and whether it has text or a `*` in a list."""
+    """The tokens of a line, whether bin65 takes it as it is, its names, and whether it has text or a `*` in a list, and is too long."""
 
     tokens: Tuple[Token, ...]
     is_plain: bool
@@ -18,6 +19,7 @@ class Facts(NamedTuple):
     has_text: bool
     has_star: bool
     directives: FrozenSet[str]
+    is_long: bool
 
 
 @lru_cache(maxsize=1 << 16)
@@ -26,7 +28,7 @@ def facts_of(text: str, has_escapes: bool) -> Facts:
     tokens = line_of(text, has_escapes).tokens
     names = frozenset(it.text for it in tokens if it.kind in (Kind.NAME, Kind.CHEAP))
     directives = frozenset(it.lower for it in tokens if it.kind is Kind.DIRECTIVE)
-    return Facts(tokens, is_plain(text, has_escapes), names, has_text(tokens), _has_star(tokens), directives)
+    return Facts(tokens, is_plain(text, has_escapes), names, has_text(tokens), _has_star(tokens), directives, len(text) > MOST_BYTES)
 
 
 def _has_star(tokens: Tuple[Token, ...]) -> bool:

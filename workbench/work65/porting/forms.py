@@ -3,16 +3,15 @@ from typing import AbstractSet, Sequence
 
 from work65.language import words
 from work65.language.expression import value
-from work65.language.statements import Statement
-from work65.language.tokens import Kind, Token
+from work65.language.statements import Statement, statement_of
+from work65.language.tokens import Kind, Token, line_of
 from work65.porting.context import Context
 from work65.porting.facts import star_in
-from work65.porting.line import Unportable, edited
+from work65.porting.line import edited
 
 SHIFTS = frozenset((">>", ".shr"))
 # Instructions whose operand is no address of a byte.
 OTHERS = words.BRANCHES | {"jmp", "jsr", "brk"}
-LESS = frozenset(("-", "~"))
 # What an operand begins with that has one byte, or is no address.
 NEVER = frozenset(("#", "(", "a", "<", ">", "^", ".lobyte", ".hibyte", ".bankbyte"))
 
@@ -42,8 +41,14 @@ def absolute(text: str, statement: Statement, context: Context) -> str:
     if any(_is_used_outside(it, context) or it.text in context.differences for it in names) or is_difference(rest, context):
         if statement.head in ("stx", "sty") and rest[-1].lower in ("x", "y") and rest[-2].text == ",":
             return text
-        return edited(text, [(rest[0].start, rest[0].start, "a:")])
+        return edited(text, [(rest[0].start, rest[0].start, "a: " if rest[0].text.startswith(":") else "a:")])
     return text
+
+
+def prefixed(text: str) -> str:
+    """A line with `a:` before the operand of its instruction."""
+    rest = statement_of(line_of(text).tokens, lambda _: False).rest
+    return edited(text, [(rest[0].start, rest[0].start, "a: " if rest[0].text.startswith(":") else "a:")]) if rest else text
 
 
 def _is_scoped(rest: Sequence[Token], at: int) -> bool:
@@ -88,25 +93,4 @@ def _is_far(name: str, context: Context) -> bool:
         key = path[:depth] + (name,)
         if key in context.labels:
             return context.labels[key] not in context.zero_page and context.constants.get(key) is None
-    return False
-
-
-def shifted(statement: Statement, context: Context) -> None:
-    """Refuses a shift to the right of what may be negative."""
-    body = statement.body
-    for at, it in enumerate(body):
-        if it.lower in SHIFTS and _may_be_negative(body[:at], context):
-            raise Unportable(it.text, "form", "a shift of a negative number gives other bytes: divide where the remainder is 0")
-
-
-def _may_be_negative(before: Sequence[Token], context: Context) -> bool:
-    """Whether what stands before a shift has a sign, or a constant below 0."""
-    last = ""
-    for it in before:
-        if it.text in LESS and (last in ("", "(", ",", "#") or last in words.INFIX_WORDS or last in "+-*/|&^<>=~!"):
-            return True
-        found = value((it,), context.value) if it.kind is Kind.NAME else None
-        if found is not None and found < 0:
-            return True
-        last = it.lower
     return False

@@ -19,16 +19,19 @@ PROCESSORS = {"6502": "2"}
 class Folder:
     """Replaces functions of one line, the innermost first."""
 
-    def __init__(self, context: Context, sized: Callable[[str], Optional[str]], is_target_name: Callable[[str], Optional[bool]]) -> None:
+    def __init__(self, context: Context, sized: Callable[[str], Optional[str]], is_defined: Callable[[str], Optional[bool]],
+                 bank: Callable[[str], Optional[int]]) -> None:
         self.context = context
+        self.bank = bank
         self.sized = sized
-        self.is_target_name = is_target_name
-        self.is_asked = False
+        self.is_defined = is_defined
+        self.is_asked = self.is_in_braces = False
         self.calls: Dict[str, Callable[[str, List[Part]], Optional[str]]] = {
             ".sizeof": self.sizeof, ".strlen": self.strlen, ".strat": self.strat, ".concat": self.concat, ".string": self.string,
             ".sprintf": self.sprintf, ".ident": self.ident, ".min": self.least, ".max": self.least, ".loword": self.word,
             ".hiword": self.word, ".defined": self.defined, ".def": self.defined, ".match": self.match, ".xmatch": self.match,
-            ".tcount": self.count, ".left": self.some, ".right": self.some, ".mid": self.some, ".blank": self.blank,
+            ".tcount": self.count, ".left": self.some, ".right": self.some, ".mid": self.some, ".blank": self.blank, ".const": self.const,
+            ".bank": self.bank_of,
         }
         self.name = ""
 
@@ -71,6 +74,8 @@ class Folder:
             if end is None:
                 continue
             self.name = tokens[at].lower
+            before = [it.text for it in tokens[:at]]
+            self.is_in_braces = before.count("{") > before.count("}")
             new = call(text, parts)
             if new is not None:
                 return edited(text, [(tokens[at].start, tokens[end].end, new)])
@@ -142,7 +147,7 @@ class Folder:
         if re.search(r"%[^%dsxXcou0-9.\-]", form):
             return None
         try:
-            return _quoted(re.sub("%([0-9.-]*)u", r"%\1d", form) % tuple(values))
+            return _quoted(re.sub("%([0-9.-]*)u", r"%\1d", form) % tuple(_unsigned(form, values)))
         except (TypeError, ValueError):
             return None
 
@@ -161,15 +166,38 @@ class Folder:
     def defined(self, text: str, parts: List[Part]) -> Optional[str]:
         """Whether a name that targets define is there."""
         is_name = len(parts) == 1 and len(parts[0]) == 1 and not self.is_asked
-        known = self.is_target_name(parts[0][0].text) if is_name else None
+        known = self.is_defined(parts[0][0].text) if is_name else None
         return None if known is None else str(int(known))
+
+    def const(self, text: str, parts: List[Part]) -> Optional[str]:
+        """Whether an expression is constant, where that is sure: numbers and constants are, and a label of this scope alone isn't."""
+        if len(parts) != 1 or self.has_open(parts):
+            return None
+        if value(parts[0], self.context.certain) is not None:
+            return "1"
+        key = self.context.path + (parts[0][0].text,) if len(parts[0]) == 1 else ()
+        return "0" if self.context.labels.get(key) and key not in self.context.constants else None
 
     def match(self, text: str, parts: List[Part]) -> Optional[str]:
         """Whether two lists of tokens have the same kinds."""
         if len(parts) != 2 or any(it.text in self.context.parameters or it.kind is Kind.DIRECTIVE for part in parts for it in part):
             return None
-        one, other = ([_kind_of(it, self.name == ".xmatch") for it in part] for part in parts)
+        one, other = ([_kind_of(it, self.name == ".xmatch") for it in part if it.text not in "{}"] for part in parts)
         return str(int(one == other))
+
+    def bank_of(self, text: str, parts: List[Part]) -> Optional[str]:
+        """The bank of the area in which an address lies."""
+        part = parts[0] if len(parts) == 1 else ()
+        names = [at for at, it in enumerate(part) if it.kind is Kind.NAME or it.text == "*"]
+        if not names or self.has_open(parts):
+            return None
+        name, end = scoped_name(part, names[0] - (names[0] > 0 and part[names[0] - 1].text == "::"))
+        if part[names[0]].text == "*":
+            name, end = "*", names[0] + 1
+        if any(it.kind is not Kind.NUMBER and it.text not in "+-" for it in part[end:]) or names[0] > 1:
+            return None
+        found = self.bank(name)
+        return None if found is None else str(found)
 
     def has_open(self, parts: List[Part]) -> bool:
         """Whether tokens aren't yet what they will be."""
@@ -190,7 +218,10 @@ class Folder:
             tokens = tokens[max(0, len(tokens) - known[0]) :]
         else:
             tokens = tokens[known[0] : known[0] + known[1]]
-        return "{" + text_of_tokens(text, tokens) + "}"
+        found = text_of_tokens(text, tokens)
+        texts = [it.text for it in tokens]
+        is_whole = "," not in texts and texts.count("(") == texts.count(")")
+        return found if is_whole or self.is_in_braces else "{" + found + "}"
 
     def blank(self, text: str, parts: List[Part]) -> Optional[str]:
         """Whether a list has no tokens."""
@@ -215,7 +246,7 @@ class Folder:
 FUNCTIONS = frozenset(
     (".sizeof", ".strlen", ".strat", ".concat", ".string", ".sprintf", ".ident", ".min", ".max", ".loword", ".hiword",
      ".defined", ".def", ".match", ".xmatch", ".tcount",
-     ".left", ".right", ".mid", ".blank")
+     ".left", ".right", ".mid", ".blank", ".const", ".bank")
 )
 
 
@@ -224,9 +255,20 @@ def _kind_of(it: Token, is_exact: bool) -> Tuple[str, str]:
     if it.kind is Kind.NAME:
         is_register = it.lower in words.REGISTERS
         return ("register", it.lower) if is_register else ("name", it.text if is_exact else "")
-    if it.kind in (Kind.NUMBER, Kind.STRING, Kind.CHARACTER, Kind.CHEAP):
+    if it.kind is Kind.NUMBER or it.kind is Kind.CHARACTER and is_closed(it):
+        number = value((it,), lambda _: None)
+        return it.kind.value, str(number) if is_exact and number is not None else it.text if is_exact else ""
+    if it.kind is Kind.UNNAMED:
+        return it.kind.value, ""
+    if it.kind in (Kind.STRING, Kind.CHARACTER, Kind.CHEAP):
         return it.kind.value, it.text if is_exact else ""
     return it.kind.value, it.lower
+
+
+def _unsigned(form: str, values: List[object]) -> List[object]:
+    """The values for a form, with those of 64 bits that it shows without a sign."""
+    kinds = [it[-1] for it in re.findall(r"%[0-9.-]*[a-zA-Z]", form.replace("%%", ""))]
+    return [it & (1 << 64) - 1 if isinstance(it, int) and kind in "xXou" else it for it, kind in zip(values, kinds)]
 
 
 def _quoted(text: str) -> Optional[str]:

@@ -4,17 +4,21 @@ from typing import Dict, FrozenSet, List, Optional, Sequence, Tuple
 
 from work65.language import words
 from work65.language.expression import value
-from work65.language.statements import Statement, statement_of
+from work65.language.statements import Statement, parts_of, statement_of
 from work65.language.tokens import Kind, Token, line_of
-from work65.porting import conditions, defines
 from work65.porting.characters import of_target
 from work65.porting.context import Context, Row
 from work65.porting.functions import Folder
-from work65.porting.line import Unportable, edited, replaced
+from work65.porting.line import Unportable
 from work65.porting.logical import Logical
-from work65.porting import forms, spelling
-from work65.porting.expansion import hard_macros
+from work65.porting import forms
+from work65.porting.expansion import HARD, Macro, hard_macros
 from work65.porting.project import Project
+
+BYTES = words.MNEMONICS | words.DATA | {".asciiz", ".tag", ".faraddr", ".lobytes", ".hibytes", ".bankbytes"}
+PLACING = words.MNEMONICS | words.PLACING | words.UNDOCUMENTED | {".proc"}
+# What asks for names and uses none.
+ASKING = frozenset((".ifdef", ".ifndef", ".ifblank", ".ifnblank"))
 
 
 class Known:
@@ -25,7 +29,7 @@ class Known:
         self.module = module
         self.context = Context(of_target(project.target), set(project.features(module)))
         self.context.size_name = project.size_name
-        self.folder = Folder(self.context, self.sized, project.is_target_name)
+        self.folder = Folder(self.context, self.sized, self.is_defined, self.bank)
         self.sizes: Dict[Tuple[str, ...], str] = {}
         self.depth = 0
         self.rows: List[Row] = []
@@ -34,19 +38,27 @@ class Known:
         self.others: Optional[Tuple[List[Logical], Dict[int, List[str]]]] = None
         self.screen = ""
         self.given: Dict[int, int] = {}
-        self.hard_key: Tuple[int, int, str] = (0, 0, "")
+        self.expanding = self.number = 0
+        self.hard_key: Tuple[int, int, str, int] = (0, 0, "", 0)
         self.hard_names: FrozenSet[str] = frozenset()
         self.deferred: List[Tuple[str, str, int, Unportable]] = []
 
     @property
     def hard(self) -> FrozenSet[str]:
         """The macros that have to be written out."""
-        macros, project = self.context.macros, self.project
-        key = (len(macros), sum(len(it.lines) for it in macros.values()), self.screen)
+        macros, defines, project = self.context.macros, self.context.defines, self.project
+        key = (len(macros), sum(len(it.lines) for it in macros.values()), self.screen, len(defines))
         if key != self.hard_key:
-            also = frozenset(("scrcode",)) if self.screen else frozenset()
-            self.hard_key, self.hard_names = key, hard_macros(macros, also, project.spread.macros if project.is_measured else None)
+            also = {name for name, it in defines.items() if any(one.lower in HARD for one in it.tokens)}
+            spread = project.spread.macros if project.is_measured else None
+            self.hard_key = key
+            self.hard_names = hard_macros(macros, frozenset(also | ({"scrcode"} if self.screen else set())), spread)
         return self.hard_names
+
+    @property
+    def has_escapes(self) -> bool:
+        """Whether a backslash in a string takes the next character with it."""
+        return "string_escapes" in self.context.features
 
     def cannot(self, number: int, why: Unportable) -> None:
         """Notes a line that can't be brought over; that of a macro counts only where a call of it stays."""
@@ -55,6 +67,18 @@ class Known:
         else:
             self.deferred.append((self.context.macro, self.path, number, why))
 
+    def bank(self, name: str) -> Optional[int]:
+        """The bank that the script gives to the area in which a label lies."""
+        places, path = self.project.label_segments.get(self.module, {}), self.context.path
+        parts = tuple(it for it in name.split("::") if it)
+        segment = self.context.segment if name == "*" else None
+        for depth in range(0 if name.startswith("::") else len(path), -1, -1):
+            segment = segment or places.get(path[:depth] + parts)
+        if segment is None:
+            others = {it[parts] for it in self.project.label_segments.values() if it.get(parts)}
+            segment = others.pop() if len(others) == 1 else None
+        return None if segment is None else self.project.banks.get(segment)
+
     def unique(self, at: int) -> str:
         """A name that no other line has, nor this one a second time."""
         number = self.lines[at].number
@@ -62,26 +86,19 @@ class Known:
         again = f"_{self.given[number]}" if self.given[number] > 1 else ""
         return f"{os.path.basename(self.path)}_{number}{again}"
 
-    def truth(self, tokens: Sequence[Token]) -> Optional[bool]:
-        """Whether an expression is true, where it is the same in every assembly."""
-        found = self.number(tokens)
-        return None if found is None else found != 0
-
-    def number(self, tokens: Sequence[Token]) -> Optional[int]:
-        """The value of an expression, where it is the same in every assembly."""
-        text = spelling.with_codes(" ".join(it.text for it in tokens), self.context)
-        folded = self.folder.folded(text, frozenset(it.lower for it in tokens), is_asked=False)
-        return value(line_of(folded).tokens, self.context.certain)
-
-    def answer(self, statement: Statement) -> Optional[bool]:
-        """What a condition comes to, where that is the same in every assembly."""
-        head, rest = statement.head, statement.rest
-        if head in conditions.PROCESSORS and self.context.processor == "6502":
-            return conditions.PROCESSORS[head] == 1
-        if head in (".ifdef", ".ifndef") and len(rest) == 1:
-            known = self.project.is_target_name(rest[0].text)
-            return None if known is None else known == (head == ".ifdef")
-        return self.truth(rest) if head == ".if" else None
+    def is_defined(self, name: str) -> Optional[bool]:
+        """Whether a name is defined here, where that is so in every assembly; a scope that has used the name hides it, as in cc65."""
+        known = self.project.is_target_name(name)
+        if known is not None:
+            return known
+        context, path = self.context, self.context.path
+        for depth in range(len(path), -1, -1):
+            key = path[:depth] + (name,)
+            if key in context.variables or key in context.labels and key not in context.uncertain:
+                return True
+            if depth and name in context.scopes[depth - 1].used or key in context.labels:
+                return None
+        return None
 
     def note(self, statement: Statement) -> None:
         """Notes what a line defines, opens and closes."""
@@ -89,8 +106,7 @@ class Known:
         if context.macro is not None:
             return
         if statement.label is not None and statement.label.kind is Kind.NAME:
-            context.labels[context.path + (statement.label.text,)] = context.segment
-            context.cheap = set()
+            self.note_label(statement.label.text)
         elif statement.label is not None and statement.label.kind is Kind.CHEAP:
             context.cheap.add(statement.label.text)
         if rest and rest[0].text in ("=", ":=") and statement.body[0].kind is Kind.NAME:
@@ -101,10 +117,53 @@ class Known:
             context.repeats.pop()
         else:
             self.note_segment(statement)
+        if statement.label is not None or head in PLACING or statement.body and statement.body[0].text in context.macros:
+            self.note_place(statement)
+        if head in ASKING:
+            return
+        called = context.macros.get(statement.body[0].text) if statement.body else None
+        if called is not None:
+            self.note_call(called, rest)
         if context.scopes:
-            context.scopes[-1].used |= {it.text for it in rest if it.kind is Kind.NAME and it.lower not in words.REGISTERS}
-            if statement.body and statement.body[0].text in context.macros:
-                context.scopes[-1].used |= context.macros[statement.body[0].text].names
+            used = context.scopes[-1].used
+            names = {it.text for at, it in enumerate(rest) if it.kind is Kind.NAME and not _is_asked(rest, at)}
+            used |= {it for it in names if it.lower() not in words.REGISTERS} - context.defines.keys()
+            if called is not None:
+                used |= called.names - context.defines.keys()
+
+    def note_place(self, statement: Statement) -> None:
+        """Notes that the segment has something, and whether it surely has bytes."""
+        project, segment, head = self.project, self.context.segment, statement.head
+        if not all(it.is_live is True for it in self.context.blocks):
+            project.segments_perhaps.add(segment)
+            return
+        project.segments_there.add(segment)
+        room = value(parts_of(statement.rest)[0], self.context.value) if head == ".res" and statement.rest else None
+        if head in BYTES or room:
+            project.segments.add(segment)
+
+    def note_label(self, name: str) -> None:
+        """Notes a label, at which a region of cheap labels begins."""
+        context = self.context
+        key = context.path + (name,)
+        context.labels[key] = context.segment
+        if self.is_uncertain(name):
+            context.uncertain.add(key)
+        context.cheap, context.cheap_before, context.cheap_used = set(), set(), set()
+        context.cheap_constants, context.region, context.part = {}, name, 0
+
+    def note_call(self, called: Macro, rest: Sequence[Token]) -> None:
+        """Notes the labels that a call defines which stays."""
+        given = dict(zip(called.parameters, (it[0].text if len(it) == 1 else "" for it in parts_of(rest))))
+        for name in called.labels:
+            name = given.get(name, name)
+            if name and name not in called.locals and name[0] != "@" and name[0] != ":":
+                self.note_label(name)
+
+    def is_uncertain(self, name: str) -> bool:
+        """Whether what is defined here may not be, or be another thing, in another assembly. In its own .ifndef a name is sure."""
+        open_blocks = [it for it in self.context.blocks if it.is_live is None]
+        return name in self.project.names or any(it.guarded != name for it in open_blocks)
 
     def note_constant(self, name: str, tokens: Sequence[Token]) -> None:
         """Notes a constant, and whether its value is the same in every assembly."""
@@ -114,10 +173,17 @@ class Known:
         if found is None and forms.is_difference(tokens, context):
             context.differences.add(name)
         context.constants[key] = found if context.constants.get(key, found) == found else None
-        if any(it.is_live is None for it in context.blocks) or name in self.project.names:
+        if self.is_uncertain(name) or found is not None and value(tokens, context.certain) is None:
             context.uncertain.add(key)
         context.labels.setdefault(key, forms.segment_of(tokens, context))
+        self.end_part()
+
+    def end_part(self) -> None:
+        """Notes that a constant ends the region of cheap labels for cc65, though not for bin65."""
+        context = self.context
+        context.cheap_before |= context.cheap
         context.cheap = set()
+        context.part += 1
 
     def note_segment(self, statement: Statement) -> None:
         """Notes which segment follows."""
@@ -128,46 +194,32 @@ class Known:
             context.segment = statement.rest[0].text.strip('"')
             if statement.rest[-1].lower in ("zeropage", "zp", "direct"):
                 context.zero_page.add(context.segment)
+                context.short_segments.add(context.segment)
         elif head == ".pushseg":
             context.saved_segments.append(context.segment)
         elif head == ".popseg" and context.saved_segments:
             context.segment = context.saved_segments.pop()
 
     def keep_line(self, text: str) -> None:
-        """Keeps a line of a macro, for calls that are written out."""
+        """Keeps a line of a macro as it stands, for calls that are written out."""
         context = self.context
         if context.macro is not None and context.macro in context.macros:
-            if statement_of(line_of(text).tokens, lambda _: False).head not in words.MACRO_ENDS:
-                context.macros[context.macro].add(text)
-
-    def renamed(self, text: str) -> str:
-        """A line with names replaced: cheap ones of a .local, and those that .set changes."""
-        context = self.context
-        if not context.locals and not context.versions:
-            return text
-        edits = []
-        for it in line_of(text, "string_escapes" in context.features).tokens:
-            if it.text in context.locals:
-                edits.append((it.start, it.end, self.plain(it.text)))
-            elif it.kind is Kind.NAME and it.text in context.versions and not _is_set(text, it.end):
-                if context.macro is not None:
-                    raise Unportable(it.text, "set", "a macro uses it: give its value as an argument")
-                edits.append((it.start, it.end, f"{it.text}_set{context.versions[it.text]}"))
-        return edited(text, edits)
-
-    def plain(self, name: str) -> str:
-        return f"local_{name.lstrip('@')}"
+            if statement_of(line_of(text, self.has_escapes).tokens, lambda _: False).head not in words.MACRO_ENDS:
+                context.macros[context.macro].add(text, self.has_escapes)
 
     def sized(self, name: str) -> Optional[str]:
         """The constant that has the size of a label or scope."""
         parts = tuple(it for it in name.split("::") if it)
         path = self.context.path
         for depth in range(0 if name.startswith("::") else len(path), -1, -1):
-            if path[:depth] + parts in self.sizes:
-                return "::".join([*name.split("::")[:-1], self.sizes[path[:depth] + parts]])
+            size = self.sizes.get(path[:depth] + parts)
+            if size == "0":
+                return size
+            if size is not None:
+                return "::".join([*name.split("::")[:-1], size])
         return None
 
 
-def _is_set(text: str, end: int) -> bool:
-    """Whether .set follows."""
-    return text[end:].lstrip().lower().startswith(".set")
+def _is_asked(tokens: Sequence[Token], at: int) -> bool:
+    """Whether a name is only asked for."""
+    return at > 1 and tokens[at - 1].text == "(" and tokens[at - 2].lower in (".defined", ".def")

@@ -9,6 +9,7 @@ from work65.porting.line import Unportable, replaced, text_of_tokens
 
 SHORT = frozenset(("zp", "zeropage", "direct"))
 LONG = frozenset(("abs", "absolute", "near"))
+SHORT_IMPORTS = {".import": ".importzp", ".global": ".globalzp"}
 ZERO_PAGE = {".import": ".importzp", ".global": ".globalzp", ".export": ".exportzp"}
 
 
@@ -20,9 +21,9 @@ class Names:
     by_word: Dict[str, List[str]] = field(default_factory=dict)
 
 
-def listed(text: str, statement: Statement, context: Context) -> List[str]:
+def listed(text: str, statement: Statement, context: Context, own: Sequence[str]) -> List[str]:
     """A list that stands outside of all scopes."""
-    names = read(text, statement)
+    names = read(text, statement, context, own)
     if not names.definitions and list(names.by_word) == [statement.head]:
         if all(len(it) == 1 for it in parts_of(statement.rest)):
             return [text]
@@ -33,13 +34,19 @@ def _directives(names: Names) -> List[str]:
     return [f"{word} {', '.join(it)}" for word, it in names.by_word.items()]
 
 
-def read(text: str, statement: Statement) -> Names:
-    """The names of a list with what stands behind each."""
+def read(text: str, statement: Statement, context: Context, own: Sequence[str]) -> Names:
+    """The names of a list with what stands behind each. While a segment of the zero page is open, an import is short where nothing
+    else is said; a name of the module's own isn't."""
     found = Names()
+    is_short = context.segment in context.short_segments and context.macro is None
     for part in parts_of(statement.rest):
         if not part or part[0].kind is not Kind.NAME:
             raise Unportable(statement.body[0].text, "size-behind", "no name stands here")
         word = _word(text, statement.head, part, found)
+        if is_short and len(part) == 1 and part[0].text not in own:
+            if word == ".forceimport":
+                found.by_word.setdefault(".importzp", []).append(part[0].text)
+            word = SHORT_IMPORTS.get(word, word)
         found.by_word.setdefault(word, []).append(part[0].text)
     return found
 
@@ -67,11 +74,12 @@ class Hoisted:
     before: List[str] = field(default_factory=list)
     behind: List[str] = field(default_factory=list)
     inside: List[str] = field(default_factory=list)
+    imported: List[str] = field(default_factory=list)
 
 
 def hoisted(text: str, statement: Statement, context: Context, is_global: Sequence[str]) -> Hoisted:
     """A list within scopes: imports go before them, exports of names of the scope behind."""
-    names = read(text, statement)
+    names = read(text, statement, context, is_global)
     found = Hoisted(inside=list(names.definitions))
     if not all(it.name for it in context.scopes):
         raise Unportable(statement.body[0].text, "in-scope", "a scope without a name is reached by nobody")
@@ -82,6 +90,7 @@ def hoisted(text: str, statement: Statement, context: Context, is_global: Sequen
                 if name in is_global:
                     raise Unportable(name, "in-scope", "the name is another one outside of the scope")
                 found.before.append(f"{word} {name}")
+                found.imported.append(name)
             elif word in (".export", ".exportzp"):
                 found.behind += _exported(word, name, context, is_global)
             else:

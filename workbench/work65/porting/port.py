@@ -6,16 +6,21 @@ from typing import Dict, Iterator, List, Optional, Sequence, Tuple
 
 from work65.habits import scripts as script_habits
 from work65.habits import sources as source_habits
-from work65.habits.habit import Finding
+from work65.habits.habit import Finding, Habit
 from work65.language import words
 from work65.language.files import Text, text_of
-from work65.language.tree import surveyed
-from work65.porting import packages, scripts
+from work65.language.tokens import line_of
+from work65.language.tree import Tree, surveyed
+from work65.porting import condes, packages, scripts
 from work65.porting.leaves import Line
 from work65.porting.project import OWN, Project, Spread
+from work65.porting.script_rows import Said, Usage
 from work65.porting.tools import Options
 from work65.porting.walk import Walk
 from work65.progress import Progress
+
+# What is said of rows that cc65 places otherwise. `work65 check` doesn't find it: it is seen in sources and script together.
+PLACE = Habit("script-place", "", "A row with `align`, `start` or `offset` whose segment nobody uses", "")
 
 
 # How many calls are open at once where files include each other as deep as they may.
@@ -33,7 +38,7 @@ def read_project(paths: Sequence[str], options: Options) -> Project:
         progress.step()
     progress.end()
     names = frozenset(it.split("=")[0] for it in options.define)
-    return Project(base, texts, [os.path.abspath(it) for it in options.include], options.target, names)
+    return Project(base, texts, [os.path.abspath(it) for it in options.include], options.target, names, symbols=dict(options.symbols))
 
 
 @dataclass
@@ -62,39 +67,71 @@ class Ported:
         return f"{path}:{number}" if line is None else f"{self.project.texts[line.path].path}:{line.number}"
 
 
-def ported(project: Project, is_measured: bool = False, spread: Optional[Spread] = None) -> Ported:
-    """Brings all files over. Where forms are measured later, none is guessed; `spread` is what has to be written out by then."""
+def ported(project: Project, is_measured: bool = False, spread: Optional[Spread] = None, given: Sequence[Text] = ()) -> Ported:
+    """Brings all files over. Where forms are measured later, none is guessed; `spread` is what has to be written out by then, and
+    `given` are scripts that aren't in the tree."""
     project.is_measured, project.spread = is_measured, spread or Spread()
-    all_scripts = {path: it for path, it in project.texts.items() if it.is_script}
+    project.scripts = {path: it for path, it in project.texts.items() if it.is_script}
     project.texts = {path: it for path, it in project.texts.items() if not it.is_script}
     project.survey()
-    project.scripts = all_scripts
-    modules = project.modules_walked = project.modules()
+    project.modules_walked = project.modules()
     sys.setrecursionlimit(max(sys.getrecursionlimit(), FRAMES))
-    progress = Progress("sources", len(modules))
-    for it in modules:
-        Walk(project, it).whole()
+    all_scripts = [*project.scripts.values(), *given]
+    if len(all_scripts) == 1 and project.has_banks():
+        project.banks = scripts.banks_of(all_scripts[0])
+        project.label_segments = _walk(project)
+        project.forget()
+    _walk(project)
+    found, origins = _written(project)
+    _add_tables(project, all_scripts, found, origins)
+    findings = list(project.findings.values()) + list(_left(project, found, origins))
+    for path, text in project.scripts.items():
+        found[path] = _as_text(path, *script_lines(project, text, findings))
+    unique = {(it.path, it.line): it for it in reversed(findings)}
+    return Ported(project, found, origins, sorted(unique.values(), key=lambda it: (it.path, it.line)))
+
+
+def script_lines(project: Project, text: Text, findings: List[Finding]) -> "Tuple[List[str], Text]":
+    """The lines of a script for bin65, for the sources of the tree; what can't be brought over is added to the findings."""
+    usage = Usage(project.segments, project.segments_there, project.segments_perhaps, project.words, bool(project.modules_walked))
+    lines, said = scripts.ported(text, usage, project.symbols)
+    findings += [Finding(text.path, word.line, word.text, PLACE, note) for word, note in said]
+    left = script_habits.found_in(_as_text(text.path, lines, text))
+    findings += [Finding(text.path, it.line, it.word, it.habit, it.note) for it in left]
+    return lines, text
+
+
+def _walk(project: Project) -> Dict[str, Dict[Tuple[str, ...], str]]:
+    """Walks all modules; answers in which segment each label of each lies."""
+    progress, found = Progress("sources", len(project.modules_walked)), {}
+    for it in project.modules_walked:
+        walk = Walk(project, it)
+        walk.whole()
+        found[it] = {key: segment for key, segment in walk.context.labels.items() if segment}
         progress.step()
     progress.end()
     for path in list(project.texts):
         if path not in project.outputs:
             Walk(project, path).whole()
-    found, origins = _written(project)
-    findings = list(project.findings.values()) + list(_left(project, found, origins))
-    for path, text in all_scripts.items():
-        found[path] = _as_text(path, scripts.ported(text), text)
-        findings += [_moved(it, text.path) for it in script_habits.found_in(found[path])]
-    unique = {(it.path, it.line): it for it in reversed(findings)}
-    return Ported(project, found, origins, sorted(unique.values(), key=lambda it: (it.path, it.line)))
+    return found
+
+
+def _add_tables(project: Project, all_scripts: Sequence[Text], found: Dict[str, Text], origins: Dict[str, List[int]]) -> None:
+    """The tables of .constructor and its like, as a source of their own."""
+    tables = [it for text in all_scripts for it in condes.tables_of(text)]
+    lines = condes.source(tables, project.entries, project.texts.values())
+    if not lines:
+        return
+    path = os.path.join(OWN, "condes.s")
+    found[path], origins[path] = Text(path, lines, ["\n"] * len(lines)), [0] * len(lines)
+    project.own_sources = [path]
+    for place, number, why in project.doubtful:
+        project.cannot(place, number, why)
 
 
 def _as_text(path: str, lines: List[str], like: Text) -> Text:
     end = next((it for it in like.ends if it), "\n")
     return Text(path, lines, [end] * len(lines))
-
-
-def _moved(it: Finding, path: str) -> Finding:
-    return Finding(path, it.line, it.word, it.habit, it.note)
 
 
 def _written(project: Project) -> "Tuple[Dict[str, Text], Dict[str, List[int]]]":
@@ -103,7 +140,7 @@ def _written(project: Project) -> "Tuple[Dict[str, Text], Dict[str, List[int]]]"
     origins: Dict[str, List[int]] = {}
     for path, rows in project.outputs.items():
         lines, numbers = [], []
-        own = [(0 if row.is_dead else row.number, line) for row in rows for line in row.lines]
+        own = [(0 if row.is_dead else row.number, line) for row in rows for line in (*row.before, *row.lines)]
         for number, it in [*_target_lines(project, path), *own]:
             lines.append(it)
             numbers.append(number)
@@ -131,10 +168,18 @@ def _left(project: Project, found: Dict[str, Text], origins: Dict[str, List[int]
     names = words.defined_by(project.target) | project.names
     tree = surveyed(found.values(), (), names)
     tree.features.discard("string_escapes")
-    for it in source_habits.found_in(list(found.values()), tree):
+    for it in source_habits.found_in([_without_dead_calls(it, origins[it.path], tree) for it in found.values()], tree):
         numbers = origins[it.path]
         if numbers[min(it.line, len(numbers)) - 1] == 0:
             continue
         original = project.texts[it.path].path if it.path in project.texts else it.path
         yield Finding(original, numbers[min(it.line, len(numbers)) - 1], it.word, it.habit, it.note)
 
+
+def _without_dead_calls(text: Text, numbers: List[int], tree: Tree) -> Text:
+    """A file without the calls that no assembly reaches, so that the lines of their macros don't count for them."""
+    lines = list(text.lines)
+    for at, number in enumerate(numbers):
+        if number == 0 and any(it.text in tree.macros for it in line_of(lines[at]).tokens[:3]):
+            lines[at] = ""
+    return Text(text.path, lines, text.ends)

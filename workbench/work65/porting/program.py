@@ -1,16 +1,15 @@
 """A program of cc65's, built by its own tools as it stands and by bin65 from a copy within the profile; the images are compared."""
 import os
-from dataclasses import dataclass, field
+from dataclasses import dataclass, field, replace
 from typing import Dict, List, Optional, Sequence, Union
 
 from work65.commands.check import said
-from work65.habits import scripts as script_habits
 from work65.habits.habit import Finding
 from work65.language.files import Text, text_of
-from work65.porting import known_differences, scripts
+from work65.porting import filling, known_differences
 from work65.porting.difference import difference, first_file
 from work65.porting.measuring import FORMS, Measure, Pair
-from work65.porting.port import Ported, ported, read_project
+from work65.porting.port import Ported, ported, read_project, script_lines
 from work65.porting.project import Spread
 from work65.porting.tools import Linked, Options, Refused
 from work65.porting.verdict import Judge
@@ -57,7 +56,7 @@ class Comparison:
         paths = [*line.sources, *(it for library in line.libraries for it in library.members)]
 
         def port(spread: Spread) -> Ported:
-            return ported(read_project(paths, line.options), has_cc65, spread)
+            return ported(read_project(paths, line.options), has_cc65, spread, [self.script])
 
         self.verifier = Verifier(program, line.options, room, port)
         base = self.verifier.ported.project.base
@@ -65,7 +64,9 @@ class Comparison:
         def keys(names: Sequence[str]) -> List[str]:
             return [os.path.relpath(os.path.abspath(it), base) for it in names]
 
-        theirs, ours = (with_lines(self.script, it) for it in (self.script.lines, scripts.ported(self.script)))
+        self.left: List[Finding] = []
+        lines, _ = script_lines(self.verifier.ported.project, self.script, self.left)
+        theirs, ours = (with_lines(self.script, it) for it in (self.script.lines, lines))
         libraries = [Library(it.name, keys(it.members)) for it in line.libraries]
         self.whole = Whole(theirs, ours, keys(line.sources), libraries)
 
@@ -87,11 +88,28 @@ class Comparison:
             bin65 = self.ours()
         if isinstance(bin65, Refused):
             return Answer(self.refused(bin65), NOT_COMPARED)
+        notes: List[str] = []
+        if not self.is_same(cc65, bin65):
+            bin65 = self.filled(cc65, bin65, notes)
         if self.is_same(cc65, bin65):
-            return Answer([f"the same image: {self.named(name)}, {len(data)} bytes" for name, data in cc65.files.items()])
+            return Answer([f"the same image: {self.named(name)}, {len(data)} bytes" for name, data in cc65.files.items()] + notes)
         differs = difference(cc65, bin65, self.verifier.finder(self.whole, bin65))
         heading = known_differences.heading(self.script, bin65, differs)
-        return Answer([differs, *([f"MIGRATING: {heading}"] if heading else [])], OTHER)
+        causes = [f"MIGRATING: {heading}"] if heading else []
+        return Answer([differs, *causes, *(said(it) for it in self.verifier.ported.findings)], OTHER)
+
+    def filled(self, cc65: Linked, bin65: Linked, notes: List[str]) -> Linked:
+        """The link with areas filled up to rows that nobody uses, where that makes the images the same; each row is noted."""
+        found = filling.filled(self.whole.ours, cc65, bin65)
+        if found is None:
+            return bin65
+        before, self.whole = self.whole, replace(self.whole, ours=found[0])
+        again = self.ours()
+        if isinstance(again, Linked) and self.is_same(cc65, again):
+            notes += [f"{self.line.script}: {it} has no bytes: bin65's file is filled up to it (MIGRATING: {known_differences.UNUSED})" for it in found[1]]
+            return again
+        self.whole = before
+        return bin65
 
     def is_mended(self, cc65: Linked, bin65: Linked) -> bool:
         """Whether an instruction took the other form at the first byte that differs, and has it now."""
@@ -136,14 +154,8 @@ class Comparison:
     def refused(self, why: Refused) -> List[str]:
         """The places that can't be brought over; where none was seen, what bin65 says of the copy."""
         copy = self.verifier.ported
-        found = [said(it) for it in [*copy.findings, *self.script_findings()]]
+        found = [said(it) for it in [*copy.findings, *self.left]]
         if found:
             return found
         text = str(why)
         return [Judge(self.verifier).translated(text) if not text.startswith("script:") else f"{self.line.script}{text[6:]}"]
-
-    def script_findings(self) -> List[Finding]:
-        """What can't be brought over of the script."""
-        lines = scripts.ported(self.script)
-        return script_habits.found_in(Text(self.line.script, lines, ["\n"] * len(lines)))
-

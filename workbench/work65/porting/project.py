@@ -1,5 +1,6 @@
 """The tree that is ported: its files, how they include each other, what they become, and what can't be brought over."""
 import os
+import re
 from dataclasses import dataclass, field
 from typing import Dict, FrozenSet, List, Optional, Sequence, Set, Tuple
 
@@ -18,6 +19,8 @@ from work65.porting.logical import Logical, logical_lines
 from work65.sources import path_of_bytes
 
 OWN = "work65"
+BANK = re.compile(r"\.bank\b", re.I)
+WORD = re.compile(r"[A-Za-z_]\w*", re.A)
 ALL_TARGET_NAMES = frozenset().union(*map(words.defined_by, words.TARGETS))
 
 
@@ -65,8 +68,19 @@ class Project:
     scripts: Dict[str, Text] = field(default_factory=dict)
     is_measured: bool = False
     spread: Spread = field(default_factory=Spread)
+    segments: Set[str] = field(default_factory=set)
+    segments_there: Set[str] = field(default_factory=set)
+    segments_perhaps: Set[str] = field(default_factory=set)
+    symbols: Dict[str, int] = field(default_factory=dict)
+    entries: Dict[Tuple[int, str], int] = field(default_factory=dict)
+    banks: Dict[str, int] = field(default_factory=dict)
+    label_segments: Dict[str, Dict[Tuple[str, ...], str]] = field(default_factory=dict)
+    doubtful: List[Tuple[str, int, Unportable]] = field(default_factory=list)
+    own_sources: List[str] = field(default_factory=list)
+    guessed: Set[Line] = field(default_factory=set)
     _waiting: List[str] = field(default_factory=list)
     _is_looking: bool = False
+    _words: Optional[Set[str]] = None
     _logical: Dict[str, List[Logical]] = field(default_factory=dict)
     _globals: Dict[str, List[str]] = field(default_factory=dict)
 
@@ -117,6 +131,27 @@ class Project:
         own = [it for it in self.texts if not it.startswith(OWN + os.sep)]
         first = [it for it in own if it not in inside]
         return first + [it for it in own if it in inside and not it.lower().endswith((".inc", ".mac"))]
+
+    @property
+    def words(self) -> Set[str]:
+        """All words of the tree, and the names that were given: a new name is none of them."""
+        if self._words is None:
+            self._words = {it for text in self.texts.values() for line in text.lines for it in WORD.findall(line)}
+        return self._words
+
+    def forget(self) -> None:
+        """Forgets what was written, so that all is walked anew; what was learnt of labels stays."""
+        for path, names in self.variants.items():
+            for name in names:
+                if name != path:
+                    del self.texts[name]
+        self.outputs, self.findings, self.variants, self.entries = {}, {}, {}, {}
+        self.doubtful, self.packages = [], set()
+        self._words = None
+
+    def has_banks(self) -> bool:
+        """Whether a source asks for a bank."""
+        return any(BANK.search(line) for text in self.texts.values() for line in text.lines)
 
     def closure(self, path: str) -> Set[str]:
         """A file, and all that it includes."""
@@ -228,11 +263,12 @@ class Project:
 
     def _joined(self, before: List[Row], rows: List[Row]) -> bool:
         """Joins two readings of a file where they agree in all lines that either of them assembles."""
-        if any(one.lines != other.lines and not one.is_dead and not other.is_dead for one, other in zip(before, rows)):
+        living = [(one, other) for one, other in zip(before, rows) if not one.is_dead and not other.is_dead]
+        if any((one.lines, one.before) != (other.lines, other.before) for one, other in living):
             return False
         for one, other in zip(before, rows):
             if one.is_dead and not other.is_dead:
-                one.lines, one.is_dead = other.lines, False
+                one.lines, one.before, one.is_dead = other.lines, other.before, False
         return True
 
     def _free_name(self, path: str, module: str) -> str:

@@ -1,11 +1,11 @@
 """Rewrites the statements of a module."""
-from typing import Callable, Dict, List
+from typing import Callable, Dict, List, Optional, Sequence
 
 from work65.language import words
-from work65.language.expression import value
+from work65.language.expression import scoped_name, value
 from work65.language.statements import Statement, statement_of
-from work65.language.tokens import Kind, line_of
-from work65.porting import conditions, defines, forms, lists, packages, spelling, statements, structures
+from work65.language.tokens import Kind, Token, line_of
+from work65.porting import condes, conditions, defines, forms, lists, packages, ranges, registers, shifts, spelling, statements, structures
 from work65.porting.characters import as_elements
 from work65.porting.context import Scope
 from work65.porting.expansion import Macro
@@ -13,23 +13,28 @@ from work65.porting.facts import facts_of
 from work65.porting.leaves import Line
 from work65.porting.line import Unportable, commented_out, edited, replaced
 from work65.porting.project import Project
-from work65.porting.known import Known
+from work65.porting.renaming import Renaming, global_definition
 
 # Directives of bin65 before which no label stands.
 UNLABELLED = frozenset((".else", ".elseif", ".endif", ".local", ".exitmacro", ".exitmac", *words.MACRO_ENDS, *words.REPEAT_ENDS))
 Handler = Callable[[int, str, Statement], List[str]]
 
 
-class Rewriter(Known):
+class Rewriter(Renaming):
     """What each statement becomes."""
 
     def __init__(self, project: Project, module: str) -> None:
         super().__init__(project, module)
         self.handlers = self.all_handlers()
+        self.original = ""
+        self.has_lists = False
+        self.other_macro: Optional[Macro] = None
 
     def statement(self, at: int, text: str, statement: Statement) -> List[str]:
         """The lines in place of a statement."""
         context, head = self.context, statement.head
+        if context.place is not None and head not in registers.ENDS:
+            return self.registered(text, statement)
         handler = self.handlers.get(head)
         if handler is not None:
             return handler(at, text, statement)
@@ -38,29 +43,48 @@ class Rewriter(Known):
             if head in (".proc", ".scope"):
                 return self.scope(found, statement)
             self.note(statement)
-            return found
+            return self.with_size(found, statement)
         if statement.rest and statement.rest[0].lower == ".set":
             return self.set(text, statement)
         first = statement.body[0] if statement.body else None
+        if first is not None and first.kind is Kind.CHEAP and statement.rest and statement.rest[0].text in ("=", ":="):
+            return self.cheap_constant(text, statement)
         if first is not None and first.kind is Kind.NAME:
-            if head in packages.BRANCHES and statement.rest:
-                return self.long_branch(text, statement)
-            is_undocumented = head in words.UNDOCUMENTED or head == "nop" and bool(statement.rest)
-            if is_undocumented and not self.project.is_macro(first.text) and context.processor == "6502x":
-                size = self.project.spread.sizes.get(Line(self.path, self.lines[at].number))
-                return statements.as_data(text, statement, context, size)
-            if first.text == "scrcode" and self.screen:
-                return self.screen_codes(text, statement)
-        if head in words.MNEMONICS and not self.project.is_measured:
+            named = self.named(at, text, statement)
+            if named is not None:
+                return named
+        if head in words.MNEMONICS and self.project.is_measured:
+            self.guess(at, text, statement)
+        elif head in words.MNEMONICS:
             text = forms.absolute(text, statement, context)
-        forms.shifted(statement, context)
+        shifts.refuse(statement.body, context)
+        if "force_range" in context.features:
+            text = ranges.cut(text, statement, context)
+            statement = statement_of(line_of(text, self.has_escapes).tokens, self.project.is_macro)
         if head in words.DATA:
             found = statements.split_stars(text, statement, context)
             if len(found) > 1:
                 self.note(statement)
-                return found
+                return self.with_size(found, statement)
         self.note(statement)
-        return self.with_size(text, statement)
+        return self.with_size([text], statement)
+
+    def guess(self, at: int, text: str, statement: Statement) -> None:
+        """Notes a line that takes the absolute form by the rules: they count where the line isn't assembled, so isn't measured."""
+        if self.lines is self.project.logical(self.path) and forms.absolute(text, statement, self.context) != text:
+            self.project.guessed.add(Line(self.path, self.lines[at].number))
+
+    def named(self, at: int, text: str, statement: Statement) -> Optional[List[str]]:
+        """The lines in place of a long branch, an undocumented instruction or a call of scrcode; None for anything else."""
+        head, first, context = statement.head, statement.body[0], self.context
+        if head in packages.BRANCHES and statement.rest:
+            return self.long_branch(text, statement)
+        is_undocumented = head in words.UNDOCUMENTED or head == "nop" and bool(statement.rest)
+        if is_undocumented and not self.project.is_macro(first.text) and context.processor == "6502x":
+            self.note(statement)
+            size = self.project.spread.sizes.get(Line(self.path, self.lines[at].number))
+            return self.with_size(statements.as_data(text, statement, context, size), statement)
+        return self.screen_codes(text, statement) if first.text == "scrcode" and self.screen else None
 
     def all_handlers(self) -> Dict[str, Callable[[int, str, Statement], List[str]]]:
         """What is done for a directive."""
@@ -72,7 +96,8 @@ class Rewriter(Known):
             ".elseif": lambda at, text, it: self.other_question(at, text, it),
             ".endif": lambda at, text, it: conditions.closed(text, it, context), ".else": lambda at, text, it: self.other(text, it),
             ".endproc": lambda at, text, it: self.end_of_scope(text, it), ".endscope": lambda at, text, it: self.end_of_scope(text, it),
-            ".local": lambda at, text, it: self.local(text, it),
+            ".local": lambda at, text, it: self.local(text, it), "::": lambda at, text, it: self.global_constant(at, text, it),
+            ".org": self.org, ".reloc": lambda at, text, it: registers.closed(text, context),
             ".charmap": lambda at, text, it: self.charmap(text, it),
             ".pushcharmap": lambda at, text, it: self.charmap(text, it), ".popcharmap": lambda at, text, it: self.charmap(text, it),
         }
@@ -81,6 +106,7 @@ class Rewriter(Known):
         found.update({it: lambda at, text, one: self.listed(text, one) for it in words.LISTS})
         found.update({it: lambda at, text, one: self.macro(text, one) for it in (*words.MACRO_BEGINS, *words.MACRO_ENDS)})
         found.update({it: self.condition for it in words.CONDITIONS})
+        found.update({it: self.table_entry for it in (*condes.DIRECTIVES, ".condes")})
         return found
 
     def finished(self, lines: List[str], has_escapes: bool, statement: Statement) -> List[str]:
@@ -98,7 +124,9 @@ class Rewriter(Known):
                 found.append(it[: one.body[0].start].rstrip())
                 it = " " * one.body[0].start + it[one.body[0].start :]
                 one = statement_of(line_of(it, has_escapes).tokens, self.project.is_macro)
-            if (self.context.charmap.codes or has_escapes) and facts_of(it, has_escapes).has_text:
+            if self.has_lists:
+                found.append(it)
+            elif (self.context.charmap.codes or has_escapes) and facts_of(it, has_escapes).has_text:
                 found += spelling.translated(it, one, self.context)
             else:
                 found += [it] if one.head != ".asciiz" else spelling.translated(it, one, self.context)
@@ -109,16 +137,37 @@ class Rewriter(Known):
         if self.others is None or self.others[0] is not self.lines:
             self.others = self.lines, conditions.alternatives(self.lines)
         others = self.others[1].get(at, [])
-        if statement.head in (".ifdef", ".ifndef") and self.context.scopes and len(statement.rest) == 1:
-            name = statement.rest[0].text
-            if name in self.context.scopes[-1].used and self.context.path + (name,) not in self.context.labels:
-                raise Unportable(name, "defined", "cc65 takes it for not defined in a scope that has used it: write what is meant")
+        self.refuse_hidden(statement)
+        shifts.refuse(statement.rest, self.context)
         self.note(statement)
         is_live = self.answer(statement) if self.context.macro is None else None
         found = conditions.opened(text, statement, self.context, others, self.unique(at))
         self.context.blocks[-1].is_live = is_live
         self.context.blocks[-1].is_else_live = None if is_live is None else not is_live
+        if statement.head == ".ifndef" and len(statement.rest) == 1:
+            self.context.blocks[-1].guarded = statement.rest[0].text
         return found
+
+    def refuse_hidden(self, statement: Statement) -> None:
+        """Refuses to ask for a name that a scope has used and that is defined outside of it: for cc65 it isn't there."""
+        if self.context.macro is not None:
+            return
+        body = statement.body
+        asked = body[1:] if statement.head in (".ifdef", ".ifndef") and len(body) == 2 else [
+            it for at, it in enumerate(body) if at > 1 and body[at - 1].text == "(" and body[at - 2].lower in (".defined", ".def")]
+        for it in asked:
+            if it.kind is Kind.NAME and self.is_hidden(it.text):
+                raise Unportable(it.text, "defined", "cc65 takes it for not defined in a scope that has used it: write what is meant")
+
+    def is_hidden(self, name: str) -> bool:
+        """Whether a scope has used a name that it doesn't define."""
+        context, path = self.context, self.context.path
+        for depth in range(len(path), 0, -1):
+            if path[:depth] + (name,) in context.labels:
+                return False
+            if name in context.scopes[depth - 1].used:
+                return True
+        return False
 
     def other(self, text: str, statement: Statement) -> List[str]:
         """The line of an .else."""
@@ -129,6 +178,7 @@ class Rewriter(Known):
 
     def other_question(self, at: int, text: str, statement: Statement) -> List[str]:
         """The line of an .elseif."""
+        self.refuse_hidden(statement)
         found = conditions.otherwise(text, statement, self.context, self.unique(at))
         if self.context.blocks:
             block = self.context.blocks[-1]
@@ -150,41 +200,73 @@ class Rewriter(Known):
         """The first or last line of a macro."""
         context = self.context
         if statement.head in words.MACRO_BEGINS and statement.rest:
-            context.macro = statement.rest[0].text
+            context.macro = name = statement.rest[0].text
+            if name.lower() in words.MNEMONICS:
+                raise Unportable(name, "form", "an instruction's name is no macro's here: write another name")
             context.parameters = [it.text for it in statement.rest[1:] if it.kind is Kind.NAME]
-            context.macros[context.macro] = Macro(context.parameters)
+            self.other_macro = context.macros.get(name)
+            context.macros[name] = Macro(context.parameters, codes=context.charmap.codes)
         else:
-            context.macro, context.parameters, context.locals = None, [], set()
+            self.end_macro()
         return [text]
 
-    def local(self, text: str, statement: Statement) -> List[str]:
-        """A .local with cheap names: they become names."""
-        cheap = [it for it in statement.rest if it.kind is Kind.CHEAP]
-        self.context.locals |= {it.text for it in cheap}
-        return [edited(text, [(it.start, it.end, self.plain(it.text)) for it in cheap])]
+    def end_macro(self) -> None:
+        """Notes what a macro has as it ends: one that was read before under another condition makes it ambiguous."""
+        context, before = self.context, self.other_macro
+        macro = context.macros.get(context.macro or "")
+        if macro is not None:
+            macro.defines = {name: context.defines[name].text for name in macro.names & context.defines.keys()}
+            macro.is_ambiguous = before is not None and (before.is_ambiguous or before.lines != macro.lines)
+        context.macro, context.parameters, context.locals = None, [], set()
 
-    def set(self, text: str, statement: Statement) -> List[str]:
-        """A .set outside of macros, repeats and conditions: a constant with a name of its own."""
+    def registered(self, text: str, statement: Statement) -> List[str]:
+        """A line behind an .org that labels and room alone follow."""
+        found = registers.line(text, statement, self.context)
+        for it in found:
+            self.note(statement_of(line_of(it).tokens, self.project.is_macro))
+        return found
+
+    def org(self, at: int, text: str, statement: Statement) -> List[str]:
+        """The line of an .org."""
+        if "string_escapes" in self.context.features:
+            raise Unportable(".org", "org")
+        return registers.opened(text, statement, self.context, self.lines[at + 1 :], self.depth == 1 and not self.expanding)
+
+    def global_constant(self, at: int, text: str, statement: Statement) -> List[str]:
+        """A definition of a global name: without its `::`, and before all scopes."""
         context = self.context
-        name, word = statement.body[0], statement.rest[0]
-        if not context.is_plain or context.blocks:
-            raise Unportable(".set", "set", "within a macro, scope or condition it can't be followed")
-        version = context.versions.get(name.text, 0) + 1
-        context.versions[name.text] = version
-        new = f"{name.text}_set{version}"
-        context.constants[(new,)] = value(statement.rest[1:], context.value)
-        return [edited(text, [(name.start, name.end, new), (word.start, word.end, "=")])]
+        if len(statement.body) > 2 and statement.body[2].lower == ".set":
+            return self.set(text, statement)
+        plain = global_definition(text, statement)
+        if plain is None or context.macro is not None or context.repeats:
+            raise Unportable("::", "global-constant")
+        name, rest = statement.body[1].text, statement.body[3:]
+        if not context.scopes:
+            self.note_constant(name, rest)
+            return [plain]
+        number = value(rest, context.value)
+        if number is None or context.scopes[0].path != self.path or name in context.seen:
+            raise Unportable(name, "global-constant", "it stands within a scope: move it out")
+        context.scopes[0].row.before.append(plain.strip())
+        context.constants[(name,)] = number
+        context.labels[(name,)] = ""
+        context.uncertain.add((name,))
+        return [commented_out(text)]
 
-    def with_size(self, text: str, statement: Statement) -> List[str]:
-        """A line of data, with its size behind it where something asks for that."""
+    def with_size(self, lines: List[str], statement: Statement) -> List[str]:
+        """What a line of data became, with its size behind it where something asks for that. Of a label alone, or before a call,
+        it is 0."""
         label = statement.label
         if label is None or label.text not in self.project.sized_names or self.context.macro is not None:
-            return [text]
-        if not statement.body or label.kind is not Kind.NAME:
-            return [text]
-        name = f"sizeof_{label.text}"
+            return lines
+        if label.kind is not Kind.NAME:
+            return lines
+        if not statement.body or statement.body[0].text in self.context.macros:
+            self.sizes[self.context.path + (label.text,)] = "0"
+            return lines
+        name = self.free(f"sizeof_{label.text}")
         self.sizes[self.context.path + (label.text,)] = name
-        return [text, f"{name} = * - {label.text}"]
+        return [*lines, f"{name} = * - {label.text}"]
 
     def scope(self, lines: List[str], statement: Statement) -> List[str]:
         """The line that opens a scope."""
@@ -193,12 +275,12 @@ class Rewriter(Known):
             return lines
         name = statement.rest[0].text if statement.rest and statement.rest[0].kind is Kind.NAME else ""
         if statement.head == ".proc" and name:
-            context.labels[context.path + (name,)] = context.segment
-            context.cheap = set()
+            self.note_label(name)
         scope = Scope(name, statement.head, self.rows[-1], self.path, context.segment)
         if name and name in self.project.sized_names:
-            size = f"sizeof_{name}"
-            begin = name if statement.head == ".proc" else f"begin_of_{name}"
+            size = self.free(f"sizeof_{name}")
+            begin = name if statement.head == ".proc" else self.free(f"begin_of_{name}")
+            scope.size = size
             if statement.head != ".proc":
                 lines = [f"{begin} = *", *lines]
             scope.behind.append(f"{size} = * - {begin}")
@@ -213,22 +295,37 @@ class Rewriter(Known):
         scope = context.scopes.pop()
         context.cheap = set()
         if scope.name in self.project.sized_names and scope.name and context.segment == scope.segment:
-            self.sizes[context.path + (scope.name,)] = f"sizeof_{scope.name}"
+            self.sizes[context.path + (scope.name,)] = scope.size
         return [text, *scope.behind]
 
     def listed(self, text: str, statement: Statement) -> List[str]:
         """A list of imports or exports."""
         context = self.context
         if not context.scopes or context.macro is not None:
-            return lists.listed(text, statement, context)
+            return lists.listed(text, statement, context, self.project.global_names(self.module))
         found = lists.hoisted(text, statement, context, self.project.global_names(self.module))
         outer = context.scopes[0]
         if outer.path != self.path:
             raise Unportable(statement.head, "in-scope", "the scope is opened in another file")
-        row = outer.row
-        row.lines = [*(it for it in found.before if it not in row.lines), *row.lines]
+        outer.row.before += [it for it in found.before if it not in outer.row.before]
         outer.behind += found.behind
+        context.hoisted.update({context.path + (it,): it for it in found.imported})
         return replaced(text, statement, found.inside)
+
+    def table_entry(self, at: int, text: str, statement: Statement) -> List[str]:
+        """A .constructor or its like: the name is an export, which a table of a source of its own takes in."""
+        context = self.context
+        if context.macro is not None:
+            return [text]
+        number, name, priority = condes.entry_of(statement, context)
+        if context.repeats or any(it.is_live is not True for it in context.blocks):
+            why = Unportable(statement.head, "condes", "within a repeat or condition it can't be followed")
+            self.project.doubtful.append((self.path, self.lines[at].number, why))
+        else:
+            self.project.entries[number, name] = priority
+        first, last = statement.body[0], statement.body[-1]
+        text = edited(text, [(first.start, last.end, f".export {name}")])
+        return self.listed(text, statement_of(line_of(text, self.has_escapes).tokens, self.project.is_macro))
 
     def package(self, text: str, statement: Statement) -> List[str]:
         """A .macpack: a file of macros, or nothing where they are written out."""
@@ -256,16 +353,29 @@ class Rewriter(Known):
         near = edited(text, [(first.start, first.end, f"{statement.head}{packages.NEAR}")])
         if len(target) == 1 and target[0].kind is Kind.CHEAP:
             return [near if target[0].text in context.cheap else text]
-        if len(target) == 1 and target[0].kind is Kind.NAME:
-            return [near if context.labels.get(context.path + (target[0].text,)) == context.segment else text]
-        return [text]
+        return [near if self.is_near(target) else text]
+
+    def is_near(self, target: Sequence[Token]) -> bool:
+        """Whether a target is a label of this segment that stands further up: one of the same scope, or one that scopes lead to."""
+        context = self.context
+        name, at = scoped_name(target, 0)
+        if not name or at != len(target):
+            return False
+        parts = tuple(it for it in name.split("::") if it)
+        if len(parts) == 1 and not name.startswith("::"):
+            return context.labels.get(context.path + parts) == context.segment
+        for depth in range(0 if name.startswith("::") else len(context.path), -1, -1):
+            if context.path[:depth] + parts in context.labels:
+                return context.labels[context.path[:depth] + parts] == context.segment
+        return False
 
     def screen_codes(self, text: str, statement: Statement) -> List[str]:
         """A call of scrcode as data."""
         self.note(statement)
         codes = [packages.screen_code(self.screen, it) for it in spelling.codes_of(text, statement, self.context)]
         elements = [f"${it:02X}" for it in codes] if self.context.charmap.codes else as_elements(codes)
-        return replaced(text, statement, [f".byte {', '.join(elements)}"]) if elements else replaced(text, statement, [])
+        found = replaced(text, statement, [f".byte {', '.join(elements)}"]) if elements else replaced(text, statement, [])
+        return [spelling.with_comment(found[0], [it.text for it in statement.rest if it.kind is Kind.STRING]), *found[1:]]
 
     def charmap(self, text: str, statement: Statement) -> List[str]:
         """A line that changes the codes of characters."""
@@ -273,4 +383,4 @@ class Rewriter(Known):
         if context.macro is not None or context.repeats or context.blocks:
             raise Unportable(statement.head, "charmap", "within a macro, repeat or condition it can't be followed")
         spelling.change_charmap(statement, context)
-        return [commented_out(text)]
+        return [commented_out(self.original)]

@@ -4,20 +4,60 @@ from typing import Dict, Iterator, List, Optional, Set, Tuple
 from work65.language.files import Text
 from work65.language.scripts import Attribute, Block, Entry, Word, blocks_of, symbols_of, words_of
 from work65.porting.line import edited
+from work65.porting.script_rows import Rows, Said, Usage
 
 Edit = Tuple[int, int, str]
 DROPPED = ("FILES", "FORMATS", "FEATURES")
 SWITCHES = {"TRUE": "yes", "1": "yes", "FALSE": "no", "0": "no"}
 
 
-def ported(text: Text) -> List[str]:
-    """The lines of a script for bin65; what can't be brought over stays as it is."""
+def ported(text: Text, usage: Usage, symbols: Dict[str, int]) -> Tuple[List[str], List[Said]]:
+    """The lines of a script for bin65, with symbols more, and what is said of its rows; what can't be brought over stays as it is."""
     whole = "\n".join(text.lines)
     blocks = blocks_of(words_of(whole))
-    return edited(whole, _without_overlaps(_edits(whole, blocks))).split("\n")
+    rows = Rows(whole, blocks, usage).all()
+    said, more = list(rows.said), dict(symbols)
+    for name, number, word in rows.offsets(_sizes(blocks)):
+        if number is None:
+            said.append((word, f"{name}: what stands before it in the file has no fixed size"))
+        else:
+            more[name] = number
+    edits = _without_overlaps([*rows.edits, *_edits(whole, blocks)])
+    return edited(whole, edits).split("\n") + _symbols(more), said
 
 
-def _without_overlaps(edits: "Iterator[Edit]") -> List[Edit]:
+def banks_of(text: Text) -> Dict[str, int]:
+    """The banks of segments, by the areas in which they run."""
+    blocks = blocks_of(words_of("\n".join(text.lines)))
+    numbers, areas = _numbers(blocks), {}
+    for block in blocks:
+        for entry in block.entries:
+            if block.word.upper == "MEMORY" and entry.get("BANK"):
+                areas[entry.name.text] = _value(entry.get("BANK"), numbers)
+    found = {}
+    for block in blocks:
+        for entry in block.entries:
+            run = entry.get("RUN") or entry.get("LOAD")
+            bank = areas.get(run[0].text) if run and block.word.upper == "SEGMENTS" else None
+            if bank is not None:
+                found[entry.name.text] = bank
+    return found
+
+
+def _sizes(blocks: List[Block]) -> Dict[str, Optional[int]]:
+    """The sizes of areas that are numbers."""
+    numbers = _numbers(blocks)
+    areas = [it for block in blocks if block.word.upper == "MEMORY" for it in block.entries]
+    return {it.name.text: _value(it.get("SIZE"), numbers) if it.get("SIZE") else None for it in areas}
+
+
+def _symbols(symbols: Dict[str, int]) -> List[str]:
+    """A block of symbols."""
+    rows = [f"    {name}: type = export, value = ${number:04X};" for name, number in symbols.items()]
+    return ["SYMBOLS {", *rows, "}"] if rows else []
+
+
+def _without_overlaps(edits: List[Edit]) -> List[Edit]:
     found: List[Edit] = []
     for it in sorted(edits, key=lambda it: (it[0], -it[1])):
         if not found or it[0] >= found[-1][1]:
@@ -58,8 +98,6 @@ def _is_binary(blocks: List[Block]) -> bool:
             for entry in block.entries:
                 form = entry.get("FORMAT")
                 if form and form[0].upper not in ("BIN", "BINARY"):
-                    return False
-                if block.word.upper == "FORMATS" and entry.name.upper in ("O65", "ATARI"):
                     return False
     return True
 

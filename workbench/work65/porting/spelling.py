@@ -1,5 +1,4 @@
 """What features allow that is spelling alone, and the characters of strings."""
-import re
 from typing import List, Optional, Sequence, Tuple
 
 from work65.language import words
@@ -15,7 +14,7 @@ Edit = Tuple[int, int, str]
 NAMING = frozenset(
     (".include", ".incbin", ".segment", ".out", ".warning", ".error", ".fatal", ".assert", ".setcpu", ".fileopt", ".fopt", ".charmap")
 )
-LOOSE_CHARACTER = re.compile(r"'[^']?(?![0-9A-Za-z_'])")
+LONGEST = 400
 
 
 def respelled(text: str, context: Context) -> str:
@@ -79,15 +78,32 @@ def translated(text: str, statement: Statement, context: Context) -> List[str]:
     if statement.head in (".byte", ".byt", ".asciiz"):
         return _data(text, statement, context, has_escapes)
     for it in statement.body:
-        if it.kind is Kind.STRING and _needs(it, context, has_escapes):
+        if it.kind is Kind.STRING and needs_codes(it, context):
             raise Unportable(it.text, "charmap", "the string's codes differ: write them as numbers")
     return [_with_characters(text, statement, context)]
 
 
-def _needs(it: Token, context: Context, has_escapes: bool) -> bool:
+def needs_codes(it: Token, context: Context) -> bool:
     """Whether a string has other codes than its bytes."""
-    inner = content(it, has_escapes)
+    inner = content(it, "string_escapes" in context.features)
     return inner is None or inner != it.text[1:-1] or context.charmap.of(inner) != [ord(one) for one in inner]
+
+
+def elements_of(it: Token, context: Context) -> List[str]:
+    """The codes of a string as elements of a list of bytes."""
+    inner = content(it, "string_escapes" in context.features)
+    if inner is None:
+        raise Unportable(it.text, "escapes")
+    return as_elements(context.charmap.of(inner)) or ['""']
+
+
+def with_comment(text: str, strings: Sequence[str]) -> str:
+    """A line with the strings that became numbers as a comment, where it has none and they can be read."""
+    line = line_of(text)
+    is_shown = all(it.isprintable() for it in strings) and len(text) + sum(map(len, strings)) <= LONGEST
+    if not strings or line.comment < len(text) or not is_shown:
+        return text
+    return f"{text}    ; {', '.join(dict.fromkeys(strings))}"
 
 
 def _with_characters(text: str, statement: Statement, context: Context) -> str:
@@ -114,26 +130,23 @@ def _data(text: str, statement: Statement, context: Context, has_escapes: bool) 
     parts = parts_of(statement.rest)
     strings = [it[0] for it in parts if len(it) == 1 and it[0].kind is Kind.STRING]
     is_list = statement.head == ".asciiz" and len(parts) > 1
-    if not is_list and not any(_needs(it, context, has_escapes) for it in strings):
+    if not is_list and not any(needs_codes(it, context) for it in strings):
         return [_with_characters(text, statement, context)]
     elements: List[str] = []
     for part in parts:
         if not part:
             raise Unportable(statement.head, "form", "an element of the list is missing")
         if len(part) == 1 and part[0].kind is Kind.STRING:
-            inner = content(part[0], has_escapes)
-            if inner is None:
-                raise Unportable(part[0].text, "escapes")
-            elements += as_elements(context.charmap.of(inner))
+            elements += elements_of(part[0], context)
         else:
             inside = _with_characters(text_of_tokens(text, part), Statement(None, True, tuple(_moved(part))), context)
             elements.append(inside)
     if statement.head == ".asciiz" and len(elements) == 1 and elements[0].startswith('"'):
         return replaced(text, statement, [f".asciiz {elements[0]}"])
     ending = ["0"] if statement.head == ".asciiz" else []
-    if not elements + ending:
-        return replaced(text, statement, ['.byte ""'])
-    return replaced(text, statement, [f".byte {', '.join(elements + ending)}"])
+    found = replaced(text, statement, [f".byte {', '.join(elements + ending)}"])
+    changed = [it.text for it in strings if needs_codes(it, context)]
+    return [with_comment(found[0], changed), *found[1:]]
 
 
 def _moved(part: Sequence[Token]) -> List[Token]:

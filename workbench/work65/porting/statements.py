@@ -15,12 +15,15 @@ Rewrite = Callable[[str, Statement, Context], List[str]]
 SIZE_UNKNOWN = "whether the operand is short isn't known here: write z: or a: before it"
 SIZES = {2: "zp", 3: "abs"}
 GOES = frozenset(
-    (".case", ".fopt", ".fileopt", ".dbg", ".list", ".listbytes", ".pagelength", ".pagelen", ".debuginfo", ".linecont", ".localchar")
+    (".fopt", ".smart", ".fileopt", ".dbg", ".list", ".listbytes", ".pagelength", ".pagelen", ".debuginfo", ".linecont", ".localchar")
 )
-SPELLED = frozenset(
-    "labels_without_colons at_in_identifiers bracket_as_indirect c_comments dollar_is_pc loose_char_term loose_string_term"
-    " missing_char_term string_escapes underline_in_numbers force_range".split()
+# What features allow is written anew, or is said where it stands.
+FEATURES = frozenset(
+    "addrsize at_in_identifiers bracket_as_indirect c_comments dollar_in_identifiers dollar_is_pc force_range labels_without_colons"
+    " leading_dot_in_identifiers line_continuations long_jsr_jmp_rts loose_char_term loose_string_term missing_char_term org_per_seg"
+    " pc_assignment string_escapes ubiquitous_idents underline_in_numbers".split()
 )
+KEPT = frozenset(("bracket_as_indirect", "force_range"))
 
 
 def _gone(text: str, statement: Statement, context: Context) -> List[str]:
@@ -29,12 +32,18 @@ def _gone(text: str, statement: Statement, context: Context) -> List[str]:
     return [commented_out(text)]
 
 
+def _case(text: str, statement: Statement, context: Context) -> List[str]:
+    if statement.rest and statement.rest[0].lower in ("-", "off"):
+        raise Unportable(".case", "goes", "names are written alike: bin65 tells capitals from small letters")
+    return _gone(text, statement, context)
+
+
 def _feature(text: str, statement: Statement, context: Context) -> List[str]:
     names = [it.lower for it in statement.rest if it.kind is Kind.NAME]
-    wrong = next((it for it in names if it not in SPELLED), None)
+    wrong = next((it for it in names if it not in FEATURES), None)
     if wrong is not None:
         raise Unportable(wrong, "feature", "what it allows can't be written for bin65")
-    context.features |= {"bracket_as_indirect"} & set(names)
+    context.features |= KEPT & set(names)
     return [commented_out(text)]
 
 
@@ -42,7 +51,10 @@ def _bytes_of(sign: str) -> Rewrite:
     """`.lobytes` and its like."""
 
     def rewrite(text: str, statement: Statement, context: Context) -> List[str]:
-        elements = [f"{sign}{in_parentheses(text, it)}" for it in parts_of(statement.rest) if it]
+        parts = [it for it in parts_of(statement.rest) if it]
+        elements = [f"{sign}{in_parentheses(text, it)}" for it in parts]
+        if any(star_in(it) for it in parts[1:]):
+            return replaced(text, statement, [f".byte {it}" for it in elements])
         return replaced(text, statement, [f".byte {', '.join(elements)}"])
 
     return rewrite
@@ -51,6 +63,8 @@ def _bytes_of(sign: str) -> Rewrite:
 def _faraddr(text: str, statement: Statement, context: Context) -> List[str]:
     found = []
     for it in parts_of(statement.rest):
+        if star_in(it):
+            raise Unportable(".faraddr", "low", "`*` isn't the same in both of its parts: write a label")
         inner = in_parentheses(text, it)
         found += [f".word {inner} & $FFFF", f".byte ^{inner}"]
     return replaced(text, statement, found)
@@ -121,7 +135,7 @@ def _setcpu(text: str, statement: Statement, context: Context) -> List[str]:
 
 
 STATEMENTS: Dict[str, Rewrite] = {
-    ".feature": _feature, ".lobytes": _bytes_of("<"), ".hibytes": _bytes_of(">"), ".bankbytes": _bytes_of("^"),
+    ".feature": _feature, ".case": _case, ".lobytes": _bytes_of("<"), ".hibytes": _bytes_of(">"), ".bankbytes": _bytes_of("^"),
     ".faraddr": _faraddr, ".tag": _tag, ".assert": _assert, ".fatal": _fatal, ".incbin": _incbin, ".segment": _segment,
     ".proc": _sized_scope, ".scope": _sized_scope, "brk": _brk, ".setcpu": _setcpu, **{it: _gone for it in GOES},
 }

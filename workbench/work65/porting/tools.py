@@ -16,7 +16,7 @@ from work65.sources import read_bytes
 
 NAMES = ("ca65", "ld65", "od65", "ar65")
 # A segment in ld65's map, with its start, end and size; and an export with its value.
-SEGMENT = re.compile(r"^(\S+) +[0-9A-F]{6,} +[0-9A-F]{6,} +([0-9A-F]{6,}) +[0-9A-F]+$")
+SEGMENT = re.compile(r"^(\S+) +([0-9A-F]{6,}) +[0-9A-F]{6,} +([0-9A-F]{6,}) +[0-9A-F]+$")
 EXPORT = re.compile(r"(\S+) +([0-9A-F]{6,16}) +[A-Z]{1,6}(?= |$)")
 WIDTH = 0xFFFFFFFF
 SECONDS, MEMORY, MOST_SAID = 8, 1 << 30, 1 << 16
@@ -28,20 +28,23 @@ class Refused(Exception):
 
 @dataclass(frozen=True)
 class Options:
-    """What a Makefile hands to ca65."""
+    """What a Makefile hands to ca65, and the symbols that it hands to ld65."""
 
     target: Optional[str] = None
     include: Sequence[str] = ()
     data: Sequence[str] = ()
     define: Sequence[str] = ()
+    symbols: Dict[str, int] = field(default_factory=dict)
 
 
 @dataclass
 class Linked:
-    """What came of a link: its files, the sizes of segments, the values of exports, and cc65's debug file or bin65's map."""
+    """What came of a link: its files, the sizes of segments, the values of exports, and cc65's debug file or bin65's map. cc65 also
+    tells where segments without bytes begin."""
 
     files: Dict[str, bytes]
     sizes: Dict[str, int] = field(default_factory=dict)
+    starts: Dict[str, int] = field(default_factory=dict)
     exports: Dict[str, int] = field(default_factory=dict)
     debug: str = ""
     map: Optional[Map] = None
@@ -120,13 +123,19 @@ class Theirs:
 
     def link(self, script: str, inputs: Sequence[str], room: str) -> Linked:
         """Links objects by the text of a script."""
+        return self.link_with(script, inputs, room, {})
+
+    def link_with(self, script: str, inputs: Sequence[str], room: str, symbols: Dict[str, int]) -> Linked:
+        """Links objects by the text of a script, with symbols more."""
         names = _room(room, script)
-        ran(["ld65", "-C", "script", "-o", "image", "-m", "map", "-vm", "--dbgfile", "debug", *inputs], room)
+        more = [word for name, number in symbols.items() for word in ("-D", f"{name}={number}")]
+        ran(["ld65", *more, "-C", "script", "-o", "image", "-m", "map", "-vm", "--dbgfile", "debug", *inputs], room)
         found = Linked(_files(room, names), debug=_text(room, "debug"))
         lines = _text(room, "map").split("\n")
         rows, first, last = (lines.index(it) for it in ("Segment list:", "Exports list by name:", "Exports list by value:"))
         sizes = [it for it in map(SEGMENT.match, lines[rows:first]) if it is not None]
-        found.sizes = {it[1]: int(it[2], 16) for it in sizes if int(it[2], 16)}
+        found.sizes = {it[1]: int(it[3], 16) for it in sizes if int(it[3], 16)}
+        found.starts = {it[1]: int(it[2], 16) for it in sizes}
         found.exports = {it[1]: int(it[2], 16) & WIDTH for line in lines[first + 2 : last] for it in EXPORT.finditer(line)}
         return found
 

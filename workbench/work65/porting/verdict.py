@@ -1,12 +1,13 @@
 """What is said of a port: whether the program or each source alone is the same, what differs, and what wasn't compared."""
 import os
-from dataclasses import dataclass, field
+from dataclasses import dataclass, field, replace
 from typing import List, Optional
 
 from work65.message import message_of
+from work65.porting import filling
 from work65.porting.difference import Finder, Module, difference
 from work65.porting.port import Ported
-from work65.porting.tools import Options, Refused
+from work65.porting.tools import Linked, Options, Refused
 from work65.porting.verify import Outcome, Port, Verifier, Whole, is_same
 from work65.program import Program
 from work65.scripts import OUTPUT
@@ -31,13 +32,15 @@ def compared(program: Program, options: Options, room: str, port: Port) -> Verdi
     verifier.put()
     judge = Judge(verifier)
     if judge.is_same_program():
+        verifier.guess([judge.debug])
         return Verdict(verifier.ported, [], judge.said_of_program())
     verifier.settle(verifier.modules)
+    verifier.guess(it.debug for it in verifier.outcomes.values())
     lines, last = judge.said_of_sources()
     if judge.can_link and judge.is_same_program():
         last = judge.said_of_program()
-    elif judge.can_link and not lines:
-        lines = [judge.difference()]
+    elif judge.can_link and judge.where and not lines:
+        lines = [judge.where]
     return Verdict(verifier.ported, lines, last)
 
 
@@ -50,7 +53,7 @@ class Judge:
         self.script: Optional[str] = next(iter(scripts)) if len(scripts) == 1 else None
         self.can_link = self.script is not None
         self.refusal = ""
-        self.files = ""
+        self.files = self.debug = ""
         self.where = ""
 
     # The program.
@@ -74,21 +77,32 @@ class Judge:
         try:
             bin65 = self.verifier.linked_by_bin65(whole)
         except Refused as said:
-            self.where = f"{self.script}: bin65 refuses the program: {said}"
+            path = self.verifier.ported.project.scripts[self.script].path
+            is_said = any(it.path == path for it in self.verifier.ported.findings)
+            self.where = "" if is_said else f"{self.script}: bin65 refuses the program: {said}"
             return False
+        self.debug = cc65.debug
         self.files = ", ".join(f"{'the image' if name == OUTPUT else name}, {len(data)} bytes" for name, data in cc65.files.items())
-        if is_same(cc65, bin65):
+        if is_same(cc65, bin65) or self.is_same_filled(whole, cc65, bin65):
             return True
         self.where = f"{self.script}: {difference(cc65, bin65, self.verifier.finder(whole, bin65))}"
         return False
 
+    def is_same_filled(self, whole: Whole, cc65: Linked, bin65: Linked) -> bool:
+        """Whether the files differ by nothing but the fill up to rows that nobody uses, which are said."""
+        found = filling.filled(whole.ours, cc65, bin65)
+        try:
+            again = None if found is None else self.verifier.linked_by_bin65(replace(whole, ours=found[0]))
+        except Refused:
+            return False
+        if found is None or again is None or not is_same(cc65, again):
+            return False
+        self.files += f"; without the fill up to {', '.join(found[1])}"
+        return True
+
     def said_of_program(self) -> str:
         """The last line, where the program is the same."""
         return f"compared: the program by {self.script}: the same ({self.files})"
-
-    def difference(self) -> str:
-        """Where the program differs."""
-        return self.where
 
     # Sources alone.
 

@@ -3,12 +3,13 @@ import os
 import shutil
 import tempfile
 from dataclasses import dataclass, field
-from typing import Callable, Dict, List, Optional, Sequence, Set, Tuple, Union
+from typing import Callable, Dict, Iterable, List, Optional, Sequence, Set, Tuple, Union
 
 from work65.build import Builder, Wanted
 from work65.instrument import Constants
 from work65.porting import alone, copying, unasserted
 from work65.porting.difference import Finder, Module
+from work65.porting.forms import prefixed
 from work65.porting.leaves import Leaf, Line, of_debug_file, of_marks
 from work65.porting.measuring import Measure
 from work65.porting.port import Ported
@@ -138,7 +139,7 @@ class Verifier:
             made = os.path.join(self.room, f"theirs-{os.path.basename(library.name)}")
             self.theirs.archive(made, [self.their_object(it) for it in library.members], self.room)
             inputs.append(made)
-        return self.theirs.link(whole.theirs, inputs, os.path.join(self.room, "link"))
+        return self.theirs.link_with(whole.theirs, inputs, os.path.join(self.room, "link"), self.options.symbols)
 
     def linked_by_bin65(self, whole: Whole) -> Linked:
         """The program as bin65 links the copy. Objects bear the numbers of their sources."""
@@ -149,6 +150,7 @@ class Verifier:
             name = os.path.join(self.room, os.path.basename(library.name))
             self.ours().archive(name, [made[it] for it in library.members], self.room)
             inputs.append(name)
+        inputs += [self.our_object(it, f"own{number}.o") for number, it in enumerate(self.ported.project.own_sources)]
         return self.ours().link(whole.ours, inputs, os.path.join(self.room, "link"))
 
     def finder(self, whole: Whole, bin65: Linked) -> Finder:
@@ -247,6 +249,16 @@ class Verifier:
         return isinstance(cc65, Linked) or isinstance(bin65, Linked)
 
     # Forms.
+
+    def guess(self, debugs: Iterable[str]) -> None:
+        """Puts `a:` by the rules before operands of lines that weren't assembled, as those of another -D."""
+        guessed = self.ported.project.guessed
+        met = {line for debug in debugs for it in of_debug_file(debug, self.key) for line in it.lines} if guessed else set()
+        for path, text in self.ported.texts.items() if guessed - met else ():
+            for number, line in enumerate(text.lines, 1):
+                origin = self.ported.origin(Line(path, number))
+                if origin in guessed and origin not in met:
+                    text.lines[number - 1] = prefixed(line)
 
     def measured(self, modules: Set[str]) -> Measure:
         """The sizes of the lines of these sources, and of those that share a file with them in which a line differs."""

@@ -1,26 +1,34 @@
 """Walks the files of a module in the order in which ca65 reads them, and rewrites their lines."""
-from typing import List, Optional
+import re
+from typing import List, Optional, Sequence
 
 from work65.language import words
-from work65.language.statements import Statement, statement_of
+from work65.language.statements import Statement, parts_of, statement_of
 from work65.language.tokens import Kind, line_of
 from work65.porting import conditions, defines, forms, spelling, structures
 from work65.porting.context import Block, Row
-from work65.porting.expansion import HARD, Expander, end_of_repeat
+from work65.porting.expander import Expander
+from work65.porting.expansion import HARD, OF_TOKENS, end_of_repeat
 from work65.porting.facts import Facts, facts_of
 from work65.porting.functions import FUNCTIONS
 from work65.porting.leaves import Line
 from work65.porting.line import Unportable, commented_out, edited
 from work65.porting.logical import Logical
+from work65.porting.long_lines import MOST_BYTES, split
 from work65.porting.project import Project
-from work65.porting.rewriter import UNLABELLED, Rewriter
+from work65.porting.merging import merged
+from work65.porting.calls import Calls
+from work65.porting.rewriter import UNLABELLED
 
 # How deep files are included: bin65 takes 256.
 DEEPEST = 256
+BANK = re.compile(r"\.bank\s*\([^()]*\)", re.I)
 ASKED = frozenset((".if", ".elseif"))
+# Features for which each line is looked at.
+ALL_LINES = frozenset(("bracket_as_indirect", "force_range"))
 
 
-class Walk(Rewriter):
+class Walk(Calls):
     """One module: a source and what it includes."""
 
     def __init__(self, project: Project, module: str) -> None:
@@ -48,6 +56,7 @@ class Walk(Rewriter):
         number, text = self.lines[at]
         row = Row(number, [text])
         self.rows.append(row)
+        self.here, self.original = at, text
         if self.context.is_dead and not self.goes_on(text):
             self.pass_by(row, text)
             return at + 1
@@ -56,12 +65,23 @@ class Walk(Rewriter):
             if following is not None:
                 return following
             row.lines = self.rewritten(at, text)
+            if len(text) > MOST_BYTES or max(map(len, row.lines), default=0) > MOST_BYTES:
+                row.lines = [it for one in row.lines for it in split(one, self.has_escapes)]
+            self.note_names(text)
         except Unportable as it:
             row.lines = [text]
             row.is_dead = False
             self.cannot(number, it)
             self.recover(text)
         return at + 1
+
+    def note_names(self, text: str) -> None:
+        """Notes which names a line has."""
+        context = self.context
+        if context.macro is None:
+            names = facts_of(text, self.has_escapes).names
+            context.seen |= names
+            context.cheap_used |= {it for it in names if it[0] == "@"}
 
     def whole(self) -> None:
         """Walks the module from its first line to its last."""
@@ -78,65 +98,86 @@ class Walk(Rewriter):
         has_repeat = "rep" in text.lower()
         if not has_repeat and not (context.macros or self.screen):
             return None
-        statement = statement_of(line_of(text).tokens, self.project.is_macro)
+        statement = self.parsed(text)
         if has_repeat and statement.head in words.REPEAT_BEGINS:
-            return self.written_out(at, row, statement)
-        first = statement.body[0] if statement.body else None
-        if first is not None and first.text in context.macros:
-            text = self.renamed(spelling.respelled(defines.expanded(text, context, "string_escapes" in context.features), context))
-            statement = statement_of(line_of(text).tokens, self.project.is_macro)
-            first = statement.body[0] if statement.body else None
-        if first is not None and first.kind is Kind.NAME and first.text in context.macros and self.is_hard(first.text, statement):
-            expander = self.expander(at)
-            expander.call(first.text, text, statement.rest)
-            label = [text[: first.start].rstrip()] if statement.label is not None else []
-            row.lines = [commented_out(self.lines[at].text), *self.virtual(at, label + expander.found)]
-            return at + 1
-        return None
-
-    def is_hard(self, name: str, statement: Statement) -> bool:
-        """Whether a call has to be written out: for what the macro does, for strings whose codes differ, or for names that a scope
-        around it has used."""
-        if name in self.hard:
-            return True
-        if self.context.charmap.codes and any(it.kind is Kind.STRING for it in statement.rest):
-            return True
-        names = self.context.macros[name].names | {it.text for it in statement.rest}
-        asks = ".ifdef" in self.context.macros[name].directives or ".ifndef" in self.context.macros[name].directives
-        if self.project.is_measured and not asks:
-            return False
-        scopes = self.context.scopes if asks else self.context.scopes[:-1]
-        return any(not names.isdisjoint(it.used) for it in scopes)
-
-    def expander(self, at: int) -> Expander:
-        """What writes calls out that stand at a line."""
-        return Expander(self.context.macros, self.hard, self.truth, self.number, self.unique(at))
-
-    def written_out(self, at: int, row: Row, statement: Statement) -> Optional[int]:
-        """Writes a repeat out that has to be; None where it may stay."""
-        end = end_of_repeat(self.lines, at + 1) - at - 1
-        texts = [it.text for it in self.lines[at + 1 : at + 1 + end]]
-        tokens = [it for text in texts for it in line_of(text).tokens]
-        is_spread = Line(self.path, self.lines[at].number) in self.project.spread.repeats
-        if not is_spread and not any(it.lower in HARD or it.text in self.hard for it in tokens):
+            return self.repeat(at, row, statement)
+        if any(it.text in context.defines for it in statement.body):
+            text = defines.expanded(text, context, self.has_escapes)
+            statement = self.parsed(text)
+        if not self.is_written_out(statement):
             return None
-        expander = self.expander(at)
-        expander.repeat([*texts, ".endrepeat"], 0, self.lines[at].text, statement, {})
-        row.lines = [commented_out(self.lines[at].text), *self.virtual(at, expander.found)]
-        return at + 1 + end + 1
+        label = text[: statement.body[0].start].rstrip() if statement.label is not None else ""
+        prepared = self.prepared(text)
+        expander = Expander(self, context.macros, self.unique(at))
+        expander.call(prepared, self.parsed(prepared))
+        self.write_out(at, row, expander, label)
+        return at + 1
 
-    def virtual(self, at: int, texts: List[str]) -> List[str]:
-        """Rewrites lines that stand in place of one."""
-        saved, others = (self.lines, self.rows), self.others
-        self.lines, self.rows = [Logical(saved[0][at].number, it) for it in texts], []
-        here = 0
+    def repeat(self, at: int, row: Row, statement: Statement) -> Optional[int]:
+        """Writes a repeat out that has to be; None where it may stay."""
+        end = end_of_repeat(self.lines, at + 1)
+        texts = [it.text for it in self.lines[at + 1 : end]]
+        is_spread = Line(self.path, self.lines[at].number) in self.project.spread.repeats
+        if not is_spread and not any(self.has_to_go(here, it) for here, it in enumerate(texts, at + 1)):
+            return None
+        expander = Expander(self, self.context.macros, self.unique(at))
+        expander.repeat(texts, self.lines[at].text, {})
+        label = self.lines[at].text[: statement.body[0].start].rstrip() if statement.label is not None else ""
+        self.write_out(at, row, expander, label)
+        return end + 1
+
+    def has_to_go(self, at: int, text: str) -> bool:
+        """Whether a line has its repeat written out."""
+        self.here = at
+        tokens = line_of(text, self.has_escapes).tokens
+        return any(it.lower in HARD or it.text in self.hard for it in tokens) or self.is_written_out(self.parsed(text))
+
+    def write_out(self, at: int, row: Row, expander: Expander, label: str) -> None:
+        """Has a call or a repeat written out; the outermost one stays as a comment."""
+        context, text = self.context, self.lines[at].text
+        saved, depths = (self.lines, self.rows, self.others), (len(context.blocks), len(context.scopes))
+        self.number, self.rows = self.lines[at].number, []
+        self.expanding += 1
         try:
-            while here < len(self.lines):
-                here = self.line(here)
-            return [line for row in self.rows for line in row.lines]
+            if label:
+                self.emit(label, ())
+            expander.run()
+            lines = [line for it in self.rows for line in (*it.before, *it.lines)]
+        except Unportable:
+            del context.blocks[depths[0] :], context.scopes[depths[1] :]
+            raise
         finally:
-            self.lines, self.rows = saved
-            self.others = others
+            self.expanding -= 1
+            self.lines, self.rows, self.others = saved
+        row.lines = lines if self.expanding else [commented_out(text), *merged(lines)]
+
+    def emit(self, text: str, following: Sequence[str]) -> None:
+        """Rewrites a line of a call that is written out."""
+        self.lines = [Logical(self.number, it) for it in (text, *following)]
+        self.line(0)
+
+    @property
+    def is_in_macro(self) -> bool:
+        """Whether the lines of a macro are being read."""
+        return self.context.macro is not None
+
+    def parsed(self, text: str) -> Statement:
+        """A line's statement."""
+        return statement_of(line_of(text, self.has_escapes).tokens, self.project.is_macro)
+
+    def prepared(self, text: str) -> str:
+        """A line with all its defines replaced."""
+        return spelling.respelled(defines.expanded(text, self.context, self.has_escapes, is_whole=True), self.context)
+
+    def decided(self, text: str) -> Optional[bool]:
+        """What a condition comes to, where it is known."""
+        statement = self.parsed(self.prepared(text))
+        return self.truth(statement.rest) if statement.head == ".elseif" else self.answer(statement)
+
+    def counted(self, text: str) -> Optional[int]:
+        """The count of a repeat, where it is known."""
+        parts = parts_of(self.parsed(self.prepared(text)).rest)
+        return self.number_of(parts[0]) if parts else None
 
     def goes_on(self, text: str) -> bool:
         """Whether a line ends the lines that are left out, or begins others."""
@@ -164,24 +205,33 @@ class Walk(Rewriter):
 
     def rewritten(self, at: int, text: str) -> List[str]:
         """The lines that stand in place of one."""
-        context = self.context
-        has_escapes = "string_escapes" in context.features
+        context, has_escapes = self.context, self.has_escapes
         facts = facts_of(text, has_escapes)
+        self.keep_line(text)
         if self.is_left(facts, has_escapes):
-            self.keep_line(text)
+            if self.project.is_measured and forms.may_differ(facts.tokens, facts.names, context, False):
+                plain = statement_of(facts.tokens, self.project.is_macro)
+                if plain.head in words.MNEMONICS:
+                    self.guess(at, text, plain)
             self.note_plain(facts)
             return [text]
         if not facts.tokens:
             return [text]
-        text = defines.expanded(text, context, has_escapes) if not context.defines.keys().isdisjoint(facts.names) else text
+        if not context.defines.keys().isdisjoint(facts.names):
+            text = defines.expanded(text, context, has_escapes, is_whole=not facts.directives.isdisjoint(OF_TOKENS))
         text = spelling.respelled(text, context)
-        text = self.renamed(text)
-        self.keep_line(text)
-        text = spelling.with_codes(text, context)
-        facts = facts_of(text, has_escapes)
-        text = self.folder.folded(text, facts.directives, is_asked=bool(facts.directives & ASKED))
+        if ".define" not in facts.directives:
+            asked = BANK.findall(text) if ".bank" in facts.directives else ()
+            text = self.settled(text, is_asked=bool(facts.directives & ASKED))
+            text = spelling.with_comment(text, asked) if asked and not BANK.search(text) else text
         tokens = line_of(text, has_escapes).tokens
         statement = statement_of(tokens, self.project.is_macro)
+        self.has_lists = False
+        if statement.body and statement.body[0].text in context.macros and facts_of(text, has_escapes).has_text:
+            self.has_lists = self.takes_lists(statement.body[0].text, statement.rest)
+            if self.has_lists:
+                text = self.with_lists(text, statement)
+                statement = self.parsed(text)
         if context.structures and statement.head not in structures.CLOSERS and statement.head not in structures.OPENERS:
             return self.finished(structures.member(text, statement, context), has_escapes, statement)
         found = self.statement(at, text, statement)
@@ -190,18 +240,29 @@ class Walk(Rewriter):
     def is_left(self, facts: Facts, has_escapes: bool) -> bool:
         """Whether a line stays as it is."""
         context = self.context
-        if not facts.is_plain or "bracket_as_indirect" in context.features or facts.has_star or context.structures or has_escapes and facts.has_text:
+        if not facts.is_plain or context.features & ALL_LINES or facts.has_star or has_escapes and facts.has_text:
+            return False
+        if context.structures or context.place is not None:
             return False
         if facts.has_text and context.charmap.codes:
             return False
-        if facts.directives & FUNCTIONS or ".include" in facts.directives:
+        if facts.directives & FUNCTIONS or ".include" in facts.directives or facts.is_long:
             return False
         names = facts.names
         if forms.may_differ(facts.tokens, names, context, self.project.is_measured):
             return False
         if not self.project.sized_names.isdisjoint(names) or self.label_splits(facts):
             return False
-        return context.defines.keys().isdisjoint(names) and context.versions.keys().isdisjoint(names) and not context.locals & names
+        return context.defines.keys().isdisjoint(names) and not self.has_renamed(facts)
+
+    def has_renamed(self, facts: Facts) -> bool:
+        """Whether a line has a name that is another one in the copy."""
+        context, names = self.context, facts.names
+        if context.locals & names or not context.changing.isdisjoint(names) or context.cheap_constants.keys() & names:
+            return True
+        if context.hoisted and any(it.text == "::" for it in facts.tokens):
+            return True
+        return context.part > 0 and not context.cheap_before.isdisjoint(names)
 
     def label_splits(self, facts: Facts) -> bool:
         """Whether a label stands before a directive of expansion that takes none."""

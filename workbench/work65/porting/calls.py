@@ -1,0 +1,146 @@
+"""Which calls have to be written out, and how those that stay are written."""
+from typing import List, Sequence, Set
+
+from work65.language import words
+from work65.language.statements import Statement, parts_of, statement_of
+from work65.language.tokens import Kind, Token, line_of
+from work65.porting import ranges, shifts, spelling
+from work65.porting.expansion import SCOPES, Macro
+from work65.porting.facts import star_in
+from work65.porting.line import edited
+from work65.porting.rewriter import Rewriter
+
+ASKING = frozenset((".ifdef", ".ifndef", ".defined", ".def"))
+BYTES = frozenset((".byte", ".byt"))
+BLANKS = frozenset((".ifblank", ".ifnblank"))
+
+
+class Calls(Rewriter):
+    """What is known of calls."""
+
+    here = 0
+
+    def is_written_out(self, statement: Statement) -> bool:
+        """Whether a statement is the call of a macro that is written out."""
+        first = statement.body[0] if statement.body else None
+        if first is None or first.kind is not Kind.NAME or first.text not in self.context.macros:
+            return False
+        return first.text in self.hard or self.has_to_be_written(first.text, statement)
+
+    def has_to_be_written(self, name: str, statement: Statement) -> bool:
+        """Whether a call can't stay: for what changed since the macro was read, for its arguments, or for where it stands."""
+        context, rest = self.context, statement.rest
+        reached = self.reached(name)
+        if any(self.is_changed(it) for it in reached):
+            return True
+        if any(star_in(it) for it in parts_of(rest)) and any(it.directives & words.DATA for it in reached):
+            return True
+        if any(it.has_shift for it in reached) and shifts.may_turn_negative(rest, context):
+            return True
+        if "force_range" in context.features and ranges.may_be_cut(rest, context) and any(it.directives & words.DATA for it in reached):
+            return True
+        if any(self.has_codes(it) for it in rest if it.kind is Kind.STRING) and not self.takes_lists(name, rest):
+            return True
+        if any(it.text in self.project.sized_names for it in rest) and any(it.directives & SCOPES for it in reached):
+            return True
+        return self.is_hidden_there(reached, rest) or any(self.has_other_regions(it) for it in reached)
+
+    def reached(self, name: str) -> List[Macro]:
+        """A macro, and those that it calls."""
+        macros, found, left = self.context.macros, {name}, [name]
+        while left:
+            more = (macros[left.pop()].names & macros.keys()) - found
+            found |= more
+            left += more
+        return [macros[it] for it in found]
+
+    def is_changed(self, macro: Macro) -> bool:
+        """Whether a macro's lines mean something else than where they were read: for a define, a variable, or codes of characters."""
+        context = self.context
+        if not macro.names.isdisjoint(context.changing) or macro.has_text and macro.codes != context.charmap.codes:
+            return True
+        for name in macro.names & (context.defines.keys() | macro.defines.keys()):
+            now, then = context.defines.get(name), macro.defines.get(name)
+            if now is None or then is not None and now.text != then or then is None and not now.is_constant:
+                return True
+        return False
+
+    def is_hidden_there(self, reached: List[Macro], rest: Sequence[Token]) -> bool:
+        """Whether a scope around a call has used a name of it."""
+        names = {it.text for it in rest} | {name for it in reached for name in it.names}
+        if self.project.is_measured and not any(it.directives & ASKING for it in reached):
+            return False
+        is_inner = any(it.directives & (ASKING | SCOPES) for it in reached)
+        scopes = self.context.scopes if is_inner else self.context.scopes[:-1]
+        return any(not names.isdisjoint(it.used) for it in scopes)
+
+    def has_other_regions(self, macro: Macro) -> bool:
+        """Whether a macro with cheap names of its own would end the region of those around its call."""
+        own = {it for it in macro.locals if it[0] == "@"}
+        return bool(own) and (bool(macro.cheap - own) or bool(self.expanding) or self.is_spanned())
+
+    def is_spanned(self) -> bool:
+        """Whether cheap names stand on both sides of a line, in the region around it."""
+        before, after = self.cheap_names(range(self.here - 1, -1, -1)), self.cheap_names(range(self.here + 1, len(self.lines)))
+        return bool(before) and bool(after)
+
+    def cheap_names(self, places: range) -> Set[str]:
+        """The cheap names of lines up to one with a label."""
+        found: Set[str] = set()
+        for at in places:
+            tokens = line_of(self.lines[at].text, self.has_escapes).tokens
+            found |= {it.text for it in tokens if it.kind is Kind.CHEAP}
+            label = statement_of(tokens, self.project.is_macro).label
+            if label is not None and label.kind is Kind.NAME or any(it.lower == ".proc" for it in tokens[:1]):
+                break
+        return found
+
+    def has_codes(self, it: Token) -> bool:
+        """Whether a string has other codes than its bytes."""
+        return spelling.needs_codes(it, self.context)
+
+    def takes_lists(self, name: str, rest: Sequence[Token]) -> bool:
+        """Whether a call's strings are elements of lists alone, so that numbers may stand for them."""
+        macro, parts = self.context.macros[name], parts_of(rest)
+        given = [it for it, part in zip(macro.parameters, parts) if any(one.kind is Kind.STRING for one in part)]
+        return all(self.is_element(name, it, 0) for it in given) and all(_is_list(it) for it in parts)
+
+    def is_element(self, name: str, parameter: str, depth: int) -> bool:
+        """Whether a parameter is an element of lists of bytes wherever it stands."""
+        macro = self.context.macros[name]
+        for text in macro.lines:
+            tokens = line_of(text, self.has_escapes).tokens
+            if not any(it.text == parameter for it in tokens):
+                continue
+            statement = statement_of(tokens, self.project.is_macro)
+            parts = [it for it in parts_of(statement.rest) if any(one.text == parameter for one in it)]
+            is_alone = all(len(it) == 1 for it in parts) and statement.label is None
+            called = self.context.macros.get(statement.body[0].text) if statement.body else None
+            if statement.head in BYTES and is_alone or statement.head in BLANKS:
+                continue
+            if called is None or not is_alone or depth > 20:
+                return False
+            taken = [one for one, part in zip(called.parameters, parts_of(statement.rest)) if part and part[0].text == parameter]
+            if not all(self.is_element(statement.body[0].text, it, depth + 1) for it in taken):
+                return False
+        return True
+
+    def with_lists(self, text: str, statement: Statement) -> str:
+        """A call that stays, with the codes of its strings in place of them."""
+        edits, texts = [], []
+        for part in parts_of(statement.rest):
+            for it in part:
+                if it.kind is Kind.STRING and self.has_codes(it):
+                    elements = ", ".join(spelling.elements_of(it, self.context))
+                    edits.append((it.start, it.end, "{" + elements + "}" if len(part) == 1 else elements))
+                    texts.append(it.text)
+        return spelling.with_comment(edited(text, edits), texts) if edits else text
+
+
+def _is_list(part: Sequence[Token]) -> bool:
+    """Whether an argument is one token, or a list in braces whose strings are elements of their own."""
+    if len(part) <= 1 or not any(it.kind is Kind.STRING for it in part):
+        return True
+    if part[0].text != "{" or part[-1].text != "}":
+        return False
+    return all(len(it) == 1 or not any(one.kind is Kind.STRING for one in it) for it in parts_of(part[1:-1]))

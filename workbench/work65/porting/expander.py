@@ -1,0 +1,230 @@
+"""Writes calls and repeats out, a line after the other, so that each line sees what the lines before it changed."""
+import re
+from dataclasses import dataclass, field
+from typing import Dict, List, Optional, Protocol, Sequence
+
+from work65.language import words
+from work65.language.statements import Statement, parts_of, statement_of
+from work65.language.tokens import Kind, Token, line_of
+from work65.porting.expansion import EXITS, HARD, Macro, arguments_of, end_of_repeat, put_in
+from work65.porting.line import Unportable
+from work65.porting.logical import Logical
+
+MOST_CALLS, DEEPEST = 4000, 600
+MOST_TURNS = 1024
+MOST_LINES, LONGEST = 20000, 10000
+
+
+class Host(Protocol):
+    """What walks the lines that are written out."""
+
+    @property
+    def has_escapes(self) -> bool:
+        """Whether a backslash in a string takes the next character with it."""
+
+    @property
+    def is_in_macro(self) -> bool:
+        """Whether the lines of a macro are being read."""
+
+    def prepared(self, text: str) -> str:
+        """A line with its defines replaced."""
+
+    def is_written_out(self, statement: Statement) -> bool:
+        """Whether a statement is the call of a macro that is written out."""
+
+    def decided(self, text: str) -> Optional[bool]:
+        """What a condition comes to, where it is known."""
+
+    def counted(self, text: str) -> Optional[int]:
+        """The count of a repeat, where it is known."""
+
+    def emit(self, text: str, following: Sequence[str]) -> None:
+        """Rewrites a line."""
+
+
+@dataclass
+class Condition:
+    """An open condition: whether it was decided here, whether its lines count, and whether one of its parts did."""
+
+    is_decided: bool
+    is_live: bool
+    is_done: bool
+
+
+@dataclass
+class Frame:
+    """The lines of a call or of a repeat that is written out, and how far they were read."""
+
+    lines: Sequence[str]
+    given: Dict[str, str]
+    counter: str = ""
+    turns: int = 1
+    is_repeat: bool = False
+    at: int = 0
+    turn: int = 0
+    conditions: List[Condition] = field(default_factory=list)
+
+    @property
+    def is_live(self) -> bool:
+        """Whether the lines here count."""
+        return all(it.is_live for it in self.conditions)
+
+    @property
+    def is_decided(self) -> bool:
+        """Whether all open conditions were decided here."""
+        return all(it.is_decided for it in self.conditions)
+
+
+class Expander:
+    """Writes one call or repeat out, with all that it calls."""
+
+    def __init__(self, host: Host, macros: Dict[str, Macro], unique: str) -> None:
+        self.host, self.macros = host, macros
+        self.unique = re.sub(r"[^0-9A-Za-z]", "_", unique)
+        self.calls = self.written = 0
+        self.frames: List[Frame] = []
+
+    def call(self, text: str, statement: Statement) -> None:
+        """Begins a call."""
+        name = statement.body[0].text
+        macro = self.macros[name]
+        self.calls += 1
+        values = arguments_of(text, statement.rest)
+        if len(text) > LONGEST or len(values) > len(macro.parameters) or self.calls > MOST_CALLS or len(self.frames) > DEEPEST:
+            raise Unportable(name, "macro-call", "it has too many arguments, or calls itself without an end")
+        if macro.is_ambiguous:
+            raise Unportable(name, "macro-call", "the macro has other lines where a condition holds: write the call out")
+        given = dict(zip(macro.parameters, values + [""] * len(macro.parameters)))
+        given[".paramcount"] = str(len(values))
+        self.frames.append(Frame(macro.lines, given))
+
+    def repeat(self, lines: Sequence[str], text: str, given: Dict[str, str]) -> None:
+        """Begins a repeat."""
+        parts = parts_of(self.statement(text).rest)
+        count = self.host.counted(text)
+        if count is None or not 0 <= count <= MOST_TURNS:
+            raise Unportable(".repeat", "match", "how often isn't known here: write the call out")
+        counter = parts[1][0].text if len(parts) > 1 and parts[1] else ""
+        if count > 0:
+            self.frames.append(Frame(lines, {**given, counter: "0"} if counter else dict(given), counter, count, True))
+
+    def run(self) -> None:
+        """Reads the lines of all frames, the innermost first."""
+        while self.frames:
+            frame = self.frames[-1]
+            if frame.at < len(frame.lines):
+                frame.at += 1
+                self.line(frame, put_in(frame.lines[frame.at - 1], frame.given, self.host.has_escapes))
+            elif frame.turn + 1 < frame.turns:
+                frame.turn, frame.at = frame.turn + 1, 0
+                if frame.counter:
+                    frame.given[frame.counter] = str(frame.turn)
+            else:
+                self.frames.pop()
+
+    def statement(self, text: str) -> Statement:
+        """A line's statement."""
+        return statement_of(line_of(text, self.host.has_escapes).tokens, lambda _: False)
+
+    def line(self, frame: Frame, text: str) -> None:
+        """Reads a line."""
+        statement = self.statement(text)
+        if self.host.is_in_macro:
+            self.emit(text)
+        elif self.asks(frame, text, statement) or not frame.is_live:
+            return
+        elif statement.head == ".local":
+            names = [it.text for it in statement.rest if it.text != ","]
+            frame.given.update({it: f"{it}_{self.unique}_{self.calls}" for it in names})
+        elif statement.head in EXITS:
+            self.leave()
+        elif statement.head in words.REPEAT_BEGINS:
+            self.nested_repeat(frame, text, statement)
+        elif self.host.is_written_out(statement):
+            if statement.label is not None:
+                self.emit(text[: statement.body[0].start].rstrip())
+            prepared = self.host.prepared(text)
+            self.call(prepared, self.statement(prepared))
+        else:
+            self.emit(text)
+
+    def emit(self, text: str, following: Sequence[str] = ()) -> None:
+        """Gives a line to the host."""
+        self.written += 1
+        if self.written > MOST_LINES or len(text) > LONGEST:
+            raise Unportable(text.strip()[:20], "macro-call", "it comes to too much")
+        self.host.emit(text, following)
+
+    def leave(self) -> None:
+        """Ends the innermost call; a repeat that is open in it goes on to its end, as in cc65."""
+        for frame in reversed(self.frames):
+            if not frame.is_decided:
+                raise Unportable(".exitmacro", "macro-call", "whether it is reached isn't known here: write the call out")
+            if not frame.is_repeat:
+                frame.at = len(frame.lines)
+                return
+
+    def nested_repeat(self, frame: Frame, text: str, statement: Statement) -> None:
+        """Writes a repeat within a call out, or leaves it as it is where its lines may stay."""
+        end = end_of_repeat([Logical(0, it) for it in frame.lines], frame.at)
+        body, frame.at = frame.lines[frame.at : end], end + 1
+        if any(self.has_to_go(it, frame) for it in body):
+            if statement.label is not None:
+                self.emit(text[: statement.body[0].start].rstrip())
+            self.repeat(body, text, frame.given)
+            return
+        for it in (text, *(put_in(it, frame.given, self.host.has_escapes) for it in body), ".endrepeat"):
+            self.emit(it)
+
+    def has_to_go(self, text: str, frame: Frame) -> bool:
+        """Whether a line has its repeat written out."""
+        tokens = line_of(put_in(text, frame.given, self.host.has_escapes), self.host.has_escapes).tokens
+        statement = statement_of(tokens, lambda _: False)
+        if statement.head in EXITS or any(it.lower in HARD for it in tokens):
+            return True
+        return self.host.is_written_out(statement)
+
+    def asks(self, frame: Frame, text: str, statement: Statement) -> bool:
+        """Goes past the line of a condition; False where it is none."""
+        head, conditions = statement.head, frame.conditions
+        if head in words.CONDITIONS:
+            if statement.label is not None and frame.is_live:
+                self.emit(text[: statement.body[0].start].rstrip())
+                text = text[statement.body[0].start :]
+            known = self.answer(text, statement) if frame.is_live else False
+            is_dead = not frame.is_live
+            if known is None:
+                self.emit(text, [put_in(it, frame.given, self.host.has_escapes) for it in frame.lines[frame.at :]])
+            conditions.append(Condition(known is not None, known is not False, is_dead or known is not False))
+        elif head in (".elseif", ".else", ".endif") and conditions:
+            self.goes_on(conditions, text, head)
+        else:
+            return False
+        return True
+
+    def goes_on(self, conditions: List[Condition], text: str, head: str) -> None:
+        """Goes past what follows a condition."""
+        one = conditions[-1]
+        if not one.is_decided:
+            self.emit(text)
+        elif head == ".elseif":
+            known = None if one.is_done else self.host.decided(text)
+            if known is None and not one.is_done:
+                raise Unportable(".elseif", "match", "whether it holds isn't known here: write the call out")
+            one.is_live = bool(known) and not one.is_done
+            one.is_done = one.is_done or one.is_live
+        elif head == ".else":
+            one.is_live, one.is_done = not one.is_done, True
+        if head == ".endif":
+            conditions.pop()
+
+    def answer(self, text: str, statement: Statement) -> Optional[bool]:
+        """What a condition comes to, where it is known."""
+        if statement.head in (".ifblank", ".ifnblank"):
+            return _is_blank(statement.rest) == (statement.head == ".ifblank")
+        return self.host.decided(text)
+
+
+def _is_blank(tokens: Sequence[Token]) -> bool:
+    """Whether nothing but braces stands here."""
+    return all(it.kind is Kind.SIGN and it.text in "{}" for it in tokens)

@@ -1,0 +1,49 @@
+"""Lists of data, each of which came of a line of its own, as fewer and longer ones."""
+from typing import List, Optional, Sequence, Tuple
+
+from work65.language import words
+from work65.language.expression import nothing_known, value
+from work65.language.statements import parts_of, statement_of
+from work65.language.tokens import Token, line_of
+from work65.porting.facts import star_in
+
+MOST_ELEMENTS, LONGEST = 16, 100
+
+
+def merged(lines: List[str]) -> List[str]:
+    """The lines, with lists of one directive that follow each other as one list."""
+    found: List[str] = []
+    open_word, count = "", 0
+    for it in lines:
+        data = _data(it)
+        if data is None:
+            found.append(it)
+            open_word, count = "", 0
+            continue
+        word, elements, number = data
+        if word == open_word and count + number <= MOST_ELEMENTS and len(found[-1]) + len(elements) + 2 <= LONGEST:
+            found[-1] = f"{found[-1].rstrip()}, {elements}"
+            count += number
+        else:
+            begin = it[: len(it) - len(it.lstrip())]
+            found.append(f"{begin}{it.split()[0]} {elements}" if "(" in it else it)
+            open_word, count = word, number
+    return found
+
+
+def _data(text: str) -> Optional[Tuple[str, str, int]]:
+    """The directive of a list of data, its elements and how many they are; None where a line is anything else."""
+    line = line_of(text)
+    statement = statement_of(line.tokens, lambda _: False)
+    if statement.label is not None or statement.head not in words.DATA or line.comment < len(text) or not statement.rest:
+        return None
+    parts = parts_of(statement.rest)
+    if any(star_in(it) for it in parts):
+        return None
+    return statement.head, ", ".join(_shown(text, it) for it in parts), len(parts)
+
+
+def _shown(text: str, part: Sequence[Token]) -> str:
+    """An element: a number where it is a sum of numbers."""
+    found = value(part, nothing_known) if len(part) > 1 else None
+    return str(found) if found is not None and found >= 0 else text[part[0].start : part[-1].end] if part else ""

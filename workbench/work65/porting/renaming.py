@@ -1,0 +1,199 @@
+"""Names that become others: those that `.set` changes, cheap names of a .local or with a value, and imports of a scope."""
+from typing import Iterator, List, Optional, Sequence, Tuple
+
+from work65.language.expression import value
+from work65.language.statements import Statement
+from work65.language.tokens import Kind, Token, line_of
+from work65.porting import conditions, shifts, spelling
+from work65.porting.facts import facts_of
+from work65.porting.known import Known
+from work65.porting.line import Unportable, edited
+
+Edit = Tuple[int, int, str]
+ASKED = frozenset((".ifdef", ".ifndef"))
+MOST_ROUNDS = 20
+
+
+class Renaming(Known):
+    """What is known of a module, and its names in the copy."""
+
+    def settled(self, text: str, is_asked: bool) -> str:
+        """A line with its names as they are in the copy and with its functions replaced, also names that functions spell."""
+        for _ in range(MOST_ROUNDS):
+            found = spelling.with_codes(self.renamed(text), self.context)
+            found = self.folder.folded(found, facts_of(found, self.has_escapes).directives, is_asked)
+            if found == text:
+                break
+            text = found
+        return text
+
+    def number_of(self, tokens: Sequence[Token]) -> Optional[int]:
+        """The value of an expression, where it is the same in every assembly."""
+        text = self.settled(" ".join(it.text for it in tokens), is_asked=False)
+        found = line_of(text, self.has_escapes).tokens
+        shifts.refuse(found, self.context)
+        return value(found, self.context.certain)
+
+    def truth(self, tokens: Sequence[Token]) -> Optional[bool]:
+        """Whether an expression is true, where it is the same in every assembly."""
+        found = self.number_of(tokens)
+        return None if found is None else found != 0
+
+    def answer(self, statement: Statement) -> Optional[bool]:
+        """What a condition comes to, where that is the same in every assembly."""
+        head, rest = statement.head, statement.rest
+        if head in conditions.PROCESSORS and self.context.processor == "6502":
+            return conditions.PROCESSORS[head] == 1
+        if head in (".ifdef", ".ifndef") and len(rest) == 1:
+            known = self.is_defined(rest[0].text)
+            return None if known is None else known == (head == ".ifdef")
+        return self.truth(rest) if head == ".if" else None
+
+    def renamed(self, text: str) -> str:
+        """A line with its names as they are in the copy."""
+        context = self.context
+        if not (context.locals or context.variables or context.cheap_constants or context.part or context.hoisted):
+            return text
+        tokens = line_of(text, self.has_escapes).tokens
+        edits: List[Edit] = []
+        for at, it in enumerate(tokens):
+            if it.text in context.locals:
+                edits.append((it.start, it.end, self.plain(it.text)))
+            elif context.macro is None:
+                edits += self._renamed(tokens, at)
+        return edited(text, edits) if edits else text
+
+    def _renamed(self, tokens: Sequence[Token], at: int) -> Iterator[Edit]:
+        """What becomes of one token."""
+        context, it = self.context, tokens[at]
+        if it.kind is Kind.CHEAP:
+            if it.text in context.cheap_constants:
+                if not _is_followed(tokens, at, "=", ":="):
+                    yield it.start, it.end, context.cheap_constants[it.text]
+            elif context.part and it.text in context.cheap_before:
+                yield it.start, it.end, f"{it.text}_{context.part + 1}"
+        elif it.kind is Kind.NAME:
+            if it.text in context.changing:
+                yield from self._variable(tokens, at)
+            elif it.text in {key[-1] for key in context.hoisted} and at > 1 and tokens[at - 1].text == "::":
+                yield from self._hoisted(tokens, at)
+
+    def _variable(self, tokens: Sequence[Token], at: int) -> Iterator[Edit]:
+        """A name that .set changes, as its value or as the constant that has it."""
+        context, it = self.context, tokens[at]
+        before = tokens[at - 1].text if at else ""
+        is_quoted = before == "(" and at > 1 and tokens[at - 2].lower == ".string"
+        if _is_followed(tokens, at, ".set", "::") or is_quoted or before == "::" and at > 1 and tokens[at - 2].kind is Kind.NAME:
+            return
+        start, path = (tokens[at - 1].start, ()) if before == "::" else (it.start, context.path)
+        for depth in range(len(path), -1, -1):
+            key = path[:depth] + (it.text,)
+            if key in context.variables:
+                if depth < len(path):
+                    raise Unportable(it.text, "set", "within a scope cc65 takes its last value: give it by a constant")
+                if tokens[0].lower in ASKED:
+                    raise Unportable(it.text, "set", "it is asked for: write what is meant")
+                yield start, it.end, context.variables[key]
+                return
+            if key in context.labels or key in context.constants:
+                return
+
+    def _hoisted(self, tokens: Sequence[Token], at: int) -> Iterator[Edit]:
+        """An import of a scope, which is one of the whole module in the copy."""
+        begin, parts = at, [tokens[at].text]
+        while begin > 1 and tokens[begin - 1].text == "::" and tokens[begin - 2].kind is Kind.NAME:
+            begin -= 2
+            parts.insert(0, tokens[begin].text)
+        if begin and tokens[begin - 1].text == "::":
+            begin -= 1
+        path = () if tokens[begin].text == "::" else self.context.path
+        for depth in range(len(path), -1, -1):
+            name = self.context.hoisted.get(path[:depth] + tuple(parts))
+            if name is not None:
+                yield tokens[begin].start, tokens[at].end, f"::{name}" if self.context.scopes else name
+                return
+
+    def plain(self, name: str) -> str:
+        """The name that stands for a cheap one of a .local."""
+        return f"local_{name.lstrip('@')}"
+
+    def local(self, text: str, statement: Statement) -> List[str]:
+        """A .local with cheap names: they become names."""
+        cheap = [it for it in statement.rest if it.kind is Kind.CHEAP]
+        self.context.locals |= {it.text for it in cheap}
+        return [edited(text, [(it.start, it.end, self.plain(it.text)) for it in cheap])]
+
+    def set(self, text: str, statement: Statement) -> List[str]:
+        """A .set: a constant with a name of its own; in what is written out the value stands where the name is used."""
+        context = self.context
+        if context.macro is not None:
+            return [text]
+        is_global = statement.head == "::"
+        name, word, *rest = statement.body[is_global:]
+        key = (() if is_global else context.path) + (name.text,)
+        if context.repeats or any(it.is_live is not True for it in context.blocks):
+            raise Unportable(".set", "set", "within a repeat or condition it can't be followed")
+        if is_global and context.scopes:
+            raise Unportable(".set", "set", "it stands within a scope: move it out")
+        if key not in context.variables and name.text in context.seen:
+            raise Unportable(name.text, "set", "it is used before its first line: cc65 takes its last value there")
+        sure, found = value(rest, context.certain), value(rest, context.value)
+        self.end_part()
+        context.changing.add(name.text)
+        if self.expanding and sure is not None and sure >= 0:
+            context.variables[key] = str(sure)
+            return []
+        new = self.numbered(name.text)
+        context.variables[key] = new
+        context.constants[key[:-1] + (new,)] = found
+        if sure is None:
+            context.uncertain.add(key[:-1] + (new,))
+        context.labels[key[:-1] + (new,)] = ""
+        return [edited(text, [(statement.body[0].start, name.end, new), (word.start, word.end, "=")])]
+
+    def numbered(self, name: str) -> str:
+        """The next name of those that stand for a name that .set changes."""
+        while True:
+            number = self.context.versions[name] = self.context.versions.get(name, 0) + 1
+            new = f"{name.lstrip('@')}_set{number}"
+            if new not in self.project.words:
+                return new
+
+    def cheap_constant(self, text: str, statement: Statement) -> List[str]:
+        """A cheap name with a value: a constant with a name of its own, up to the next label."""
+        context, name = self.context, statement.body[0]
+        if context.macro is not None:
+            return [text]
+        if context.repeats or any(it.is_live is not True for it in context.blocks):
+            raise Unportable(name.text, "cheap-constant", "within a repeat or condition: write a name")
+        if name.text in context.cheap_used:
+            raise Unportable(name.text, "cheap-constant", "it is used before this line: write a name")
+        new = self.free(f"{context.region}_{name.text[1:]}" if context.region else f"cheap_{name.text[1:]}")
+        context.cheap_constants[name.text] = new
+        key = context.path + (new,)
+        context.constants[key] = value(statement.rest[1:], context.value)
+        if self.is_uncertain(new) or value(statement.rest[1:], context.certain) is None:
+            context.uncertain.add(key)
+        return [edited(text, [(name.start, name.end, new)])]
+
+    def free(self, name: str) -> str:
+        """A name that the tree doesn't have, made of this one."""
+        found, number = name, 1
+        while found in self.project.words:
+            number += 1
+            found = f"{name}_{number}"
+        self.project.words.add(found)
+        return found
+
+
+def _is_followed(tokens: Sequence[Token], at: int, *texts: str) -> bool:
+    """Whether one of these follows."""
+    return at + 1 < len(tokens) and tokens[at + 1].lower in texts
+
+
+def global_definition(text: str, statement: Statement) -> Optional[str]:
+    """A definition of `::name` without its `::`; None where it is something else."""
+    body = statement.body
+    if len(body) < 4 or body[1].kind is not Kind.NAME or body[2].text not in ("=", ":="):
+        return None
+    return text[: body[0].start] + text[body[1].start :]

@@ -32,6 +32,8 @@ SYMBOLS {
     limit: type = export, value = 9;
 }
 """
+# ca65 expands some sources without an end.
+SECONDS = 20
 
 
 def put_tree(folder, files):
@@ -62,7 +64,10 @@ def image(assembler, linker, folder, room):
     objects = [f"{room}/{number}.o" for number in range(len(sources))]
     lines = [[*assembler, "-o", made, it] for made, it in zip(objects, sources)]
     for words in (*lines, [*linker, "-C", "l.cfg", "-o", f"{room}/image", *objects]):
-        ran = subprocess.run(words, cwd=folder, capture_output=True, text=True, check=False)
+        try:
+            ran = subprocess.run(words, cwd=folder, capture_output=True, text=True, check=False, timeout=SECONDS)
+        except subprocess.TimeoutExpired:
+            return f"{words[0]} comes to no end"
         if ran.returncode:
             return ran.stderr
     with open(f"{room}/image", "rb") as it:

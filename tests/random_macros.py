@@ -98,7 +98,7 @@ def set_macro(it):
 def recursive_macro(it):
     """A macro that calls itself."""
     name = it.name("r")
-    it.put(f".macro {name} n", ".if n > 0", f" .byte <(n * {it.chance.randint(1, 5)})", f" {name} n - 1", ".else",
+    it.put(f".macro {name} n", ".if (n) > 0", f" .byte <((n) * {it.chance.randint(1, 5)})", f" {name} (n) - 1", ".else",
            it.chance.choice((" .byte $FF", ".exitmacro", " nop")), ".endif", ".endmacro")
     it.macros.append((name, lambda: str(it.chance.randint(0, 6)), True))
 

@@ -97,7 +97,7 @@ class Rows:
             if is_used is None and placing and row.name in ALWAYS:
                 self.said.append((row.entry.name, "whether it is used isn't known: cc65 places it even where it isn't"))
             elif is_used is False and row.name in ALWAYS and placing and row.is_written:
-                waiting.update(placing)
+                waiting = {**waiting, **placing, **_joined(waiting.get("ALIGN", 1), placing.get("ALIGN", 1))}
             elif is_used is False and row.name in ALWAYS and placing:
                 is_moved = True
             elif is_used and is_moved:
@@ -139,11 +139,13 @@ class Rows:
             return
         align = max(waiting.get("ALIGN", 1), own.get("ALIGN", 1))
         is_whole = not any(align % it.get("ALIGN", 1) for it in (own, waiting))
-        if len(waiting) > 1 or not row.is_written or (own and "ALIGN" not in waiting) or not is_whole:
+        is_only_loaded = not row.is_run and "ALIGN" not in waiting
+        if len(waiting) > 1 or not row.is_written or (own and "ALIGN" not in waiting) or not is_whole or is_only_loaded:
             self.said.append((row.entry.name, ROW_BEFORE))
             return
         name, number = next(iter(waiting.items()))
-        given = next((it for it in row.entry.attributes if it.name.upper == "ALIGN"), None)
+        name = name if row.is_run else "ALIGN_LOAD"
+        given = next((it for it in row.entry.attributes if it.name.upper == name and name != "START"), None)
         if given is not None and given.value:
             self.edits.append((given.value[0].start, given.value[-1].end, f"${align:04X}"))
         else:
@@ -222,6 +224,12 @@ class Rows:
 def _text(entry: Entry, name: str) -> str:
     value = entry.get(name)
     return value[0].text if value else ""
+
+
+def _joined(one: int, other: int) -> Dict[str, int]:
+    """What is aligned to one number and then to another."""
+    align = max(one, other) if max(one, other) % min(one, other) == 0 else one * other
+    return {"ALIGN": align} if align > 1 else {}
 
 
 def _placing(row: Row) -> Dict[str, int]:

@@ -10,7 +10,10 @@ from work65.porting.verify import Library
 from work65.problem import Problem
 from work65.program import Program
 from work65.signals import folder_for_a_while
+from work65.sources import read_bytes
 
+# How objects and libraries of cc65's begin.
+MADE_BY_CC65 = (b"Uzna", b"naUz")
 HELP = "says whether bin65 makes the image that cc65's tools make of a project, as it stands"
 
 
@@ -43,6 +46,8 @@ def compared(arguments: argparse.Namespace) -> int:
     for it in [arguments.script, *arguments.sources, *(member for library in libraries for member in library.members)]:
         if not os.path.isfile(it):
             raise Problem(f"{it}: no such file")
+        if read_bytes(it)[:4] in MADE_BY_CC65:
+            raise Problem(f"{it}: is an object or a library of cc65's: give its sources, of a library by --library")
     line = Line(arguments.script, arguments.sources, libraries, options_of(arguments), arguments.image)
     with folder_for_a_while() as room:
         answer = Comparison(program, line, room, lacking is None).answer()

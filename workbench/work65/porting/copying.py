@@ -103,6 +103,8 @@ def write(files: Files, folder: str, originals: Sequence[str], is_forced: bool) 
             put({**files, SUMS: os.fsencode(sums)}, room)
             os.makedirs(folder, exist_ok=True)
             for path in [*files, SUMS]:
+                if os.path.isdir(os.path.join(folder, path)):
+                    raise Problem(f"{os.path.join(folder, path)}: is a folder")
                 os.makedirs(os.path.dirname(os.path.join(folder, path)), exist_ok=True)
                 shutil.move(os.path.join(room, path), os.path.join(folder, path))
     except OSError as error:

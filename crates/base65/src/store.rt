@@ -1,6 +1,6 @@
 //! Files as the tools see them.
 
-ghost use Rattle.std.specs.Prelude.{◌≡◌, ◌≤◌, ◌<◌, ◌+◌, ◌^◌, ℕ, Option, List, length, IfOk, IfSome, IsErrOf};
+ghost use Rattle.std.specs.Prelude.{◌≡◌, ◌≤◌, ◌<◌, ◌+◌, ◌-◌, ◌^◌, ℕ, Option, List, length, IfOk, IfSome, IsErrOf};
 ghost use Rattle.std.specs.FinMap as map;
 ghost use Rattle.base65.specs.declared.store.StoreFault.TheVariants.{OutOfMemory, FileError};
 ghost use Rattle.base65.specs.StoreFaults.{is_outside_store};
@@ -106,7 +106,7 @@ pub fn read_full<S: Store>(
     ensures files { S.files store.new ≡ S.files store.old }
     ensures count { Passes FileError (S.failures store.old) (S.failures store.new) result }
     ensures blamed { IsErrOf result FileError → IsBlamed (S.blamed store.new) name.now }
-    ensures within { IsErrOf result FileError → IsBlamedIn (S.blamed store.new) name.now at (at + length buf.old) }
+    ensures within { IsErrOf result FileError → IsBlamedIn (S.blamed store.new) name.now at (at + (length buf.old - 1)) }
     ensures asked { Asks is_outside_store (S.failures store.old) result }
 {
     let mut done = 0;

@@ -7,6 +7,7 @@ use Rattle.base65.specs.declared.store.StoreFault.TheVariants as store
 use Rattle.object65.specs.declared.fault.ObjectFault.TheVariants as object
 use Rattle.library65.specs.declared.fault.LibraryFault.TheVariants as library
 use Rattle.library65.specs.declared.index.Entry.{Entry}
+use Rattle.library65.specs.Asking.{AsksAt, IsIndexPlace}
 use Rattle.library65.specs.Selection.{IsSelection}
 use Rattle.script65.specs.Scripts.{IsScript}
 use Rattle.script65.specs.declared.script.Script.{Script}
@@ -28,9 +29,11 @@ IsOfFront blamed place name e = (e ≡ Object place object.FileError) × IsBlame
 abbrev pub IsOfObject : Blamed → ℕ → List ℕ → Refusal → Type 0
 IsOfObject blamed place name e = (e ≡ Object place object.FileError) × IsBlamed blamed name
 
--- the index of a library
-abbrev pub IsOfIndex : Blamed → ℕ → List ℕ → Refusal → Type 0
-IsOfIndex blamed place name e = (e ≡ Library place library.FileError) × IsBlamed blamed name
+-- The index of a library: where its bytes have one, the failed call asked for a place in front of the members, or for the
+-- last byte or the end of the file, where the index is compared with that.
+abbrev pub IsOfIndex : Option Files → Blamed → ℕ → List ℕ → Refusal → Type 0
+IsOfIndex known blamed place name e =
+    (e ≡ Library place library.FileError) × IsBlamed blamed name × AsksAt known blamed name IsIndexPlace
 
 -- this member, whose bytes the failed call asked for
 abbrev pub IsOfMember : Blamed → List ℕ → Entry → Refusal → Type 0
@@ -57,7 +60,7 @@ pub record IsOfNeeded (known : Option Files) (s : Script) (before : List Module)
 
 -- a library's index, or one of its members
 abbrev pub IsOfLibrary : Option Files → Script → List Module → Blamed → ℕ → List ℕ → Refusal → Type 0
-IsOfLibrary known s before blamed place name e = IsOfIndex blamed place name e ⊎ IsOfNeeded known s before blamed name e
+IsOfLibrary known s before blamed place name e = IsOfIndex known blamed place name e ⊎ IsOfNeeded known s before blamed name e
 
 -- an input: its front; or it is an object; or it is a library, whose index or member that is
 abbrev pub IsOfInput : Option Files → Script → List Module → Blamed → ℕ → List ℕ → Refusal → Type 0

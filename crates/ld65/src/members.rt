@@ -32,7 +32,8 @@ fn index_of<S: Store>(alloc: Global, store: &mut S, input: &Named<'_>) -> Result
     ensures read { IfSome (S.files store.old) (λ m. Gives is_outside (λ x. x.entries) result (as_library input.now.place (index_in m input.now.name.now))) }
     ensures within { IfOk result (λ x. AllByRecursion (λ e. e.place + e.size ≤ file_limit) x.entries) }
     ensures kept { LeavesBy S.files S.failures S.blamed
-        (λ b. Names (IsOfIndex b input.now.place input.now.name.now)) store.old store.new result }
+        (λ b. Names (IsOfIndex (S.files store.old) b input.now.place input.now.name.now))
+        store.old store.new result }
 {
     match read_index(alloc, store, input.name) {
         Ok(index) => Ok(index),

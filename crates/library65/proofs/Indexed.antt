@@ -302,7 +302,7 @@ all_sizes at (m ∷ ms) = sum_by-cons entry_size (entry_at at m) (placed_from (a
 head_takes : (bytes : List ℕ) (u : Unit {0}) → head_at bytes ≡ Ok u → Takes bytes 0 5 library_head
 head_takes bytes u e = grind (arith, common_steps)
 
-ended : (bytes : List ℕ) (end : ℕ) (u : Unit {0}) → end_at end bytes ≡ Ok u → length bytes ≡ end
+pub ended : (bytes : List ℕ) (end : ℕ) (u : Unit {0}) → end_at end bytes ≡ Ok u → length bytes ≡ end
 ended bytes end u e = grind (arith, common_steps)
 
 pub index_takes : IndexReadLaw

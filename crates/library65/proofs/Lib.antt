@@ -1,9 +1,11 @@
 pub mod Again
+pub mod Asking
 pub mod Edits
 pub mod Indexed
 pub mod Made
 pub mod Members
 pub mod Read
+pub mod Rows
 pub mod Selections
 pub mod Shown
 pub mod SomeLibrary

@@ -1,10 +1,11 @@
 //! The index of a library, read from its file, and where its members stand.
 
-ghost use Rattle.std.specs.Prelude.{◌≡◌, ◌≤◌, ◌<◌, ◌+◌, length, IfOk, OnOk, IfSome, IsErrOf, ◌++◌, ◌∷◌, [], ℕ, List, map, Ok, false};
+ghost use Rattle.std.specs.Prelude.{◌≡◌, ◌≤◌, ◌<◌, ◌+◌, ◌-◌, length, IfOk, OnOk, IfSome, IsErrOf, ◌++◌, ◌∷◌, [], ℕ, List, map, Ok, false};
 ghost use Rattle.std.specs.FinMap as map;
 ghost use Rattle.base65.specs.Outcome.{Gives};
-ghost use Rattle.base65.specs.Store.{Asks, HoldsBytes};
+ghost use Rattle.base65.specs.Store.{Asks, HoldsBytes, IsBlamedIn};
 ghost use Rattle.object65.specs.Reading.{Leaves, file_limit};
+ghost use Rattle.library65.specs.Asking.{AsksAt, IsBefore, IsInName, IsIndexPlace};
 ghost use Rattle.library65.specs.Fault.{is_outside, is_memory};
 ghost use Rattle.library65.specs.Spelling.{is_among, is_member_name};
 ghost use Rattle.library65.specs.Reading.{in_file, field_at, head_at, name_at, number_at, symbol_at, counted_at, count_at, member_name_at, listing_at, list_at, entry_at, placed, end_at, index_at};
@@ -33,6 +34,7 @@ fn read_field<S: Store>(
     requires short { length buf.old < 256 }
     ensures read { IfSome (S.files store.old) (λ m. Gives is_outside (λ _. buf.new) result (in_file (map.get m file.now) (field_at (length buf.old) at))) }
     ensures kept { Leaves S.files S.failures S.blamed FileError file.now store.old store.new result }
+    ensures within { IsErrOf result FileError → IsBlamedIn (S.blamed store.new) file.now at (at + (length buf.old - 1)) }
     ensures limit { OnOk result (at + length buf.old ≤ file_limit) }
 {
     let n = read_full(store, file, at, buf)?;
@@ -51,6 +53,7 @@ fn read_number<S: Store>(store: &mut S, file: &str, at: u64) -> Result<u32, Libr
     requires { at ≤ file_limit }
     ensures read { IfSome (S.files store.old) (λ m. Gives is_outside (λ n. n) result (in_file (map.get m file.now) (number_at at))) }
     ensures kept { Leaves S.files S.failures S.blamed FileError file.now store.old store.new result }
+    ensures within { IsErrOf result FileError → IsBlamedIn (S.blamed store.new) file.now at (at + 3) }
     ensures limit { OnOk result (at + 4 ≤ file_limit) }
 {
     let mut bytes = [0u8; 4];
@@ -69,6 +72,7 @@ fn read_name<S: Store>(
     requires { at ≤ file_limit }
     ensures read { IfSome (S.files store.old) (λ m. Gives is_outside (λ x. x) result (in_file (map.get m file.now) (name_at at))) }
     ensures kept { Leaves S.files S.failures S.blamed FileError file.now store.old store.new result }
+    ensures before { IsErrOf result FileError → AsksAt (S.files store.old) (S.blamed store.new) file.now (IsInName at) }
     ensures end { IfOk result (λ x. (at < x.1) × (x.1 ≤ file_limit)) }
 {
     let mut len = [0u8; 1];
@@ -91,6 +95,7 @@ fn read_symbols<S: Store>(
     requires { at ≤ file_limit }
     ensures read { IfSome (S.files store.old) (λ m. Gives is_outside (λ x. x) result (in_file (map.get m file.now) (counted_at at))) }
     ensures kept { Leaves S.files S.failures S.blamed FileError file.now store.old store.new result }
+    ensures before { IsErrOf result FileError → AsksAt (S.files store.old) (S.blamed store.new) file.now (IsBefore (counted_at at)) }
     ensures end { IfOk result (λ x. (at < x.1) × (x.1 ≤ file_limit)) }
 {
     let count = read_number(store, file, at)?;
@@ -120,6 +125,7 @@ fn read_listing<S: Store>(
     requires { at ≤ file_limit }
     ensures read { IfSome (S.files store.old) (λ m. Gives is_outside (λ x. x) result (in_file (map.get m file.now) (listing_at (map (λ n. n.items) names.now.keys) at))) }
     ensures kept { Leaves S.files S.failures S.blamed FileError file.now store.old store.new result }
+    ensures before { IsErrOf result FileError → AsksAt (S.files store.old) (S.blamed store.new) file.now (IsBefore (listing_at (map (λ n. n.items) names.now.keys) at)) }
     ensures end { IfOk result (λ x. (at < x.1) × (x.1 ≤ file_limit)) }
     ensures new { IfOk result (λ x. is_among (map (λ n. n.items) names.now.keys) x.0.name ≡ false) }
 {
@@ -146,6 +152,7 @@ fn read_count<S: Store>(store: &mut S, file: &str) -> Result<u32, LibraryFault>
     ensures read { IfSome (S.files store.old) (λ m. Gives is_outside (λ n. n) result (in_file (map.get m file.now) count_at)) }
     ensures bytes { IfSome (S.files store.old) (λ m. HoldsBytes (map.get m file.now) result) }
     ensures kept { Leaves S.files S.failures S.blamed FileError file.now store.old store.new result }
+    ensures within { IsErrOf result FileError → IsBlamedIn (S.blamed store.new) file.now 0 8 }
     ensures asked { Asks is_outside (S.failures store.old) result }
 {
     let mut head = [0u8; 5];
@@ -165,6 +172,7 @@ fn read_list<S: Store>(
     ensures read { IfSome (S.files store.old) (λ m. Gives is_outside (λ x. (x.0.items, x.1)) result (in_file (map.get m file.now) list_at)) }
     ensures bytes { IfSome (S.files store.old) (λ m. HoldsBytes (map.get m file.now) result) }
     ensures kept { Leaves S.files S.failures S.blamed FileError file.now store.old store.new result }
+    ensures before { IsErrOf result FileError → AsksAt (S.files store.old) (S.blamed store.new) file.now (IsBefore list_at) }
     ensures asked { Asks is_outside (S.failures store.old) result }
     ensures end { IfOk result (λ x. (0 < x.1) × (x.1 ≤ file_limit)) }
 {
@@ -225,6 +233,7 @@ pub fn read_index<S: Store>(alloc: Global, store: &mut S, file: &str) -> Result<
     ensures read { IfSome (S.files store.old) (λ m. Gives is_outside (λ x. x.entries) result (in_file (map.get m file.now) index_at)) }
     ensures bytes { IfSome (S.files store.old) (λ m. HoldsBytes (map.get m file.now) result) }
     ensures kept { Leaves S.files S.failures S.blamed FileError file.now store.old store.new result }
+    ensures before { IsErrOf result FileError → AsksAt (S.files store.old) (S.blamed store.new) file.now IsIndexPlace }
     ensures asked { Asks is_outside (S.failures store.old) result }
     // Also where the store doesn't tell.
     ensures within { IfOk result (λ x. AllByRecursion (λ e. e.place + e.size ≤ file_limit) x.entries) }

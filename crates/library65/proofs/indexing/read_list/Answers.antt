@@ -3,6 +3,7 @@ use Rattle.std.proofs.Common.{◌∙◌, ◌+◌, ◌-◌, ◌++◌, ◌∷◌, 
 use Rattle.std.proofs.lemmas.Result.{err_from_is_err_and}
 use Rattle.library65.specs.Reading.{count_at, list_at, listing_at, listings_at}
 use Rattle.object65.proofs.Names.{pushed_name}
+use Rattle.library65.proofs.Asking.{fault_of, listing_failed, members_failed}
 use Rattle.library65.proofs.Steps.{begins, goes_on, kept_count, stops, list_begins, listings_more, name_pushed}
 use Rattle.library65.proofs.indexing.read_list.Goals as goal
 
@@ -76,3 +77,14 @@ returns-in_err-name-clause-bytes g c = grind (arith, common_steps)
 
 pub returns-in_err-member-clause-bytes : goal.returns-in_err-member-clause-bytes
 returns-in_err-member-clause-bytes g c = grind (arith, common_steps)
+
+pub returns-in_err-count-clause-before : goal.returns-in_err-count-clause-before
+returns-in_err-count-clause-before g c =
+    let p = err_from_is_err_and c.from_residual.result c.from_residual.ensures.1 in
+    rw (p.1, p.2) (λ h. members_failed _ _ _ c.args.file.now refl (c.in_err-count.ensures.within (fault_of c.in_err-count.field-0.0 h)))
+
+pub returns-in_err-member-clause-before : goal.returns-in_err-member-clause-before
+returns-in_err-member-clause-before g c =
+    let p = err_from_is_err_and c.from_residual-in_err-member.result c.from_residual-in_err-member.ensures.1 in
+    let names = map (λ n. n.items) c.loop.names.keys in
+    rw (p.1, p.2) (λ h. listing_failed _ _ _ c.args.file.now c.loop.invariant.files c.in_ok-count.count c.loop.counter c.loop.end c.loop.members.items names c.loop.invariant.names c.loop-test.true c.loop.invariant.read (c.in_err-member.ensures.before (fault_of c.in_err-member.field-0.0 h)))

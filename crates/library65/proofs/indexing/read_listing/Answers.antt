@@ -1,5 +1,7 @@
 use Rattle.std.proofs.lemmas.Grind.{common_steps}
-use Rattle.std.proofs.Common.{arith}
+use Rattle.std.proofs.Common.{◌∙◌, arith, refl}
+use Rattle.std.proofs.lemmas.Result.{err_from_is_err_and}
+use Rattle.library65.proofs.Asking.{exports_failed, fault_of, name_failed, size_failed}
 use Rattle.library65.specs.Reading.{listing_at, member_name_at}
 use Rattle.library65.specs.Reading.{member_name_at}
 use Rattle.library65.proofs.indexing.read_listing.Goals as goal
@@ -39,3 +41,19 @@ returns-clause-kept g c = grind (arith, common_steps)
 pub returns-in_err-size-clause-kept : goal.returns-in_err-size-clause-kept
 unfolding listing_at member_name_at
 returns-in_err-size-clause-kept g c = grind (arith, common_steps)
+
+pub returns-in_err-name-clause-before : goal.returns-in_err-name-clause-before
+returns-in_err-name-clause-before g c =
+    let p = err_from_is_err_and c.from_residual.result c.from_residual.ensures.1 in
+    rw (p.1, p.2) (λ h. name_failed _ _ _ c.args.file.now refl c.args.at _ (c.in_err-name.ensures.before (fault_of c.in_err-name.field-0.0 h)))
+
+pub returns-in_err-size-clause-before : goal.returns-in_err-size-clause-before
+returns-in_err-size-clause-before g c =
+    let p = err_from_is_err_and c.from_residual-in_err-size.result c.from_residual-in_err-size.ensures.1 in
+    rw (p.1, p.2) (λ h. size_failed _ _ _ c.args.file.now refl c.args.at _ (c.in_ok-name.name, c.in_ok-name.end) c.in_ok-name.ensures.read (c.in_err-size.ensures.within (fault_of c.in_err-size.field-0.0 h)))
+
+pub returns-in_err-exports-clause-before : goal.returns-in_err-exports-clause-before
+returns-in_err-exports-clause-before g c =
+    let p = err_from_is_err_and c.from_residual-in_err-exports.result c.from_residual-in_err-exports.ensures.1 in
+    let files = c.in_ok-size.ensures.kept.files ∙ c.in_ok-name.ensures.kept.files in
+    rw (p.1, p.2) (λ h. exports_failed _ _ _ c.args.file.now files c.args.at _ (c.in_ok-name.name, c.in_ok-name.end) c.in_ok-name.ensures.read (c.in_err-exports.ensures.before (fault_of c.in_err-exports.field-0.0 h)))

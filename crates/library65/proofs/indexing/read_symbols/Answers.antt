@@ -4,6 +4,7 @@ use Rattle.library65.specs.Spelling.{is_name}
 use Rattle.library65.specs.declared.fault.LibraryFault.TheVariants.{BadIndex}
 use Rattle.std.proofs.lemmas.Result.{err_from_is_err_and}
 use Rattle.library65.specs.Reading.{counted_at, name_at, number_at, symbols_at}
+use Rattle.library65.proofs.Asking.{count_failed, fault_of, symbol_failed}
 use Rattle.library65.proofs.Steps.{Reading, begins, counted_begins, fails, goes_on, kept_count, stops, symbols_more}
 use Rattle.library65.proofs.indexing.read_symbols.Goals as goal
 
@@ -58,3 +59,13 @@ loop-preserved g c =
 
 pub returns-then-not-is_symbol_name-clause-kept : goal.returns-then-not-is_symbol_name-clause-kept
 returns-then-not-is_symbol_name-clause-kept g c = grind (arith, common_steps)
+
+pub returns-in_err-count-clause-before : goal.returns-in_err-count-clause-before
+returns-in_err-count-clause-before g c =
+    let p = err_from_is_err_and c.from_residual.result c.from_residual.ensures.1 in
+    rw (p.1, p.2) (λ h. count_failed _ _ _ c.args.file.now refl c.args.at (c.in_err-count.ensures.within (fault_of c.in_err-count.field-0.0 h)))
+
+pub returns-in_err-name-clause-before : goal.returns-in_err-name-clause-before
+returns-in_err-name-clause-before g c =
+    let p = err_from_is_err_and c.from_residual-in_err-name.result c.from_residual-in_err-name.ensures.1 in
+    rw (p.1, p.2) (λ h. symbol_failed _ _ _ c.args.file.now c.loop.invariant.files c.in_ok-count.count c.loop.counter c.args.at c.loop.end c.loop.names c.loop-test.true c.loop.invariant.read (c.in_err-name.ensures.before (fault_of c.in_err-name.field-0.0 h)))

@@ -6,3 +6,4 @@ pub mod Wraps
 pub mod Places
 pub mod Digit
 pub mod Texts
+pub mod Holding

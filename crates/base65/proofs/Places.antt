@@ -45,7 +45,7 @@ tied name f = texts_ties name f.name.items
 pub named_same : (name : List ℕ) (f : File) → is_named name f ≡ true → name ≡ f.name.items
 named_same name f e = same_names name f.name.items (sym (tied name f) ∙ e)
 
-looked_up : (fs : List File) (q : List ℕ) → get (files_of fs) q ≡ find (slice_cmp nat_cmp) q (map entry fs)
+pub looked_up : (fs : List File) (q : List ℕ) → get (files_of fs) q ≡ find (slice_cmp nat_cmp) q (map entry fs)
 looked_up fs q = get-from_entries nat_list_cmp_total (map entry fs) q
 
 none_mapped : (o : Option ℕ) → option_map suc o ≡ None → o ≡ None
@@ -57,7 +57,7 @@ some_mapped None i e = cc
 some_mapped (Some k) i e = (k, refl, cc)
 
 -- where a test leads
-tested : {A : Type 0} (b : Bool) (x y z : A) → cond b x y ≡ z → ((b ≡ true) × (x ≡ z)) ⊎ ((b ≡ false) × (y ≡ z))
+pub tested : {A : Type 0} (b : Bool) (x y z : A) → cond b x y ≡ z → ((b ≡ true) × (x ≡ z)) ⊎ ((b ≡ false) × (y ≡ z))
 tested true x y z e = inl (refl, e)
 tested false x y z e = inr (refl, e)
 

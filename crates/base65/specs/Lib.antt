@@ -1,4 +1,5 @@
 pub mod Digit
+pub mod Holding
 pub mod MemStore
 pub mod Outcome
 pub mod Own

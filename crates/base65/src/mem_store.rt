@@ -6,6 +6,7 @@ ghost use Rattle.std.specs.FinMap as map;
 ghost use Rattle.std.proofs.Common.{rules};
 ghost use Rattle.base65.specs.Store.{ReadsAt, Fills, Appends, IsBytes};
 ghost use Rattle.base65.specs.MemStore.{place_of, files_of};
+ghost use Rattle.base65.specs.Holding.{HoldBytes};
 
 use crate::{Store, StoreFault};
 use std::alloc::{AllocError, Global};
@@ -78,6 +79,29 @@ impl MemStore {
         ensures err { OnErr result (self.new ≡ self.old) }
     {
         set_file(self.alloc, &mut self.files, name.as_bytes(), bytes)
+    }
+
+    /// Does nothing. Its contract is a law: whatever the store, each of its files holds bytes.
+    pub fn hold_bytes(&self)
+        ensures { HoldBytes self.now }
+    {
+        hold_bytes(self.files.as_slice())
+    }
+}
+
+/// Does nothing: what a slice of bytes has are bytes, by its type.
+fn are_bytes(bytes: &[u8])
+    ensures { IsBytes bytes.now }
+{
+    let _ = bytes.len();
+}
+
+/// Goes through files: each holds bytes.
+fn hold_bytes(files: &[File])
+    ensures { HoldBytes (files_of files.now) }
+{
+    for file in files {
+        are_bytes(file.bytes.as_slice());
     }
 }
 

@@ -7,6 +7,7 @@ use Rattle.std.specs.Option.{option_map_or}
 use Rattle.std.proofs.lemmas.List.{length-append}
 use Rattle.std.proofs.lemmas.Slice.Eq.{bytes_eq-Decides}
 use Rattle.base65.specs.Outcome.{◌>>=◌, First}
+use Rattle.base65.specs.Holding.{HoldBytes}
 use Rattle.base65.specs.Store.{Files, IsBytes}
 use Rattle.syntax65.specs.Tokens.{Lexeme}
 use Rattle.syntax65.specs.Trees.{number}
@@ -22,7 +23,7 @@ use Rattle.ast65.specs.declared.fault.AsmFault.{AsmFault}
 use Rattle.ast65.specs.declared.language.Statement.{Statement}
 use Rattle.ast65.specs.declared.language.Statement.TheVariants.{Constant}
 use Rattle.semantics65.specs.Contents.{Content}
-use Rattle.sources65.specs.Fitting.{FittingObjectLaw, HoldBytes, AreOfTypes}
+use Rattle.sources65.specs.Fitting.{FittingObjectLaw, AreOfTypes}
 use Rattle.semantics65.specs.Layout.{context_of, Cursor, laid, Layout, layout_behind, line_fault, nothing_laid, own_size, segment_at, unless_fault}
 use Rattle.semantics65.specs.Module.{ending_of, Outcome, outcome_of, Piece, pieces_of, Slot, slots_of, waiting_at, PlacedFault}
 use Rattle.semantics65.specs.Norms.{length_of}

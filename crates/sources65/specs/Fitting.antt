@@ -1,16 +1,12 @@
 -- That the numbers and texts of a source's object are those of their types.
-use Rattle.std.specs.Prelude.{◌≡◌, ℕ, ◌<◌, ◌^◌, List, Some, Ok}
-use Rattle.std.specs.FinMap as fmap
+use Rattle.std.specs.Prelude.{◌≡◌, ◌<◌, ◌^◌, List, Ok}
 use Rattle.std.specs.List.{AllByRecursion}
-use Rattle.base65.specs.Store.{Files, IsBytes}
+use Rattle.base65.specs.Holding.{HoldBytes}
+use Rattle.base65.specs.Store.{Files}
 use Rattle.object65.specs.Objects.{ObjectFits}
 use Rattle.semantics65.specs.Module.{Outcome}
 use Rattle.sources65.specs.Reading.{IsOutcome, Define, Job}
 use Rattle.semantics65.specs.Types.{Object}
-
--- files have bytes
-abbrev pub HoldBytes : Files → Type 0
-HoldBytes m = (name bytes : List ℕ) → fmap.get m name ≡ Some bytes → IsBytes bytes
 
 -- the values of the command line's constants are those of 32 bits
 abbrev pub AreOfTypes : List Define → Type 0

@@ -4,12 +4,13 @@ use Rattle.std.specs.Prelude.{◌^◌, IfOk, codes}
 use Rattle.std.specs.List.{AllByRecursion}
 use Rattle.std.proofs.Math.Nat.{eq-or-lt_of_le}
 use Rattle.std.proofs.lemmas.Bool.Decides.{nat_tests}
+use Rattle.base65.specs.Holding.{HoldBytes}
 use Rattle.base65.specs.Store.{Files}
 use Rattle.base65.specs.declared.output.OutputFile.{OutputFile}
 use Rattle.object65.specs.Objects.{ObjectFits}
 use Rattle.object65.specs.Spelling.{object_bytes}
 use Rattle.object65.specs.declared.object.Object.{Object}
-use Rattle.sources65.specs.Fitting.{AreOfTypes, HoldBytes}
+use Rattle.sources65.specs.Fitting.{AreOfTypes}
 use Rattle.semantics65.specs.Module as asm
 use Rattle.sources65.specs.Reading.{IsOutcome}
 use Rattle.semantics65.specs.Module.{PlacedFault}

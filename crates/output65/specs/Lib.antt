@@ -1,4 +1,6 @@
+pub mod Laws
 pub mod Leaving
+pub mod Left
 pub mod Outputs
 pub mod Stopping
 pub mod Stream

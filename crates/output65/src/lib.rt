@@ -2,6 +2,7 @@
 #![tactic(auto)]
 
 mod disk_store;
+pub mod laws;
 mod outcome;
 mod outputs;
 mod performing;

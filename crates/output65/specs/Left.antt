@@ -1,0 +1,35 @@
+-- What a run leaves, by how many bytes each stream took of what it was given, and by how much is written of the output at which
+-- the run stopped. The streams are those that tell what they hold.
+use Rattle.std.specs.Prelude.{ℕ, ◌==◌, ◌&&◌, if◌then◌else◌, List, ◌++◌, length, take, Option, Some, None, true, false, not}
+use Rattle.std.specs.FinMap.{insert}
+use Rattle.base65.specs.Store.{Files}
+use Rattle.base65.specs.declared.output.OutputFile.{OutputFile}
+use Rattle.output65.specs.declared.outcome.Outcome.{Outcome}
+use Rattle.output65.specs.declared.outcome.Status.{Status}
+use Rattle.output65.specs.declared.outcome.Status.TheVariants.{Failure}
+use Rattle.output65.specs.Leaving.{Streams, apply, streams}
+
+-- Standard output took i bytes of its text and standard error j bytes of its own, of which it takes none unless standard output
+-- took all.
+abbrev pub said : List ℕ → List ℕ → List ℕ → List ℕ → ℕ → ℕ → Streams
+said out_old err_old out err i j =
+    if i == length out
+    then streams (Some out_old) (Some (out_old ++ out)) false (Some err_old) (Some (err_old ++ take j err)) (not (j == length err))
+    else streams (Some out_old) (Some (out_old ++ take i out)) true (Some err_old) (Some err_old) false
+
+-- both took all, and behind that standard error took k bytes of a text of a fault
+abbrev pub said_behind : List ℕ → List ℕ → List ℕ → List ℕ → List ℕ → ℕ → Streams
+said_behind out_old err_old out err fault k =
+    streams (Some out_old) (Some (out_old ++ out)) false (Some err_old) (Some ((err_old ++ err) ++ take k fault)) (not (k == length fault))
+
+-- the files and the status of a run by what the streams took
+abbrev pub files_after : Outcome → Files → ℕ → ℕ → Files
+files_after o old i j = if (i == length o.out) && (j == length o.err) then apply o.outputs old else old
+
+abbrev pub status_after : Outcome → ℕ → ℕ → Status
+status_after o i j = if (i == length o.out) && (j == length o.err) then o.status else Failure
+
+-- the outputs before one are written, and of that one so many bytes, or it is as it was
+abbrev pub written_to : List OutputFile → ℕ → OutputFile → Option ℕ → Files → Files
+written_to outputs place output None old = apply (take place outputs) old
+written_to outputs place output (Some n) old = insert (apply (take place outputs) old) output.name (take n output.bytes)

@@ -3,6 +3,7 @@ pub mod Kept
 pub mod Longs
 pub mod Named
 pub mod Names
+pub mod OneNaming
 pub mod Puts
 pub mod SomeArchive
 pub mod Takes

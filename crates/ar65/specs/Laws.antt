@@ -1,19 +1,22 @@
 -- What holds of the librarian, whatever the files.
-use Rattle.std.specs.Prelude.{◌≡◌, ℕ, List, [], ◌∷◌, map, Some, IfSome, Ok}
+use Rattle.std.specs.Prelude.{◌≡◌, ℕ, List, [], ◌∷◌, codes, map, Some, IfSome, Ok}
 use Rattle.std.specs.FinMap.{get}
 use Rattle.std.specs.List.{AllByRecursion}
 use Rattle.base65.specs.Own.{IsOwn}
-use Rattle.base65.specs.Store.{Files}
+use Rattle.base65.specs.Store.{FailedCall, Files}
 use Rattle.object65.specs.Record.{IsBytes}
 use Rattle.library65.specs.Libraries.{written}
 use Rattle.library65.specs.Spelling.{IsLibrary, Member}
 use Rattle.cli65.specs.Line.{Archiving}
+use Rattle.cli65.specs.Messages.{file_message}
 use Rattle.cli65.specs.declared.line.Operation.{Operation}
 use Rattle.cli65.specs.declared.line.Operation.TheVariants as operation
 use Rattle.ar65.specs.declared.archiving.Archived.TheVariants as archived
 use Rattle.ar65.specs.declared.members.MemberFile.{MemberFile}
 use Rattle.ar65.specs.Librarian.{archived_of, extracted, with_files}
-use Rattle.ar65.specs.Refusals.{is_outside}
+use Rattle.ar65.specs.Naming.{IsOfLine}
+use Rattle.ar65.specs.Refusals.{is_outside, refusal_message}
+use Rattle.ar65.specs.declared.refusal.Refusal.{Refusal}
 
 -- the FILEs that an operation reads
 abbrev pub files_read : Operation → List (List ℕ) → List (List ℕ)
@@ -49,3 +52,9 @@ PutTogetherLaw =
     (bytes : List ℕ) (ms : List Member) (files : List MemberFile) (m : Files) → IsLibrary bytes ms
     → extracted ms [] ≡ Ok files → AreWritten m files
     → (with_files m [] 0 (map (λ f. f.name) files) ≡ Ok ms) × (written ms ≡ Ok bytes)
+
+-- a call that failed while files were read has one message: the name that it asked for, and `file error`
+abbrev pub OneNamingLaw : Type 0
+OneNamingLaw =
+    (a : Archiving) (c : FailedCall) (e : Refusal) →
+    IsOfLine (Some c) a e → refusal_message a e ≡ file_message c.name (codes "file error")

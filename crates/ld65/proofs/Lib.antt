@@ -2,6 +2,8 @@ pub mod Chosen
 pub mod Fed
 pub mod Leaving
 pub mod LineInputs
+pub mod NoScript
 pub mod Objects
+pub mod OneNaming
 pub mod SomeLink
 pub mod Turns

@@ -1,12 +1,16 @@
 -- What holds of links by lines, whatever the files.
-use Rattle.std.specs.Prelude.{Result}
+use Rattle.std.specs.Prelude.{◌≡◌, ◌≢◌, ◌+◌, ◌-◌, List, length, Some, Result, Ok, IfSome}
+use Rattle.std.specs.FinMap.{get}
+use Rattle.std.specs.List.{AllByRecursion}
 use Rattle.base65.specs.Own.{IsOwn}
-use Rattle.base65.specs.Store.{Files}
+use Rattle.base65.specs.Store.{FailedCall, Files}
+use Rattle.library65.specs.declared.index.Entry.{Entry}
 use Rattle.script65.specs.declared.script.Script.{Script}
 use Rattle.link65.specs.declared.linking.Linked.{Linked}
 use Rattle.cli65.specs.Line.{Linking}
-use Rattle.ld65.specs.Linkage.{IsLinked, IsLinkedBy}
-use Rattle.ld65.specs.Refusals.{is_outside}
+use Rattle.ld65.specs.Linkage.{IsLinked, IsLinkedBy, index_in}
+use Rattle.ld65.specs.Naming.{IsOfLine}
+use Rattle.ld65.specs.Refusals.{is_outside, refusal_message}
 use Rattle.ld65.specs.declared.refusal.Refusal.{Refusal}
 
 -- by any script, what a line asks for of any files comes to something, and to no fault from outside
@@ -20,3 +24,16 @@ abbrev pub SomeLinkLaw : Type 0
 SomeLinkLaw =
     (m : Files) (l : Linking) →
     (r : Result Linked Refusal) × IsLinked m l r × IsOwn is_outside r
+
+-- The place of a failed call tells which part of a library it asked for: it isn't where a member ends, which is where the next
+-- one begins, nor that of the file's last byte, which both the index and the last member ask for.
+abbrev pub TellsPart : Files → FailedCall → Type 0
+TellsPart m c =
+    (es : List Entry) → index_in m c.name ≡ Ok es →
+    AllByRecursion (λ e. c.at ≢ Some (e.place + e.size)) es × IfSome (get m c.name) (λ bytes. c.at ≢ Some (length bytes - 1))
+
+-- so a call that failed has one message at most
+abbrev pub OneNamingLaw : Type 0
+OneNamingLaw =
+    (m : Files) (l : Linking) (c : FailedCall) (e f : Refusal) → TellsPart m c →
+    IsOfLine (Some m) (Some c) l e → IsOfLine (Some m) (Some c) l f → refusal_message l e ≡ refusal_message l f

@@ -1,6 +1,6 @@
 //! What holds of links by lines, whatever the files. Each function's contract is a law.
 
-ghost use Rattle.ld65.specs.Laws.{SomeLinkLaw, SomeScriptedLinkLaw};
+ghost use Rattle.ld65.specs.Laws.{OneNamingLaw, SomeLinkLaw, SomeScriptedLinkLaw};
 
 /// By any script a line comes to files, warnings and a map, or to a first fault of the files.
 pub fn some_scripted_link()
@@ -10,4 +10,10 @@ pub fn some_scripted_link()
 /// Any line comes to files, warnings and a map, or to a first fault of its script or of the files.
 pub fn some_link()
     ensures { SomeLinkLaw }
+{}
+
+/// A call that failed while files were read has one message, where its file and place tell which part of a library it
+/// asked for.
+pub fn one_naming()
+    ensures { OneNamingLaw }
 {}

@@ -1,6 +1,7 @@
 pub mod Computed
 pub mod Runs
 pub mod Failing
+pub mod OneFailure
 pub mod OneLinks
 pub mod Inputs
 pub mod Archived

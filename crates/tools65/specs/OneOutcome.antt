@@ -1,11 +1,13 @@
--- A command has one outcome, exactly.
-use Rattle.std.specs.Prelude.{◌≡◌, ℕ, List, Result}
-use Rattle.base65.specs.Store.{Files}
-use Rattle.sources65.specs.Fitting.{HoldBytes}
-use Rattle.cli65.specs.Line.{Says, line_of}
+-- A command has one outcome, exactly, and a failure of the store one message.
+use Rattle.std.specs.Prelude.{◌≡◌, ℕ, List, Some, Result}
+use Rattle.base65.specs.Holding.{HoldBytes}
+use Rattle.base65.specs.Store.{FailedCall, Files}
+use Rattle.cli65.specs.Line.{Archiving, Linking, Says, archive, line_of, link}
 use Rattle.cli65.specs.declared.fault.LineFault.{LineFault}
+use Rattle.ld65.specs.Laws.{TellsPart}
 use Rattle.output65.specs.declared.outcome.Outcome.{Outcome}
 use Rattle.tools65.specs.Command.{DoesWords}
+use Rattle.tools65.specs.Failing.{SaysFailure}
 
 -- what words, or the line that they are, do as a command is one thing at most: these texts, these files, this status
 abbrev pub OneOutcomeLaw : Type 0
@@ -17,3 +19,11 @@ AnOutcomeLaw =
     (words : List (List ℕ)) (m : Files) → HoldBytes m →
     (o : Outcome) × DoesWords (line_of words) m o
     × ((other : Outcome) → DoesWords (line_of words) m other → other ≡ o)
+
+-- What ld65 and ar65 say of a call that failed while files were read is one text, of ld65 if the call's place tells which part of
+-- a library it asked for.
+abbrev pub OneFailureLaw : Type 0
+OneFailureLaw =
+    (m : Files) (c : FailedCall) (out err other_out other_err : List ℕ) →
+    ((l : Linking) → TellsPart m c → SaysFailure (link l) m (Some c) out err → SaysFailure (link l) m (Some c) other_out other_err → (out ≡ other_out) × (err ≡ other_err))
+    × ((a : Archiving) → SaysFailure (archive a) m (Some c) out err → SaysFailure (archive a) m (Some c) other_out other_err → (out ≡ other_out) × (err ≡ other_err))

@@ -9,6 +9,7 @@ pub mod Linked
 pub mod Links
 pub mod ModuleBytes
 pub mod Multiples
+pub mod Needs
 pub mod Offsets
 pub mod Positions
 pub mod Providers

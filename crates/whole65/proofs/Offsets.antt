@@ -10,7 +10,7 @@ use Rattle.semantics65.specs.Layout.{Cursor, current_behind, grown_at, kept_behi
 use Rattle.semantics65.specs.Norms.{length_of}
 use Rattle.semantics65.specs.Symbols.{Symbols, symbols_of, Laid}
 use Rattle.semantics65.proofs.Segments.{all_same, end_behind, grown_end, grown_length, grown_other, named_there, all_more}
-use Rattle.std.proofs.lemmas.List.{append-nil, append_assoc, map-append}
+use Rattle.std.proofs.lemmas.List.{append-nil, map-append}
 use Rattle.std.proofs.lemmas.List.Elements.{filter-append}
 use Rattle.syntax65.specs.declared.place.Place.{Place}
 use Rattle.whole65.proofs.Multiples.{line_ends, multiple_power, equal, end_of-append, largest_power, line_shift, Larger, larger, multiple_of_multiple}

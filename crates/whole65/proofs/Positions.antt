@@ -4,7 +4,7 @@ use Rattle.std.proofs.Common.{◌≡◌, ℕ, zero, suc, ◌+◌, Bool, true, fa
 use Rattle.std.specs.Prelude.{⊤}
 use Rattle.std.specs.List.{AllByRecursion, position_from}
 use Rattle.std.proofs.lemmas.Bool.Decides.{nat_tests}
-use Rattle.std.proofs.lemmas.List.{length-append, append-nil, append_assoc, take-append-drop}
+use Rattle.std.proofs.lemmas.List.{append-nil, take-append-drop}
 use Rattle.semantics65.specs.Symbols.{Laid}
 use Rattle.semantics65.specs.Layout.{Layout, grown_at, layout_behind, named_segments, new_segment, place_of, segment_at, segments_behind, powers}
 use Rattle.whole65.specs.Segments.{Item, Line, has_section, is_line, items_before, largest_multiple, line, lines_behind, lines_in, part_of, rounding, stands_in, end_of, items_from, segment_name, position_of}
@@ -15,7 +15,7 @@ use Rattle.ast65.proofs.Lists.{bytes_swap}
 use Rattle.semantics65.specs.declared.contents.Segment.{Segment}
 use Rattle.ast65.specs.declared.language.Statement.{Statement}
 use Rattle.syntax65.specs.declared.place.Place.{Place}
-use Rattle.semantics65.proofs.Segments.{all_more, all_same, grown_length, one_longer}
+use Rattle.semantics65.proofs.Segments.{all_same, grown_length}
 use Rattle.whole65.proofs.Offsets.{behind_more, placed, largest_push}
 use Rattle.whole65.proofs.Multiples.{equal, larger, multiple_of_multiple, power_positive, rounded, end_of-append, largest_power, shift_law}
 use Rattle.whole65.specs.Offsets.{IsLaidOut, begun, behind, ArePowers, IsMultiple, begin_from, lines_at, IsPower, begin_of}

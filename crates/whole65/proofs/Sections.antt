@@ -12,7 +12,6 @@ use Rattle.semantics65.specs.Contents.{Content, exported_names}
 use Rattle.semantics65.specs.Symbols.{Laid, asks_section, Symbols}
 use Rattle.semantics65.specs.Layout.{Layout, segment_at}
 use Rattle.semantics65.specs.Numbering.{all_said, number_of, once, section_keys, segments_asked, section_of}
-use Rattle.semantics65.proofs.Segments.{all_more}
 use Rattle.semantics65.specs.Module.{ending_of}
 use Rattle.whole65.proofs.Positions.{named, Distinct, alike}
 use Rattle.whole65.proofs.Multiples.{equal}
@@ -29,7 +28,6 @@ use Rattle.semantics65.specs.Numbering as numbering
 use Rattle.link65.specs.Programs.{grown, Module, Program, member, no_program, with_module, with_modules, Segment as LinkedSegment, segment_of, with_section, with_sections}
 use Rattle.link65.specs.Programs as linked
 use Rattle.whole65.proofs.LinkedObjects.{behind_sections, or_empty, behind_modules}
-use Rattle.std.proofs.lemmas.List.{length-append}
 
 -- ---- Each once.
 

@@ -3,8 +3,7 @@ use Rattle.std.proofs.lemmas.Grind.{common_steps}
 use Rattle.std.proofs.Common.{◌≡◌, ℕ, suc, ◌+◌, ◌<◌, Bool, true, false, nat_eq, cond, List, [], ◌∷◌, ◌++◌, length, map, filter, take, slice_get, Some, Result, Ok, refl, sym, ◌∙◌, ap, arith, inl, inr, Option, None}
 use Rattle.std.specs.Prelude.{not, sum_by}
 use Rattle.std.specs.List.{list_any}
-use Rattle.std.proofs.lemmas.List.{length-append}
-use Rattle.std.proofs.lemmas.List.Sums.{sum_by-append, sum_by-cons}
+use Rattle.std.proofs.lemmas.List.Sums.{sum_by-cons}
 use Rattle.object65.specs.Objects.{fragment_len, section_len}
 use Rattle.object65.specs.declared.object.Fragment.{Fragment}
 use Rattle.object65.specs.declared.object.Fragment.TheVariants.{Literal, Fill, Value}
@@ -18,7 +17,7 @@ use Rattle.sources65.proofs.SoundParts.{slots_long}
 use Rattle.semantics65.specs.Module.{ending_of, PlacedFault}
 use Rattle.whole65.proofs.SameValues.{bind_ok}
 use Rattle.whole65.proofs.Offsets.{EndsAt, all_end, placed}
-use Rattle.whole65.proofs.Statements.{AreStated, a_line, are_stated, no_line, parts_append}
+use Rattle.whole65.proofs.Statements.{AreStated, a_line, are_stated, no_line}
 use Rattle.whole65.specs.Modules.{table_of}
 use Rattle.whole65.specs.Offsets.{lines_at, IsLaidOut, IsMultiple}
 use Rattle.whole65.specs.Segments.{Line, end_of, line, lines_behind, has_section, items_from, largest_multiple, lines_in, part_of, rounding, segment_name, items_of}

@@ -1,13 +1,17 @@
 -- What holds of whole programs: the ladder from one value to the equality.
-use Rattle.std.specs.Prelude.{◌≡◌, ℕ, ℤ, ◌↔◌, List, [], ◌∷◌, map, slice_get, take, false, Some, Result, Ok}
+use Rattle.std.specs.Prelude.{◌≡◌, ℕ, ℤ, ◌↔◌, List, [], ◌∷◌, map, slice_get, take, false, Some, IfSome, Result, Ok}
 use Rattle.syntax65.specs.Trees.{Tree, name}
 use Rattle.object65.specs.Form.{Form}
+use Rattle.object65.specs.Versions.{in_version_one}
+use Rattle.object65.specs.declared.object.Object.{Object}
+use Rattle.semantics65.specs.Module.{object_of}
+use Rattle.semantics65.specs.Numbering.{IsSoundLayout}
 use Rattle.semantics65.specs.Symbols.{Laid}
 use Rattle.semantics65.specs.Layout.{Layout, segment_at}
 use Rattle.semantics65.specs.Norms.{norm}
 use Rattle.whole65.specs.Offsets.{ArePowers, IsLaidOut, lines_at}
-use Rattle.whole65.specs.Sources.{AreSources}
-use Rattle.whole65.specs.Segments.{end_of, largest_multiple, line, lines_behind, needs_of}
+use Rattle.whole65.specs.Sources.{AreSources, IsSource}
+use Rattle.whole65.specs.Segments.{end_of, largest_multiple, line, lines_behind, need_of, needs_of}
 use Rattle.link65.specs.Programs.{Module, Cell, fragment_cells, segment_of}
 use Rattle.link65.specs.Programs as linked
 use Rattle.link65.specs.Values as places
@@ -58,6 +62,18 @@ pub record AreOffsets (y : Layout) (owner : ℕ) : Type 0 where
 
 abbrev pub OffsetLaw : Type 0
 OffsetLaw = (y : Layout) (owner : ℕ) → IsLaidOut y → AreOffsets y owner
+
+-- A segment of the link needs what the list of all its lines needs: as many bytes, and its largest alignment.
+abbrev pub NeedsLaw : Type 0
+NeedsLaw =
+    (ys : List Layout) (ms : List Module) (name : List ℕ) → AreSources ys ms →
+    IfSome (segment_of (linked.program_of ms).segments name) (λ g. places.need_of g ≡ need_of ys name)
+
+-- statements without a fault that lay a sound module are the source of their object, and of its version 1
+abbrev pub SourceLaw : Type 0
+SourceLaw =
+    (y : Layout) (name : List ℕ) (o : Object) → IsLaidOut y → IsSoundLayout y → object_of y ≡ Ok o →
+    IsSource y (record { name = name; object = o }) × IsSource y (record { name = name; object = in_version_one o })
 
 -- A script places linked modules where it places their whole program.
 abbrev pub PlacementLaw : Type 0

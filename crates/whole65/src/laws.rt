@@ -1,7 +1,7 @@
 //! What holds of whole programs, from one value to the equality. Each function's contract is a law.
 
 ghost use Rattle.whole65.specs.Equality.{EqualityLaw};
-ghost use Rattle.whole65.specs.Laws.{CircularLaw, ExportValueLaw, OffsetLaw, OneValueLaw, PlacementLaw, RowsLaw, SameValuesLaw};
+ghost use Rattle.whole65.specs.Laws.{CircularLaw, ExportValueLaw, NeedsLaw, OffsetLaw, OneValueLaw, PlacementLaw, RowsLaw, SameValuesLaw, SourceLaw};
 
 /// An expression has at most one value.
 pub fn one_value()
@@ -27,6 +27,16 @@ pub fn offsets()
 /// An export comes in a link to the value of its name in the whole program.
 pub fn export_values()
     ensures { ExportValueLaw }
+{}
+
+/// A segment needs as many bytes and the alignment in a link that it needs in the whole program.
+pub fn same_needs()
+    ensures { NeedsLaw }
+{}
+
+/// Statements without a fault that lay a sound module are the source of their object, in either version.
+pub fn laid_is_a_source()
+    ensures { SourceLaw }
 {}
 
 /// A script places linked modules where it places their whole program.

@@ -1,0 +1,100 @@
+-- What a segment needs in a link, and in the whole program.
+use Rattle.std.proofs.Common.{◌≡◌, ◌∙◌, ℕ, suc, ◌<◌, max, Bool, true, false, cond, List, [], ◌∷◌, ◌++◌, inl, inr, map, Option, Some, None, refl, sym, ap, subst, arith}
+use Rattle.std.specs.Prelude.{IfSome}
+use Rattle.std.specs.Option.{option_map_or}
+use Rattle.std.specs.Str.{bytes_eq}
+use Rattle.ast65.proofs.Lists.{same_bytes}
+use Rattle.script65.specs.declared.placement.SegmentNeed.{SegmentNeed}
+use Rattle.semantics65.specs.Layout.{Layout}
+use Rattle.semantics65.specs.Numbering.{import_keys, section_keys, section_of}
+use Rattle.link65.specs.Programs.{Module, Segment, segment_of}
+use Rattle.link65.specs.Programs as linked
+use Rattle.link65.specs.Values as places
+use Rattle.whole65.proofs.LinkedObjects.{behind_modules, behind_sections, or_empty}
+use Rattle.whole65.proofs.Positions.{alignment_law}
+use Rattle.whole65.proofs.Sections.{segment_law}
+use Rattle.whole65.proofs.Sources.{Behind, behind_source, contents_of, grows, no_part, size_law, unchanged, whole_part}
+use Rattle.whole65.specs.Modules.{table_of}
+use Rattle.whole65.specs.Laws.{NeedsLaw, SourceLaw}
+use Rattle.whole65.specs.Offsets.{lines_at}
+use Rattle.whole65.specs.Segments.{Item, Line, alignment_of, items_from, items_of, largest_multiple, line, lines_behind, need_of, part_of}
+use Rattle.whole65.specs.Sources.{AreSources, IsSource}
+
+-- ---- The alignment of a list.
+
+some_alignment : (xs : List Item) → 0 < alignment_of xs
+some_alignment [] = omega arith
+some_alignment (x ∷ xs) = omega (arith, some_alignment xs)
+
+alignment_of-append : (xs zs : List Item) → alignment_of (xs ++ zs) ≡ max (alignment_of xs) (alignment_of zs)
+alignment_of-append [] zs = omega (arith, some_alignment zs)
+alignment_of-append (x ∷ xs) zs = omega (arith, alignment_of-append xs zs)
+
+lines_alignment : (ls : List Line) → alignment_of (map line ls) ≡ largest_multiple ls
+lines_alignment [] = refl
+lines_alignment (x ∷ ls) = ap (max x.multiple) (lines_alignment ls)
+
+-- ---- That of a segment of the link.
+
+abbrev align_or : Option Segment → ℕ
+align_or g = option_map_or (λ (g : Segment). g.align) g 1
+
+align_or_empty : (name : List ℕ) (g : Option Segment) → (or_empty name g).align ≡ align_or g
+align_or_empty name None = refl
+align_or_empty name (Some g) = refl
+
+part_alignment : (y : Layout) (m : Module) (owner : ℕ) (name : List ℕ) (g : Option Segment) → IsSource y m → 0 < align_or g → align_or (behind_sections owner name g m.object.sections) ≡ max (align_or g) (alignment_of (part_of owner y name))
+part_alignment y m owner name g h some = go (behind_source y m h owner name g)
+  where
+    go : Behind y m (contents_of y m h).origins (contents_of y m h).contents owner name g → align_or (behind_sections owner name g m.object.sections) ≡ max (align_or g) (alignment_of (part_of owner y name))
+    go (unchanged has e) =
+        let none : alignment_of (part_of owner y name) ≡ 1 = ap alignment_of (no_part y owner name has) in
+        ap align_or e ∙ omega (arith, none, some)
+    go (grows key has among lt called e) =
+        let lines : List Line = lines_at key (lines_behind owner [] y.laid) in
+        let part : alignment_of (part_of owner y name) ≡ max (largest_multiple lines) (alignment_of (map line lines)) = ap alignment_of (whole_part y owner key name h.laid_out lt called has) in
+        let own = alignment_law y owner key h.laid_out in
+        ap align_or e ∙ ap (λ n. max n (linked.align_of (section_of (contents_of y m h).origins y.cursor.segments (section_keys (contents_of y m h).contents) (import_keys (table_of y).imports (contents_of y m h).contents) (contents_of y m h).contents key))) (align_or_empty name g)
+        ∙ omega (arith, own, part, lines_alignment lines)
+
+modules_alignment : (ys : List Layout) (ms : List Module) (owner : ℕ) (name : List ℕ) (g : Option Segment) → AreSources ys ms → 0 < align_or g → align_or (behind_modules owner name g ms) ≡ max (align_or g) (alignment_of (items_from owner ys name))
+modules_alignment [] [] owner name g h some = omega (arith, some)
+modules_alignment [] (m ∷ ms) owner name g h some = absurd h
+modules_alignment (y ∷ ys) [] owner name g h some = absurd h
+modules_alignment (y ∷ ys) (m ∷ ms) owner name g h some =
+    let first = part_alignment y m owner name g h.0 some in
+    let rest = modules_alignment ys ms (suc owner) name (behind_sections owner name g m.object.sections) h.1 (omega (arith, first, some)) in
+    omega (arith, first, rest, alignment_of-append (part_of owner y name) (items_from (suc owner) ys name))
+
+alignment : (ys : List Layout) (ms : List Module) (name : List ℕ) → AreSources ys ms → align_or (segment_of (linked.program_of ms).segments name) ≡ alignment_of (items_of ys name)
+alignment ys ms name h = ap align_or (segment_law ms name) ∙ modules_alignment ys ms 0 name None h (omega arith) ∙ omega (arith, some_alignment (items_of ys name))
+
+-- ---- Needs.
+
+found_named : (gs : List Segment) (name : List ℕ) (g : Segment) → segment_of gs name ≡ Some g → g.name ≡ name
+found_named [] name g e = absurd cc
+found_named (x ∷ gs) name g e = go (bytes_eq x.name name) refl e (found_named gs name g)
+  where
+    go : (b : Bool) → bytes_eq x.name name ≡ b → cond b (Some x) (segment_of gs name) ≡ Some g → (segment_of gs name ≡ Some g → g.name ≡ name) → g.name ≡ name
+    go true is e later = let same : x ≡ g = cc e in subst (λ (y : Segment). y.name ≡ name) same (same_bytes x.name name is)
+    go false is e later = later e
+
+need_is : (a b : ℕ) (n : List ℕ) (m : SegmentNeed) → n ≡ m.name → a ≡ m.size → b ≡ m.align → ◌≡◌ {A = SegmentNeed} (record { name = n; size = a; align = b }) m
+need_is a b n m e f g = rw (e, f, g) refl
+
+pub same_needs : NeedsLaw
+same_needs ys ms name h = go (segment_of (linked.program_of ms).segments name) refl
+  where
+    go : (o : Option Segment) → segment_of (linked.program_of ms).segments name ≡ o → IfSome o (λ g. places.need_of g ≡ need_of ys name)
+    go None is = tt
+    go (Some g) is =
+        let called : g.name ≡ name = found_named (linked.program_of ms).segments name g is in
+        let size : g.size ≡ (need_of ys name).size = sym (ap (λ (o : Option Segment). option_map_or (λ (g : Segment). g.size) o 0) is) ∙ size_law ys ms name h in
+        let align : g.align ≡ (need_of ys name).align = sym (ap align_or is) ∙ alignment ys ms name h in
+        need_is g.size g.align g.name (need_of ys name) called size align
+
+pub laid_is_a_source : SourceLaw
+laid_is_a_source y name o out sound made = (
+  record { laid_out = out; sound = sound; written = o; object = made; version = inl refl },
+  record { laid_out = out; sound = sound; written = o; object = made; version = inr refl },
+)

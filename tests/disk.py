@@ -192,6 +192,46 @@ def unread(tests):
     tests.check("a source that can't be read", ran, refused(b"folder: Error: file error"))
 
 
+# What stands at a name, its message where a file is read, and where it is written; docs/MESSAGES.md has the table.
+FAULTS = (
+    ("nothing", "none.s", b"file not found", None),
+    ("a name without bytes", "", b"file not found", None),
+    ("a link to nothing", "dangling", b"file not found", None),
+    ("a folder that isn't there", "none/a.s", b"file not found", b"file error"),
+    ("a folder", "folder", b"file error", b"file error"),
+    ("a file for a folder", "b.s/a.s", b"file error", b"file error"),
+    ("a name of 300 bytes", "n" * 300, b"file error", b"file error"),
+    ("a link to itself", "looped", b"file error", b"file error"),
+)
+
+
+def faults(tests):
+    """Which error of the disk is which of the two faults. A name without bytes is none to write to: no object is written then."""
+    os.symlink("nowhere/to/be/found", "dangling")
+    os.symlink("looped", "looped")
+    for what, name, read, written in FAULTS:
+        if name:
+            found = tests.run("ca65", "-o", "read.o", name), tests.get("read.o")
+            tests.check(f"{what}, as a source", found, (refused(name.encode() + b": Error: " + read), None))
+        tests.put("a.s", b'.incbin "%s"\n' % name.encode())
+        found = tests.run("ca65", "-o", "read.o", "a.s"), tests.get("read.o")
+        tests.check(f"{what}, by .incbin", found, (refused(b"a.s:1: Error: " + read), None))
+        if written:
+            found = tests.run("ca65", "-o", name, "b.s")
+            tests.check(f"{what}, as an object", found, refused(name.encode() + b": Error: " + written))
+
+
+def unread_outputs(tests):
+    """Outputs are written and never read: a pipe takes an object, whose bytes come out of it in order."""
+    wanted = object_of((b"CODE", pattern(50000)))
+    tests.put("long.bin", pattern(50000))
+    tests.put("long.s", b'.incbin "long.bin"\n')
+    os.mkfifo("pipe")
+    with subprocess.Popen(["cat", "pipe"], stdout=subprocess.PIPE) as reader:
+        ran = tests.run("ca65", "-o", "pipe", "long.s")
+        tests.check("an object into a pipe", (ran, reader.communicate(timeout=60)[0]), (QUIET, wanted))
+
+
 def permissions(tests):
     """Files and folders that the user may not reach."""
     before = ()
@@ -215,13 +255,19 @@ def permissions(tests):
     tests.check("an object that may not be written", (run, tests.get("fixed.o")), (refused(b"fixed.o: Error: file error"), b"old"))
     run = tests.run("ca65", "-o", "closed/b.o", "b.s", before=before)
     tests.check("an object in a folder that may not be read", run, refused(b"closed/b.o: Error: file error"))
+    tests.put("blind.o", b"an object that was here before")
+    os.chmod("blind.o", 0o222)
+    run = tests.run("ca65", "-o", "blind.o", "b.s", before=before)
+    os.chmod("blind.o", 0o666)
+    found = run, tests.get("blind.o")
+    tests.check("an object that may be written and not read", found, (QUIET, object_of((b"CODE", b"\xea"))))
     os.chmod("closed", 0o755)
 
 
 def main():
     tests = Tests(os.path.abspath(sys.argv[1]))
     try:
-        for part in (buffers, in_turn, outputs, streams, ends, unread, permissions):
+        for part in (buffers, in_turn, outputs, streams, ends, unread, faults, unread_outputs, permissions):
             part(tests)
     finally:
         os.chdir("/")

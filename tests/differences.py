@@ -1,5 +1,5 @@
 #!/usr/bin/env python3
-"""Random programs of two modules, built by bin65 and by cc65's tools: where both link, they write the same files. What differs in
+"""Random programs of two modules, built by bin65 and by cc65's tools: if both link, they write the same files. What differs in
 other programs stands in docs/MIGRATING.md.
 
 usage: differences.py BIN65 [PROGRAMS [SEED]]    PROGRAMS random programs (150). The last line is 'N passed, M failed'."""
@@ -37,7 +37,7 @@ Built = Union[str, Dict[str, bytes]]
 
 
 def rows(chance: random.Random) -> str:
-    """The rows of three segments in any order; one of them may have an address of its own."""
+    """Returns the rows of three segments, in any order."""
     def some(*texts: str) -> str:
         return chance.choice(texts)
 
@@ -46,16 +46,18 @@ def rows(chance: random.Random) -> str:
     found = [
         f"    RODATA:   load = {some('ROM', 'ROM', 'TOP')}, type = ro{some(align[0], align[0], ', offset = $E00')}{value[0]};",
         f"    DATA:     load = ROM, run = RAM, type = rw{align[1]}{some('', ', align_load = 4')}{value[1]}, define = yes;",
-        f"    LATE:     load = TOP, type = ro{some(align[2], ', offset = $800', ', start = $E900')}{value[2]}, define = yes, optional = yes;",
+        f"    LATE:     load = TOP, type = ro{some(align[2], ', offset = $800', ', start = $E900')}{value[2]}, define = yes,"
+        " optional = yes;",
     ]
     chance.shuffle(found)
     return "\n".join(found)
 
 
 def script(chance: random.Random) -> str:
-    """A script."""
+    """Returns a script."""
     return SCRIPT.format(
-        zp=chance.choice((0, 2, 0x10)), ram=chance.choice(('""', '"ram.bin"', '""')), ram_start=chance.choice(("$0200", "$0100 + __ZP_LAST__")),
+        zp=chance.choice((0, 2, 0x10)), ram=chance.choice(('""', '"ram.bin"', '""')),
+        ram_start=chance.choice(("$0200", "$0100 + __ZP_LAST__")),
         rom=chance.choice((0x8000, 0x8001, 0x9003)), size=chance.choice(("$4000", "$C000 - $8000")), kind=chance.choice(("ro", "rw")),
         fill=chance.choice(("", ", fill = yes", ", fill = yes, fillval = $FF", ", fillval = $EA")), top=chance.choice(("%O", '"top.bin"')),
         code=chance.choice(("", "", ", align = 4", ", align = 256")), value=chance.choice(("", ", fillval = 1")),
@@ -64,7 +66,7 @@ def script(chance: random.Random) -> str:
 
 
 def program(seed: str) -> Dict[str, str]:
-    """The files of a program, by their names."""
+    """Returns the files of a program by name."""
     chance = random.Random(seed)
     shared = Shared()
     for kind, begin, most in ((shared.code, "f", 4), (shared.short, "z", 3), (shared.room, "b", 3), (shared.numbers, "k", 3)):
@@ -75,13 +77,14 @@ def program(seed: str) -> Dict[str, str]:
 
 
 def built(folder: str, files: Dict[str, str], tools: Sequence[str]) -> Built:
-    """The files that a program's build writes, or the first fault."""
+    """Builds a program. Returns the files that it writes, or the first error."""
     os.makedirs(folder)
     for name, text in files.items():
         with open(f"{folder}/{name}", "w", encoding="latin-1") as it:
             it.write(text)
     before = {*files, "m0.o", "m1.o"}
-    lines = [["ca65", "-DN2=7", "-o", "m0.o", "m0.s"], ["ca65", "-o", "m1.o", "m1.s"], ["ld65", "-C", "s.cfg", "-o", "image", "m0.o", "m1.o"]]
+    lines = [["ca65", "-DN2=7", "-o", "m0.o", "m0.s"], ["ca65", "-o", "m1.o", "m1.s"]]
+    lines.append(["ld65", "-C", "s.cfg", "-o", "image", "m0.o", "m1.o"])
     for words in lines:
         ran = subprocess.run([*tools, *words], cwd=folder, capture_output=True, encoding="latin-1", check=False)
         if ran.returncode:
@@ -94,12 +97,12 @@ def built(folder: str, files: Dict[str, str], tools: Sequence[str]) -> Built:
 
 
 def kind_of(said: str) -> str:
-    """A fault without its place and names."""
+    """Returns an error without its location and names."""
     return re.sub(r"[a-zN]\d(_\d+)?|'[^']*'|\d+", "N", said.split("Error: ")[-1])
 
 
 def first_difference(one: Dict[str, bytes], other: Dict[str, bytes]) -> str:
-    """Where files differ first."""
+    """Returns the first difference of two sets of files."""
     for name in sorted({*one, *other}):
         mine, others = one.get(name, b""), other.get(name, b"")
         at = next((it for it in range(min(len(mine), len(others))) if mine[it] != others[it]), min(len(mine), len(others)))
@@ -109,7 +112,7 @@ def first_difference(one: Dict[str, bytes], other: Dict[str, bytes]) -> str:
 
 
 class Differences:
-    """Builds programs and counts what comes of them."""
+    """Builds programs and counts the results."""
 
     def __init__(self, program: str) -> None:
         self.program = program
@@ -117,7 +120,7 @@ class Differences:
         self.wrong: List[str] = []
 
     def compare(self, seed: str, folder: str) -> None:
-        """One program."""
+        """Builds one program with both tools."""
         files = program(seed)
         ours, others = built(f"{folder}/ours", files, [self.program]), built(f"{folder}/cc65", files, [])
         if isinstance(ours, dict) and isinstance(others, dict):

@@ -1,7 +1,7 @@
-"""Random names, expressions and operands that ca65 and bin65 take alike: for random_modules.py.
+"""Random names, expressions and operands that ca65 and bin65 accept with the same meaning: for random_modules.py.
 
-What docs/MIGRATING.md has under "What is taken and gives other bytes" is left out: the pages say that it differs. Values of
-constants are computed here, so that they fit what they are used for."""
+Left out is what docs/MIGRATING.md lists under "What is taken and gives other bytes". Values of constants are computed here, so
+that they are in range where they are used."""
 import random
 from dataclasses import dataclass, field
 from typing import Callable, Dict, List, Sequence, Tuple
@@ -10,7 +10,7 @@ WORD = 1 << 31
 GIVEN = ("__CODE_SIZE__", "__ROM_START__", "__RAM_SIZE__", "__DATA_LOAD__", "__DATA_RUN__", "__BSS_RUN__", "__ZP_LAST__", "__ROM_LAST__")
 @dataclass
 class Scope:
-    """A scope that is open: its name, what it defines, and which names of others its lines have used."""
+    """An open scope: its name, what it defines, and the names that its lines have used."""
 
     name: str
     labels: List[str] = field(default_factory=list)
@@ -20,7 +20,7 @@ class Scope:
 
 @dataclass
 class Shared:
-    """What the modules know of each other: names by kind, with the module that defines each."""
+    """The exported names by kind, with the module that defines each."""
 
     code: Dict[str, int] = field(default_factory=dict)
     short: Dict[str, int] = field(default_factory=dict)
@@ -28,7 +28,7 @@ class Shared:
     numbers: Dict[str, int] = field(default_factory=dict)
 
     def of(self, module: int) -> List[str]:
-        """The names that a module defines."""
+        """Returns the names that a module defines."""
         kinds = (self.code, self.short, self.room, self.numbers)
         return [name for kind in kinds for name, number in kind.items() if number == module]
 
@@ -52,20 +52,20 @@ class Expressions:
     # Names.
 
     def new(self, begin: str) -> str:
-        """A name that the module doesn't have yet."""
+        """Returns a new name."""
         self.counted += 1
         return f"{begin}{self.module}_{self.counted}"
 
     def pick(self, texts: Sequence[str]) -> str:
-        """One of some texts."""
+        """Returns one of some texts."""
         return self.chance.choice(texts)
 
     def is_in_doubt(self, name: str) -> bool:
-        """Whether a scope around the innermost one has used a name: ca65 then doesn't know it within."""
+        """Returns whether a scope around the innermost one has used a name: ca65 then doesn't know its value inside."""
         return any(name in it.used for it in self.scopes[1:-1])
 
     def use(self, name: str) -> str:
-        """Notes that the innermost scope uses a name."""
+        """Records that the innermost scope uses a name."""
         self.scopes[-1].used.append(name)
         return name
 
@@ -76,27 +76,27 @@ class Expressions:
     # Expressions. Each has its value where that is known.
 
     def number(self, most: int = 255) -> Tuple[str, int]:
-        """A number as it is written."""
+        """Returns a number in one of its spellings, and its value."""
         value = self.chance.choice((self.chance.randrange(10), self.chance.randrange(most + 1)))
         forms = [str(value), f"${value:X}", f"%{value:b}", f"0{value:X}h" if value > 9 else str(value)]
         return self.pick([f"'{chr(value)}'" if 64 < value < 91 else str(value), *forms]), value
 
     def constants(self) -> Dict[str, int]:
-        """The constants that may stand here. Where ca65 has to know the value at once, it knows names of the innermost scope and
+        """Returns the constants that may be used here. Where ca65 needs the value at the line, it knows names of the innermost scope and
         names behind `::`."""
         if self.is_strict and len(self.scopes) > 1:
             return {**{f"::{name}": value for name, value in self.scopes[0].constants.items()}, **self.scopes[-1].constants}
         return {name: value for it in self.scopes for name, value in it.constants.items() if not self.is_in_doubt(name)}
 
     def constant(self, depth: int = 0) -> Tuple[str, int]:
-        """An expression whose value is known at its line."""
+        """Returns an expression whose value is known at its line, and the value."""
         while True:
             text, value = self.constant_of(depth)
             if -WORD < value < WORD:
                 return text, value
 
     def constant_of(self, depth: int) -> Tuple[str, int]:
-        """One that may be too large."""
+        """Returns such an expression, which may be too large."""
         known = self.constants()
         kind = self.chance.randrange(10)
         if kind < 3 and known:
@@ -109,7 +109,7 @@ class Expressions:
         return self.operation(self.constant(depth + 1), self.constant(depth + 1))
 
     def operation(self, one: Tuple[str, int], other: Tuple[str, int]) -> Tuple[str, int]:
-        """Two expressions joined, or one with a sign before it."""
+        """Joins two expressions, or puts a sign before one."""
         (a, x), (b, y) = one, other
         joined: List[Callable[[], Tuple[str, int]]] = [
             lambda: (f"({a} + {b})", x + y), lambda: (f"({a} - {b})", x - y), lambda: (f"({a} * {b})", x * y),
@@ -130,7 +130,7 @@ class Expressions:
         return self.chance.choice(joined)()
 
     def loose(self) -> str:
-        """An expression without parentheses, whose value isn't known here."""
+        """Returns an expression without parentheses. Its value isn't computed."""
         text = self.pick(["", "", "-", "~", "!", "<", ">"]) + self.number()[0]
         for _ in range(self.chance.randrange(1, 5)):
             sign = self.pick("+ - * & | ^ = <> < > <= >= && || .mod .xor .bitor .bitand".split())
@@ -139,33 +139,33 @@ class Expressions:
         return text + self.pick(["", "", " << 3", " .shl 2"])
 
     def byte(self) -> str:
-        """A value of one byte."""
+        """Returns a value of one byte."""
         if self.chance.randrange(8) == 0:
             return f"<({self.loose()})"
         text, value = self.constant()
         return text if 0 <= value < 256 else f"<({text})"
 
     def known_at_once(self) -> str:
-        """A value that decides at its line what is assembled."""
+        """Returns a value that ca65 needs at the line."""
         self.is_strict = True
         text = self.constant()[0]
         self.is_strict = False
         return text
 
     def small(self, most: int, is_strict: bool = False) -> Tuple[str, int]:
-        """A value from 0 to `most`."""
+        """Returns a value from 0 to `most`."""
         self.is_strict = is_strict
         text, value = self.constant()
         self.is_strict = False
         return (text, value) if 0 <= value <= most else (f"(({text}) & {most})", value & most)
 
     def places(self) -> List[str]:
-        """Names of two bytes that may stand here: labels of open scopes, of later lines, and of the other module."""
+        """Returns the two-byte names that may be used here: labels of open scopes, of later lines, and of the other module."""
         found = [name for it in self.scopes for name in it.labels]
         return [*found, *self.shared.code, *self.shared.room, *self.later, *GIVEN]
 
     def address(self) -> str:
-        """An address of two bytes."""
+        """Returns an address of two bytes."""
         name = self.use(self.pick(self.places()))
         form = self.chance.randrange(6)
         if form < 3:
@@ -175,12 +175,12 @@ class Expressions:
         return f"{name} - {self.small(9)[0]}" if form == 4 else f"{self.chance.randrange(9)} + {name}"
 
     def difference(self) -> str:
-        """A difference of two labels of the open segment, or of other addresses."""
+        """Returns a difference of two addresses."""
         names = [it for it in self.places() if it not in GIVEN]
         return f"{self.use(self.pick(names))} - {self.use(self.pick(names))}" if names else "0"
 
     def datum(self) -> str:
-        """A value of two bytes."""
+        """Returns a value of two bytes."""
         form = self.chance.randrange(6)
         if form < 3:
             return self.address()
@@ -189,7 +189,7 @@ class Expressions:
         return f"({self.constant()[0]}) & $FFFF" if form == 4 else f"{self.pick('<>^')}({self.address()})"
 
     def operand(self) -> str:
-        """The operand of an instruction that reads."""
+        """Returns the operand of an instruction that reads."""
         form = self.chance.randrange(9)
         if form == 0:
             return f"#{self.byte()}"
@@ -200,12 +200,13 @@ class Expressions:
         return self.place()
 
     def place(self) -> str:
-        """The operand of an instruction that reads or writes."""
+        """Returns the operand of an instruction that reads or writes."""
         form, index = self.chance.randrange(10), self.pick(["", "", ",x"])
         short = [it for it in self.short if not self.is_in_doubt(it)]
         if form < 3 and short:
             name = self.use(self.pick(short))
-            return self.pick([name, f"{name}{index}", f"{name} + {self.chance.randrange(3)}{index}", f"z:{name}{index}", f"a:{name}{index}"])
+            more = f"{name} + {self.chance.randrange(3)}{index}"
+            return self.pick([name, f"{name}{index}", more, f"z:{name}{index}", f"a:{name}{index}"])
         if form == 3:
             text, _ = self.small(255, True)
             return self.pick([f"0 + {text}{index}", f"a:0 + {text}{index}", f"z:0 + {text}{index}", f"+{text}"])

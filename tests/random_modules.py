@@ -1,4 +1,4 @@
-"""Random modules that ca65 and bin65 take alike, which use each other's names: for differences.py."""
+"""Random modules that use each other's names: for differences.py."""
 from typing import List
 
 from random_expressions import GIVEN, Expressions, Scope
@@ -8,7 +8,7 @@ WRITING = ("sta", "inc", "dec", "asl", "lsr", "rol", "ror")
 BRANCHES = ("bne", "beq", "bcc", "bcs", "bpl", "bmi", "bvc", "bvs")
 ALONE = ("nop", "clc", "sec", "tax", "tay", "dex", "iny", "pha", "pla", "rol a", "asl", "rts", "sei")
 SHADOWED = ("n1", "n2", "n3")
-# What both modules include: a constant, macros that call themselves or are given operands, and data.
+# The file that both modules include: a constant, recursive macros, and macros with operands as arguments.
 INCLUDED = """SHARED = 3
 .macro store value, where, more
  lda value
@@ -42,7 +42,7 @@ class Module(Expressions):
     # Lines.
 
     def instruction(self) -> None:
-        """One instruction."""
+        """Writes an instruction."""
         form = self.chance.randrange(12)
         short = [it for it in self.short if not self.is_in_doubt(it)]
         if form < 4:
@@ -61,7 +61,7 @@ class Module(Expressions):
             self.write(f"\t{self.pick(ALONE)}")
 
     def data(self) -> None:
-        """Data."""
+        """Writes data."""
         form = self.chance.randrange(12)
         if form < 2:
             self.write(f"\t.byte {self.byte()}, {self.byte()}, \"ab\"")
@@ -88,7 +88,7 @@ class Module(Expressions):
             self.write("\t.word *", f"\t.byte <(* - {self.chance.randrange(4)})")
 
     def define(self) -> None:
-        """A constant, or a label with something behind it."""
+        """Writes the definition of a constant or a label."""
         if self.chance.randrange(3) == 0:
             name, (text, value) = self.new("c"), self.constant()
             self.write(f"{name} {self.pick(['=', ':='])} {text}")
@@ -107,11 +107,11 @@ class Module(Expressions):
             self.write(f"\t{self.pick(BRANCHES)} @c", "@c:\tnop", f"\t{self.pick(BRANCHES)} {name}")
 
     def line(self) -> None:
-        """A line, or a few."""
+        """Writes a line or a few."""
         self.chance.choice((self.instruction, self.instruction, self.instruction, self.data, self.define))()
 
     def block(self, depth: int) -> None:
-        """Lines, and blocks of them."""
+        """Writes lines and nested blocks."""
         for _ in range(self.chance.randrange(1, 5)):
             if depth < 3 and self.chance.randrange(3) == 0:
                 self.chance.choice((self.scope, self.repeat, self.condition, self.call, self.elsewhere))(depth + 1)
@@ -119,7 +119,7 @@ class Module(Expressions):
                 self.line()
 
     def scope(self, depth: int) -> None:
-        """A scope."""
+        """Writes a scope."""
         if self.counters:
             return
         kind, name = self.pick(["scope", "proc"]), self.new("s")
@@ -137,12 +137,12 @@ class Module(Expressions):
             self.later += [f"{name}::{it}" for it in closed.labels if not it.startswith("s")]
 
     def plain_lines(self, count: int) -> None:
-        """Lines that define nothing."""
+        """Writes lines that define nothing."""
         for _ in range(count):
             self.chance.choice((self.instruction, self.data))()
 
     def repeat(self, depth: int) -> None:
-        """A repeat, whose counter its lines use."""
+        """Writes a repeat whose lines use its counter."""
         counter = self.new("i")
         self.write(f".repeat {self.small(3, True)[0]}, {counter}")
         self.counters.append(counter)
@@ -155,8 +155,9 @@ class Module(Expressions):
         self.counters.pop()
 
     def condition(self, depth: int) -> None:
-        """A condition; what its branches define nobody else uses."""
-        asked = self.pick([f".if {self.known_at_once()}", ".ifdef N1", ".ifndef N1", ".ifdef never", ".ifdef N2", f".if {self.known_at_once()} > 3"])
+        """Writes a condition whose branches define nothing."""
+        value = self.known_at_once()
+        asked = self.pick([f".if {value}", ".ifdef N1", ".ifndef N1", ".ifdef never", ".ifdef N2", f".if {value} > 3"])
         if len(self.scopes) > 1 and "def" in asked:
             asked = asked.replace("def ", "def ::")
         self.write(asked)
@@ -170,7 +171,7 @@ class Module(Expressions):
         self.write(".endif")
 
     def call(self, depth: int) -> None:
-        """A call of a macro."""
+        """Writes a macro call."""
         if not self.macros or self.chance.randrange(3) == 0:
             self.write(self.pick([
                 f"\tstore #{self.byte()}, {self.place()}".replace(",x", ""), f"\tstore {{{self.address()},x}}, {{{self.address()},y}}",
@@ -184,7 +185,7 @@ class Module(Expressions):
         self.write(f"\t{name} {', '.join(given)}".rstrip())
 
     def elsewhere(self, depth: int) -> None:
-        """Lines in another segment."""
+        """Writes lines in another segment."""
         if self.counters:
             return
         segment = self.pick(["RODATA", "DATA", "LATE", "BSS", "ZEROPAGE"])
@@ -203,7 +204,7 @@ class Module(Expressions):
         self.write(".popseg")
 
     def macro(self) -> None:
-        """A macro, and what its lines do with its parameters."""
+        """Writes a macro definition."""
         name, count = self.new("m"), self.chance.randrange(4)
         parameters = [f"p{it}" for it in range(count)]
         self.write(f".macro {name} {', '.join(parameters)}".rstrip(), "\t.local q", f"q:\t{self.pick(ALONE)}")
@@ -218,7 +219,7 @@ class Module(Expressions):
     # The whole.
 
     def lists(self) -> None:
-        """Imports and exports."""
+        """Writes the imports and exports."""
         shared = self.shared
         for kind, word in ((shared.short, "importzp"), (shared.code, "import"), (shared.room, "import"), (shared.numbers, "import")):
             names = [it for it, module in kind.items() if module != self.module]
@@ -230,7 +231,7 @@ class Module(Expressions):
         self.write(f".import {', '.join(GIVEN)}")
 
     def exported(self, name: str) -> None:
-        """An exported name: a label, or an address that hangs on an earlier export."""
+        """Writes an exported name: a label, or an address that depends on an earlier export."""
         earlier = [it for it in self.shared.code if it < name]
         if earlier and self.chance.randrange(4) == 0:
             self.write(f"{name} = {self.pick(earlier)} + {self.chance.randrange(9)}")
@@ -238,7 +239,7 @@ class Module(Expressions):
             self.write(f"{name}:")
 
     def text(self) -> str:
-        """The source."""
+        """Returns the whole source."""
         self.lists()
         self.write("N1 = 1", '\t.include "both.inc"', *(f"{it}:\tnop" for it in SHADOWED), ".zeropage")
         self.scopes[0].labels += SHADOWED

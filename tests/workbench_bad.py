@@ -208,8 +208,8 @@ def early(trial: Trial) -> None:
         for wait in (0, 0.005, 0.01, 0.02, 0.03, 0.05, 0.08, 0.12):
             line = ["sh", f"{pages.ROOT}/workbench/work65.sh", *command]
             how = builds.environment(trial.program, TMPDIR=trial.room)
-            it = subprocess.Popen(line, cwd=trial.folder, env=how, stdout=subprocess.DEVNULL, stderr=subprocess.PIPE, start_new_session=True,
-                                  text=True, preexec_fn=heeding)
+            streams = {"stdout": subprocess.DEVNULL, "stderr": subprocess.PIPE, "text": True}
+            it = subprocess.Popen(line, cwd=trial.folder, env=how, start_new_session=True, preexec_fn=heeding, **streams)
             time.sleep(wait)
             os.killpg(it.pid, signal.SIGINT)
             said = it.communicate(timeout=20)[1]

@@ -39,7 +39,8 @@ CASES = {
     "escapes": ".feature string_escapes <", "bracket": " lda [$20],y <", "comment": "/* a */ <", "underline": " .word 1_000 <",
     "quote": " lda #'x <", "capitals": " .assert 1, ERROR <", "asciiz": ' .asciiz "a", "b" <', "incbin": ' .incbin "f", 1, -1 <',
     "incbin-file": ' .incbin "nowhere" <', "include-file": ' .include "nowhere" <',
-    "long-line": f" .byte 1{', 1' * 1400} <", "zero-page-import": ".zeropage\n .import a1 <", "align": " .align 3 <", "local-cheap": ".ifdef @l <\n.endif", "text": ' .out .sprintf("%d", 1) <', "string-value": ' lda #"A" <',
+    "long-line": f" .byte 1{', 1' * 1400} <", "zero-page-import": ".zeropage\n .import a1 <",
+    "align": " .align 3 <", "local-cheap": ".ifdef @l <\n.endif", "text": ' .out .sprintf("%d", 1) <', "string-value": ' lda #"A" <',
     "far": " lda f:$1234 <", "colons": " dec z:::n <", "macro-call": ".macro m\n .byte .min(1, 2)\n.endmacro\n m <", "form": " ldaa #1 <",
     "script-block": "FEATURES { } #<", "script-start": "MEMORY { M: start = %S, size = 1; } #<",
     "script-bank": "MEMORY { M: start = 1, size = 1, bank = 2; } #<", "script-yes": "MEMORY { M: start = 1, size = 1, fill = true; } #<",
@@ -76,7 +77,8 @@ TREES = {
     "a long line": ({"a.s": f" .byte 1{', 1' * 1362}00\n .byte 1{', 1' * 1362}000\n"}, "a.s", "a.s:2:long-line"),
     "a long line left out": ({"a.s": f".if 0\n .byte 1{', 1' * 1400}\n.endif\n"}, "a.s", "a.s:2:long-line"),
     "imports in the zero page": (
-        {"a.s": ".import a1\n.zeropage\n.import b1\n.importzp c1\n.pushseg\n.code\n.import d1\n.popseg\n.forceimport e1\n.code\n.import f1\n"},
+        {"a.s": ".import a1\n.zeropage\n.import b1\n.importzp c1\n.pushseg\n.code\n.import d1\n.popseg\n.forceimport e1\n.code\n"
+                ".import f1\n"},
         "a.s", "a.s:3:zero-page-import a.s:9:zero-page-import"),
     "a zero page segment of its own": (
         {"a.s": '.segment "FAST": zeropage\n.code\n.segment "FAST"\n.global a1, b1\nb1: .res 1\n'}, "a.s", "a.s:4:zero-page-import"),
@@ -101,7 +103,8 @@ class Tries:
     def work65(self, *words, folder="/", stdout=subprocess.PIPE, user=None):
         how = {**os.environ, "BIN65": self.program, "PYTHONDONTWRITEBYTECODE": "1"}
         line = ["sh", WORK65, "check", *words]
-        return subprocess.run(line, cwd=folder, env=how, stdout=stdout, stderr=subprocess.PIPE, text=True, check=False, user=user, timeout=60)
+        streams = {"stdout": stdout, "stderr": subprocess.PIPE, "text": True}
+        return subprocess.run(line, cwd=folder, env=how, check=False, user=user, timeout=60, **streams)
 
 
 def habits(tries, folder):

@@ -62,9 +62,10 @@ later:  nop
 later_short: .res 1
 """,
     "nothing.inc": "NOTHING = 1\n",
-    "other.s": '        .export table\n        .exportzp pointer\n.bss\n        .res 3\n.rodata\ntable:  .res 16\n.zeropage\npointer: .res 2\n',
+    "other.s": " .export table\n .exportzp pointer\n.bss\n .res 3\n.rodata\ntable: .res 16\n.zeropage\npointer: .res 2\n",
     "third.s": '.data\n        .res 2\n.scope s\n.bss\n        .res 3\n.data\n        .byte 1\n.endscope\n.bss\n        .res 4\n',
-    "small.cfg": """MEMORY { Z: file = "", start = $0002, size = $FE; M: start = $C000, size = $3000; R: file = "", start = $0200, size = $1000; }
+    "small.cfg": """MEMORY { Z: file = "", start = $0002, size = $FE; M: start = $C000, size = $3000;
+    R: file = "", start = $0200, size = $1000; }
 SEGMENTS { ZEROPAGE: load = Z, type = zp; CODE: load = M, type = ro; RODATA: load = M, type = ro; DATA: load = M, type = rw;
     BSS: load = R, type = bss; }
 """,

@@ -160,7 +160,8 @@ def twice(tries):
 
 
 # After a few faults lines are judged alone: those of branches that aren't taken only if they can't be split into tokens.
-ALONE = (" foo 1\n foo 2\n foo 3\n foo 4\n.if 0\n foo 5\n lda #$1G\n.endif\n lda #$2G\n.macro m\n foo 6\n.endmacro\n.end\n foo 7\n lda #$3G\n",
+ALONE = (" foo 1\n foo 2\n foo 3\n foo 4\n.if 0\n foo 5\n lda #$1G\n.endif\n lda #$2G\n.macro m\n foo 6\n.endmacro\n.end\n foo 7\n"
+         " lda #$3G\n",
          [*(f"{it} statement not understood" for it in (1, 2, 3, 4)), "7 bad number", "9 bad number"])
 # Lines with one fault each, of which N is a number: by their form, by a value, by names that nothing defines or a line left out
 # would have defined. Every 50th hangs on the value of a name. The others are right.
@@ -218,7 +219,8 @@ def includes(tries):
         pages.put(f"{folder}/ü.s", '.include "ö.inc"\n oops\n')
         pages.put(f"{folder}/ö.inc", " oops\n")
         said = tries.work65("faults", "ü.s", folder=folder).stdout
-        tries.check("names outside ASCII", said == "".join(f"{it}: Error: statement not understood\n" for it in ("ü.s:2", "ö.inc:1")), said)
+        wanted = "".join(f"{it}: Error: statement not understood\n" for it in ("ü.s:2", "ö.inc:1"))
+        tries.check("names outside ASCII", said == wanted, said)
         good = tries.work65("faults", "good.s", "-D", "N=4", folder=folder)
         tries.check("a source without a fault", good.returncode == 0 and not good.stdout + good.stderr, good)
         bad = tries.work65("faults", "none.s", folder=folder)

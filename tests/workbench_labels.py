@@ -162,7 +162,8 @@ def libraries(results: builds.Results, program: str, folder: str) -> None:
         os.remove(f"{folder}/l.lib")
         order("of a list, with its image", "l.lib=lib/zeta.s,lib/alpha.s", BY_LIBRARY, "--image", "game.bin")
     for command in ("list", "labels", "debug", "size"):
-        words = [command, "-C", "x.cfg", "--library", "l.lib=lib", "--image", "game.bin", "main.s", *(["-o", "x.dbg"] * (command == "debug"))]
+        words = [command, "-C", "x.cfg", "--library", "l.lib=lib", "--image", "game.bin", "main.s"]
+        words += ["-o", "x.dbg"] * (command == "debug")
         ran = builds.work65(program, folder, *words, status=1)
         said = "game.bin isn't the image of these sources: it has 8 bytes, theirs 8; they differ from $0 on"
         results.check(f"{command} of another image", said in ran.stderr and not ran.stdout, ran.stderr)

@@ -1,4 +1,4 @@
-"""The address sizes of a module's symbols, as ca65 has them: of a label that of its segment, of a constant that of its expression."""
+"""Address sizes of a module's symbols, by ca65's rules: a label has its segment's size, a constant that of its expression."""
 from typing import Dict, Iterable, Iterator, List, Optional, Sequence, Set, Tuple
 
 from work65.layout import Layout
@@ -9,21 +9,21 @@ from work65.sources import Closure
 from work65.statements import What
 
 SHORT, LONG = "zeropage", "absolute"
-# What begins an expression of one byte, and operators whose result is 0 or 1.
+# The first words of a one-byte expression, and operators whose result is 0 or 1.
 BYTES = frozenset(("<", ">", "^", "!", ".lobyte", ".hibyte", ".bankbyte", ".not"))
 LOGICAL = frozenset(("=", "<>", "<", ">", "<=", ">=", "&&", "||", ".and", ".or", ".xor"))
 DEEPEST = 40
 
 
 def of_number(value: int) -> str:
-    """The size of a known value: what is below 0 counts as a large one."""
+    """Returns the size of a known value. A negative one counts as large."""
     if not 0 <= value < 1 << 24:
         return "long"
     return SHORT if value < 1 << 8 else LONG if value < 1 << 16 else "far"
 
 
 def short_imports(closure: Closure) -> Set[str]:
-    """The names that are imported as short ones."""
+    """Returns the names that are imported as zero page addresses."""
     found: Set[str] = set()
     for source in closure.sources.values():
         for it in source.statements:
@@ -33,7 +33,7 @@ def short_imports(closure: Closure) -> Set[str]:
 
 
 class AddressSizes:
-    """Answers for one module."""
+    """The address sizes of one module."""
 
     def __init__(self, layout: Layout, closure: Closure, told: Told) -> None:
         self.rows = {it.name: it.kind for it in layout.script.rows}
@@ -43,18 +43,18 @@ class AddressSizes:
         self.by_scope: Dict[Tuple[str, str], Label] = {(told.scopes[it.scope].name, it.name): it for it in told.labels}
 
     def of_segment(self, name: str) -> str:
-        """The size of a segment."""
+        """Returns the size of a segment."""
         return SHORT if self.rows.get(name) == "zp" else LONG
 
     def of_label(self, label: Label, value: int, depth: int = 0) -> str:
-        """The size of a label or a constant."""
+        """Returns the size of a label or a constant."""
         if not label.is_constant:
             return self.of_segment(label.value.section) if isinstance(label.value, Place) else LONG
         tokens: Sequence[Token] = label.source.statements[label.line - 1].tokens
         return self.of_expression(tokens[2:], label.scope, value, depth)
 
     def found(self, name: Sequence[str], scope: Optional[int]) -> Optional[Label]:
-        """The label that a name with its scopes means in a scope."""
+        """Resolves a name with its scopes from a scope outward."""
         if len(name) > 1:
             return self.by_scope.get((name[-2], name[-1]))
         while scope is not None:
@@ -64,7 +64,7 @@ class AddressSizes:
         return None
 
     def of_expression(self, tokens: Sequence[Token], scope: int, value: int, depth: int) -> str:
-        """The size of an expression in a scope: that of the first address in it, or that of its value."""
+        """Returns the size of an expression: that of its first address, else that of its value."""
         texts = [it.text.lower() for it in tokens]
         if texts[:1] and texts[0] in BYTES or LOGICAL.intersection(_outer(texts[1:])):
             return SHORT
@@ -80,7 +80,7 @@ class AddressSizes:
 
 
 def _outer(texts: Sequence[str]) -> Iterable[str]:
-    """The words outside of parentheses."""
+    """Returns the words outside parentheses."""
     depth, found = 0, []
     for it in texts:
         depth += (it == "(") - (it == ")")
@@ -90,7 +90,7 @@ def _outer(texts: Sequence[str]) -> Iterable[str]:
 
 
 def _names(tokens: Sequence[Token]) -> Iterator[List[str]]:
-    """The names of an expression, each with its scopes before it."""
+    """Yields the names of an expression, each with its scopes before it."""
     parts: List[str] = []
     for at, it in enumerate(tokens):
         if it.text == "::":

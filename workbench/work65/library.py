@@ -1,4 +1,4 @@
-"""The sources of a library, in the order of its members: --library NAME=FOLDER or NAME=FILE,FILE,.."""
+"""Sources of a library in member order: the values of --library, NAME=FOLDER or NAME=FILE,FILE,.."""
 import os
 import struct
 from typing import Dict, List, Optional, Tuple
@@ -11,8 +11,8 @@ OWN, CC65 = b"R65l", b"naUz"
 
 
 def sources_of(word: str, program: Program) -> List[str]:
-    """The sources of a library: those of a list in its order; those of a folder in the order of the library's members if the
-    library is there, else by their names."""
+    """Returns the sources of a library. Those of a folder are in the order of the library's members if the library exists, else
+    sorted by name. Raises a Problem if there are none."""
     name, _, given = word.partition("=")
     if not name or not given:
         raise Problem(f"--library wants NAME=FOLDER or NAME=FILE,FILE: {word}", 2)
@@ -28,7 +28,7 @@ def sources_of(word: str, program: Program) -> List[str]:
 
 
 def _listed(given: str) -> List[str]:
-    """The files of a list."""
+    """Returns the files of a comma-separated list."""
     files = given.split(",")
     if len(files) == 1 and not given.endswith((".s", ".asm")):
         raise Problem(f"{given} is no folder of sources")
@@ -39,7 +39,7 @@ def _listed(given: str) -> List[str]:
 
 
 def _members(name: str, folder: str, program: Program) -> Optional[List[str]]:
-    """The names of the members of a library, if it is there: by its name, or in the folder of its sources."""
+    """Returns the member names of the library, looked for by its name and in the folder of its sources. None if it doesn't exist."""
     for place in (name, os.path.join(folder, os.path.basename(name))):
         if os.path.isfile(place):
             data = read_bytes(place)
@@ -51,7 +51,7 @@ def _members(name: str, folder: str, program: Program) -> Optional[List[str]]:
 
 
 def _members_of_own(place: str, program: Program) -> List[str]:
-    """The members of a library of bin65."""
+    """Returns the member names of a bin65 library."""
     ran = program.run(["ar65", "t", place])
     if ran.status:
         raise Problem(os.fsdecode(ran.err).strip())
@@ -59,7 +59,7 @@ def _members_of_own(place: str, program: Program) -> List[str]:
 
 
 def _members_of_cc65(place: str, data: bytes) -> List[str]:
-    """The members of a library of cc65: its index is a count, and of each member the name and 14 bytes."""
+    """Reads the member names of a cc65 library. Its index is a count, then a name and 14 bytes for each member."""
     try:
         at = struct.unpack_from("<I", data, 8)[0]
         count, at = _variable(data, at)
@@ -74,7 +74,7 @@ def _members_of_cc65(place: str, data: bytes) -> List[str]:
 
 
 def _variable(data: bytes, at: int) -> Tuple[int, int]:
-    """A number of seven bits a byte, the low ones first, and where it ends."""
+    """Decodes a number of seven bits per byte, low bits first. Returns it and the offset after it."""
     value = shift = 0
     while True:
         byte = data[at]
@@ -86,7 +86,7 @@ def _variable(data: bytes, at: int) -> Tuple[int, int]:
 
 
 def _ordered(members: List[str], sources: List[str], name: str, folder: str) -> List[str]:
-    """The sources of a library's members, in their order. Each member has to have one."""
+    """Returns the source of each member, in member order. Raises a Problem if one has none."""
     by_stem: Dict[str, str] = {os.path.splitext(it)[0]: it for it in sources}
     found = []
     for member in members:

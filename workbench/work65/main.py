@@ -13,7 +13,7 @@ COMMANDS = ("check", "port", "second", "faults", "explain", "list", "labels", "d
 
 
 class ShowVersion(argparse.Action):
-    """Prints the version, and ends the run."""
+    """Prints the version and exits."""
 
     def __call__(self, parser: argparse.ArgumentParser, *rest: object) -> None:
         print(f"work65 {pages.version()}")
@@ -35,7 +35,7 @@ def parser_of(words: Sequence[str]) -> argparse.ArgumentParser:
 
 
 def run(words: Sequence[str]) -> int:
-    """Runs a command line, and returns the status: 2 for a usage fault."""
+    """Runs a command line, and returns the exit status: 2 for a usage error."""
     arguments = parser_of(words).parse_args(words)
     status = int(arguments.run(arguments))
     sys.stdout.flush()
@@ -43,7 +43,7 @@ def run(words: Sequence[str]) -> int:
 
 
 def main(words: Sequence[str]) -> int:
-    """Runs a command line, prints why it ended early in one line, and returns the status."""
+    """Runs a command line, prints a one-line message if it fails, and returns the exit status."""
     signals.heed()
     try:
         return run(words)

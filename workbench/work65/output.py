@@ -12,7 +12,7 @@ def words(name: str) -> str:
 
 
 def give_up_output() -> None:
-    """Throws away what standard output didn't take, so that nothing tries again at the end."""
+    """Discards unwritten standard output, so that nothing is flushed at exit."""
     os.dup2(os.open(os.devnull, os.O_WRONLY), sys.stdout.fileno())
 
 

@@ -24,7 +24,7 @@ def found(name: str) -> Optional[str]:
 
 
 def version() -> str:
-    """The version: that of CHANGELOG's first heading."""
+    """Returns the version: CHANGELOG's first heading."""
     path = found("CHANGELOG.md")
     if path is None:
         return "unknown"
@@ -44,7 +44,7 @@ class Entry:
     rows: Tuple[Tuple[str, str], ...]
 
     def lines(self, width: int) -> Iterator[str]:
-        """The paragraph, and the list after it."""
+        """Yields the paragraph and the list after it, wrapped."""
         yield from textwrap.wrap(self.paragraph, width)
         for it in self.items:
             yield from textwrap.wrap(it, width, initial_indent="- ", subsequent_indent="  ")
@@ -70,7 +70,7 @@ def _entry(heading: str, text: str) -> Entry:
 
 
 def _items(block: str) -> Iterator[str]:
-    """The items of a list, or the rows of a table of two columns without its heads; nothing of any other block."""
+    """Yields the items of a list, or the rows of a table of two columns."""
     lines = block.split("\n")
     if lines[0].startswith("- "):
         yield from (it[2:] for it in lines)

@@ -1,9 +1,9 @@
-"""What a subcommand says, in one line, when it can't go on, or goes on without something."""
+"""Errors and messages of subcommands."""
 import sys
 
 
 class Problem(Exception):
-    """A message for standard error, and the status that work65 ends with."""
+    """An error: the message, and the exit status."""
 
     def __init__(self, text: str, status: int = 1) -> None:
         super().__init__(text)

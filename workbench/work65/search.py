@@ -1,4 +1,4 @@
-"""All faults of a source: bin65 is run on a copy of it again and again, each time without the lines that it refused before."""
+"""Search for all errors of a source: runs bin65 on a copy, each time without the lines that it rejected before."""
 import argparse
 import os
 import re
@@ -19,20 +19,22 @@ from work65.shadow import Shadow
 from work65.suspects import Judge, Suspect, suspects_in
 
 MOST = 1000
-# After so many faults lines are looked for that are refused whatever stands around them.
+# The number of errors after which lines are collected that bin65 rejects in any context.
 FEW = 4
-# What bin65 says of skipped lines, too.
+# Errors that bin65 reports in skipped lines, too.
 LEXICAL = ("bad character", "bad number", "string not closed", "line too long", "name too long")
 UNCLOSED = ("block not closed", "scope not open or not closed")
-FOLLOWING = ("statement not understood", "directive not understood", "not constant", "operand not constant or out of range", "undefined name")
-# What doesn't follow from earlier lines of its file alone.
+FOLLOWING = (
+    "statement not understood", "directive not understood", "not constant", "operand not constant or out of range", "undefined name",
+)
+# Errors that may follow from a later line of the same file.
 ANYWHERE = ("undefined name", "export not defined")
 Place = Tuple[str, int]
 
 
 @dataclass
 class Fault:
-    """A message, and the line that it is about as it was before it was left out."""
+    """A message, and the text of its line before it was removed."""
 
     message: Message
     line: str = ""
@@ -40,7 +42,7 @@ class Fault:
 
 @dataclass
 class Search:
-    """The copy, and what was found in it. `steps` says of each line how often something of it was left out."""
+    """The copy and the errors found so far. `steps` counts how often a part of a line was removed."""
 
     program: Program
     mirror: Shadow
@@ -56,7 +58,7 @@ class Search:
     was_looked: bool = False
 
     def all(self) -> List[str]:
-        """All faults in the order of files and lines."""
+        """Returns all errors, sorted by file and line."""
         progress = Progress("faults", MOST)
         while len(self.faults) < MOST:
             ran = self.run()
@@ -73,7 +75,9 @@ class Search:
             self.has_more = self.message_of(self.run()) is not None or bool(self.suspects)
         progress.end()
         files = list(dict.fromkeys([self.arguments.source, *(it.message.file for it in self.faults)]))
-        return [self.said(it) for it in sorted(self.faults, key=lambda it: (files.index(it.message.file), it.message.line or 0, it.message.text))]
+        keys = {file: number for number, file in enumerate(files)}
+        self.faults.sort(key=lambda it: (keys[it.message.file], it.message.line or 0, it.message.text))
+        return [self.said(it) for it in self.faults]
 
     def run(self) -> Ran:
         """Runs bin65 on the copy."""
@@ -83,7 +87,7 @@ class Search:
         return self.program.run([*words, "--", self.mirror.name(self.arguments.source)], self.mirror.inside)
 
     def message_of(self, ran: Ran) -> Optional[Message]:
-        """The fault that a run ended with."""
+        """Returns the error that ended a run, None if it succeeded."""
         if ran.status == 0:
             return None
         said = os.fsdecode(ran.err).rstrip("\n").split("\n")[-1]
@@ -93,7 +97,7 @@ class Search:
         return message
 
     def take(self, message: Message) -> bool:
-        """Notes a fault and leaves its line out; False where it can't go on."""
+        """Records an error and removes its line from the copy. Returns False if the search can't continue."""
         if message.line is None:
             self.faults.append(Fault(message))
             return False
@@ -111,7 +115,7 @@ class Search:
         return self.write(message.file)
 
     def without_definition(self, message: Message, lines: List[str], at: int) -> bool:
-        """Leaves out the second definition of a name alone; False where that isn't what a message says."""
+        """Removes only the second definition of a name. Returns False if the message isn't about one."""
         if not message.text.startswith(leaving_out.TWICE):
             return False
         kept = leaving_out.without_definition(lines[at], message.name, f"w65_again_{len(self.faults)}")
@@ -121,7 +125,7 @@ class Search:
         return True
 
     def leave_out(self, message: Message, lines: List[str], at: int) -> None:
-        """Leaves a line out, or a block: at first but for its label, and then the label, too."""
+        """Removes a line or a block: first all but its label, the second time the label, too."""
         first, last = leaving_out.span_of(lines, at, message.text)
         for name in leaving_out.names_of(lines, first, last) | self.names_of_call(lines[first]):
             self.names.setdefault(name, set()).add((message.file, first + 1))
@@ -131,7 +135,7 @@ class Search:
             self.steps[(message.file, it)] = times + 1
 
     def names_of_call(self, line: str) -> Set[str]:
-        """The names that a call of a macro would have defined: those that it is given, and those that the macro's lines define."""
+        """Returns the names that a macro call would have defined: its arguments, and names that the macro's lines define."""
         statement = leaving_out.statement_in(line)
         if not statement.body or statement.body[0].kind is not Kind.NAME or statement.body[0].lower in words.MNEMONICS:
             return set()
@@ -148,14 +152,14 @@ class Search:
         return found
 
     def as_it_was(self, message: Message) -> Message:
-        """A message about the last line, with the number that this has in the user's file."""
+        """Returns a message about the last line with that line's number in the user's file."""
         last = len(text_of(message.file).lines)
         if message.line is None or message.line <= last:
             return message
         return replace(message, line=last, whole=message.whole.replace(f":{message.line}: ", f":{last}: ", 1))
 
     def lines_of(self, file: str) -> List[str]:
-        """The lines of a file as they stand in the copy."""
+        """Returns the current lines of a file of the copy."""
         if file not in self.lines:
             self.lines[file] = text_of(file).lines
         return self.lines[file]
@@ -166,7 +170,7 @@ class Search:
         return self.mirror.write(path, "\n".join(self.lines[file]) + "\n")
 
     def closed(self, message: Message, lines: List[str]) -> bool:
-        """Closes at the end what is open there, and notes the fault; False where nothing is seen to be open."""
+        """Closes the blocks that are open at the end of a file, and records the error. Returns False if none is open."""
         closers = leaving_out.closers_of(lines, message.text.startswith("scope"))
         if not closers:
             return False
@@ -177,8 +181,7 @@ class Search:
     # Many at once.
 
     def look(self) -> None:
-        """Looks for lines that are refused whatever stands around them, and puts a mark in place of each: a run prints those that
-        it comes to."""
+        """Finds lines that bin65 rejects in any context, and replaces each by an .out: a run prints those that it assembles."""
         self.was_looked = True
         found = suspects_in(self.arguments.source, self.arguments.include, self.arguments.define, self.lines_of)
         judge = Judge(self.program, self.folder)
@@ -195,7 +198,7 @@ class Search:
             self.write(file)
 
     def judged(self, ran: Ran, progress: Progress) -> None:
-        """Notes the faults of the marks that the last run came to."""
+        """Records the errors of the lines whose .out the last run printed."""
         for mark in re.findall(r"^w65 \d+ w65$", ran.out.decode("latin-1"), re.M):
             it = self.suspects.pop(mark, None)
             if it is None:
@@ -210,7 +213,7 @@ class Search:
             progress.step()
 
     def restored(self) -> bool:
-        """Puts back lines that no run came to, but that bin65 splits into tokens all the same; False if there are none."""
+        """Puts back lines that weren't assembled but whose tokens bin65 checks all the same. Returns False if there are none."""
         left = [(mark, it) for mark, it in self.suspects.items() if it.said in LEXICAL]
         for mark, it in left:
             del self.suspects[mark]
@@ -222,12 +225,12 @@ class Search:
     # What follows from another fault.
 
     def said(self, fault: Fault) -> str:
-        """A fault as it is printed."""
+        """Formats an error for output."""
         cause = self.cause(fault)
         return fault.message.whole + (f" (follows from {cause})" if cause else "")
 
     def cause(self, fault: Fault) -> str:
-        """The place of the line left out from which a fault follows: one that would have defined a name of its line."""
+        """Returns the location of a removed line that would have defined a name that the error is about; empty if there is none."""
         message = fault.message
         wanted: Set[str] = set(message.name.replace("::", " ").split())
         kind = message.text.split(":")[0]

@@ -1,4 +1,4 @@
-"""Ctrl-C, SIGTERM and SIGHUP: each ends the run as Ctrl-C does, so that nothing is left behind."""
+"""Signal handling: Ctrl-C, SIGTERM and SIGHUP end a run without leaving files behind."""
 import os
 import shutil
 import signal
@@ -12,19 +12,19 @@ ENDING = (signal.SIGINT, signal.SIGTERM, signal.SIGHUP)
 
 
 def _interrupt(number: int, _: object) -> None:
-    """Ends the run as Ctrl-C does."""
+    """Raises KeyboardInterrupt for any signal."""
     raise KeyboardInterrupt
 
 
 def heed() -> None:
-    """Has each signal raise KeyboardInterrupt, unless whoever started work65 ignores it."""
+    """Makes each signal raise KeyboardInterrupt, unless the parent process ignores it."""
     for it in ENDING:
         if signal.getsignal(it) is not signal.SIG_IGN:
             signal.signal(it, _interrupt)
 
 
 def heed_no_more() -> None:
-    """Lets each signal end the process without a word: while modules are loaded, and once all is done."""
+    """Restores the default action, which ends the process silently: for the time before and after main()."""
     for it in ENDING:
         if signal.getsignal(it) is not signal.SIG_IGN:
             signal.signal(it, signal.SIG_DFL)
@@ -33,7 +33,7 @@ def heed_no_more() -> None:
 
 @contextmanager
 def _held() -> Iterator[None]:
-    """Holds signals back for a moment."""
+    """Blocks the signals inside the `with` statement."""
     before = signal.pthread_sigmask(signal.SIG_BLOCK, ENDING)
     try:
         yield
@@ -51,7 +51,7 @@ def _new_folder() -> str:
 
 @contextmanager
 def folder_for_a_while() -> Iterator[str]:
-    """A temporary folder that is removed at the end, also where the run is ended."""
+    """Makes a temporary folder and removes it at the end, also if a signal ends the run."""
     name = ""
     try:
         with _held():

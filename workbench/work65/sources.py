@@ -33,7 +33,7 @@ def place_of(name: str) -> str:
 
 
 def is_regular(name: str) -> bool:
-    """Whether a file is there and is neither a folder nor a pipe nor a device."""
+    """Returns whether a name is that of a regular file."""
     return os.path.isfile(name)
 
 
@@ -97,7 +97,7 @@ def find(word: str, opened: str, folders: Sequence[str]) -> Optional[str]:
 
 
 def find_readable(word: str, opened: str, folders: Sequence[str]) -> Optional[str]:
-    """The same. Raises a Problem if it is a pipe or a device: bin65 might wait for it without an end."""
+    """Like `find`, but raises a Problem for a pipe or a device, for which bin65 might wait forever."""
     name = find(word, opened, folders)
     if name is not None:
         want_regular(name)

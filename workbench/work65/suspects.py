@@ -1,4 +1,4 @@
-"""Lines that are refused whatever stands around them: each is judged by bin65 in a small source of such lines."""
+"""Lines that bin65 rejects in any context: it checks them in small sources that contain only such lines."""
 import os
 from dataclasses import dataclass
 from typing import Callable, Dict, Iterator, List, NamedTuple, Optional, Sequence, Set, Tuple
@@ -14,9 +14,9 @@ from work65.message import message_of
 from work65.program import Program
 
 TOGETHER = 64
-# Statements that a line without names says the same of wherever it stands.
+# Statements whose lines without names mean the same in any context.
 ALONE = words.MNEMONICS | words.DATA | {".res", ".align", ".asciiz", ".error", ".warning", ".out"}
-# Statements that other lines depend on, or that depend on others though they name nothing.
+# Statements that other lines depend on, or that depend on other lines without naming them.
 LINKED = (
     words.CONDITIONS | words.MACRO_BEGINS | words.MACRO_ENDS | words.REPEAT_BEGINS | words.REPEAT_ENDS | words.BARE | set(BLOCKS)
     | set(BLOCKS.values()) | {".elseif", ".else", ".endif", ".proc", ".scope", ".endproc", ".endscope", ".end", ".include", ".incbin",
@@ -30,8 +30,8 @@ HEADS = (".import n", ".importzp n")
 
 @dataclass(frozen=True)
 class Suspect:
-    """A line that may be refused: its file, its place from 0, its text, what of it is judged, below which lines, and what bin65
-    says of it there. Of a form the names are all `n`, which is judged as a long and as a short one."""
+    """A line that may be rejected: its file, its index, its text, the text to check, the lines to put before it, and bin65's
+    message. To check an addressing form, all names are replaced by `n`, once an absolute import and once a zero page one."""
 
     file: str
     at: int
@@ -45,14 +45,14 @@ Plain = Tuple[int, Statement, Tuple[Token, ...]]
 
 
 class File(NamedTuple):
-    """A file as it stands in the copy, and its lines outside of macros, repeats and structures."""
+    """A file of the copy, and its lines outside macros, repeats and structures."""
 
     text: Text
     plain: List[Plain]
 
 
 def outside(lines: Sequence[str], tree: Tree) -> Iterator[Plain]:
-    """The lines outside of macros, repeats and structures."""
+    """Yields the lines outside macros, repeats and structures."""
     depth = 0
     for at, text in enumerate(lines):
         tokens = line_of(text).tokens
@@ -68,7 +68,7 @@ def outside(lines: Sequence[str], tree: Tree) -> Iterator[Plain]:
 
 
 def suspects_in(source: str, folders: Sequence[str], defines: Sequence[str], lines_of: Callable[[str], List[str]]) -> List[Suspect]:
-    """The lines of a source, and of what it includes, that can be judged alone, as they stand in the copy."""
+    """Returns the lines of a source and its included files that can be checked without their context."""
     first = text_of(source)
     texts = [Text(it.path, lines_of(it.path), it.ends) for it in [first, *followed([first], folders)]]
     if any("/*" in line for it in texts for line in it.lines):
@@ -91,28 +91,28 @@ def _is_call(statement: Statement, tree: Tree) -> bool:
 
 
 def _names(statement: Statement) -> List[str]:
-    """The names that a statement has behind its first word."""
+    """Returns the names after the first word of a statement."""
     return [it.text for it in statement.rest if it.kind is Kind.NAME and it.lower not in words.REGISTERS]
 
 
 def _is_bound(statement: Statement) -> bool:
-    """Whether a statement has something else that stands for a place: a cheap label, an unnamed one, `*` or a scope."""
+    """Returns whether a statement depends on its location: by a cheap or unnamed label, `*` or a scope."""
     return any(it.kind in (Kind.CHEAP, Kind.UNNAMED) or it.text in ("*", "::", ":") for it in statement.rest)
 
 
 def _without_label(line: str, statement: Statement) -> str:
-    """A line without its label."""
+    """Returns a line without its label."""
     return line[statement.body[0].start :] if statement.label is not None and statement.has_colon else line
 
 
 def _form(statement: Statement) -> str:
-    """An instruction whose names are all `n`."""
+    """Returns an instruction with all names replaced by `n`."""
     is_name = [it.kind is Kind.NAME and it.lower not in words.REGISTERS for it in statement.rest]
     return f"{statement.head} " + " ".join("n" if named else it.text for named, it in zip(is_name, statement.rest))
 
 
 def _by_form(file: File, tree: Tree) -> Iterator[Suspect]:
-    """Lines that no grammar has, lines without names, and forms that an instruction hasn't."""
+    """Yields lines with a syntax error, lines without names, and instructions whose addressing form is to be checked."""
     path = file.text.path
     for at, statement, tokens in file.plain:
         head = statement.head
@@ -130,7 +130,7 @@ def _by_form(file: File, tree: Tree) -> Iterator[Suspect]:
 
 
 def _defined(files: Sequence[File], tree: Tree, without: Set[Tuple[str, int]]) -> Set[str]:
-    """All names that something may define: in macros, repeats, structures and calls any name counts."""
+    """Returns all names that may be defined. In macros, repeats, structures and calls every name counts."""
     found: Set[str] = set()
     for text, plain_lines in files:
         plain = {at: statement for at, statement, _ in plain_lines}
@@ -144,8 +144,8 @@ def _defined(files: Sequence[File], tree: Tree, without: Set[Tuple[str, int]]) -
 
 
 def _with_names(file: File, tree: Tree, known: Set[str], constants: Dict[str, str]) -> Iterator[Suspect]:
-    """Lines whose only names are such that nothing defines; data and immediate operands whose only names are constants that are
-    known alone."""
+    """Yields lines all of whose names are undefined, and data and immediate operands all of whose names are independent
+    constants."""
     head = "\n".join(constants.values())
     for at, statement, tokens in file.plain:
         is_data = statement.head in words.DATA
@@ -162,8 +162,8 @@ def _with_names(file: File, tree: Tree, known: Set[str], constants: Dict[str, st
 
 
 def constants_in(files: Sequence[File]) -> Dict[str, str]:
-    """The definitions of constants outside of scopes and conditions that hang on numbers and such constants alone, by their names,
-    which nothing else defines."""
+    """Returns the definitions of independent constants by name: outside scopes and conditions, defined once, and computed from
+    numbers and other independent constants."""
     times: Dict[str, int] = {}
     found: Dict[str, Tuple[str, Set[str]]] = {}
     for text, plain_lines in files:
@@ -185,37 +185,37 @@ def constants_in(files: Sequence[File]) -> Dict[str, str]:
 
 
 def _is_constant(statement: Statement) -> bool:
-    """Whether a line defines a constant, and has no place in it."""
+    """Returns whether a statement defines a constant that doesn't depend on its location."""
     is_definition = bool(statement.rest) and statement.rest[0].text in ("=", ":=")
     return is_definition and statement.label is None and not _is_bound(statement)
 
 
 class Judge:
-    """Runs bin65 on small sources."""
+    """Runs bin65 on small sources and keeps the results."""
 
     def __init__(self, program: Program, folder: str) -> None:
         self.program, self.folder = program, folder
         self.known: Dict[Tuple[str, str], Optional[str]] = {}
 
     def said_of(self, suspects: Sequence[Suspect]) -> List[Optional[str]]:
-        """What bin65 says of each line; None where it takes it, or where that hangs on what a name is."""
+        """Returns bin65's message for each line. None if it accepts the line, or if that depends on a name's kind."""
         for head in dict.fromkeys(head for it in suspects for head in it.heads):
             self.judge([it.judged for it in suspects if head in it.heads], head)
         return [self.verdict(it) for it in suspects]
 
     def verdict(self, it: Suspect) -> Optional[str]:
-        """What is known of a line."""
+        """Returns the message for a line from the results so far."""
         said = [self.known.get((head, it.judged)) for head in it.heads]
         return said[0] if len(said) == 1 or said == [FORM, FORM] else None
 
     def judge(self, lines: Sequence[str], head: str) -> None:
-        """Judges lines that aren't known yet, a few at a time, below another line."""
+        """Checks lines that weren't checked before, in groups, with `head` before them."""
         waiting = [it for it in dict.fromkeys(lines) if (head, it) not in self.known]
         for at in range(0, len(waiting), TOGETHER):
             self.judge_some(waiting[at : at + TOGETHER], head)
 
     def judge_some(self, lines: Sequence[str], head: str) -> None:
-        """Judges a few lines: bin65 names one that it refuses, which is taken out, until it refuses none."""
+        """Checks a group of lines: removes the line that bin65 rejects, until it rejects none."""
         left, before = list(lines), head.count("\n") + 1
         while True:
             said = self.run([head, *left])
@@ -228,7 +228,7 @@ class Judge:
             self.known.setdefault((head, it), None)
 
     def run(self, lines: Sequence[str]) -> Optional[Tuple[int, str]]:
-        """The line, from 1, and the text of the fault of a source."""
+        """Assembles lines. Returns the line number and the text of the error, None if there is none."""
         with open(os.path.join(self.folder, "alone.s"), "w", encoding="latin-1", newline="") as it:
             it.write("\n".join(lines) + "\n")
         ran = self.program.run(["ca65", "-o", "", "--", "alone.s"], self.folder)

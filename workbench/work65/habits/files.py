@@ -1,4 +1,4 @@
-"""Finds the files that sources name and that bin65 doesn't find."""
+"""Files of .include and .incbin that bin65 doesn't find."""
 import os
 from typing import Dict, Iterable, Iterator, List, Optional, Sequence, Set, Tuple
 
@@ -12,7 +12,7 @@ Wrong = Tuple[str, str, str]
 
 
 class Files:
-    """The files of a run of `check`: which there are, and which include which."""
+    """The files of a run of `check`, and which of them include which."""
 
     def __init__(self, texts: Iterable[Text], folders: Sequence[str]) -> None:
         self.texts = list(texts)
@@ -24,15 +24,15 @@ class Files:
                 self.includers.setdefault(place_of(name), set()).add(text.path)
 
     def included(self, text: Text) -> Iterator[str]:
-        """The files that a file includes."""
+        """Yields the files that a file includes."""
         for word in names_in(text):
             name = found_file(word, text, self.folders)
             if name is not None:
                 yield name
 
     def wrong(self, statement: Statement, text: Text, is_in_macro: bool) -> Optional[Wrong]:
-        """What is wrong with the file that a line names: the name, the habit and its cure. None if bin65 finds it, or if the line
-        names none."""
+        """Returns the name of a file that bin65 doesn't find, with the habit and its cure. None if bin65 finds the file, or if the
+        line names none."""
         word = word_of(statement)
         if word is None or statement.head not in (".include", ".incbin"):
             return None
@@ -51,7 +51,7 @@ class Files:
         return shown, "include-file", "not found in the folder of this file, nor in those of -I"
 
     def beside_outer(self, word: str, text: Text) -> Optional[str]:
-        """The file beside which cc65 finds an included one: a file that includes this one, itself or through others."""
+        """Returns the file in whose folder cc65 finds an included one: one that includes this file, directly or indirectly."""
         waiting: List[str] = sorted(self.includers.get(place_of(text.path), ()))
         seen = {text.path}
         while waiting:

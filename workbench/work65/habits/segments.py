@@ -1,4 +1,4 @@
-"""Which segment is open, and whether it is one of the zero page."""
+"""Tracks the open segment, and whether it is a zero page one."""
 from typing import AbstractSet, Iterator, List, Set
 
 from work65.language import words
@@ -12,7 +12,7 @@ HEADS = words.SEGMENT_WORDS | {".segment", ".pushseg", ".popseg"}
 
 
 class Segments:
-    """The segment that is open, those that were saved, and those of the zero page."""
+    """The open segment, the saved ones, and the names of zero page segments."""
 
     def __init__(self) -> None:
         self.current = "CODE"
@@ -21,11 +21,11 @@ class Segments:
 
     @property
     def is_zero_page(self) -> bool:
-        """Whether the open segment is one of the zero page."""
+        """Returns whether the open segment is a zero page one."""
         return self.current in self.zero_page
 
     def step(self, statement: Statement) -> None:
-        """Goes past a line."""
+        """Processes a line."""
         head, rest = statement.head, statement.rest
         if head in NAMES:
             self.current = NAMES[head]
@@ -40,8 +40,8 @@ class Segments:
 
 
 def short_names(statement: Statement, own: AbstractSet[str]) -> Iterator[str]:
-    """The names that cc65 takes as short where the line stands in a segment of the zero page: imports without a size. A
-    `.global` of a name of the file's own is none, nor any of a name that was declared as short before."""
+    """Yields the names that cc65 imports as zero page addresses if the line is in a zero page segment: those without a size. A
+    `.global` of a name that the file defines is no import."""
     if statement.head not in LISTS:
         return
     for part in parts_of(statement.rest):

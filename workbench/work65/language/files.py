@@ -25,7 +25,7 @@ class Text:
 
 
 def want_regular(path: str) -> None:
-    """Refuses a pipe or a device: reading it might never end. Raises an OSError if the file can't be looked at."""
+    """Raises a Problem for a pipe or a device, which might never end, and an OSError if there is no such file."""
     kind = os.stat(path).st_mode
     if not stat.S_ISREG(kind) and not stat.S_ISDIR(kind):
         raise Problem(f"{path}: not a regular file")
@@ -50,8 +50,8 @@ def text_of(path: str) -> Text:
 
 
 def walked(paths: Sequence[str], unread: Callable[[str], None] = complain) -> Iterator[str]:
-    """The files that are named, and in folders those that are sources or scripts, in order. `unread` is given a message for each
-    folder that can't be read."""
+    """Yields the named files, and the sources and scripts of named folders, in order. Calls `unread` with a message for each
+    unreadable folder."""
     for path in paths:
         if os.path.isdir(path):
             yield from _in_folder(path, unread)
@@ -62,7 +62,7 @@ def walked(paths: Sequence[str], unread: Callable[[str], None] = complain) -> It
 
 
 def _in_folder(path: str, unread: Callable[[str], None]) -> Iterator[str]:
-    """The regular files of a folder, and of those in it, that are sources or scripts."""
+    """Yields the sources and scripts in a folder and its subfolders; only regular files."""
     for folder, folders, names in os.walk(path, onerror=lambda it: unread(f"{it.filename}: {it.strerror}")):
         folders.sort()
         for name in sorted(names):

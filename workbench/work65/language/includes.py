@@ -1,4 +1,4 @@
-"""The files that sources include and that bin65 finds."""
+"""Included files, found by bin65's rules."""
 from typing import Dict, Iterable, Iterator, List, Optional, Sequence, Set
 
 from work65.language.files import Text, text_of
@@ -9,14 +9,14 @@ from work65.sources import find, is_regular, place_of
 
 
 def word_of(statement: Statement) -> Optional[str]:
-    """The name after .include or .incbin, if a string follows it."""
+    """Returns the string after .include or .incbin, None if there is none."""
     if statement.rest and statement.rest[0].kind is Kind.STRING and is_closed(statement.rest[0]):
         return statement.rest[0].text[1:-1]
     return None
 
 
 def names_in(text: Text) -> Iterator[str]:
-    """The names of the files that the lines of a file include."""
+    """Yields the names after .include in a file."""
     for line in text.lines:
         if ".inc" in line.lower():
             statement = statement_of(line_of(line).tokens, lambda _: False)
@@ -26,13 +26,13 @@ def names_in(text: Text) -> Iterator[str]:
 
 
 def found_file(word: str, text: Text, folders: Sequence[str]) -> Optional[str]:
-    """The file that a name in a source stands for, by the name that bin65 prints. None if it isn't there, or isn't regular."""
+    """Resolves the name of an included file to the name that bin65 prints. None if there is no such regular file."""
     name = find(word, text.path, folders)
     return name if name is not None and is_regular(name) else None
 
 
 def followed(texts: Iterable[Text], folders: Sequence[str]) -> List[Text]:
-    """The files that these include, and those include, each once; without these themselves and files that can't be read."""
+    """Returns the files that these include, directly or indirectly, without these and without unreadable ones."""
     waiting = list(texts)
     seen: Set[str] = {place_of(it.path) for it in waiting}
     found: Dict[str, Text] = {}

@@ -11,7 +11,7 @@ import shutil
 import subprocess
 import sys
 import tempfile
-from typing import Counter, Dict, List, Sequence, Union
+from typing import Counter, Dict, List, Sequence, Tuple, Union
 
 from random_expressions import Shared
 from random_modules import INCLUDED, Module
@@ -30,7 +30,10 @@ SEGMENTS {{
 {rows}
     BSS:      load = RAM, type = bss{bss}, define = yes;
 }}
+SYMBOLS {{ top: type = export, value = $FFF0; soft: type = weak, value = {soft}; }}
 """
+# What is linked: both modules in any order, or the second one from a library, if the first one needs it.
+LINKS = (("m0.o", "m1.o"), ("m1.o", "m0.o"), ("m0.o", "l.lib"))
 # What bin65 alone refuses of these programs, and MIGRATING says so.
 LISTED = ()
 Built = Union[str, Dict[str, bytes]]
@@ -61,30 +64,30 @@ def script(chance: random.Random) -> str:
         rom=chance.choice((0x8000, 0x8001, 0x9003)), size=chance.choice(("$4000", "$C000 - $8000")), kind=chance.choice(("ro", "rw")),
         fill=chance.choice(("", ", fill = yes", ", fill = yes, fillval = $FF", ", fillval = $EA")), top=chance.choice(("%O", '"top.bin"')),
         code=chance.choice(("", "", ", align = 4", ", align = 256")), value=chance.choice(("", ", fillval = 1")),
-        bss=chance.choice(("", ", align = 16")), rows=rows(chance),
+        bss=chance.choice(("", ", align = 16")), rows=rows(chance), soft=chance.choice(("5", "$1234")),
     )
 
 
-def program(seed: str) -> Dict[str, str]:
-    """Returns the files of a program by name."""
+def program(seed: str) -> Tuple[Dict[str, str], Sequence[str]]:
+    """Returns the files of a program by name, and what is linked."""
     chance = random.Random(seed)
     shared = Shared()
     for kind, begin, most in ((shared.code, "f", 4), (shared.short, "z", 3), (shared.room, "b", 3), (shared.numbers, "k", 3)):
         for it in range(chance.randrange(most + 1)):
             kind[f"{begin}{it}"] = chance.randrange(2)
     files = {f"m{it}.s": Module(chance, it, shared).text() for it in range(2)}
-    return {**files, "s.cfg": script(chance), "both.inc": INCLUDED, "data.bin": "0123456789"}
+    return {**files, "s.cfg": script(chance), "both.inc": INCLUDED, "data.bin": "0123456789"}, chance.choice(LINKS)
 
 
-def built(folder: str, files: Dict[str, str], tools: Sequence[str]) -> Built:
+def built(folder: str, files: Dict[str, str], inputs: Sequence[str], tools: Sequence[str]) -> Built:
     """Builds a program. Returns the files that it writes, or the first error."""
     os.makedirs(folder)
     for name, text in files.items():
         with open(f"{folder}/{name}", "w", encoding="latin-1") as it:
             it.write(text)
-    before = {*files, "m0.o", "m1.o"}
-    lines = [["ca65", "-DN2=7", "-o", "m0.o", "m0.s"], ["ca65", "-o", "m1.o", "m1.s"]]
-    lines.append(["ld65", "-C", "s.cfg", "-o", "image", "m0.o", "m1.o"])
+    before = {*files, "m0.o", "m1.o", "l.lib"}
+    lines = [["ca65", "-DN2=7", "-o", "m0.o", "m0.s"], ["ca65", "-o", "m1.o", "m1.s"], ["ar65", "r", "l.lib", "m1.o"]]
+    lines.append(["ld65", "-C", "s.cfg", "-o", "image", *inputs])
     for words in lines:
         ran = subprocess.run([*tools, *words], cwd=folder, capture_output=True, encoding="latin-1", check=False)
         if ran.returncode:
@@ -121,8 +124,8 @@ class Differences:
 
     def compare(self, seed: str, folder: str) -> None:
         """Builds one program with both tools."""
-        files = program(seed)
-        ours, others = built(f"{folder}/ours", files, [self.program]), built(f"{folder}/cc65", files, [])
+        files, inputs = program(seed)
+        ours, others = built(f"{folder}/ours", files, inputs, [self.program]), built(f"{folder}/cc65", files, inputs, [])
         if isinstance(ours, dict) and isinstance(others, dict):
             self.counts["equal" if ours == others else "different"] += 1
             if ours != others:

@@ -7,7 +7,10 @@ from dataclasses import dataclass, field
 from typing import Callable, Dict, List, Sequence, Tuple
 
 WORD = 1 << 31
-GIVEN = ("__CODE_SIZE__", "__ROM_START__", "__RAM_SIZE__", "__DATA_LOAD__", "__DATA_RUN__", "__BSS_RUN__", "__ZP_LAST__", "__ROM_LAST__")
+GIVEN = (
+    "top", "soft", "__CODE_SIZE__", "__ROM_START__", "__RAM_SIZE__", "__DATA_LOAD__", "__DATA_RUN__", "__BSS_RUN__", "__ZP_LAST__",
+    "__ROM_LAST__",
+)
 @dataclass
 class Scope:
     """An open scope: its name, what it defines, and the names that its lines have used."""

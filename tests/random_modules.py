@@ -96,7 +96,7 @@ class Module(Expressions):
             return
         if self.chance.randrange(5) == 0 and not self.counters:
             name, base = self.new("d"), self.use(self.pick(self.places()))
-            self.write(f"{name} = {base} {self.pick(['+', '-'])} {self.chance.randrange(9)}")
+            self.write(f"{name} = {base} {self.pick(['+', '-'])} {self.chance.randrange(9)}", f"\t.addr {name}")
             self.scopes[-1].labels.append(name)
             return
         free = [it for it in SHADOWED if it not in self.scopes[-1].labels]

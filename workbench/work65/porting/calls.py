@@ -81,8 +81,9 @@ class Calls(Rewriter):
 
     def is_spanned(self) -> bool:
         """Whether cheap names stand on both sides of a line, in the region around it."""
+        own = self.cheap_names(range(self.here, self.here + 1))
         before, after = self.cheap_names(range(self.here - 1, -1, -1)), self.cheap_names(range(self.here + 1, len(self.lines)))
-        return bool(before) and bool(after)
+        return bool(before | own) and bool(after | own) and bool(before | after)
 
     def cheap_names(self, places: range) -> Set[str]:
         """The cheap names of lines up to one with a label."""

@@ -13,7 +13,7 @@ MOST_ELEMENTS, LONGEST = 16, 100
 def merged(lines: List[str]) -> List[str]:
     """The lines, with lists of one directive that follow each other as one list."""
     found: List[str] = []
-    open_word, count = "", 0
+    open_word, shown, count, first = "", "", 0, 0
     for it in lines:
         data = _data(it)
         if data is None:
@@ -22,12 +22,14 @@ def merged(lines: List[str]) -> List[str]:
             continue
         word, elements, number = data
         if word == open_word and count + number <= MOST_ELEMENTS and len(found[-1]) + len(elements) + 2 <= LONGEST:
+            if count == first:
+                found[-1] = shown
             found[-1] = f"{found[-1].rstrip()}, {elements}"
             count += number
         else:
-            begin = it[: len(it) - len(it.lstrip())]
-            found.append(f"{begin}{it.split()[0]} {elements}" if "(" in it else it)
-            open_word, count = word, number
+            shown = f"{it[: len(it) - len(it.lstrip())]}{it.split()[0]} {elements}"
+            found.append(it)
+            open_word, count, first = word, number, number
     return found
 
 
@@ -46,4 +48,5 @@ def _data(text: str) -> Optional[Tuple[str, str, int]]:
 def _shown(text: str, part: Sequence[Token]) -> str:
     """An element: a number where it is a sum of numbers."""
     found = value(part, nothing_known) if len(part) > 1 else None
-    return str(found) if found is not None and found >= 0 else text[part[0].start : part[-1].end] if part else ""
+    whole = text[part[0].start : part[-1].end] if part else ""
+    return whole if found is None or found < 0 else f"${found:02X}" if "$" in whole else str(found)

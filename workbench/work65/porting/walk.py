@@ -96,7 +96,8 @@ class Walk(Calls):
         if context.macro is not None or context.structures:
             return None
         has_repeat = "rep" in text.lower()
-        if not has_repeat and not (context.macros or self.screen):
+        names = facts_of(text, self.has_escapes).names
+        if not has_repeat and (not context.macros or names.isdisjoint(context.macros) and names.isdisjoint(context.defines)):
             return None
         statement = self.parsed(text)
         if has_repeat and statement.head in words.REPEAT_BEGINS:

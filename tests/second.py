@@ -199,6 +199,10 @@ def others(tries):
     tries.check("no source", ran.returncode == 2 and ran.stderr == "work65: none.s: no such file\n", ran)
     ran = tries.second("-C", "b.cfg")
     tries.check("no sources", ran.returncode == 2, ran)
+    pages.put(f"{tries.top}/s.cfg", "SYMBOLS { AT: type = weak, value = $2000; }\nMEMORY { M: start = AT, size = $10; }\nSEGMENTS { CODE: load = M; }\n")
+    pages.put(f"{tries.top}/s.s", " .import LIMIT\n lda #<LIMIT\n jmp *\n")
+    for values in ((), ("--symbol", "AT=12288")):
+        tries.says("symbols of ld65", tries.second("-C", "s.cfg", "--symbol", "LIMIT=5", *values, "s.s"), 0, "the same image: a.out, 5 bytes\n")
     tries.check("nothing is left", not os.listdir(f"{tries.top}/temporary"), os.listdir(f"{tries.top}/temporary"))
 
 

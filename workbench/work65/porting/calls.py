@@ -41,7 +41,7 @@ class Calls(Rewriter):
             return True
         if any(self.has_codes(it) for it in rest if it.kind is Kind.STRING) and not self.takes_lists(name, rest):
             return True
-        if any(it.text in self.project.sized_names for it in rest) and any(it.directives & SCOPES for it in reached):
+        if any(it.text in self.sized_names for it in rest) and any(it.directives & SCOPES for it in reached):
             return True
         return self.is_hidden_there(reached, rest) or any(self.has_other_regions(it) for it in reached)
 

@@ -27,6 +27,7 @@ class Known:
     def __init__(self, project: Project, module: str) -> None:
         self.project = project
         self.module = module
+        self.sized_names = project.sized_names(module)
         self.context = Context(of_target(project.target), set(project.features(module)))
         self.context.size_name = project.size_name
         self.folder = Folder(self.context, self.sized, self.is_defined, self.bank)

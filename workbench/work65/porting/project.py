@@ -55,7 +55,7 @@ class Project:
     tree: Tree = field(default_factory=Tree)
     outputs: Dict[str, List[Row]] = field(default_factory=dict)
     findings: Dict[Tuple[str, int, str], Finding] = field(default_factory=dict)
-    sized_names: Set[str] = field(default_factory=set)
+    sized_in: Dict[str, Set[str]] = field(default_factory=dict)
     size_name: str = "size"
     packages: Set[str] = field(default_factory=set)
     defined_in: Dict[str, Dict[str, int]] = field(default_factory=dict)
@@ -114,7 +114,7 @@ class Project:
                 self.size_name = f"{self.size_name}_of_all"
             for at, it in enumerate(tokens):
                 if it.lower == ".sizeof":
-                    self.sized_names |= {one.text for one in tokens[at:] if one.kind is Kind.NAME}
+                    self.sized_in.setdefault(path, set()).update(one.text for one in tokens[at:] if one.kind is Kind.NAME)
             statement = statement_of(tokens, lambda _: False)
             if statement.head == ".include" and statement.rest and statement.rest[0].kind is Kind.STRING:
                 found = self.include(path, statement.rest[0].text.strip('"'))[0]
@@ -162,6 +162,10 @@ class Project:
                 found.add(it)
                 left += self.included.get(it, ())
         return found
+
+    def sized_names(self, module: str) -> FrozenSet[str]:
+        """The names of whose sizes a module asks."""
+        return frozenset().union(*(self.sized_in.get(it, frozenset()) for it in self.closure(module)))
 
     def features(self, module: str) -> Set[str]:
         """The features of a module that count for all its lines."""

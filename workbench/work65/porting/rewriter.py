@@ -257,7 +257,7 @@ class Rewriter(Renaming):
         """What a line of data became, with its size behind it where something asks for that. Of a label alone, or before a call,
         it is 0."""
         label = statement.label
-        if label is None or label.text not in self.project.sized_names or self.context.macro is not None:
+        if label is None or label.text not in self.sized_names or self.context.macro is not None:
             return lines
         if label.kind is not Kind.NAME:
             return lines
@@ -277,7 +277,7 @@ class Rewriter(Renaming):
         if statement.head == ".proc" and name:
             self.note_label(name)
         scope = Scope(name, statement.head, self.rows[-1], self.path, context.segment)
-        if name and name in self.project.sized_names:
+        if name and name in self.sized_names:
             size = self.free(f"sizeof_{name}")
             begin = name if statement.head == ".proc" else self.free(f"begin_of_{name}")
             scope.size = size
@@ -294,7 +294,7 @@ class Rewriter(Renaming):
             return [text]
         scope = context.scopes.pop()
         context.cheap = set()
-        if scope.name in self.project.sized_names and scope.name and context.segment == scope.segment:
+        if scope.name in self.sized_names and scope.name and context.segment == scope.segment:
             self.sizes[context.path + (scope.name,)] = scope.size
         return [text, *scope.behind]
 

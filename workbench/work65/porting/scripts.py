@@ -22,8 +22,19 @@ def ported(text: Text, usage: Usage, symbols: Dict[str, int]) -> Tuple[List[str]
             said.append((word, f"{name}: what stands before it in the file has no fixed size"))
         else:
             more[name] = number
-    edits = _without_overlaps([*rows.edits, *_edits(whole, blocks)])
+    edits = _without_overlaps([*_given(blocks, more), *rows.edits, *_edits(whole, blocks)])
     return edited(whole, edits).split("\n") + _symbols(more), said
+
+
+def _given(blocks: List[Block], more: Dict[str, int]) -> List[Edit]:
+    """The symbols of a script whose values ld65's -D gives: they have those, and are no more."""
+    found = []
+    for block in blocks:
+        for entry in block.entries if block.word.upper == "SYMBOLS" else ():
+            value = entry.get("VALUE")
+            if value and entry.name.text in more:
+                found.append((value[0].start, value[-1].end, f"${more.pop(entry.name.text):04X}"))
+    return found
 
 
 def banks_of(text: Text) -> Dict[str, int]:

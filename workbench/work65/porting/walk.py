@@ -252,7 +252,7 @@ class Walk(Calls):
         names = facts.names
         if forms.may_differ(facts.tokens, names, context, self.project.is_measured):
             return False
-        if not self.project.sized_names.isdisjoint(names) or self.label_splits(facts):
+        if not self.sized_names.isdisjoint(names) or self.label_splits(facts):
             return False
         return context.defines.keys().isdisjoint(names) and not self.has_renamed(facts)
 

@@ -38,6 +38,7 @@ CASES = {
     "arrows": " bne :> <", "brk": " brk #1 <", "goes": ".list on <", "unknown": " .word .version <", "feature": ".feature c_comments <",
     "escapes": ".feature string_escapes <", "bracket": " lda [$20],y <", "comment": "/* a */ <", "underline": " .word 1_000 <",
     "quote": " lda #'x <", "capitals": " .assert 1, ERROR <", "asciiz": ' .asciiz "a", "b" <', "incbin": ' .incbin "f", 1, -1 <',
+    "cheap-twice": "l: nop\n@a: nop\nn = 1\n@a: nop <",
     "incbin-file": ' .incbin "nowhere" <', "include-file": ' .include "nowhere" <',
     "long-line": f" .byte 1{', 1' * 1400} <", "zero-page-import": ".zeropage\n .import a1 <",
     "align": " .align 3 <", "local-cheap": ".ifdef @l <\n.endif", "text": ' .out .sprintf("%d", 1) <', "string-value": ' lda #"A" <',
@@ -74,6 +75,9 @@ TREES = {
     "strings with escapes": (
         {"a.s": '.feature string_escapes\n .byte "a\\n", "b"\n .asciiz "b"\n'}, "a.s", "a.s:1:escapes a.s:2:escapes"),
     "a string without escapes": ({"a.s": ' .byte "a\\n"\n'}, "a.s", ""),
+    "cheap labels of two regions": (
+        {"a.s": "l: nop\n@a: bne @a\nm: nop\n@a: bne @a\n.if N\n@b: nop\n.else\n@b: nop\n.endif\n@c: nop\n mac\n@c: nop\n"
+                ".macro mac\nq: nop\n.endmacro\n"}, "a.s", ""),
     "a long line": ({"a.s": f" .byte 1{', 1' * 1362}00\n .byte 1{', 1' * 1362}000\n"}, "a.s", "a.s:2:long-line"),
     "a long line left out": ({"a.s": f".if 0\n .byte 1{', 1' * 1400}\n.endif\n"}, "a.s", "a.s:2:long-line"),
     "imports in the zero page": (
@@ -144,7 +148,7 @@ def pairs(tries, folder):
 def searched(tries, folder):
     """The page's search finds what check's own words find."""
     command = re.search(r"```sh\n(grep.*?)```", pages.read("docs/MIGRATING.md"), re.S)[1]
-    unseen = ("incbin-file", "include-file", "zero-page-import", "in-scope", "processor", "macro-call", "form", "undocumented", "text", "quote", "colons")
+    unseen = ("cheap-twice", "incbin-file", "include-file", "zero-page-import", "in-scope", "processor", "macro-call", "form", "undocumented", "text", "quote", "colons")
     for name, text in CASES.items():
         if not name.startswith("script-") and name not in unseen:
             pages.put(f"{folder}/a.s", text.replace(" <", "") + "\n")

@@ -2,7 +2,7 @@
 from functools import lru_cache
 from typing import Dict, Iterator, List, Optional, Sequence, Set, Tuple
 
-from work65.habits import marks
+from work65.habits import cheap, marks
 from work65.habits.files import Files
 from work65.habits.habit import Finding, Habit
 from work65.habits.segments import HEADS as SEGMENT_HEADS, Segments, short_names
@@ -243,6 +243,7 @@ def found_in(texts: List[Text], tree: Tree, files: Optional[Files] = None, inclu
         text = waiting.pop(0)
         reader = Reader(text, tree, files)
         found += reader.findings()
+        found += [(None, Finding(text.path, number, name, BY_NAME["cheap-twice"])) for number, name in cheap.twice(text)]
         calls += [(*it, text.path) for it in reader.calls]
         waiting += [left.pop(it) for it in sorted(reader.includes) if it in left]
     called = _reached({(caller, name) for caller, name, _, _ in calls})

@@ -112,6 +112,7 @@ HABITS: Tuple[Habit, ...] = (
           ("^[^;]*\\.(assert|ASSERT).*,[[:blank:]]*(ERROR|WARNING|Error|Warning)",)),
     Habit("asciiz", "`.asciiz \"a\", \"b\"`", LOOKS, '.byte "a", "b", 0', (), ("^[^;]*\\.asciiz[^;]*\"[[:blank:]]*,",)),
     Habit("incbin", "`.incbin \"f\", s, -1`", LOOKS, "leave the length out", (), ("^[^;]*\\.incbin.*,[[:blank:]]*-",)),
+    Habit("cheap-twice", "`@l:`, a constant, `@l:`", LOOKS, "a constant doesn't end the region of @l: another name, or a label between"),
     Habit("incbin-file", "`.incbin` of a file that isn't beside the source", LOOKS,
           "not found: the name counts from the folder of this file"),
     Habit("include-file", "`.include` of a file beside an outer one", LOOKS,

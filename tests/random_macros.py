@@ -140,9 +140,14 @@ def define(it):
     """A define, and a use of it."""
     name = it.name("d")
     value = it.chance.choice((it.number(), "1, 2", it.text(), "limit + 1", ".strlen(\"abc\")"))
-    kind = it.chance.randint(0, 2)
+    kind = it.chance.randint(0, 3)
     if kind == 0:
         it.put(f".define {name} {value}", f" .byte {name}")
+    elif kind == 3:
+        macro, first = it.name("uses"), it.chance.random() < 0.5
+        lines = (f".define {name} {value}", f".macro {macro}", f" .byte {name}", ".endmacro")
+        it.put(*(lines if first else (*lines[1:], lines[0])), f" {macro}", f".undefine {name}", f".define {name} {it.number()}", f" .byte {name}")
+        it.macros.append((macro, str, True))
     elif kind == 1:
         it.put(f".define {name}(p) <(p) + {it.chance.randint(0, 5)}", f" .byte <({name} {it.number()})")
     else:

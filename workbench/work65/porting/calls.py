@@ -55,15 +55,12 @@ class Calls(Rewriter):
         return [macros[it] for it in found]
 
     def is_changed(self, macro: Macro) -> bool:
-        """Whether a macro's lines mean something else than where they were read: for a define, a variable, or codes of characters."""
+        """Whether a macro's lines mean something else than where they were read: for a define that came
+        later, a variable, or codes of characters."""
         context = self.context
         if not macro.names.isdisjoint(context.changing) or macro.has_text and macro.codes != context.charmap.codes:
             return True
-        for name in macro.names & (context.defines.keys() | macro.defines.keys()):
-            now, then = context.defines.get(name), macro.defines.get(name)
-            if now is None or then is not None and now.text != then or then is None and not now.is_constant:
-                return True
-        return False
+        return any(not context.defines[name].is_constant for name in macro.names & context.defines.keys())
 
     def is_hidden_there(self, reached: List[Macro], rest: Sequence[Token]) -> bool:
         """Whether a scope around a call has used a name of it."""

@@ -33,7 +33,6 @@ class Macro:
     cheap: Set[str] = field(default_factory=set)
     locals: Set[str] = field(default_factory=set)
     labels: List[str] = field(default_factory=list)
-    defines: Dict[str, str] = field(default_factory=dict)
     codes: Dict[int, int] = field(default_factory=dict)
     has_text: bool = False
     has_shift: bool = False

@@ -11,7 +11,8 @@ from work65.porting.context import Context, Row
 from work65.porting.functions import Folder
 from work65.porting.line import Unportable
 from work65.porting.logical import Logical
-from work65.porting import forms
+from work65.porting import defines, forms
+from work65.porting.facts import facts_of
 from work65.porting.expansion import HARD, Macro, hard_macros
 from work65.porting.project import Project
 
@@ -47,10 +48,10 @@ class Known:
     @property
     def hard(self) -> FrozenSet[str]:
         """The macros that have to be written out."""
-        macros, defines, project = self.context.macros, self.context.defines, self.project
-        key = (len(macros), sum(len(it.lines) for it in macros.values()), self.screen, len(defines))
+        macros, texts, project = self.context.macros, self.context.defines, self.project
+        key = (len(macros), sum(len(it.lines) for it in macros.values()), self.screen, len(texts))
         if key != self.hard_key:
-            also = {name for name, it in defines.items() if any(one.lower in HARD for one in it.tokens)}
+            also = {name for name, it in texts.items() if any(one.lower in HARD for one in it.tokens)}
             spread = project.spread.macros if project.is_measured else None
             self.hard_key = key
             self.hard_names = hard_macros(macros, frozenset(also | ({"scrcode"} if self.screen else set())), spread)
@@ -202,11 +203,18 @@ class Known:
             context.segment = context.saved_segments.pop()
 
     def keep_line(self, text: str) -> None:
-        """Keeps a line of a macro as it stands, for calls that are written out."""
+        """Keeps a line of a macro, for calls that are written out: with the defines that there are by now, as cc65 does."""
         context = self.context
-        if context.macro is not None and context.macro in context.macros:
-            if statement_of(line_of(text, self.has_escapes).tokens, lambda _: False).head not in words.MACRO_ENDS:
-                context.macros[context.macro].add(text, self.has_escapes)
+        if context.macro is None or context.macro not in context.macros:
+            return
+        if statement_of(line_of(text, self.has_escapes).tokens, lambda _: False).head in words.MACRO_ENDS:
+            return
+        if not context.defines.keys().isdisjoint(facts_of(text, self.has_escapes).names):
+            try:
+                text = defines.expanded(text, context, self.has_escapes, is_whole=True)
+            except Unportable:
+                pass
+        context.macros[context.macro].add(text, self.has_escapes)
 
     def sized(self, name: str) -> Optional[str]:
         """The constant that has the size of a label or scope."""

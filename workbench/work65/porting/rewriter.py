@@ -215,7 +215,6 @@ class Rewriter(Renaming):
         context, before = self.context, self.other_macro
         macro = context.macros.get(context.macro or "")
         if macro is not None:
-            macro.defines = {name: context.defines[name].text for name in macro.names & context.defines.keys()}
             macro.is_ambiguous = before is not None and (before.is_ambiguous or before.lines != macro.lines)
         context.macro, context.parameters, context.locals = None, [], set()
 

@@ -383,6 +383,24 @@ def names(tries, has_cc65):
         tries.check("3,000 conditions deep", ran.returncode == 0 and time.monotonic() - begun < 10, ran)
 
 
+# What the rules know of forms where nothing is compared.
+RULED = ("kept-register", "kept-low-byte", "kept-low-byte-in-scope", "kept-zero-page-of-its-own", "form-cheap-labels",
+         "form-scoped-difference", "form-define", "form-inner-scope")
+
+
+def rules(tries):
+    """Forms where cc65 isn't asked."""
+    for name, _, text in cases():
+        if name in RULED:
+            with tempfile.TemporaryDirectory() as folder:
+                for file, content in (("a.s", text), ("l.cfg", SCRIPT)):
+                    pages.put(f"{folder}/{file}", content)
+                tries.inside("port", "a.s", "-o", "out", "--no-verify", folder=folder)
+                shutil.copy(f"{folder}/l.cfg", f"{folder}/out/l.cfg")
+                ours = image([tries.program, "ca65"], [tries.program, "ld65"], "a.s", f"{folder}/out")
+                tries.check(f"{name} by rules", ours == image(["ca65"], ["ld65"], "a.s", folder), ours)
+
+
 # Ported without a name that -D may give: its other branch isn't assembled then.
 OTHER_NAMES = """.zeropage
 n1:     .res    1
@@ -495,6 +513,7 @@ def main():
         mixed(tries)
         ended(tries)
         other_names(tries)
+        rules(tries)
     examples(tries)
     copies(tries)
     names(tries, has_cc65)

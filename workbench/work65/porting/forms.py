@@ -2,7 +2,7 @@
 from typing import AbstractSet, Sequence
 
 from work65.language import words
-from work65.language.expression import value
+from work65.language.expression import scoped_name, value
 from work65.language.statements import Statement, statement_of
 from work65.language.tokens import Kind, Token, line_of
 from work65.porting.context import Context
@@ -24,7 +24,8 @@ def may_differ(tokens: Sequence[Token], names: AbstractSet[str], context: Contex
         return False
     if len(context.scopes) > 1 and any(not names.isdisjoint(it.used) for it in context.scopes[:-1]):
         return True
-    if any(it.text == "-" for it in tokens) and (len(names) > 1 or star_in(tokens)):
+    is_placed = len(names) > 1 or star_in(tokens) or any(it.kind is Kind.UNNAMED for it in tokens)
+    if is_placed and any(it.text == "-" for it in tokens):
         return True
     return not context.differences.isdisjoint(names)
 
@@ -37,12 +38,12 @@ def absolute(text: str, statement: Statement, context: Context) -> str:
     label = statement.label
     if label is not None and label.kind is Kind.NAME:
         context.labels.setdefault((*context.path, label.text), context.segment)
-    names = [it for at, it in enumerate(rest) if it.kind is Kind.NAME and it.lower not in words.REGISTERS and not _is_scoped(rest, at)]
-    if any(_is_used_outside(it, context) or it.text in context.differences for it in names) or is_difference(rest, context):
-        if statement.head in ("stx", "sty") and rest[-1].lower in ("x", "y") and rest[-2].text == ",":
-            return text
-        return edited(text, [(rest[0].start, rest[0].start, "a: " if rest[0].text.startswith(":") else "a:")])
-    return text
+    names = [(at, it) for at, it in enumerate(rest) if it.kind is Kind.NAME and it.lower not in words.REGISTERS]
+    is_far = any(it.text in context.differences or not _is_scoped(rest, at) and _is_used_outside(it, context) for at, it in names)
+    if not is_far and not is_difference(rest, context):
+        return text
+    has_no_far_form = statement.head in ("stx", "sty") and rest[-1].lower in ("x", "y") and rest[-2].text == ","
+    return text if has_no_far_form else prefixed(text)
 
 
 def prefixed(text: str) -> str:
@@ -70,9 +71,13 @@ def is_difference(rest: Sequence[Token], context: Context) -> bool:
     if not any(it.text == "-" for it in rest):
         return False
     is_far = context.segment not in context.zero_page
-    labels = [it for it in rest if it.kind is Kind.NAME and _is_far(it.text, context)]
-    labels += [it for it in rest if it.kind in (Kind.CHEAP, Kind.UNNAMED) and is_far]
-    return len(labels) + (star_in(rest) and is_far) > 1
+    count = sum(it.kind in (Kind.CHEAP, Kind.UNNAMED) and is_far for it in rest) + (star_in(rest) and is_far)
+    at = 0
+    while at < len(rest):
+        name, following = scoped_name(rest, at)
+        count += bool(name) and _is_far(name, context)
+        at = max(following, at + 1)
+    return count > 1
 
 
 def segment_of(tokens: Sequence[Token], context: Context) -> str:
@@ -88,9 +93,9 @@ def segment_of(tokens: Sequence[Token], context: Context) -> str:
 
 def _is_far(name: str, context: Context) -> bool:
     """Whether a name is a label outside of the zero page, or made of one."""
-    path = context.path
-    for depth in range(len(path), -1, -1):
-        key = path[:depth] + (name,)
+    path, parts = context.path, tuple(it for it in name.split("::") if it)
+    for depth in range(0 if name.startswith("::") else len(path), -1, -1):
+        key = path[:depth] + parts
         if key in context.labels:
             return context.labels[key] not in context.zero_page and context.constants.get(key) is None
     return False

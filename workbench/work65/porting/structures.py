@@ -5,6 +5,7 @@ from work65.language import words
 from work65.language.expression import scoped_name, value
 from work65.language.statements import Statement
 from work65.language.tokens import Kind, Token, line_of
+from work65.porting import forms
 from work65.porting.context import Context, Structure
 from work65.porting.line import Unportable, commented_out, text_of_tokens
 
@@ -201,6 +202,8 @@ def _enumerated(text: str, tokens: Sequence[Token], it: Structure, context: Cont
     if len(tokens) > 2:
         found = value(tokens[2:], lambda one: context.value(one))
         shown, it.base = text_of_tokens(text, tokens[2:]), name.text
+        if found is None and forms.is_difference(tokens[2:], context):
+            context.differences.add(name.text)
     else:
         found = it.value
         shown = it.offset if found is None else str(found)

@@ -23,6 +23,7 @@ TEXTS = [
     ("what the code keeps", ["python3", "tests/kept.py"]),
     ("the tools of the gate", ["python3", "tests/gate.py"]),
     ("texts of others", ["python3", "tests/others.py"]),
+    ("the renaming tool", ["python3", "tests/rename.py"]),
     ("links of pages", ["python3", "tests/links.py"]),
     ("types of work65", ["python3", "tests/workbench_types.py"]),
 ]

@@ -100,6 +100,8 @@ class Known:
                 return True
             if depth and name in context.scopes[depth - 1].used or key in context.labels:
                 return None
+        if name in self.project.guards:
+            return name in context.defines
         return None
 
     def note(self, statement: Statement) -> None:

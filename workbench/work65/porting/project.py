@@ -13,6 +13,7 @@ from work65.language.tokens import Kind, line_of
 from work65.language.tree import Tree, asminc_file, surveyed
 from work65.output import words as words_of_path
 from work65.porting.context import Row
+from work65.porting.guards import guard_of
 from work65.porting.leaves import Line
 from work65.porting.line import Unportable
 from work65.porting.logical import Logical, logical_lines
@@ -59,6 +60,7 @@ class Project:
     size_name: str = "size"
     packages: Set[str] = field(default_factory=set)
     defined_in: Dict[str, Dict[str, int]] = field(default_factory=dict)
+    guards: Set[str] = field(default_factory=set)
     undefined_names: Set[str] = field(default_factory=set)
     target_names: Dict[str, Set[str]] = field(default_factory=dict)
     included: Dict[str, Set[str]] = field(default_factory=dict)
@@ -102,6 +104,8 @@ class Project:
 
     def _look_at(self, path: str) -> None:
         """Notes what a file includes, which sizes it asks for, and what it defines."""
+        guard = guard_of(self.texts[path].lines)
+        self.guards |= {guard} - self.names if guard is not None else set()
         counts = self.defined_in.setdefault(path, {})
         targets = words.defined_by(self.target)
         for text in self.texts[path].lines:

@@ -4,7 +4,7 @@ from typing import Iterator, List, Optional, Sequence, Tuple
 from work65.language.expression import value
 from work65.language.statements import Statement
 from work65.language.tokens import Kind, Token, line_of
-from work65.porting import conditions, shifts, spelling
+from work65.porting import conditions, guards, shifts, spelling
 from work65.porting.facts import facts_of
 from work65.porting.known import Known
 from work65.porting.line import Unportable, edited
@@ -44,8 +44,9 @@ class Renaming(Known):
         head, rest = statement.head, statement.rest
         if head in conditions.PROCESSORS and self.context.processor == "6502":
             return conditions.PROCESSORS[head] == 1
-        if head in (".ifdef", ".ifndef") and len(rest) == 1:
-            known = self.is_defined(rest[0].text)
+        name = guards.asked(statement) if head in (".ifdef", ".ifndef") else None
+        if name is not None and (len(rest) == 1 or name in self.project.guards and not self.context.scopes):
+            known = self.is_defined(name)
             return None if known is None else known == (head == ".ifdef")
         return self.truth(rest) if head == ".if" else None
 

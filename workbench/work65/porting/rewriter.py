@@ -5,7 +5,7 @@ from work65.language import words
 from work65.language.expression import scoped_name, value
 from work65.language.statements import Statement, statement_of
 from work65.language.tokens import Kind, Token, line_of
-from work65.porting import condes, conditions, defines, forms, lists, packages, ranges, registers, shifts, spelling, statements, structures
+from work65.porting import condes, conditions, defines, forms, guards, lists, packages, ranges, registers, shifts, spelling, statements, structures
 from work65.porting.characters import as_elements
 from work65.porting.context import Scope
 from work65.porting.expansion import Macro
@@ -144,8 +144,8 @@ class Rewriter(Renaming):
         found = conditions.opened(text, statement, self.context, others, self.unique(at))
         self.context.blocks[-1].is_live = is_live
         self.context.blocks[-1].is_else_live = None if is_live is None else not is_live
-        if statement.head == ".ifndef" and len(statement.rest) == 1:
-            self.context.blocks[-1].guarded = statement.rest[0].text
+        if statement.head == ".ifndef":
+            self.context.blocks[-1].guarded = guards.asked(statement) or ""
         return found
 
     def refuse_hidden(self, statement: Statement) -> None:

@@ -40,6 +40,7 @@ def put_tree(folder, files):
     """Writes the files of a tree, with a script where it has none."""
     os.makedirs(folder, exist_ok=True)
     for name, text in {"l.cfg": SCRIPT, **files}.items():
+        os.makedirs(os.path.dirname(f"{folder}/{name}"), exist_ok=True)
         pages.put(f"{folder}/{name}", text)
 
 

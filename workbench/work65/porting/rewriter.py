@@ -5,7 +5,8 @@ from work65.language import words
 from work65.language.expression import scoped_name, value
 from work65.language.statements import Statement, statement_of
 from work65.language.tokens import Kind, Token, line_of
-from work65.porting import condes, conditions, defines, forms, guards, lists, packages, ranges, registers, shifts, spelling, statements, structures
+from work65.porting import condes, conditions, defines, forms, guards, lists, packages, ranges, registers, shifts, spelling
+from work65.porting import statements, structures
 from work65.porting.characters import as_elements
 from work65.porting.context import Scope
 from work65.porting.expansion import Macro
@@ -379,7 +380,7 @@ class Rewriter(Renaming):
     def charmap(self, text: str, statement: Statement) -> List[str]:
         """A line that changes the codes of characters."""
         context = self.context
-        if context.macro is not None or context.repeats or context.blocks:
+        if context.macro is not None or context.repeats or any(it.is_live is not True for it in context.blocks):
             raise Unportable(statement.head, "charmap", "within a macro, repeat or condition it can't be followed")
         spelling.change_charmap(statement, context)
         return [commented_out(self.original)]

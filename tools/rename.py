@@ -288,6 +288,11 @@ class Renaming:
         for file in self.tree.files:
             names = {it[0] for it in self.edits[file].values()} | {it.old for it in self.rows if file.crate in it.crates}
             lines += [f"{file.where(at)}: comment: {line.strip()}" for at, line in file.comments() if names & set(olds.findall(line))]
+        for row in self.rows:
+            for file in self.tree.files if row.kind == "variable" else ():
+                if file.area == "proofs" and file.crate in row.crates:
+                    made = re.finditer(rf"(?<!\w)the_{re.escape(row.old)}(?!\w)", file.code)
+                    lines += [f"{file.where(it.start())}: {it[0]}: is it made of the variable's name?" for it in made]
         return lines + citations.patterns(self.folder, olds)
 
 

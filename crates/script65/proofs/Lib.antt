@@ -4,6 +4,7 @@ pub mod Front
 pub mod LongestTokens
 pub mod Members
 pub mod Named
+pub mod NoContinuation
 pub mod OneReading
 pub mod Printed
 pub mod SumsHeld

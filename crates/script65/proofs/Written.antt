@@ -404,7 +404,7 @@ module _ (bytes : List ℕ) where
 
   -- ---- Texts.
 
-  read_of : (r : Result Entries Stop) → IsRead bytes r → Reads bytes no_entries between_blocks 0 r
+  pub read_of : (r : Result Entries Stop) → IsRead bytes r → Reads bytes no_entries between_blocks 0 r
   read_of (Ok es) h = written_reads es h
   read_of (Err f) h = breaks_reads no_entries between_blocks 0 f h
 

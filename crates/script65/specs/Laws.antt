@@ -1,5 +1,5 @@
 -- What holds of every script.
-use Rattle.std.specs.Prelude.{◌≡◌, ◌<◌, ℕ, List, Result, Ok, length, ⊤}
+use Rattle.std.specs.Prelude.{◌≡◌, ◌<◌, ◌≤◌, ◌⊎◌, ℕ, List, Result, Ok, Err, length, ⊤}
 use Rattle.std.specs.List.{AllByRecursion}
 use Rattle.base65.specs.Own.{IsOwn}
 use Rattle.script65.specs.declared.fault.ScriptFault.{ScriptFault}
@@ -10,8 +10,12 @@ use Rattle.script65.specs.declared.script.Row.{Row}
 use Rattle.script65.specs.declared.script.Script.{Script}
 use Rattle.script65.specs.declared.script.Term.{Term}
 use Rattle.script65.specs.Faults.{is_script_outside}
-use Rattle.script65.specs.Scripts.{IsScript}
-use Rattle.script65.specs.Tokens.{IsFront, front}
+use Rattle.script65.specs.declared.fault.Fault.TheVariants.{OutOfRange}
+use Rattle.script65.specs.declared.fault.Stop.{Stop}
+use Rattle.script65.specs.Entries.{Entries}
+use Rattle.script65.specs.Grammar.{IsWritten}
+use Rattle.script65.specs.Scripts.{IsRead, IsScript}
+use Rattle.script65.specs.Tokens.{IsFront, front, token}
 
 -- a text is one script or has one first fault, at most
 abbrev pub OneReading : Type 0
@@ -22,6 +26,22 @@ abbrev pub SomeReadingLaw : Type 0
 SomeReadingLaw =
     (bytes : List ℕ) →
     (r : Result Script ScriptFault) × IsScript bytes r × IsOwn is_script_outside r
+
+-- texts with the same tokens up to a place
+abbrev pub SameTokens : List ℕ → List ℕ → ℕ → Type 0
+SameTokens bytes other place = (k : ℕ) → k ≤ place → token other k ≡ token bytes k
+
+-- the fault stands at the token of this place; or a number is out of range, as a sum is behind its last term
+abbrev pub IsFoundAt : List ℕ → Stop → ℕ → Type 0
+IsFoundAt bytes f place = (f.at ≡ (token bytes place).at) ⊎ (f.fault ≡ OutOfRange)
+
+-- A first fault is one of the text up to a token: no text with the same tokens up to there is written by the grammar, whatever
+-- follows.
+abbrev pub NoContinuation : Type 0
+NoContinuation =
+    (bytes : List ℕ) (f : Stop) → IsRead bytes (Err f) →
+    (place : ℕ) × IsFoundAt bytes f place
+    × ((other : List ℕ) (es : Entries) → SameTokens bytes other place → IsWritten other es → ⊥)
 
 -- the token at the front of a text is the longest there is
 abbrev pub LongestTokens : Type 0

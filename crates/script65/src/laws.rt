@@ -1,6 +1,6 @@
 //! What holds of every script and of every placement by one.
 
-ghost use Rattle.script65.specs.Laws.{AllThere, LongestTokens, OneReading, SomeReadingLaw};
+ghost use Rattle.script65.specs.Laws.{AllThere, LongestTokens, NoContinuation, OneReading, SomeReadingLaw};
 ghost use Rattle.script65.specs.Places.{OnePlacement};
 ghost use Rattle.script65.specs.PlacingLaws.{AllPlaced, AllWithin, NoNamesFixed, NoOverlap, OnlyNumbers, RowsThere, SameNeeds, SomePlacement, SumsHold};
 
@@ -12,6 +12,11 @@ pub fn one_reading()
 /// And it is one at least: no text lacks a script and a fault of its own.
 pub fn some_reading()
     ensures { SomeReadingLaw }
+{}
+
+/// Behind the tokens up to a first fault no text goes on as a script.
+pub fn no_continuation()
+    ensures { NoContinuation }
 {}
 
 /// The token at the front of a text is the longest text there that is a token.

@@ -1,11 +1,15 @@
-"""Times of assembling and linking: lines of `nop`, of data with expressions and of instructions in procs, and plain data."""
+"""Times of assembling and linking: lines of `nop`, of data with expressions and of instructions in procs, plain data, and lines that use
+constants over an import or a name of the global scope."""
 import os
 import random
 import shutil
 import subprocess
 import time
 
-SCRIPT = "MEMORY { ROM: start = 0, size = $1000000; } SEGMENTS { CODE: load = ROM, type = ro; }\n"
+SCRIPT = (
+    "MEMORY { ROM: start = 0, size = $1000000; } SEGMENTS { CODE: load = ROM, type = ro; }\n"
+    "SYMBOLS { base: type = export, value = $2000; }\n"
+)
 numbers = random.Random(9)
 
 
@@ -61,6 +65,21 @@ def programs(count):
     return lines
 
 
+def over_import(count):
+    """Lines with a label that use one of 100 constants, each of which is one more than the last, over an import."""
+    return [
+        ".import base",
+        "c0 = base + 1",
+        *(f"c{k} = c{k - 1} + 1" for k in range(1, 100)),
+        *(f"l{k}: lda c{k % 100}" for k in range(count)),
+    ]
+
+
+def nested(count):
+    """Scopes one inside the other, each with a use of a name of the global one."""
+    return ["g = $1234", *(line for k in range(count) for line in (f".scope s{k}", "    lda g")), *[".endscope"] * count]
+
+
 # By their names: what it is, its lines or bytes, the lines of so many, and the seconds that it takes on README's machine with cc65.
 CASES = {
     "1": ("lines of nop", 100_000, lambda count: ["    nop"] * count, 6),
@@ -74,6 +93,8 @@ CASES = {
     "m4": ("lines of instructions", 400_000, programs, 20),
     "data": ("bytes in .byte lists", 1 << 20,
              lambda count: ["    .byte " + ",".join("$%02X" % numbers.randrange(256) for _ in range(16)) for _ in range(count // 16)], 7),
+    "k": ("lines by constants over an import", 20_000, over_import, 3),
+    "s": ("scopes in each other", 1_000, nested, 2),
 }
 # Those of which instructions are counted.
 COUNTED = ("1", "e1", "m1", "data")

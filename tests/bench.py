@@ -38,15 +38,15 @@ def main():
     text = [line for _, line in found]
     parts = [(at, PART.fullmatch(line)) for at, line in found if PART.fullmatch(line)]
     checks["it ends well"] = status == 0 and LAST.fullmatch(text[-1])
-    checks["the first line"] = (it := FIRST.fullmatch(text[0])) and int(it[1]) == len(parts) == 12
-    checks["each part has its number"] = [(int(it[1]), int(it[2])) for _, it in parts] == [(at, 12) for at in range(1, 13)]
+    checks["the first line"] = (it := FIRST.fullmatch(text[0])) and int(it[1]) == len(parts) == 14
+    checks["each part has its number"] = [(int(it[1]), int(it[2])) for _, it in parts] == [(at, 14) for at in range(1, 15)]
     checks["parts come as they begin"] = all(later - at > 0.04 for (at, line), (later, _) in zip(found, found[1:]) if PART.fullmatch(line))
     checks["what is timed"] = parts[2][1][3] == "200 lines of nop" and "e4.s" in kept and "large.out" in kept
     times = [line for line in text if re.search(r"bin65 +\d+\.\d{4} s", line)]
-    checks["each has its times"] = len(times) == 2 + 2 * 10
+    checks["each has its times"] = len(times) == 2 + 2 * 12
     if shutil.which("ca65") and shutil.which("ld65"):
         checks["cc65 beside it"] = "cc65's tools beside it" in text[0] and all("bin65 / cc65" in it for it in times)
-        checks["the images"] = sum("images the same" in it for it in text) == 12 and not any("DIFFER" in it for it in text)
+        checks["the images"] = sum("images the same" in it for it in text) == 14 and not any("DIFFER" in it for it in text)
     else:
         checks["bin65 alone"] = "bin65 alone" in text[0] and not any("cc65 /" in it for it in times)
     for name, is_so in checks.items():

@@ -71,8 +71,9 @@ impl Assembler {
             (IsTable (table_of self.new.symbols) self.new.known.states.items) }
         ensures keeps { KeepsPut self.old self.new }
     {
+        let keeps_found = self.known.keeps_with(&self.symbols, key);
         define(alloc, &mut self.symbols, key, definition)?;
-        self.known.grow()
+        self.known.grow(keeps_found)
     }
 
     /// A scope is opened within another, which has none of this name.
@@ -96,9 +97,12 @@ impl Assembler {
             (IsTable (table_of self.new.symbols) self.new.known.states.items) }
         ensures keeps { KeepsPut self.old self.new }
     {
+        let keeps_found = self.known.keeps_opened(&self.symbols);
         self.symbols
             .open_scope(alloc, within as usize, name, is_proc)?;
-        self.known.forget();
+        if !keeps_found {
+            self.known.forget();
+        }
         Ok(())
     }
 
@@ -116,9 +120,8 @@ impl Assembler {
             (IsTable (table_of self.new.symbols) self.new.known.states.items) }
         ensures keeps { KeepsPut self.old self.new }
     {
-        self.symbols.import(alloc, names, is_zero_page)?;
-        self.known.forget();
-        Ok(())
+        // What means something already means the same with more imports.
+        self.symbols.import(alloc, names, is_zero_page)
     }
 
     /// Names that are mentioned wait, one behind the other.

@@ -31,7 +31,7 @@ blank_table table xs h hung e = record {
   long = e;
   turns = 0;
   room = (let whole = unknown_all xs h in omega (arith, whole, e));
-  found = λ j f q. (let never : 0 ≡ 1 = open_at xs j (Found f) h q in absurd cc);
+  found = λ z more k j f q. (let never : 0 ≡ 1 = open_at xs j (Found f) h q in absurd cc);
   idle = λ j q. (let never : 0 ≡ 1 = open_at xs j Waiting h q in absurd cc);
   hung = hung;
 }

@@ -1,7 +1,7 @@
 -- Tables with one word, one definition or one scope more.
 use Rattle.std.proofs.lemmas.Grind.{common_steps}
 use Rattle.std.proofs.Common.{◌≡◌, ℕ, zero, suc, ◌+◌, ◌<◌, Bool, true, false, cond, List, [], ◌∷◌, ◌++◌, length, map, get_or, position, Option, Some, None, option_map, refl, sym, ap, ◌∙◌, subst, arith}
-use Rattle.std.specs.Prelude.{OnOk, OnErr, Result, if◌then◌else◌}
+use Rattle.std.specs.Prelude.{OnOk, OnErr, Result, slice_get, if◌then◌else◌}
 use Rattle.std.specs.List.{position_from}
 use Rattle.std.specs.Map.{keys_of}
 use Rattle.std.specs.Str.{bytes_eq}
@@ -18,7 +18,7 @@ use Rattle.symbols65.specs.declared.table.symbols.Opening.{Opening}
 use Rattle.symbols65.specs.declared.table.symbols.Opening.TheVariants as opening
 use Rattle.symbols65.specs.declared.table.symbols.Definition.{Definition}
 use Rattle.semantics65.specs.Norms.{Extends}
-use Rattle.symbols65.specs.Tables.{AreCounted, AreDistinct, AreFinal, AreNumbered, Begins, HasNumber, IsCounted, IsOpening, KeepsFinal, definition_in, entry_of, first_number, key_in, same_opening, scope_by, scope_opened, table_without_imports, word_at, word_of, word_opened}
+use Rattle.symbols65.specs.Tables.{AreCounted, AreDistinct, AreFinal, AreInnerKnown, AreNumbered, Begins, HasNumber, IsCounted, IsInnerKnown, IsOpening, KeepsFinal, definition_in, entry_of, first_number, key_in, same_opening, scope_by, scope_opened, table_without_imports, word_at, word_of, word_opened}
 use Rattle.symbols65.proofs.Words.{position_none, first_within, first_passes, get_more, map_same, position_same, position_stays, finds_opened, get_word, keys_get}
 use Rattle.ast65.proofs.Lists.{same_bytes}
 
@@ -94,6 +94,13 @@ numbered_pushed {K} word ws es k v h own = grind (arith, common_steps, get_more,
 
 pub counted_pushed : {V : Type 0} (es : List (Entry × V)) (k : Entry) (v : V) → AreCounted (keys_of es) → IsCounted k → AreCounted (keys_of (es ++ (k, v) ∷ []))
 counted_pushed es k v h own = grind (arith, common_steps, get_more, keys_pushed)
+
+pub inner_pushed : {V : Type 0} (es : List (Entry × V)) (k : Entry) (v : V) (inner : List Bool) → AreInnerKnown (keys_of es) inner → IsInnerKnown inner k → AreInnerKnown (keys_of (es ++ (k, v) ∷ [])) inner
+inner_pushed es k v inner h own = grind (arith, common_steps, get_more, keys_pushed)
+
+-- what is noted stays noted
+pub inner_kept : (ks : List Entry) (old new : List Bool) → ((w : ℕ) → slice_get old w ≡ Some true → slice_get new w ≡ Some true) → AreInnerKnown ks old → AreInnerKnown ks new
+inner_kept ks old new kept h = λ i k at scope w is. kept w (h i k at scope w is)
 
 pub distinct_pushed : (ss : List (Opening × Bool)) (k : Opening) (v : Bool) → AreDistinct (keys_of ss) → HasNumber (length ss) k → AreDistinct (keys_of (ss ++ (k, v) ∷ []))
 distinct_pushed ss k v h own = grind (arith, common_steps, get_more, keys_pushed, keys_length)

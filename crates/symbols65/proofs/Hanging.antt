@@ -51,6 +51,13 @@ module _ (xs ys : List State) (same : map bare ys ≡ map bare xs) where
   pub same_found : (j : ℕ) (f : Form) → slice_get ys j ≡ Some (Found f) → slice_get xs j ≡ Some (Found f)
   same_found j f e = found_back (slice_get xs j) f (sym (same_get j) ∙ ap (option_map bare) e)
 
+  -- and what is found in the first is in the second
+  pub found_same : (j : ℕ) (f : Form) → slice_get xs j ≡ Some (Found f) → slice_get ys j ≡ Some (Found f)
+  found_same j f e = found_back (slice_get ys j) f (same_get j ∙ ap (option_map bare) e)
+
+  pub waiting_same : (j : ℕ) → slice_get xs j ≡ Some Waiting → slice_get ys j ≡ Some Waiting
+  waiting_same j e = waiting_back (slice_get ys j) (same_get j ∙ ap (option_map bare) e)
+
   pub same_waiting : (j : ℕ) → slice_get ys j ≡ Some Waiting → slice_get xs j ≡ Some Waiting
   same_waiting j e = waiting_back (slice_get xs j) (sym (same_get j) ∙ ap (option_map bare) e)
 
@@ -68,7 +75,7 @@ module _ (xs ys : List State) (same : map bare ys ≡ map bare xs) where
     long = same_length ∙ t.long;
     turns = t.turns;
     room = (let room = t.room in let as_many = same_unknown in omega (arith, room, as_many));
-    found = λ j f e. t.found j f (same_found j f e);
+    found = λ z more k j f e. t.found z more (λ i g at. k i g (found_same i g at)) j f (same_found j f e);
     idle = same_idle t.idle;
     hung = hung;
   }

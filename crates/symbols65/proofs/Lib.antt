@@ -6,6 +6,7 @@ pub mod Growing
 pub mod Hanging
 pub mod Knowns
 pub mod Lasts
+pub mod Meanings
 pub mod Measures
 pub mod Needing
 pub mod Parts

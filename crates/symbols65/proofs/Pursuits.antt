@@ -13,12 +13,14 @@ use Rattle.symbols65.specs.declared.resolving.attempt.State.TheVariants.{Unknown
 use Rattle.symbols65.specs.declared.resolving.attempt.Stop.{Stop}
 use Rattle.symbols65.specs.declared.resolving.attempt.Stop.TheVariants.{Needs, Fault}
 use Rattle.semantics65.specs.Symbols.{Symbols}
-use Rattle.symbols65.specs.Resolving.{FoundBy, IsTable, is_open, may_be_looked_for, unknown, AreHung, Comes, HangsOn, Leads, Reaches}
+use Rattle.symbols65.specs.Resolving.{IsTable, KeepsFound, StaysFound, is_open, may_be_looked_for, unknown, AreHung, Comes, HangsOn, Leads, Reaches, tried_at, tried_last}
 use Rattle.symbols65.specs.Views.{is_found}
 use Rattle.symbols65.proofs.Hanging.{extends_itself}
 use Rattle.base65.specs.Outcome.{Unless}
 use Rattle.symbols65.proofs.Turns.{Course, IsCourse, constant_course, constant_is, ok_later, circular_before}
-use Rattle.symbols65.proofs.Tries.{Near, Agrees, IsAttempt, at_turn, last_course}
+use Rattle.symbols65.proofs.Meanings.{keeps_fewer, tried_at_stays}
+use Rattle.symbols65.proofs.Tries.{Near, Agrees, IsAttempt, at_turn, attempt_at, last_course}
+use Rattle.semantics65.specs.Norms.{Extends}
 
 -- ---- One constant needs another.
 
@@ -112,6 +114,29 @@ among_cases x w [] (inr h) = absurd h
 among_cases x w (v ∷ ws) (inl e) = inl (inl e)
 among_cases x w (v ∷ ws) (inr h) = grind (arith, common_steps, (among_cases x w ws h))
 
+-- each stands there once
+abbrev pub AreOnce : List ℕ → Type 0
+AreOnce [] = ⊤
+AreOnce (w ∷ ws) = (Among w ws → ⊥) × AreOnce ws
+
+once_more : (j : ℕ) (ws : List ℕ) → AreOnce ws → (Among j ws → ⊥) → AreOnce (ws ++ j ∷ [])
+once_more j [] h new = ((λ a. a), tt)
+once_more j (w ∷ ws) (one, h) new = ((λ a. other (among_cases w j ws a)), once_more j ws h (λ a. new (inr a)))
+  where
+    other : (Among w ws ⊎ (w ≡ j)) → ⊥
+    other (inl a) = one a
+    other (inr e) = new (inl (sym e))
+
+once_less : (j : ℕ) (ws : List ℕ) → AreOnce (ws ++ j ∷ []) → AreOnce ws × (Among j ws → ⊥)
+once_less j [] h = (tt, λ a. a)
+once_less j (w ∷ ws) (one, h) =
+    let (rest, new) = once_less j ws h in
+    (((λ a. one (among_more w j ws a)), rest), by new)
+  where
+    by : (Among j ws → ⊥) → Among j (w ∷ ws) → ⊥
+    by new (inl e) = one (among_last w j ws (sym e))
+    by new (inr a) = new a
+
 -- the constant j is circular d turns after the last that waits
 abbrev pub After : Symbols → ℕ → ℕ → Course → Type 0
 After table d j v = (k : ℕ) → v k ≡ Err Circular → constant_course table j (d + k) ≡ Err Circular
@@ -143,10 +168,12 @@ pub record IsPursuit (table : Symbols) (states : List State) (v : Course) (ws : 
   pub turns : ℕ
   pub long : length states ≡ length table.definitions
   pub room : turns + length ws + unknown states ≤ length table.definitions
-  pub found : FoundBy turns table (slice_get states)
+  pub found : StaysFound turns table (slice_get states)
   pub chain : IsChain table v ws
   pub marked : (j : ℕ) → slice_get states j ≡ Some Waiting → Among j ws
   pub inside : (j : ℕ) → Among j ws → j < length states
+  pub waits : (j : ℕ) → Among j ws → slice_get states j ≡ Some Waiting
+  pub once : AreOnce ws
   pub hung : AreHung table states
 
 pub pursuit_starts : (table : Symbols) (states : List State) (v : Course) → IsTable table states → IsPursuit table states v []
@@ -189,15 +216,27 @@ pursuit_down table states v ws j p l e = record {
   turns = p.turns;
   long = (let long = p.long in grind (arith, common_steps));
   room = (let room = p.room in let less = fewer states j e in simp length-append (omega (arith, room, less)));
-  found = λ i f q. p.found i f (before i (Found f) (λ w. cc) q);
+  found = λ z more k i f q. p.found z more (keeps_fewer table z (slice_get (slice_set states j Waiting)) (slice_get states) (λ i g at. (g, get_other states i j Waiting (λ same. unfound (ap (slice_get states) (sym same) ∙ at)) ∙ at)) k) i f (before i (Found f) (λ w. cc) q);
   chain = chain_more table v ws j p.chain l;
   marked = λ i q. marks i q (nat_eq i j) refl;
   inside = λ i q. (let same : length (slice_set states j Waiting) ≡ length states = grind (arith, common_steps) in rw same (inner i (among_cases i j ws q)));
+  waits = λ i q. waiting i (among_cases i j ws q);
+  once = once_more j ws p.once (λ a. unwaiting (p.waits j a));
   hung = hung_set table states j Waiting lt (λ k q. cc) p.hung;
 }
   where
     lt : j < length states
     lt = open_within states j e
+
+    unfound : {f : Form} → slice_get states j ≡ Some (Found f) → ⊥
+    unfound at = (let never : may_be_looked_for (slice_get states j) ≡ false = ap may_be_looked_for at in absurd cc)
+
+    unwaiting : slice_get states j ≡ Some Waiting → ⊥
+    unwaiting at = (let never : may_be_looked_for (slice_get states j) ≡ false = ap may_be_looked_for at in absurd cc)
+
+    waiting : (i : ℕ) → (Among i ws ⊎ (i ≡ j)) → slice_get (slice_set states j Waiting) i ≡ Some Waiting
+    waiting i (inl a) = get_other states i j Waiting (λ same. unwaiting (ap (slice_get states) (sym same) ∙ p.waits i a)) ∙ p.waits i a
+    waiting i (inr same) = ap (slice_get (slice_set states j Waiting)) same ∙ get_same states j Waiting lt
 
     before : (i : ℕ) (x : State) → (x ≡ Waiting → ⊥) → slice_get (slice_set states j Waiting) i ≡ Some x → slice_get states i ≡ Some x
     before i x differs q = go (nat_eq i j) refl
@@ -223,30 +262,43 @@ pursuit_down table states v ws j p l e = record {
     inner i (inr e) = rw e lt
 
 -- the form of the last that waits is found
-pub pursuit_up : (table : Symbols) (states : List State) (v : Course) (ws : List ℕ) (j : ℕ) (f : Form) (p : IsPursuit table states v (ws ++ j ∷ [])) → constant_course table j (suc p.turns) ≡ Ok f → IsPursuit table (slice_set states j (Found f)) v ws
+pub pursuit_up : (table : Symbols) (states : List State) (v : Course) (ws : List ℕ) (j : ℕ) (f : Form) (p : IsPursuit table states v (ws ++ j ∷ [])) → tried_at (slice_get states) table j ≡ Ok f → IsPursuit table (slice_set states j (Found f)) v ws
 pursuit_up table states v ws j f p e = record {
   turns = suc p.turns;
   long = (let long = p.long in grind (arith, common_steps));
   room = (let room : p.turns + length (ws ++ j ∷ []) + unknown states ≤ length table.definitions = p.room in let more = no_more states j f lt in let grown : length (ws ++ j ∷ []) ≡ length ws + 1 = length-append ws (j ∷ []) in omega (arith, room, more, grown));
-  found = λ i g q. founds i g q (nat_eq i j) refl;
+  found = λ z more k i g q. founds z more k i g q (nat_eq i j) refl;
   chain = chain_less table v ws j p.chain;
   marked = λ i q. marks i q (nat_eq i j) refl;
   inside = λ i q. (let same : length (slice_set states j (Found f)) ≡ length states = grind (arith, common_steps) in rw same (p.inside i (among_more i j ws q)));
+  waits = λ i q. get_other states i j (Found f) (λ same. (once_less j ws p.once).1 (subst (λ (x : ℕ). Among x ws) same q)) ∙ p.waits i (among_more i j ws q);
+  once = (once_less j ws p.once).0;
   hung = hung_set table states j (Found f) lt (λ k q. cc) p.hung;
 }
   where
     lt : j < length states
     lt = p.inside j (among_last j j ws refl)
 
-    founds : (i : ℕ) (g : Form) → slice_get (slice_set states j (Found f)) i ≡ Some (Found g) → (b : Bool) → nat_eq i j ≡ b → constant_course table i (suc p.turns) ≡ Ok g
-    founds i g q true b =
+    waiting : slice_get states j ≡ Some Waiting
+    waiting = p.waits j (among_last j j ws refl)
+
+    -- what was found is kept, too
+    kept : (z : Symbols) → KeepsFound table (slice_get (slice_set states j (Found f))) z → KeepsFound table (slice_get states) z
+    kept z k = keeps_fewer table z (slice_get (slice_set states j (Found f))) (slice_get states) (λ i g at. (g, get_other states i j (Found f) (λ same. (let both : Some Waiting ≡ Some (Found g) = sym waiting ∙ ap (slice_get states) (sym same) ∙ at in absurd cc)) ∙ at)) k
+
+    founds : (z : Symbols) → Extends table z → KeepsFound table (slice_get (slice_set states j (Found f))) z → (i : ℕ) (g : Form) → slice_get (slice_set states j (Found f)) i ≡ Some (Found g) → (b : Bool) → nat_eq i j ≡ b → constant_course z i (suc p.turns) ≡ Ok g
+    founds z more k i g q true b =
         let one : i ≡ j = grind (arith, nat_tests) in
         let now : slice_get (slice_set states j (Found f)) i ≡ Some (Found f) = ap (slice_get (slice_set states j (Found f))) one ∙ get_same states j (Found f) lt in
         let same : f ≡ g = cc in
-        ap (λ x. constant_course table x (suc p.turns)) one ∙ e ∙ ap Ok same
-    founds i g q false b =
+        let own = k j f (get_same states j (Found f) lt) in
+        let there : tried_at (slice_get states) z j ≡ Ok f = tried_at_stays table z more (slice_get states) j own f e in
+        ap (λ x. constant_course z x (suc p.turns)) one
+        ∙ form_from p.turns z (slice_get states) (constant_course z j) (tried_at (slice_get states) z j) f (attempt_at p.turns z (slice_get states) (p.found z more (kept z k)) j) there p.turns (omega arith)
+        ∙ ap Ok same
+    founds z more k i g q false b =
         let other : i ≢ j = grind (arith, nat_tests) in
-        ok_later (constant_course table i) (constant_is table i) p.turns (suc p.turns) g (omega arith) (p.found i g (sym (get_other states i j (Found f) other) ∙ q))
+        ok_later (constant_course z i) (constant_is z i) p.turns (suc p.turns) g (omega arith) (p.found z more (kept z k) i g (sym (get_other states i j (Found f) other) ∙ q))
 
     marks : (i : ℕ) → slice_get (slice_set states j (Found f)) i ≡ Some Waiting → (b : Bool) → nat_eq i j ≡ b → Among i ws
     marks i q true b =
@@ -297,13 +349,14 @@ pursuit_table table states v ws p q = pursuit_ends table states v (subst (IsPurs
 pub pursuit_inside : (table : Symbols) (states : List State) (v : Course) (ws others : List ℕ) (j : ℕ) → IsPursuit table states v ws → ws ≡ others ++ j ∷ [] → j < length states
 pursuit_inside table states v ws others j p q = p.inside j (subst (Among j) (sym q) (among_last j j others refl))
 
-pub pursuit_pops : (table : Symbols) (states : List State) (v : Course) (ws others : List ℕ) (a : Result Form Stop) (j : ℕ) (f : Form) (p : IsPursuit table states v ws) → IsAttempt p.turns table (slice_get states) (last_course table v ws) a → a ≡ Ok f → ws ≡ others ++ j ∷ [] → IsPursuit table (slice_set states j (Found f)) v others
-pursuit_pops table states v ws others a j f p t e q =
-    let P : List ℕ → Type 0 = λ z. (p : IsPursuit table states v z) → IsAttempt p.turns table (slice_get states) (last_course table v z) a → IsPursuit table (slice_set states j (Found f)) v others in
-    subst P (sym q) (λ p t. base p t) p t
+pub pursuit_pops : (table : Symbols) (states : List State) (v : Course) (ws others : List ℕ) (first : Result Form Stop) (j : ℕ) (f : Form) → IsPursuit table states v ws → tried_last (slice_get states) table first ws ≡ Ok f → ws ≡ others ++ j ∷ [] → IsPursuit table (slice_set states j (Found f)) v others
+pursuit_pops table states v ws others first j f p e q =
+    let P : List ℕ → Type 0 = λ z. IsPursuit table states v z → tried_last (slice_get states) table first z ≡ Ok f → IsPursuit table (slice_set states j (Found f)) v others in
+    subst P (sym q) (λ p e. pursuit_up table states v others j f p (sym (last_tried others first) ∙ e)) p e
   where
-    base : (p : IsPursuit table states v (others ++ j ∷ [])) → IsAttempt p.turns table (slice_get states) (last_course table v (others ++ j ∷ [])) a → IsPursuit table (slice_set states j (Found f)) v others
-    base p t = pursuit_up table states v others j f p (sym (ap (λ u. u (suc p.turns)) (last_of_more table v others j)) ∙ form_from p.turns table (slice_get states) (last_course table v (others ++ j ∷ [])) a f t e p.turns (omega arith))
+    last_tried : (others : List ℕ) (first : Result Form Stop) → tried_last (slice_get states) table first (others ++ j ∷ []) ≡ tried_at (slice_get states) table j
+    last_tried [] first = refl
+    last_tried (w ∷ ws) first = last_tried ws (tried_at (slice_get states) table w)
 
 pub unless_more : {P Q : Type 0} (b : Bool) → (P → Q) → Unless b P → Unless b Q
 unless_more true f h = tt

@@ -1,6 +1,6 @@
 -- Scopes, and the parts of names that are found in them.
 use Rattle.std.proofs.lemmas.Grind.{common_steps}
-use Rattle.std.proofs.Common.{arith, ◌≡◌, ℕ, List, ◌⊎◌, sym, Bool, true, false, [], ◌∷◌, ◌++◌, Option, Some, None, refl, ap, ◌∙◌, zero, suc, ◌+◌, ◌<◌, ◌≤◌, cond, nat_lt, take, position}
+use Rattle.std.proofs.Common.{arith, ◌≡◌, ℕ, List, ◌⊎◌, inl, inr, sym, Bool, true, false, [], ◌∷◌, ◌++◌, Option, Some, None, refl, ap, ◌∙◌, zero, suc, ◌+◌, ◌-◌, ◌<◌, ◌≤◌, cond, nat_lt, take, position}
 use Rattle.syntax65.specs.Trees.{Tree, name}
 use Rattle.syntax65.specs.Kinds.{tree_of}
 use Rattle.syntax65.specs.declared.expressions.trees.ExprKind.{ExprKind}
@@ -11,7 +11,7 @@ use Rattle.std.specs.Prelude.{Result, codes, slice_get}
 use Rattle.std.proofs.lemmas.List.{append_assoc}
 use Rattle.semantics65.specs.declared.laid.Context.{Context}
 use Rattle.ast65.specs.declared.fault.AsmFault.{AsmFault}
-use Rattle.semantics65.specs.Symbols.{Symbols, Meaning, defined, named, Scope, first_found, joined, last_of, meaning_of, or_fault, plain_meaning, scoped_meaning, scopes_from, scopes_of, enclosing, inside, scope_in, within}
+use Rattle.semantics65.specs.Symbols.{Symbols, Meaning, defined, named, Scope, first_found, joined, last_of, meaning_of, or_else, or_fault, outward_from, plain_meaning, scoped_meaning, scopes_from, scopes_of, enclosing, inside, scope_in, within}
 use Rattle.std.specs.List.{position_from}
 use Rattle.std.proofs.lemmas.Bool.Decides.{nat_tests}
 use Rattle.std.proofs.lemmas.Iterator.Adapters.{position_from-zero}
@@ -69,6 +69,31 @@ defined_outward_at y s false (m ∷ k ∷ parts) n e = absurd cc
 defined_outward_at y s true parts n e = absurd cc
 
 -- ---- Outward.
+
+module _ (cs : List Scope) (f : ℕ → Option ℕ) where
+  -- what the innermost scope has is found first
+  pub outward_first : (n s j : ℕ) → Some j ≡ f s → Some j ≡ first_found f (outward_from cs n s)
+  outward_first n zero j e = ap (λ o. or_else o None) e
+  outward_first zero (suc i) j e = ap (λ o. or_else o None) e
+  outward_first (suc n) (suc i) j e = ap (λ o. or_else o (first_found f (outward_from cs n (enclosing cs (suc i))))) e
+
+  -- where it hasn't any, the scopes around it are looked through, if there are more
+  pub outward_last : (n s : ℕ) → None ≡ f s → (s ≡ 0) ⊎ (n ≡ 0) → None ≡ first_found f (outward_from cs n s)
+  outward_last n zero e h = ap (λ o. or_else o None) e
+  outward_last zero (suc i) e h = ap (λ o. or_else o None) e
+  outward_last (suc n) (suc i) e (inl h) = absurd cc
+  outward_last (suc n) (suc i) e (inr h) = absurd cc
+
+  pub outward_next : (n s : ℕ) → None ≡ f s → (s ≡ 0 → ⊥) → (n ≡ 0 → ⊥) → first_found f (outward_from cs (n - 1) (enclosing cs s)) ≡ first_found f (outward_from cs n s)
+  outward_next n zero e h k = absurd (h refl)
+  outward_next zero (suc i) e h k = absurd (k refl)
+  outward_next (suc n) (suc i) e h k =
+      let less : suc n - 1 ≡ n = omega arith in
+      ap (λ q. first_found f (outward_from cs q (enclosing cs (suc i)))) less ∙ ap (λ o. or_else o (first_found f (outward_from cs n (enclosing cs (suc i))))) e
+
+  pub found_nowhere : ((s : ℕ) → f s ≡ None) → (ss : List ℕ) → None ≡ first_found f ss
+  found_nowhere none [] = refl
+  found_nowhere none (s ∷ ss) = found_nowhere none ss ∙ ap (λ o. or_else o (first_found f ss)) (sym (none s))
 
 -- ---- What stands before a place.
 

@@ -1,6 +1,6 @@
 -- Forms by those that are final.
 use Rattle.std.proofs.lemmas.Grind.{common_steps}
-use Rattle.std.proofs.Common.{◌≡◌, ℕ, suc, ◌<◌, length, Option, Some, None, option_map, slice_get, Result, Ok, Err, refl, sym, subst, ap, ◌∙◌, arith}
+use Rattle.std.proofs.Common.{◌≡◌, ℕ, suc, ◌<◌, length, Option, Some, None, option_map, slice_get, Result, Ok, Err, refl, ap, ◌∙◌, arith}
 use Rattle.std.proofs.lemmas.Option.{slice_get_within}
 use Rattle.base65.specs.Outcome.{Gives}
 use Rattle.syntax65.specs.Trees.{Tree}
@@ -8,7 +8,6 @@ use Rattle.object65.specs.Form.{Form}
 use Rattle.ast65.specs.declared.fault.AsmFault.{AsmFault}
 use Rattle.ast65.specs.Faults.{is_memory}
 use Rattle.semantics65.specs.declared.laid.Context.{Context}
-use Rattle.semantics65.specs.Symbols.{Meaning, meaning_of}
 use Rattle.semantics65.specs.Norms.{form_of_definition, norm, norm_of, Extends}
 use Rattle.semantics65.specs.Symbols as l
 use Rattle.symbols65.specs.declared.resolving.attempt.Source.TheVariants.{Finals}
@@ -20,13 +19,13 @@ use Rattle.symbols65.specs.declared.table.symbols.Entry.{Entry}
 use Rattle.symbols65.specs.declared.table.symbols.Symbols.{Symbols}
 use Rattle.std.specs.Option.{option_and_then}
 use Rattle.std.specs.Result.{result_ok}
-use Rattle.symbols65.specs.Resolving.{FoundBy, lacks_memory, meaning_form, tried, Settles}
+use Rattle.symbols65.specs.Resolving.{FoundBy, lacks_memory, tried, Settles}
 use Rattle.symbols65.specs.Views.{known_by, table_of, words_of}
 use Rattle.symbols65.specs.Tables.{definition_in, table_without_imports}
 use Rattle.symbols65.proofs.Words.{get_mapped, get_stays}
 use Rattle.symbols65.proofs.Hanging.{extends_itself}
 use Rattle.symbols65.proofs.Pursuits.{fault_from, form_from, unless_more}
-use Rattle.symbols65.proofs.Tries.{attempt_first, meant_tried}
+use Rattle.symbols65.proofs.Tries.{attempt_first}
 use Rattle.symbols65.proofs.Turns.{constant_course, constant_is, expression_course, ok_later}
 
 has_form : (r : Result Form AsmFault) (f : Form) → result_ok r ≡ Some f → r ≡ Ok f
@@ -61,7 +60,7 @@ module _ (t : Symbols) where
   pub known_inside : (j : ℕ) (f : Form) → known_by t Finals j ≡ Some (Found f) → j < length (table_of t).definitions
   known_inside j f h = grind (arith, common_steps, slice_get_within, get_mapped)
 
-  finals_found : FoundBy (length (table_of t).definitions) (table_of t) (known_by t Finals)
+  pub finals_found : FoundBy (length (table_of t).definitions) (table_of t) (known_by t Finals)
   finals_found = λ j f h. final_among (table_of t) (extends_itself (table_of t)) (length (table_of t).definitions) j f (known_inside j f h) h
 
   -- an attempt with the final forms settles what it doesn't leave open
@@ -78,7 +77,3 @@ module _ (t : Symbols) where
       by (Ok f) q = form_from n (table_of t) (known_by t Finals) (expression_course (table_of t) s e) a f (attempt_first n (table_of t) (known_by t Finals) finals_found s e) q n (omega arith)
       by (Err (Fault z)) q = unless_more (is_memory z) (λ k. fault_from n (table_of t) (known_by t Finals) (expression_course (table_of t) s e) a z (attempt_first n (table_of t) (known_by t Finals) finals_found s e) k n (omega arith)) q
       by (Err (Needs j)) q = tt
-
-  -- and so with what an operand means
-  pub meant_settles : (s : Context) (e : Tree) (m : Meaning) (r : Result Form Stop) → meaning_of (table_of t) s e ≡ Ok m → Gives lacks_memory (λ f. f) r (meaning_form (known_by t Finals) (table_of t) m) → Settles (norm_of (table_of t) s e) r
-  meant_settles s e m r q h = attempt_settles s e r (let P : Result Form Stop → Type 0 = λ a. Gives lacks_memory (λ f. f) r a in subst P (sym (meant_tried (known_by t Finals) (table_of t) s e m q)) h)

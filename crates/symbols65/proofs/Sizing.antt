@@ -1,21 +1,25 @@
--- Folding forms that may be missing, and those of numbers alone.
-use Rattle.std.proofs.Common.{◌≡◌, length, Some, ap, arith, Result, Ok}
-use Rattle.std.specs.Prelude.{ℤ, pos, if◌then◌else◌}
+-- Forms of numbers alone, and forms that are numbers or addresses.
+use Rattle.std.proofs.Common.{◌≡◌, ◌∙◌, ◌⊎◌, inl, inr, length, Option, Some, None, refl, sym, ap, arith, Bool, true, false, Result, Ok, Err}
+use Rattle.std.specs.Prelude.{ℤ, pos, nat_le, if◌then◌else◌}
 use Rattle.syntax65.specs.Trees.{Tree, number, here, name, cheap, forward, backward, unary, binary}
 use Rattle.syntax65.specs.declared.lexing.tokens.AddressSize.{AddressSize}
 use Rattle.syntax65.specs.declared.lexing.tokens.AddressSize.TheVariants as size
 use Rattle.semantics65.specs.declared.laid.Context.{Context}
-use Rattle.semantics65.specs.Symbols.{meaning_of, Symbols}
-use Rattle.semantics65.specs.Norms.{constant_in, literal_in, folded, larger, size_by, size_of, size_of_meaning, size_of_value, takes_byte}
-use Rattle.symbols65.specs.Resolving.{IsNumber, binary_form, prefix_form}
+use Rattle.semantics65.specs.Symbols.{Meaning, meaning_of, Symbols}
+use Rattle.semantics65.specs.Norms.{constant_in, form_of_meaning, literal_in, folded, larger, norm, norm_of, size_by, size_of, size_of_meaning, size_of_value, takes_byte}
+use Rattle.symbols65.specs.Resolving.{IsNumber, binary_form, plain, plain_in, prefix_form}
 use Rattle.std.proofs.lemmas.Grind.{common_steps}
 use Rattle.std.specs.Option.{option_and_then}
 use Rattle.std.specs.Result.{result_ok}
 use Rattle.base65.specs.Outcome.{◌>>=◌}
 use Rattle.base65.specs.declared.values.Op1.{Op1}
 use Rattle.base65.specs.declared.values.Op2.{Op2}
-use Rattle.object65.specs.Form.{Form}
-use Rattle.object65.specs.Folding.{fold1, fold2}
+use Rattle.base65.specs.declared.values.Op2.TheVariants.{Add, Subtract}
+use Rattle.object65.specs.Form as form
+use Rattle.object65.specs.Form.{Form, lit, sec, imp, prefix, nodes}
+use Rattle.object65.specs.Folding.{fold1, fold2, fold_any, fold_difference, fold_sum, limited, node_limit}
+use Rattle.object65.specs.declared.folding.FormFault.{FormFault}
+use Rattle.object65.specs.declared.folding.FormFault.TheVariants as fault
 use Rattle.ast65.specs.declared.fault.AsmFault.{AsmFault}
 
 -- ---- What expressions of numbers alone come to.
@@ -34,13 +38,137 @@ number_size y s own e v h = by e (ap literal_in (h (length y.definitions) y s))
     by (forward n) k = ap (size_by (size_of_meaning y (meaning_of y s (forward n)))) k
     by (backward n) k = ap (size_by (size_of_meaning y (meaning_of y s (backward n)))) k
 
--- ---- Folding forms that may be missing gives the normal forms of expressions.
+-- ---- Folding forms that are numbers or addresses, where others are missing, gives those of normal forms.
 
-pub literal_known : (r : Result Form AsmFault) → option_and_then (λ f. literal_in (Ok f)) (result_ok r) ≡ literal_in r
-literal_known x = grind (arith, common_steps)
+folded_plain : (x : Result Form FormFault) → option_and_then plain (result_ok x) ≡ plain_in (folded x)
+folded_plain (Ok f) = refl
+folded_plain (Err fault.OutOfMemory) = refl
+folded_plain (Err fault.NoValue) = refl
+folded_plain (Err fault.TooLarge) = refl
 
-pub prefix_known : (op : Op1) (r : Result Form AsmFault) → prefix_form op (result_ok r) ≡ result_ok (r >>= (λ f. folded (fold1 op f)))
-prefix_known op x = grind (arith, common_steps)
+-- an operation that stays is no number and no address
+limited_plain : (f : Form) → plain f ≡ None → plain_in (folded (limited f)) ≡ None
+limited_plain f none = by (nat_le (nodes f) node_limit)
+  where
+    by : (b : Bool) → plain_in (folded (if b then Ok f else Err fault.TooLarge)) ≡ None
+    by true = none
+    by false = refl
 
-pub binary_known : (op : Op2) (r s : Result Form AsmFault) → binary_form op (result_ok r) (result_ok s) ≡ result_ok (r >>= (λ f. s >>= (λ g. folded (fold2 op f g))))
-binary_known op x y = grind (arith, common_steps)
+any_mixed : (op : Op2) (f g : Form) → (plain f ≡ None) ⊎ (plain g ≡ None) → plain_in (folded (fold_any op f g)) ≡ None
+any_mixed op (imp k) g h = limited_plain (form.binary op (imp k) g) refl
+any_mixed op (prefix o f) g h = limited_plain (form.binary op (prefix o f) g) refl
+any_mixed op (form.binary o f k) g h = limited_plain (form.binary op (form.binary o f k) g) refl
+any_mixed op (sec k a) g h = limited_plain (form.binary op (sec k a) g) refl
+any_mixed op (lit v) (imp k) h = limited_plain (form.binary op (lit v) (imp k)) refl
+any_mixed op (lit v) (prefix o f) h = limited_plain (form.binary op (lit v) (prefix o f)) refl
+any_mixed op (lit v) (form.binary o f k) h = limited_plain (form.binary op (lit v) (form.binary o f k)) refl
+any_mixed op (lit v) (sec k a) h = limited_plain (form.binary op (lit v) (sec k a)) refl
+any_mixed op (lit v) (lit w) (inl e) = absurd cc
+any_mixed op (lit v) (lit w) (inr e) = absurd cc
+
+sum_mixed : (f g : Form) → (plain f ≡ None) ⊎ (plain g ≡ None) → plain_in (folded (fold_sum f g)) ≡ None
+sum_mixed (lit v) (sec k a) (inl e) = absurd cc
+sum_mixed (lit v) (sec k a) (inr e) = absurd cc
+sum_mixed (sec k a) (lit v) (inl e) = absurd cc
+sum_mixed (sec k a) (lit v) (inr e) = absurd cc
+sum_mixed (lit v) (lit w) h = any_mixed Add (lit v) (lit w) h
+sum_mixed (lit v) (imp k) h = any_mixed Add (lit v) (imp k) h
+sum_mixed (lit v) (prefix o f) h = any_mixed Add (lit v) (prefix o f) h
+sum_mixed (lit v) (form.binary o f g) h = any_mixed Add (lit v) (form.binary o f g) h
+sum_mixed (sec k a) (sec m b) h = any_mixed Add (sec k a) (sec m b) h
+sum_mixed (sec k a) (imp m) h = any_mixed Add (sec k a) (imp m) h
+sum_mixed (sec k a) (prefix o f) h = any_mixed Add (sec k a) (prefix o f) h
+sum_mixed (sec k a) (form.binary o f g) h = any_mixed Add (sec k a) (form.binary o f g) h
+sum_mixed (imp k) g h = any_mixed Add (imp k) g h
+sum_mixed (prefix o f) g h = any_mixed Add (prefix o f) g h
+sum_mixed (form.binary o f k) g h = any_mixed Add (form.binary o f k) g h
+
+difference_mixed : (f g : Form) → (plain f ≡ None) ⊎ (plain g ≡ None) → plain_in (folded (fold_difference f g)) ≡ None
+difference_mixed (sec k a) (sec m b) (inl e) = absurd cc
+difference_mixed (sec k a) (sec m b) (inr e) = absurd cc
+difference_mixed (sec k a) (lit v) (inl e) = absurd cc
+difference_mixed (sec k a) (lit v) (inr e) = absurd cc
+difference_mixed (sec k a) (imp m) h = any_mixed Subtract (sec k a) (imp m) h
+difference_mixed (sec k a) (prefix o f) h = any_mixed Subtract (sec k a) (prefix o f) h
+difference_mixed (sec k a) (form.binary o f g) h = any_mixed Subtract (sec k a) (form.binary o f g) h
+difference_mixed (lit v) g h = any_mixed Subtract (lit v) g h
+difference_mixed (imp k) g h = any_mixed Subtract (imp k) g h
+difference_mixed (prefix o f) g h = any_mixed Subtract (prefix o f) g h
+difference_mixed (form.binary o f k) g h = any_mixed Subtract (form.binary o f k) g h
+
+both_mixed : (op : Op2) (f g : Form) → (plain f ≡ None) ⊎ (plain g ≡ None) → plain_in (folded (fold2 op f g)) ≡ None
+both_mixed x f g h = grind (arith, common_steps, sum_mixed, difference_mixed, any_mixed)
+
+plain_is : (f p : Form) → plain f ≡ Some p → f ≡ p
+plain_is (lit v) p e = cc
+plain_is (sec k a) p e = cc
+plain_is (imp k) p e = absurd cc
+plain_is (prefix o f) p e = absurd cc
+plain_is (form.binary o f g) p e = absurd cc
+
+pub prefix_plain : (op : Op1) (r : Result Form AsmFault) → option_and_then plain (prefix_form op (plain_in r)) ≡ plain_in (r >>= (λ f. folded (fold1 op f)))
+prefix_plain op (Err e) = refl
+prefix_plain op (Ok (lit v)) = folded_plain (fold1 op (lit v))
+prefix_plain op (Ok (sec k a)) = folded_plain (fold1 op (sec k a))
+prefix_plain op (Ok (imp k)) = grind (arith, common_steps, limited_plain)
+prefix_plain op (Ok (prefix o f)) = grind (arith, common_steps, limited_plain)
+prefix_plain op (Ok (form.binary o f g)) = grind (arith, common_steps, limited_plain)
+
+pub binary_plain : (op : Op2) (r s : Result Form AsmFault) → option_and_then plain (binary_form op (plain_in r) (plain_in s)) ≡ plain_in (r >>= (λ f. s >>= (λ g. folded (fold2 op f g))))
+binary_plain op (Err e) s = refl
+binary_plain op (Ok f) (Err e) = ap (option_and_then plain) (left_alone (plain f))
+  where
+    left_alone : (o : Option Form) → binary_form op o None ≡ None
+    left_alone None = refl
+    left_alone (Some p) = refl
+binary_plain op (Ok f) (Ok g) = by (plain f) (plain g) refl refl
+  where
+    by : (o p : Option Form) → plain f ≡ o → plain g ≡ p → option_and_then plain (binary_form op o p) ≡ plain_in (folded (fold2 op f g))
+    by None p is at = sym (both_mixed op f g (inl is))
+    by (Some q) None is at = sym (both_mixed op f g (inr at))
+    by (Some q) (Some w) is at =
+        folded_plain (fold2 op q w)
+        ∙ ap (λ (x : Form). plain_in (folded (fold2 op x w))) (sym (plain_is f q is))
+        ∙ ap (λ (x : Form). plain_in (folded (fold2 op f x))) (sym (plain_is g w at))
+
+-- ---- The values of forms that are numbers or addresses.
+
+literal_plain : (f : Form) → option_and_then (λ g. literal_in (Ok g)) (plain f) ≡ literal_in (Ok f)
+literal_plain (lit v) = refl
+literal_plain (sec k a) = refl
+literal_plain (imp k) = refl
+literal_plain (prefix o f) = refl
+literal_plain (form.binary o f g) = refl
+
+pub plain_known : (r : Result Form AsmFault) → option_and_then (λ f. literal_in (Ok f)) (plain_in r) ≡ literal_in r
+plain_known (Ok f) = literal_plain f
+plain_known (Err e) = refl
+
+-- the value of a form is that of what is kept of it
+pub plain_value : (o : Option Form) → option_and_then (λ f. literal_in (Ok f)) o ≡ option_and_then (λ f. literal_in (Ok f)) (option_and_then plain o)
+plain_value None = refl
+plain_value (Some f) = sym (literal_plain f)
+
+plain_twice : (f : Form) → option_and_then plain (plain f) ≡ plain f
+plain_twice (lit v) = refl
+plain_twice (sec k a) = refl
+plain_twice (imp k) = refl
+plain_twice (prefix o f) = refl
+plain_twice (form.binary o f g) = refl
+
+pub plain_again : (r : Result Form AsmFault) → option_and_then plain (plain_in r) ≡ plain_in r
+plain_again (Ok f) = plain_twice f
+plain_again (Err e) = refl
+
+-- ---- Operands.
+
+-- an operand that means something has the form of that
+pub operand_norm : (y : Symbols) (s : Context) (e : Tree) (m : Meaning) → meaning_of y s e ≡ Ok m → norm_of y s e ≡ form_of_meaning (norm (length y.definitions) y) y m
+operand_norm y s (number v) m h = absurd cc
+operand_norm y s here m h = absurd cc
+operand_norm y s (unary op e) m h = absurd cc
+operand_norm y s (binary op e g) m h = absurd cc
+operand_norm y s (name global parts) m h = ap (λ r. r >>= form_of_meaning (norm (length y.definitions) y) y) h
+operand_norm y s (cheap n) m h = ap (λ r. r >>= form_of_meaning (norm (length y.definitions) y) y) h
+operand_norm y s (forward n) m h = ap (λ r. r >>= form_of_meaning (norm (length y.definitions) y) y) h
+operand_norm y s (backward n) m h = ap (λ r. r >>= form_of_meaning (norm (length y.definitions) y) y) h

@@ -156,7 +156,3 @@ attempt_last c table known h v a t (w ∷ ws) = attempt_last c table known h (co
 -- the attempt at an expression that is an operand
 pub operand_tried : (a : Tree → Result Form Stop) (s : Context) (e : Tree) → IsReference e → a e ≡ tried_by a s e
 operand_tried a s x r = grind (arith, common_steps)
-
--- an operand that means something has the form of that
-pub meant_tried : (known : ℕ → Option State) (y : Symbols) (s : Context) (e : Tree) (m : Meaning) → meaning_of y s e ≡ Ok m → tried known y s e ≡ meaning_form known y m
-meant_tried known y s x m h = grind (arith, common_steps)

@@ -16,7 +16,7 @@ use Rattle.symbols65.specs.declared.table.symbols.Entry.TheVariants as entry
 use Rattle.symbols65.specs.declared.table.symbols.Opening.{Opening}
 use Rattle.symbols65.specs.declared.table.symbols.Opening.TheVariants as opening
 use Rattle.symbols65.specs.declared.table.symbols.Definition.{Definition}
-use Rattle.symbols65.specs.Tables.{AreCounted, AreNumbered, IsCounted, definition_in, entry_of, first_number, key_in, same_entry, same_opening, scope_by, scope_opened, word_at, word_of, word_opened, Begins}
+use Rattle.symbols65.specs.Tables.{AreCounted, AreInnerKnown, AreNumbered, IsCounted, definition_in, entry_of, first_number, key_in, same_entry, same_opening, scope_by, scope_opened, word_at, word_of, word_opened, Begins}
 use Rattle.indexmap.specs.IndexSet.{insert_key}
 
 -- ---- Tests.
@@ -137,7 +137,7 @@ abbrev tests : Option Entry → Entry → Bool
 tests None k = false
 tests (Some q) k = same_entry q k
 
-and_false : (b : Bool) → (b && false) ≡ false
+pub and_false : (b : Bool) → (b && false) ≡ false
 and_false true = refl
 and_false false = refl
 
@@ -207,6 +207,25 @@ module _ (ws : List (List ℕ)) where
       differs (entry.Named t v) own = refl
       differs (entry.Cheap t v) own = refl
       differs (entry.Unnamed d) own = (let lt = own d refl in grind (arith, nat_tests, lt, le))
+
+  -- no scope but the global one defines a word of which none is noted
+  pub never_inner : (es : List (Entry × Definition)) (inner : List Bool) (w : ℕ) → AreNumbered word_of ws (keys_of es) → AreInnerKnown (keys_of es) inner → (slice_get inner w ≡ Some true → ⊥) → (scope : ℕ) (n : List ℕ) → position (bytes_eq n) ws ≡ Some w → position (λ d. same_key d.key (named (suc scope) n)) (map (definition_in ws) es) ≡ None
+  never_inner es inner w h known none scope n at =
+      sym (finds es (named (suc scope) n) h)
+      ∙ ap (λ o. place_of_entry es (option_map (entry.Named (suc scope)) o)) at
+      ∙ position_none (same_entry (entry.Named (suc scope) w)) (keys_of es) (λ i k here. differs k (λ is. none (known i k here scope w is)))
+    where
+      differs : (k : Entry) → (k ≡ entry.Named (suc scope) w → ⊥) → same_entry (entry.Named (suc scope) w) k ≡ false
+      differs (entry.Named t v) other = by ((suc scope == t) && (w == v)) refl
+        where
+          by : (b : Bool) → ((suc scope == t) && (w == v)) ≡ b → ((suc scope == t) && (w == v)) ≡ false
+          by false e = e
+          by true e =
+              let s : suc scope ≡ t = grind (arith, nat_tests, common_steps) in
+              let v' : w ≡ v = grind (arith, nat_tests, common_steps) in
+              absurd (other (sym (ap (λ (x : ℕ). entry.Named x w) s ∙ ap (entry.Named t) v')))
+      differs (entry.Cheap t v) other = refl
+      differs (entry.Unnamed d) other = refl
 
   -- ---- Scopes.
 

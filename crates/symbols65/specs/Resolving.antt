@@ -1,15 +1,16 @@
 -- Forms that stay whatever follows, and how forms of constants are found.
-use Rattle.std.specs.Prelude.{ℤ, Option, Some, None, Ok, ⊤, ◌≡◌, ℕ, suc, Result, Err, ◌≤◌, List, slice_get, ◌⊎◌, ◌+◌, pos, [], ◌∷◌, length, sum_by, Bool, false, true, ◌<◌}
+use Rattle.std.specs.Prelude.{ℤ, Option, Some, None, Ok, ⊤, ◌≡◌, ℕ, zero, suc, Result, Err, ◌≤◌, List, slice_get, ◌⊎◌, ◌+◌, pos, [], ◌∷◌, length, sum_by, Bool, false, true, ◌<◌, nat_le, ◌&&◌, ◌||◌}
 use Rattle.std.specs.Result.{result_ok}
-use Rattle.syntax65.specs.Trees.{Tree, number, here, unary, binary}
+use Rattle.std.specs.Str.{bytes_eq}
+use Rattle.syntax65.specs.Trees.{Tree, number, here, name, unary, binary}
 use Rattle.base65.specs.declared.values.Op1.{Op1}
 use Rattle.base65.specs.declared.values.Op2.{Op2}
-use Rattle.object65.specs.Form.{Form, lit, imp}
+use Rattle.object65.specs.Form.{Form, lit, sec, imp}
 use Rattle.object65.specs.Folding.{fold1, fold2}
 use Rattle.semantics65.specs.Norms.{norm, Extends, form_of_definition, address_of, folded}
 use Rattle.ast65.specs.declared.fault.AsmFault.{AsmFault}
 use Rattle.semantics65.specs.declared.laid.Context.{Context}
-use Rattle.semantics65.specs.Symbols.{Symbols, Definition, Meaning, defined_at, imported_as, meaning_of}
+use Rattle.semantics65.specs.Symbols.{Symbols, Definition, Scope, named, Meaning, defined, defined_at, imported, imported_as, enclosing, last_of, meaning_of}
 use Rattle.ast65.specs.declared.fault.AsmFault.TheVariants.{Circular, NoSuchLabel}
 use Rattle.symbols65.specs.declared.resolving.attempt.State.{State}
 use Rattle.symbols65.specs.declared.resolving.attempt.State.TheVariants.{Unknown, Hangs, Waiting, Found}
@@ -30,6 +31,16 @@ prefix_form op (Some f) = result_ok (fold1 op f)
 abbrev pub binary_form : Op2 → Option Form → Option Form → Option Form
 binary_form op (Some f) (Some g) = result_ok (fold2 op f g)
 binary_form op f g = None
+
+-- a form that is a number or an address
+abbrev pub plain : Form → Option Form
+plain (lit v) = Some (lit v)
+plain (sec k a) = Some (sec k a)
+plain f = None
+
+abbrev pub plain_in : Result Form AsmFault → Option Form
+plain_in (Ok f) = plain f
+plain_in (Err e) = None
 
 -- a reference to a symbol, by a name or to an unnamed label
 abbrev pub IsReference : Tree → Type 0
@@ -157,6 +168,67 @@ abbrev pub tried_last : (ℕ → Option State) → Symbols → Result Form Stop 
 tried_last known y first [] = first
 tried_last known y first (w ∷ ws) = tried_last known y (tried_at known y w) ws
 
+-- ---- What stays where more statements follow.
+
+-- each operand is such a one
+abbrev pub Operands : (Tree → Type 0) → Tree → Type 0
+Operands P (number v) = ⊤
+Operands P here = ⊤
+Operands P (unary op e) = Operands P e
+Operands P (binary op e g) = Operands P e × Operands P g
+Operands P e = P e
+
+-- what an operand means by the first table it means by the second
+abbrev pub KeepsOperand : Symbols → Symbols → Context → Tree → Type 0
+KeepsOperand y z s e = (m : Meaning) → meaning_of y s e ≡ Ok m → meaning_of z s e ≡ Ok m
+
+abbrev pub KeepsMeanings : Symbols → Symbols → Type 0
+KeepsMeanings y z = (s : Context) (e : Tree) → KeepsOperand y z s e
+
+abbrev pub KeepsValue : Symbols → Symbols → Context → Option Tree → Type 0
+KeepsValue y z s None = ⊤
+KeepsValue y z s (Some e) = Operands (KeepsOperand y z s) e
+
+-- so does each operand of a constant's expression
+abbrev pub KeepsConstant : Symbols → Symbols → Option Definition → Type 0
+KeepsConstant y z None = ⊤
+KeepsConstant y z (Some d) = KeepsValue y z d.context d.value
+
+-- so does that of each constant whose form is found
+abbrev pub KeepsFound : Symbols → (ℕ → Option State) → Symbols → Type 0
+KeepsFound y known z = (j : ℕ) (f : Form) → known j ≡ Some (Found f) → KeepsConstant y z (slice_get y.definitions j)
+
+-- a name is neither defined nor imported
+pub record IsUnknownName (y : Symbols) (n : List ℕ) : Type 0 where
+  pub nowhere : (scope : ℕ) → defined y (named scope n) ≡ None
+  pub absent : imported y n ≡ None
+
+-- an expression has a name, with or without scopes before it
+abbrev pub mentions : List ℕ → Tree → Bool
+mentions n (name global parts) = bytes_eq (last_of parts) n
+mentions n (unary op e) = mentions n e
+mentions n (binary op e g) = mentions n e || mentions n g
+mentions n e = false
+
+abbrev pub value_mentions : List ℕ → Option Tree → Bool
+value_mentions n None = false
+value_mentions n (Some e) = mentions n e
+
+abbrev pub constant_mentions : List ℕ → Option Definition → Bool
+constant_mentions n None = false
+constant_mentions n (Some d) = value_mentions n d.value
+
+-- from a scope the global one is reached through at most so many others, each of which was opened
+abbrev pub is_near : List Scope → ℕ → ℕ → Bool
+is_near cs room zero = true
+is_near cs zero (suc i) = false
+is_near cs (suc room) (suc i) = nat_le (suc i) (length cs) && is_near cs room (enclosing cs (suc i))
+
+-- what is defined stands near to the global scope, behind scopes that were opened
+abbrev pub stands_near : List Scope → Option Definition → Bool
+stands_near cs None = true
+stands_near cs (Some d) = nat_le d.context.opened (length cs) && is_near cs 8 d.context.scope
+
 -- ---- The table of forms.
 
 abbrev pub is_open : State → ℕ
@@ -172,12 +244,16 @@ unknown states = sum_by is_open states
 abbrev pub FoundBy : ℕ → Symbols → (ℕ → Option State) → Type 0
 FoundBy c y known = (j : ℕ) (f : Form) → known j ≡ Some (Found f) → form_of_definition (norm c y) (slice_get y.definitions j) ≡ Ok f
 
+-- so is it whatever statements follow that keep the constants that are found
+abbrev pub StaysFound : ℕ → Symbols → (ℕ → Option State) → Type 0
+StaysFound c y known = (z : Symbols) → Extends y z → KeepsFound y known z → FoundBy c z known
+
 -- what is known before an expression's form is looked for: no constant waits
 pub record IsTable (y : Symbols) (states : List State) : Type 0 where
   pub long : length states ≡ length y.definitions
   pub turns : ℕ
   pub room : turns + unknown states ≤ length y.definitions
-  pub found : FoundBy turns y (slice_get states)
+  pub found : StaysFound turns y (slice_get states)
   pub idle : (j : ℕ) → slice_get states j ≡ Some Waiting → ⊥
   pub hung : AreHung y states
 
@@ -194,14 +270,6 @@ abbrev pub Settles : Result Form AsmFault → Result Form Stop → Type 0
 Settles r (Ok f) = r ≡ Ok f
 Settles r (Err (Fault z)) = Unless (is_memory z) (r ≡ Err z)
 Settles r (Err (Needs j)) = ⊤
-
--- each operand is such a one
-abbrev pub Operands : (Tree → Type 0) → Tree → Type 0
-Operands P (number v) = ⊤
-Operands P here = ⊤
-Operands P (unary op e) = Operands P e
-Operands P (binary op e g) = Operands P e × Operands P g
-Operands P e = P e
 
 -- an operand means the definition at this place of the table whatever statements follow
 abbrev pub MeansAlways : Symbols → Context → Tree → ℕ → Type 0

@@ -1,5 +1,5 @@
 -- What the parts of a table in memory stand for.
-use Rattle.std.specs.Prelude.{◌≡◌, ◌<◌, ◌^◌, ℕ, suc, List, [], ◌++◌, map, get_or, slice_get, Bool, false, Option, Some, None, option_map, position, ◌==◌, ◌&&◌}
+use Rattle.std.specs.Prelude.{◌≡◌, ◌<◌, ◌^◌, ℕ, suc, List, [], ◌++◌, map, get_or, slice_get, Bool, true, false, Option, Some, None, option_map, position, ◌==◌, ◌&&◌}
 use Rattle.std.specs.Coded.{Coded-set, coded_option}
 use Rattle.std.specs.Result.{result_ok}
 use Rattle.std.specs.Str.{bytes_eq}
@@ -57,6 +57,13 @@ AreCounted ks = (i : ℕ) (k : Entry) → slice_get ks i ≡ Some k → IsCounte
 -- the opening has this number if it has no name
 abbrev pub HasNumber : ℕ → Opening → Type 0
 HasNumber i k = (within number : ℕ) → k ≡ opening.Nameless within number → number ≡ i
+
+-- that a scope other than the global one defines a word is noted with the word
+abbrev pub IsInnerKnown : List Bool → Entry → Type 0
+IsInnerKnown inner k = (scope w : ℕ) → k ≡ entry.Named (suc scope) w → slice_get inner w ≡ Some true
+
+abbrev pub AreInnerKnown : List Entry → List Bool → Type 0
+AreInnerKnown ks inner = (i : ℕ) (k : Entry) → slice_get ks i ≡ Some k → IsInnerKnown inner k
 
 -- the second list begins with the first
 abbrev pub Begins : {A : Type 0} → List A → List A → Type 0

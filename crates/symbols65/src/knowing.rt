@@ -1,16 +1,16 @@
 //! What is known of expressions at a line: their values where they are constant there, their sizes, and the addressing
 //! forms of instructions.
 
-ghost use Rattle.std.specs.Prelude.{◌≡◌, Ok, OnOk, IfOk};
-ghost use Rattle.semantics65.specs.Norms.{literal_in, constant_in, norm_of, larger, size_by, size_of, size_of_meaning, size_of_value, address_mode, first_of, is_branch, mode_for, mode_of};
-ghost use Rattle.symbols65.specs.Resolving.{IsReference, IsTable, meaning_in};
+ghost use Rattle.std.specs.Prelude.{◌≡◌, Ok, OnOk, IfOk, IfSome, length, if◌then◌else◌};
+ghost use Rattle.semantics65.specs.Norms.{literal_in, constant_in, norm_of, larger, size_by, size_of, size_of_meaning, size_of_value, form_of_meaning, norm, takes_byte, address_mode, first_of, is_branch, mode_for, mode_of};
+ghost use Rattle.symbols65.specs.Resolving.{IsReference, IsTable, meaning_in, plain, plain_in};
 ghost use Rattle.symbols65.specs.Views.{table_of};
 ghost use Rattle.std.specs.Option.{option_and_then};
-ghost use Rattle.std.specs.Result.{result_ok};
 ghost use Rattle.semantics65.specs.Symbols.{meaning_of};
+ghost use Rattle.syntax65.specs.declared.lexing.tokens.AddressSize.TheVariants.{ZeroPage};
 
 use crate::resolving::{
-    Meaning, NormCache, Stop, address, binary_form, meaning_of, meant_norm, norm, number_of,
+    Meaning, NormCache, State, Stop, address, binary_form, meaning_of, norm, number_of,
     pass_on_memory, prefix_form, settled,
 };
 use crate::table::Symbols;
@@ -86,6 +86,16 @@ fn size_of_value(value: i64) -> AddressSize
     }
 }
 
+/// The size of a prefix operation by that of its part, where neither is constant.
+fn prefix_size(op: Op1, part: AddressSize) -> AddressSize
+    ensures { result ≡ (if takes_byte op then ZeroPage else part) }
+{
+    match op {
+        Op1::LowByte | Op1::HighByte | Op1::BankByte => AddressSize::ZeroPage,
+        _ => part,
+    }
+}
+
 /// The larger of two sizes.
 fn larger(first: AddressSize, second: AddressSize) -> AddressSize
     ensures { result ≡ larger first second }
@@ -114,25 +124,93 @@ fn size_of_meaning(symbols: &Symbols, meaning: Meaning) -> AddressSize
 /// What one walk over an expression finds.
 #[derive(Drop)]
 struct FormAndSize {
-    /// Its normal form, if it has one.
+    /// Its normal form, if that is a number or an address. Only from these does folding make a number, so no other form is
+    /// copied here, however large it is.
     form: Option<Norm>,
     size: AddressSize,
 }
 
+/// A form again, if it is a number or an address.
+fn plain(form: &Norm) -> Option<Norm>
+    ensures { result ≡ plain form.now }
+{
+    match form.node() {
+        Node::Lit(value) => Some(Norm::new(Node::Lit(*value))),
+        Node::Sec(section, offset) => Some(Norm::new(Node::Sec(*section, *offset))),
+        _ => None,
+    }
+}
+
 /// What is found where the form of an expression and the size that it has without a value are known.
 fn sized_by_value(form: Option<Norm>, other: AddressSize) -> FormAndSize
-    ensures form { result.form ≡ form }
+    ensures form { result.form ≡ option_and_then plain form }
     ensures size { result.size ≡ size_by other (option_and_then (λ f. literal_in (Ok f)) form) }
 {
-    let value = match &form {
-        Some(form) => literal(form),
-        None => None,
+    let Some(form) = form else {
+        return FormAndSize {
+            form: None,
+            size: other,
+        };
     };
-    let size = match value {
+    let size = match literal(&form) {
         Some(value) => size_of_value(value),
         None => other,
     };
-    FormAndSize { form, size }
+    FormAndSize {
+        form: plain(&form),
+        size,
+    }
+}
+
+/// The form of what is meant, if it is known already, and if it is a number or an address.
+fn known_plain(symbols: &Symbols, states: &[State], meaning: Meaning) -> Option<Option<Norm>>
+    requires { IsTable (table_of symbols.now) states.now }
+    ensures { IfSome result (λ f. f ≡ plain_in (form_of_meaning
+        (norm (length (table_of symbols.now).definitions) (table_of symbols.now))
+        (table_of symbols.now) (meaning_in meaning))) }
+{
+    let Meaning::Defined(place) = meaning else {
+        return Some(None);
+    };
+    let definition = symbols.definition(place)?;
+    if definition.value.is_none() {
+        return Some(Some(address(definition.context)));
+    }
+    if let Some(form) = &definition.form {
+        return Some(plain(form));
+    }
+    match states.get(place) {
+        Some(State::Found(form)) => Some(plain(form)),
+        _ => None,
+    }
+}
+
+/// The form of an operand that means this, if it is a number or an address.
+fn meant_plain(
+    alloc: Global,
+    symbols: &Symbols,
+    known: &mut NormCache,
+    context: Context,
+    operand: &Expr,
+    meaning: Meaning,
+) -> Result<Option<Norm>, AllocError>
+    requires table { IsTable (table_of symbols.now) known.old.states.items }
+    requires meaning { meaning_of (table_of symbols.now) context operand.now
+        ≡ Ok (meaning_in meaning) }
+    ensures form { IfOk result (λ f. f ≡ plain_in
+        (norm_of (table_of symbols.now) context operand.now)) }
+    ensures table { OnOk result (IsTable (table_of symbols.now) known.new.states.items) }
+{
+    if let Some(form) = known_plain(symbols, &known.states, meaning) {
+        return Ok(form);
+    }
+    match known.find(alloc, symbols, context, operand) {
+        Ok(form) => Ok(plain(&form)),
+        Err(fault) => {
+            pass_on_memory(&fault)?;
+            Ok(None)
+        }
+    }
 }
 
 /// What is found of a reference.
@@ -145,7 +223,7 @@ fn reference_form_and_size(
 ) -> Result<FormAndSize, AllocError>
     requires table { IsTable (table_of symbols.now) known.old.states.items }
     requires reference { IsReference operand.now }
-    ensures form { IfOk result (λ r. r.form ≡ result_ok
+    ensures form { IfOk result (λ r. r.form ≡ plain_in
         (norm_of (table_of symbols.now) context operand.now)) }
     ensures size { IfOk result (λ r. r.size ≡ size_by
         (size_of_meaning (table_of symbols.now)
@@ -156,13 +234,8 @@ fn reference_form_and_size(
     match meaning_of(alloc, symbols, context, operand) {
         Ok(meaning) => {
             let other = size_of_meaning(symbols, meaning);
-            match meant_norm(alloc, symbols, known, context, operand, meaning) {
-                Ok(form) => Ok(sized_by_value(Some(form), other)),
-                Err(fault) => {
-                    pass_on_memory(&fault)?;
-                    Ok(sized_by_value(None, other))
-                }
-            }
+            let form = meant_plain(alloc, symbols, known, context, operand, meaning)?;
+            Ok(sized_by_value(form, other))
         }
         Err(fault) => {
             pass_on_memory(&fault)?;
@@ -172,7 +245,8 @@ fn reference_form_and_size(
     }
 }
 
-/// The form and the size of an expression by a symbol table, where the segment has this size, in one walk.
+/// The form, if it is a number or an address, and the size of an expression by a symbol table, where the segment has this
+/// size, in one walk.
 fn form_and_size(
     alloc: Global,
     symbols: &Symbols,
@@ -182,7 +256,7 @@ fn form_and_size(
     value: &Expr,
 ) -> Result<FormAndSize, AllocError>
     requires { IsTable (table_of symbols.now) known.old.states.items }
-    ensures form { IfOk result (λ r. r.form ≡ result_ok
+    ensures form { IfOk result (λ r. r.form ≡ plain_in
         (norm_of (table_of symbols.now) context value.now)) }
     ensures size { IfOk result (λ r.
         r.size ≡ size_of (table_of symbols.now) context own value.now) }
@@ -202,10 +276,7 @@ fn form_and_size(
         }),
         ExprKind::Prefix(op, part) => {
             let part = form_and_size(alloc, symbols, known, context, own, part)?;
-            let other = match op {
-                Op1::LowByte | Op1::HighByte | Op1::BankByte => AddressSize::ZeroPage,
-                _ => part.size,
-            };
+            let other = prefix_size(*op, part.size);
             let form = prefix_form(alloc, *op, part.form)?;
             Ok(sized_by_value(form, other))
         }

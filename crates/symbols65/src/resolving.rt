@@ -3,6 +3,7 @@
 mod attempt;
 mod cache;
 mod finals;
+mod keeping;
 mod meaning;
 mod scopes;
 mod settling;
@@ -12,4 +13,4 @@ pub use cache::NormCache;
 pub use finals::{binary_form, number_of, prefix_form, stable_form};
 pub use meaning::{Meaning, definition_of, meaning_of, operand_form, plain_part, scopes_in};
 pub use scopes::{scope_of, shown};
-pub use settling::{defined_norm, meant_norm, norm, settled};
+pub use settling::{defined_norm, norm, settled};

@@ -5,15 +5,16 @@ mod defining;
 mod symbols;
 mod words;
 
-ghost use Rattle.std.specs.Prelude.{◌≡◌, ◌++◌, ◌∷◌, [], IfOk, None, OnErr, OnOk, Some, length, map, position, ◌<◌, IfSome, slice_get};
+ghost use Rattle.std.specs.Prelude.{◌≡◌, ◌++◌, ◌∷◌, [], IfOk, None, OnErr, OnOk, Some, length, map, position, ◌<◌, IfSome, slice_get, true, false, ℕ, suc, List};
 ghost use Rattle.std.specs.Option.{option_map};
 ghost use Rattle.std.specs.Str.{bytes_eq};
 ghost use Rattle.indexmap.specs.IndexMap.{keys, index_map_len};
 ghost use Rattle.semantics65.specs.Layout.{opened_twice};
-ghost use Rattle.semantics65.specs.Symbols.{with_new, enclosing, scope_in, within, defined, imported};
+ghost use Rattle.semantics65.specs.Symbols.{with_new, enclosing, scope_in, within, defined, imported, named};
 ghost use Rattle.symbols65.specs.Tables.{Begins, HasNumber, IsOpening, first_number, same_opening, scope_by, word_opened, KeepsFinal, definition_seen, entry_of, key_of, same_entry};
 ghost use Rattle.symbols65.specs.Views.{table_of, with_names, with_scope, words_of, key_at};
 ghost use Rattle.semantics65.specs.Norms.{is_zero_page_name};
+ghost use Rattle.symbols65.specs.Resolving.{IsUnknownName};
 
 use base65::{Seed, Sequence};
 pub use defining::define;
@@ -69,7 +70,7 @@ fn add_names(
 
 impl Symbols {
     /// The number of a name.
-    fn word(&self, name: &[u8]) -> Option<usize>
+    pub fn word(&self, name: &[u8]) -> Option<usize>
         ensures { result ≡ position (bytes_eq name.now) (words_of self.now) }
     {
         self.words.get_index_of(Spelled(name))
@@ -91,6 +92,23 @@ impl Symbols {
         }
     }
 
+    /// Whether a scope other than the global one may define a word.
+    pub fn is_inner(&self, word: usize) -> bool
+        ensures { result ≡ false → (scope : ℕ) (n : List ℕ) → position (bytes_eq n) (words_of self.now) ≡ Some word → defined (table_of self.now) (named (suc scope) n) ≡ None }
+    {
+        match self.inner.get(word) {
+            Some(is_inner) => *is_inner,
+            None => false,
+        }
+    }
+
+    /// The place of the definition of a word in a scope.
+    pub fn defined_in(&self, scope: usize, word: usize) -> Option<usize>
+        ensures { (n : List ℕ) → position (bytes_eq n) (words_of self.now) ≡ Some word → result ≡ defined (table_of self.now) (named scope n) }
+    {
+        self.place_of(Entry::Named { scope, word })
+    }
+
     pub fn place_of(&self, entry: Entry) -> Option<usize>
         ensures { result ≡ position (same_entry entry) (keys self.now.definitions) }
     {
@@ -105,6 +123,13 @@ impl Symbols {
             Some(entry) => self.place_of(entry),
             None => None,
         }
+    }
+
+    /// Whether a name is neither defined nor imported.
+    pub fn is_unknown(&self, name: &[u8]) -> bool
+        ensures { result ≡ true → IsUnknownName (table_of self.now) name.now }
+    {
+        self.word(name).is_none() && self.imported(name).is_none()
     }
 
     pub fn place_opened(&self, opening: Opening) -> Option<usize>

@@ -122,7 +122,7 @@ pub fn defined(
 }
 
 /// The form of what a name means.
-pub fn meant(
+fn meant(
     alloc: Global,
     symbols: &Symbols,
     source: Source<'_>,

@@ -2,22 +2,27 @@
 
 ghost use Rattle.std.specs.Prelude.{◌≡◌, IfOk, IfSome, map, slice_get, ◌+◌, ◌<◌, OnOk, Some, [], length, ℕ, slice_set, true};
 ghost use Rattle.symbols65.specs.declared.resolving.attempt.Source.TheVariants.{Finals};
-ghost use Rattle.symbols65.specs.Resolving.{AreHung, HangsOn, Reaches, bare, hung_on, needed_in, may_be_looked_for, tried, IsTable};
-ghost use Rattle.symbols65.specs.Views.{known_by, AreNoted, is_found, without, table_of};
+ghost use Rattle.symbols65.specs.Resolving.{AreHung, HangsOn, Reaches, bare, hung_on, needed_in, may_be_looked_for, tried, IsTable, KeepsFound};
+ghost use Rattle.symbols65.specs.Views.{known_by, AreNoted, is_found, without, table_of, with_definition, with_scope};
+ghost use Rattle.symbols65.specs.Tables.{key_of};
 ghost use Rattle.base65.specs.Outcome.{Finds, Gives};
 ghost use Rattle.ast65.specs.Faults.{is_memory};
 ghost use Rattle.symbols65.specs.declared.resolving.attempt.State.TheVariants.{Unknown, Waiting, Found};
 ghost use Rattle.semantics65.specs.Norms.{Extends, norm_of};
-ghost use Rattle.semantics65.specs.Symbols.{Symbols as Table, symbols_of};
+ghost use Rattle.semantics65.specs.Symbols.{Definition, Scope, Symbols as Table, symbols_of};
 
 use super::attempt::{Source, State, Stop, pass_on_memory, try_last, try_norm};
 use super::finals::are_final;
-use crate::table::Symbols;
+use super::keeping::{all_stand_near, any_mentions};
+use crate::table::{Key, Symbols};
 use ast65::AsmFault;
 use object65::Norm;
 use semantics65::Context;
 use std::alloc::{AllocError, Global};
 use syntax65::Expr;
+
+/// How many constants are looked through at most: to find the forms of more of them again costs no more in the end.
+const MANY: usize = 256;
 
 /// The constant for want of whose final form an expression has none yet, if there is one.
 fn needed_by(
@@ -160,13 +165,46 @@ impl NormCache {
         })
     }
 
-    /// The table for one more definition, of which nothing is known. The forms that were found are forgotten.
-    pub fn grow(&mut self) -> Result<(), AllocError>
+    /// Whether the forms that were found stay where a key is defined that isn't yet: no expression by which one was found
+    /// has its name.
+    pub fn keeps_with(&self, symbols: &Symbols, key: Key<'_>) -> bool
+        ensures { result ≡ true → (d : Definition) → d.key ≡ key_of key.entry → KeepsFound (table_of symbols.now) (slice_get self.now.states.items) (with_definition (table_of symbols.now) d) }
+    {
+        let Key::Named { scope: _, name } = key else {
+            return true;
+        };
+        if self.noted.is_empty() {
+            return true;
+        }
+        if symbols.is_unknown(name) {
+            return true;
+        }
+        if self.noted.len() > MANY {
+            return false;
+        }
+        !any_mentions(symbols, &self.noted, name)
+    }
+
+    /// Whether the forms that were found stay where a scope is opened.
+    pub fn keeps_opened(&self, symbols: &Symbols) -> bool
+        ensures { result ≡ true → (c : Scope) → KeepsFound (table_of symbols.now) (slice_get self.now.states.items) (with_scope (table_of symbols.now) c) }
+    {
+        if self.noted.len() > MANY {
+            return false;
+        }
+        all_stand_near(symbols, &self.noted)
+    }
+
+    /// The table for one more definition, of which nothing is known. The forms that were found are forgotten, unless they
+    /// stay.
+    pub fn grow(&mut self, keeps_found: bool) -> Result<(), AllocError>
         requires { (j : ℕ) → slice_get self.old.states.items j ≡ Some Waiting → ⊥ }
-        ensures { OnOk result ((x y : Table) → AreHung x self.old.states.items → Extends x y → length y.definitions ≡ length self.old.states.items + 1 → IsTable y self.new.states.items) }
+        ensures { OnOk result ((x y : Table) → IsTable x self.old.states.items → Extends x y → (keeps_found ≡ true → KeepsFound x (slice_get self.old.states.items) y) → length y.definitions ≡ length self.old.states.items + 1 → IsTable y self.new.states.items) }
     {
         self.states.push(State::Unknown)?;
-        self.forget();
+        if !keeps_found {
+            self.forget();
+        }
         Ok(())
     }
 

@@ -1,10 +1,11 @@
 //! Scopes, what is found in them, and names as they are shown.
 
-ghost use Rattle.std.specs.Prelude.{◌≡◌, ◌++◌, IfOk, OnOk, Some, take};
+ghost use Rattle.std.specs.Prelude.{◌≡◌, ◌++◌, IfOk, None, OnOk, Some, take, false, ℕ, suc, List, position};
+ghost use Rattle.std.specs.Str.{bytes_eq};
 ghost use Rattle.semantics65.specs.Symbols.{joined, shown, enclosing, first_found, inside, scope_from, scope_in, scopes_from, defined, named};
-ghost use Rattle.symbols65.specs.Views.{table_of};
+ghost use Rattle.symbols65.specs.Views.{table_of, words_of};
 
-use crate::table::{Key, Symbols};
+use crate::table::Symbols;
 use base65::Sequence;
 use semantics65::GLOBAL_SCOPE;
 use std::alloc::{AllocError, Global};
@@ -46,15 +47,28 @@ pub fn shown(
 /// The number of the global scope.
 const GLOBAL: usize = GLOBAL_SCOPE as usize;
 
+/// The place of the definition of a word in a scope, where it is known whether only the global one has one.
+fn defined_in(symbols: &Symbols, scope: usize, word: usize, is_inner: bool) -> Option<usize>
+    requires { is_inner ≡ false → (inner : ℕ) (n : List ℕ) → position (bytes_eq n) (words_of symbols.now) ≡ Some word → defined (table_of symbols.now) (named (suc inner) n) ≡ None }
+    ensures { (n : List ℕ) → position (bytes_eq n) (words_of symbols.now) ≡ Some word → result ≡ defined (table_of symbols.now) (named scope n) }
+{
+    if !is_inner && scope != GLOBAL {
+        return None;
+    }
+    symbols.defined_in(scope, word)
+}
+
 /// The place of what a name means that is defined: in the innermost scope that defines it, from one outward.
 pub fn defined_outward(symbols: &Symbols, scope: usize, name: &[u8]) -> Option<usize>
     ensures { result ≡ first_found (λ s. defined (table_of symbols.now) (named s name.now)) (scopes_from (table_of symbols.now).scopes scope) }
 {
+    let word = symbols.word(name)?;
+    let is_inner = symbols.is_inner(word);
     let mut scope = scope;
     // A scope stands in scopes that were opened before it, so there are no more of them than its number.
     let mut left = scope;
     loop {
-        if let Some(place) = symbols.defined(Key::Named { scope, name }) {
+        if let Some(place) = defined_in(symbols, scope, word, is_inner) {
             return Some(place);
         }
         if scope == GLOBAL || left == 0 {

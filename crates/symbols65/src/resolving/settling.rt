@@ -1,16 +1,13 @@
 //! Normal forms by those that are final, and else by a search.
 
-ghost use Rattle.std.specs.Prelude.{◌≡◌, Ok};
 ghost use Rattle.base65.specs.Outcome.{Finds, Gives};
 ghost use Rattle.ast65.specs.Faults.{is_memory};
-ghost use Rattle.semantics65.specs.Symbols.{meaning_of};
 ghost use Rattle.semantics65.specs.Norms.{defined_form, norm_of};
-ghost use Rattle.symbols65.specs.Resolving.{IsTable, meaning_in, Settles};
+ghost use Rattle.symbols65.specs.Resolving.{IsTable, Settles};
 ghost use Rattle.symbols65.specs.Views.{table_of};
 
-use super::attempt::{Source, Stop, address, meant, try_norm};
+use super::attempt::{Source, Stop, address, try_norm};
 use super::cache::NormCache;
-use super::meaning::Meaning;
 use crate::table::Symbols;
 use ast65::AsmFault;
 use object65::Norm;
@@ -48,30 +45,6 @@ pub fn norm(
         Ok(form) => Ok(form),
         Err(Stop::Fault(fault)) => Err(fault),
         Err(Stop::Needs(_)) => known.find(alloc, symbols, context, value),
-    }
-}
-
-/// The normal form of an operand that means this.
-pub fn meant_norm(
-    alloc: Global,
-    symbols: &Symbols,
-    known: &mut NormCache,
-    context: Context,
-    operand: &Expr,
-    meaning: Meaning,
-) -> Result<Norm, AsmFault>
-    requires table { IsTable (table_of symbols.now) known.old.states.items }
-    requires meaning { meaning_of (table_of symbols.now) context operand.now
-        ≡ Ok (meaning_in meaning) }
-    ensures form { Gives is_memory (λ f. f) result
-        (norm_of (table_of symbols.now) context operand.now) }
-    ensures table { Finds is_memory
-        (λ _. IsTable (table_of symbols.now) known.new.states.items) result }
-{
-    match meant(alloc, symbols, Source::Finals, meaning) {
-        Ok(form) => Ok(form),
-        Err(Stop::Fault(fault)) => Err(fault),
-        Err(Stop::Needs(_)) => known.find(alloc, symbols, context, operand),
     }
 }
 

@@ -1,15 +1,19 @@
 //! Definitions that are added to a symbol table.
 
-ghost use Rattle.std.specs.Prelude.{◌≡◌, ◌++◌, ◌∷◌, [], IfOk, None, OnErr, OnOk, Some, length, position};
+ghost use Rattle.std.specs.Prelude.{◌≡◌, ◌++◌, ◌∷◌, [], IfOk, None, OnErr, OnOk, Some, length, position, slice_get, true, ℕ};
 ghost use Rattle.indexmap.specs.IndexMap.{keys};
 ghost use Rattle.semantics65.specs.Symbols.{defined};
-ghost use Rattle.symbols65.specs.Tables.{IsCounted, KeepsFinal, definition_in, definition_seen, entry_of, first_number, key_of, same_entry, word_of};
+ghost use Rattle.symbols65.specs.Tables.{IsCounted, IsInnerKnown, KeepsFinal, definition_in, definition_seen, entry_of, first_number, key_of, same_entry, word_of};
 ghost use Rattle.symbols65.specs.Views.{table_of, with_definition, words_of};
 
 use super::symbols::{Definition, Entry, Key, Symbols};
 use base65::Seed;
 use indexmap::IndexMap;
+use semantics65::GLOBAL_SCOPE;
 use std::alloc::{AllocError, Global};
+
+/// The number of the global scope.
+const GLOBAL: usize = GLOBAL_SCOPE as usize;
 
 /// The entry of a key, whose name is put in where it is new.
 fn entry(alloc: Global, symbols: &mut Symbols, key: Key<'_>) -> Result<Entry, AllocError>
@@ -48,6 +52,29 @@ fn push(
     }
 }
 
+/// Notes that a scope other than the global one defines a word.
+fn note_inner(inner: &mut Vec<bool>, word: usize) -> Result<(), AllocError>
+    ensures noted { OnOk result (slice_get inner.new.items word ≡ Some true) }
+    ensures kept { (w : ℕ) → slice_get inner.old.items w ≡ Some true → slice_get inner.new.items w ≡ Some true }
+{
+    while inner.len() <= word {
+        inner.push(false)?;
+    }
+    inner[word] = true;
+    Ok(())
+}
+
+/// Notes what is known of words by a definition.
+fn note(inner: &mut Vec<bool>, entry: Entry) -> Result<(), AllocError>
+    ensures noted { OnOk result (IsInnerKnown inner.new.items entry) }
+    ensures kept { (w : ℕ) → slice_get inner.old.items w ≡ Some true → slice_get inner.new.items w ≡ Some true }
+{
+    match entry {
+        Entry::Named { scope, word } if scope != GLOBAL => note_inner(inner, word),
+        _ => Ok(()),
+    }
+}
+
 /// Adds a definition behind all others, where its entry has none.
 fn put(symbols: &mut Symbols, entry: Entry, definition: Definition) -> Result<(), AllocError>
     requires number { first_number (words_of symbols.old) (word_of entry) ≡ word_of entry }
@@ -60,7 +87,10 @@ fn put(symbols: &mut Symbols, entry: Entry, definition: Definition) -> Result<()
 {
     match symbols.place_of(entry) {
         Some(_) => Ok(()),
-        None => push(&mut symbols.definitions, entry, definition),
+        None => {
+            note(&mut symbols.inner, entry)?;
+            push(&mut symbols.definitions, entry, definition)
+        }
     }
 }
 

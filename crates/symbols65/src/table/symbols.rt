@@ -2,7 +2,7 @@
 
 ghost use Rattle.std.specs.Prelude.{map};
 ghost use Rattle.indexmap.specs.IndexMap.{keys};
-ghost use Rattle.symbols65.specs.Tables.{AreCounted, AreDistinct, AreFinal, AreFinal-prop, AreNumbered, word_of, word_opened};
+ghost use Rattle.symbols65.specs.Tables.{AreCounted, AreDistinct, AreFinal, AreFinal-prop, AreInnerKnown, AreNumbered, word_of, word_opened};
 
 use super::words::Word;
 use base65::Seed;
@@ -63,9 +63,12 @@ pub struct Symbols {
     pub imports: IndexSet<Vec<u8>, Seed>,
     /// Those that were imported for the zero page.
     pub zero_page: IndexSet<Vec<u8>, Seed>,
+    /// Of each word whether a scope other than the global one defines it, as far as such words go.
+    pub inner: Vec<bool>,
     ghost entries_numbered: { AreNumbered word_of (map (λ k. k.items) words.keys) (keys definitions) },
     ghost counts_fit: { AreCounted (keys definitions) },
     ghost openings_numbered: { AreNumbered word_opened (map (λ k. k.items) words.keys) (keys scopes) },
+    ghost inner_known: { AreInnerKnown (keys definitions) inner.items },
     ghost openings_distinct: { AreDistinct (keys scopes) },
     ghost forms_final: { AreFinal (map (λ k. k.items) words.keys) definitions.entries scopes.entries } by { AreFinal-prop (map (λ k. k.items) words.keys) definitions.entries scopes.entries },
 }
@@ -85,6 +88,7 @@ impl Symbols {
             scopes: IndexMap::with_hasher(alloc, seed),
             imports: IndexSet::with_hasher(alloc, seed),
             zero_page: IndexSet::with_hasher(alloc, seed),
+            inner: Vec::new(alloc),
         }
     }
 }

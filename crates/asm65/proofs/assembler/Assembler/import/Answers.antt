@@ -1,13 +1,15 @@
-use Rattle.std.proofs.Common.{◌≡◌, ◌∙◌, length, sym, ap, subst}
-use Rattle.semantics65.specs.Norms.{Extends}
+use Rattle.std.proofs.Common.{slice_get, sym, subst, refl}
 use Rattle.semantics65.specs.Symbols.{Symbols}
+use Rattle.symbols65.specs.Resolving.{IsTable}
 use Rattle.symbols65.specs.Views.{table_of, with_names}
-use Rattle.asm65.proofs.Namings.{more_imported}
+use Rattle.symbols65.proofs.Meanings.{keeps_all, keeps_imported, table_stays}
+use Rattle.asm65.proofs.Namings.{more_imported, where_ok}
 use Rattle.asm65.proofs.assembler.Assembler.import.Goals as goal
 
 pub returns-clause-known : goal.returns-clause-known
 returns-clause-known c =
     let y : Symbols = table_of c.args.self.now.symbols in
-    let z : Symbols = table_of c.import.new.self in
-    let is : z ≡ with_names y c.args.is_zero_page c.args.names.now = c.in_ok-import.ensures in
-    c.forget.ensures.table y z c.requires.known.hung (subst (Extends y) (sym is) (more_imported y c.args.is_zero_page c.args.names.now)) (c.requires.known.long ∙ ap (λ (x : Symbols). length x.definitions) (sym is))
+    let names = c.args.names.now in
+    let z : Symbols = with_names y c.args.is_zero_page names in
+    let states = c.args.self.now.known.states.items in
+    where_ok c.import.result (λ is. subst (λ (x : Symbols). IsTable x states) (sym is) (table_stays y z (more_imported y c.args.is_zero_page names) states (λ j f at. keeps_all y z (keeps_imported y c.args.is_zero_page names) (slice_get y.definitions j)) refl c.requires.known)) c.import.ensures

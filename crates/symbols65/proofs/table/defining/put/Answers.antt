@@ -2,17 +2,31 @@ use Rattle.std.proofs.Common.{List, sym, subst}
 use Rattle.std.specs.Map.{keys_of}
 use Rattle.symbols65.specs.declared.table.symbols.Definition.{Definition}
 use Rattle.symbols65.specs.declared.table.symbols.Entry.{Entry}
-use Rattle.symbols65.specs.Tables.{AreCounted, AreFinal, AreNumbered, word_of}
+use Rattle.symbols65.specs.Tables.{AreCounted, AreFinal, AreInnerKnown, AreNumbered, word_of}
 use Rattle.symbols65.specs.Views.{words_of}
-use Rattle.symbols65.proofs.Growing.{after, counted_pushed, final_pushed, numbered_pushed}
+use Rattle.symbols65.proofs.Growing.{after, counted_pushed, final_pushed, inner_kept, inner_pushed, numbered_pushed}
 use Rattle.symbols65.proofs.table.defining.put.Goals as goal
 
 pub invariant_of-symbols : goal.invariant_of-symbols
 invariant_of-symbols c =
     let t = c.args.symbols.now in
+    record {
+      entries_numbered = t.entries_numbered;
+      counts_fit = t.counts_fit;
+      inner_known = inner_kept (keys_of t.definitions.entries) t.inner.items c.note.new.inner.items c.note.ensures.kept t.inner_known;
+      openings_numbered = t.openings_numbered;
+      openings_distinct = t.openings_distinct;
+      forms_final = t.forms_final;
+    }
+
+pub invariant_of-symbols-in-None : goal.invariant_of-symbols-in-None
+invariant_of-symbols-in-None c =
+    let t = c.args.symbols.now in
     let ws = words_of t in
     let es = t.definitions.entries in
     let ss = t.scopes.entries in
+    let kept : AreInnerKnown (keys_of es) c.note.new.inner.items = inner_kept (keys_of es) t.inner.items c.note.new.inner.items c.note.ensures.kept t.inner_known in
+    let Inner : List (Entry × Definition) → Type 0 = λ l. AreInnerKnown (keys_of l) c.note.new.inner.items in
     let Numbered : List (Entry × Definition) → Type 0 = λ l. AreNumbered word_of ws (keys_of l) in
     let Counted : List (Entry × Definition) → Type 0 = λ l. AreCounted (keys_of l) in
     let Final : List (Entry × Definition) → Type 0 = λ l. AreFinal ws l ss in
@@ -20,6 +34,7 @@ invariant_of-symbols c =
     let unchanged = c.push.ensures.unchanged in
     record {
       entries_numbered = after c.push.result (λ e. subst Numbered (sym e) (numbered_pushed word_of ws es c.args.entry c.args.definition t.entries_numbered c.requires.number)) (λ e. subst Numbered (sym e) t.entries_numbered) pushed unchanged;
+      inner_known = after c.push.result (λ e. subst Inner (sym e) (inner_pushed es c.args.entry c.args.definition c.note.new.inner.items kept c.in_ok-note-in-None.ensures.noted)) (λ e. subst Inner (sym e) kept) pushed unchanged;
       counts_fit = after c.push.result (λ e. subst Counted (sym e) (counted_pushed es c.args.entry c.args.definition t.counts_fit c.requires.counted)) (λ e. subst Counted (sym e) t.counts_fit) pushed unchanged;
       openings_numbered = t.openings_numbered;
       openings_distinct = t.openings_distinct;

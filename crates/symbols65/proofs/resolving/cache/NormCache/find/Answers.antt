@@ -11,7 +11,8 @@ use Rattle.symbols65.specs.declared.resolving.attempt.Stop.TheVariants.{Needs}
 use Rattle.symbols65.specs.declared.resolving.attempt.Stop.{Stop}
 use Rattle.base65.specs.Outcome.{Refuses, Unless}
 use Rattle.symbols65.specs.Resolving.{IsTable, lacks_memory, may_be_looked_for, tried, tried_last, AreHung, Leads, Reaches, bare}
-use Rattle.symbols65.proofs.Hanging.{not_found, same_table, same_unknown}
+use Rattle.symbols65.proofs.Meanings.{keeps_itself}
+use Rattle.symbols65.proofs.Hanging.{extends_itself, not_found, same_table, same_unknown}
 use Rattle.symbols65.proofs.Turns.{comes_to_norm, expression_course, expression_is}
 use Rattle.symbols65.proofs.GivenUp.{pursuit_lost, pursuit_same}
 use Rattle.symbols65.proofs.Tries.{IsAttempt, attempt_first, attempt_last, last_course}
@@ -29,7 +30,7 @@ module _ (table : Symbols) (s : Context) (e : Tree) where
   same_attempt states0 states ws0 ws a b = ap (λ q. last_tried table s e q ws) (sym a) ∙ ap (last_tried table s e states0) (sym b)
 
   attempt : (states : List State) (ws : List ℕ) (p : IsPursuit table states (expression_course table s e) ws) → IsAttempt p.turns table (slice_get states) (last_course table (expression_course table s e) ws) (last_tried table s e states ws)
-  attempt states ws p = attempt_last p.turns table (slice_get states) p.found (expression_course table s e) (tried (slice_get states) table s e) (attempt_first p.turns table (slice_get states) p.found s e) ws
+  attempt states ws p = attempt_last p.turns table (slice_get states) (p.found table (extends_itself table) (keeps_itself table (slice_get states))) (expression_course table s e) (tried (slice_get states) table s e) (attempt_first p.turns table (slice_get states) (p.found table (extends_itself table) (keeps_itself table (slice_get states))) s e) ws
 
   needed : (states : List State) (ws : List ℕ) (r : Result Form Stop) (x : Stop) (j : ℕ) → last_tried table s e states ws ≡ r → x ≡ Needs j → Refuses lacks_memory x r → last_tried table s e states ws ≡ Err (Needs j)
   needed states ws r x j same is h = (let P : Stop → Type 0 = λ q. Refuses lacks_memory q r in same ∙ subst P is h)
@@ -96,7 +97,7 @@ find-preserved-in-Continue-1 c =
     let states = c.find.self.states.items in
     let ws = c.find.waiting.items in
     let same = same_attempt table s e c.deref.result.now states c.deref-in-find.result.now ws c.deref.ensures.value c.deref-in-find.ensures.value in
-    rw c.in_ok-settle-in-Some.ensures (pursuit_pops table states v ws c.pop.new.self.items (last_tried table s e states ws) c.in-Some.last c.in-Ok.form c.find.invariant (attempt table s e states ws c.find.invariant) (same ∙ c.in-Ok.ensures) c.in-Some.ensures.items)
+    rw c.in_ok-settle-in-Some.ensures (pursuit_pops table states v ws c.pop.new.self.items (tried (slice_get states) table s e) c.in-Some.last c.in-Ok.form c.find.invariant (same ∙ c.in-Ok.ensures) c.in-Some.ensures.items)
 
 pub returns-in-Err-Fault-clause-form : goal.returns-in-Err-Fault-clause-form
 returns-in-Err-Fault-clause-form c =

@@ -16,6 +16,7 @@ invariant_of-self c =
     record {
       entries_numbered = begun (λ l. AreNumbered word_of l (keys t.definitions)) ws new more (λ m. numbered_more ws m word_of (keys t.definitions) t.entries_numbered);
       counts_fit = t.counts_fit;
+      inner_known = t.inner_known;
       openings_numbered = begun (λ l. AreNumbered word_opened l (keys t.scopes)) ws new more (λ m. numbered_more ws m word_opened (keys t.scopes) t.openings_numbered);
       openings_distinct = t.openings_distinct;
       forms_final = begun (λ l. AreFinal l es ss) ws new more (λ m. final_more ws m es ss t.entries_numbered t.openings_numbered t.forms_final);

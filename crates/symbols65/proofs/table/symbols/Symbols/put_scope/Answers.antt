@@ -20,6 +20,7 @@ invariant_of-self c =
     record {
       entries_numbered = t.entries_numbered;
       counts_fit = t.counts_fit;
+      inner_known = t.inner_known;
       openings_numbered = after c.push_scope.result (λ e. subst Numbered (sym e) (numbered_pushed word_opened ws ss c.args.opening c.args.is_proc t.openings_numbered c.requires.number)) (λ e. subst Numbered (sym e) t.openings_numbered) pushed unchanged;
       openings_distinct = after c.push_scope.result (λ e. subst Distinct (sym e) (distinct_pushed ss c.args.opening c.args.is_proc t.openings_distinct c.requires.distinct)) (λ e. subst Distinct (sym e) t.openings_distinct) pushed unchanged;
       forms_final = after c.push_scope.result (λ e. subst Final (sym e) (final_scoped ws es ss (c.args.opening, c.args.is_proc) t.forms_final)) (λ e. subst Final (sym e) t.forms_final) pushed unchanged;

@@ -12,7 +12,7 @@ from work65.porting.logical import Logical
 
 MOST_CALLS, DEEPEST = 4000, 600
 MOST_TURNS = 1024
-MOST_LINES, LONGEST = 20000, 10000
+MOST_LINES, MOST_TEXT, LONGEST = 20000, 1000000, 4096
 
 
 class Host(Protocol):
@@ -81,7 +81,7 @@ class Expander:
     def __init__(self, host: Host, macros: Dict[str, Macro], unique: str) -> None:
         self.host, self.macros = host, macros
         self.unique = re.sub(r"[^0-9A-Za-z]", "_", unique)
-        self.calls = self.written = 0
+        self.calls = self.written = self.size = 0
         self.frames: List[Frame] = []
 
     def call(self, text: str, statement: Statement) -> None:
@@ -128,6 +128,9 @@ class Expander:
 
     def line(self, frame: Frame, text: str) -> None:
         """Reads a line."""
+        self.size += len(text)
+        if self.size > MOST_TEXT or len(text) > LONGEST:
+            raise Unportable(text.strip()[:20], "macro-call", "it comes to too much")
         statement = self.statement(text)
         if self.host.is_in_macro:
             self.emit(text)
@@ -151,7 +154,7 @@ class Expander:
     def emit(self, text: str, following: Sequence[str] = ()) -> None:
         """Gives a line to the host."""
         self.written += 1
-        if self.written > MOST_LINES or len(text) > LONGEST:
+        if self.written > MOST_LINES:
             raise Unportable(text.strip()[:20], "macro-call", "it comes to too much")
         self.host.emit(text, following)
 

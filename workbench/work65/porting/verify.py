@@ -7,11 +7,13 @@ from typing import Callable, Dict, Iterable, List, Optional, Sequence, Set, Tupl
 
 from work65.build import Builder, Wanted
 from work65.instrument import Constants
+from work65.language import words
+from work65.message import message_of
 from work65.porting import alone, copying, unasserted
 from work65.porting.difference import Finder, Module
 from work65.porting.forms import prefixed
 from work65.porting.leaves import Leaf, Line, of_debug_file, of_marks
-from work65.porting.measuring import Measure
+from work65.porting.measuring import Measure, Pair
 from work65.porting.port import Ported
 from work65.porting.project import Spread
 from work65.porting.statements import SIZE_UNKNOWN
@@ -172,6 +174,7 @@ class Verifier:
                 self.outcomes[it] = self.outcome(it)
                 progress.step()
             progress.end()
+            longer = {it for it in pending if self.is_lengthened(it)}
             differing = {it for it in pending if self.outcomes[it].debug and not self.outcomes[it].is_same}
             measure = self.measured(differing)
             count, spread = measure.settled()
@@ -180,9 +183,9 @@ class Verifier:
                 self.spread.add(spread)
                 self.ported = self.port(self.spread)
                 pending = set(modules)
-            elif count:
+            elif count or longer:
                 changed = {self.ported.names.get(it, it) for it in measure.files()}
-                pending = {it for it in modules if it in differing or self.ported.project.closure(it) & changed}
+                pending = {it for it in modules if it in differing | longer or self.ported.project.closure(it) & changed}
             else:
                 break
 
@@ -249,6 +252,20 @@ class Verifier:
         return isinstance(cc65, Linked) or isinstance(bin65, Linked)
 
     # Forms.
+
+    def is_lengthened(self, module: str) -> bool:
+        """Whether bin65 refuses an instruction whose operand is too large for the short form, and has `a:` before it now: a scope
+        around it defines the name once more further down."""
+        message = message_of(self.outcomes[module].ours)
+        if message is None or message.line is None or message.text != "out of range":
+            return False
+        line = Line(os.path.normpath(message.file), message.line)
+        origin, measure = self.ported.origin(line), Measure(self.ported)
+        if origin is None or measure.head(line) not in words.MNEMONICS:
+            return False
+        leaves = of_debug_file(self.debug(module, self.their_object(module)), self.key)
+        sizes = {it.size for it in leaves if it.lines[-1] == origin}
+        return sizes == {3} and measure.put(line, Pair(3, Leaf("", 0, 2, (line,))))
 
     def guess(self, debugs: Iterable[str]) -> None:
         """Puts `a:` by the rules before operands of lines that weren't assembled, as those of another -D."""

@@ -171,6 +171,24 @@ def images(tries):
     tries.check("no cc65 and no image", (ran.returncode, ran.stderr) == (2, good), ran)
 
 
+def without_bytes(tries):
+    """An image without bytes, a script that writes no file, and a file whose name has %O in it."""
+    rows = "size = $10; }\nSEGMENTS { CODE: load = M; }\n"
+    for name, start in (("empty", "start = $2000, "), ("none", 'start = $2000, file = "", '), ("side", 'start = $2000, file = "%O.chr", ')):
+        pages.put(f"{tries.top}/{name}.cfg", f"MEMORY {{ M: {start}{rows}")
+    pages.put(f"{tries.top}/empty.s", "n = 5\n")
+    tries.says("no bytes", tries.second("-C", "empty.cfg", "empty.s"), 0, "the same image: a.out, 0 bytes\n")
+    said = "none.cfg: no area is written to a file: there is no image to compare\n"
+    tries.says("no file", tries.second("-C", "none.cfg", "i.s"), 1, said)
+    tries.says("a file beside the output", tries.second("-C", "side.cfg", "i.s"), 0, "the same image: a.out.chr, 3 bytes\n")
+    for name, last in (("empty", "compared: the program by empty.cfg: the same (the image, 0 bytes)\n"),
+                       ("none", "compared: each source alone at two placements: the same 1 of 1; "
+                        "no area of none.cfg is written to a file: the whole program wasn't compared\n")):
+        words = ("/bin/sh", WORK65, "port", f"{name}.cfg", "empty.s", "-o", f"{tries.top}/port-{name}", "--bin65", tries.program)
+        ran = subprocess.run(words, cwd=tries.top, capture_output=True, text=True, check=False)
+        tries.says(f"port: {name}", ran, 0, last)
+
+
 def others(tries):
     """Included files, names and data given, libraries in their order, and what is refused."""
     for folder in ("inc/deep", "gfx", "lib"):
@@ -264,7 +282,7 @@ def main():
         alone(tries)
         images(tries)
         if all(map(shutil.which, ("ca65", "ld65", "ar65"))):
-            for part in (readme, places, others, documented, workflow):
+            for part in (readme, places, without_bytes, others, documented, workflow):
                 part(tries)
         else:
             print("cc65 isn't here: nothing is built twice and compared")

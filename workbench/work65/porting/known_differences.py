@@ -25,6 +25,14 @@ def files_of(script: Text) -> List[str]:
     return [*dict.fromkeys([OUTPUT, *with_files(text, OUTPUT)[1].values()])]
 
 
+def written_by(script: Text) -> List[str]:
+    """The files of the areas of a script, by their names as they stand there; nothing where no area has one."""
+    blocks = blocks_of(words_of("\n".join(script.lines)))
+    values = [it.get("FILE") for block in blocks if block.word.upper == "MEMORY" for it in block.entries]
+    names = [it[0].text.strip('"') if it else OUTPUT for it in values]
+    return [it for it in dict.fromkeys(names) if it]
+
+
 def heading(script: Text, bin65: Linked, difference: str) -> str:
     """The heading of MIGRATING that tells of a difference; nothing where none is known."""
     blocks = blocks_of(words_of("\n".join(script.lines)))

@@ -92,11 +92,19 @@ class Comparison:
         if not self.is_same(cc65, bin65):
             bin65 = self.filled(cc65, bin65, notes)
         if self.is_same(cc65, bin65):
-            return Answer([f"the same image: {self.named(name)}, {len(data)} bytes" for name, data in cc65.files.items()] + notes)
+            return self.same(cc65, notes)
         differs = difference(cc65, bin65, self.verifier.finder(self.whole, bin65))
         heading = known_differences.heading(self.script, bin65, differs)
         causes = [f"MIGRATING: {heading}"] if heading else []
         return Answer([differs, *causes, *(said(it) for it in self.verifier.ported.findings)], OTHER)
+
+    def same(self, cc65: Linked, notes: List[str]) -> Answer:
+        """What is said of files that are the same; where the script writes none, no image was compared."""
+        written = known_differences.written_by(self.script)
+        if not written:
+            return Answer([f"{self.line.script}: no area is written to a file: there is no image to compare"], OTHER)
+        files = cc65.files or {name: b"" for name in written}
+        return Answer([f"the same image: {self.named(name)}, {len(data)} bytes" for name, data in files.items()] + notes)
 
     def filled(self, cc65: Linked, bin65: Linked, notes: List[str]) -> Linked:
         """The link with areas filled up to rows that nobody uses, where that makes the images the same; each row is noted."""
@@ -148,8 +156,8 @@ class Comparison:
         return cc65.files == bin65.files if self.line.image is not None else is_same(cc65, bin65)
 
     def named(self, file: str) -> str:
-        """A file's name: the linker's output is called as the image is, or as ld65 calls it."""
-        return (self.line.image or "a.out") if file == OUTPUT else file
+        """A file's name: the linker's output in it is called as the image is, or as ld65 calls it."""
+        return file.replace(OUTPUT, self.line.image or "a.out")
 
     def refused(self, why: Refused) -> List[str]:
         """The places that can't be brought over; where none was seen, what bin65 says of the copy."""

@@ -4,7 +4,7 @@ from dataclasses import dataclass, field, replace
 from typing import List, Optional
 
 from work65.message import message_of
-from work65.porting import filling
+from work65.porting import filling, known_differences
 from work65.porting.difference import Finder, Module, difference
 from work65.porting.port import Ported
 from work65.porting.tools import Linked, Options, Refused
@@ -68,6 +68,10 @@ class Judge:
         """Whether the program is the same by both tools; not where one of them doesn't link it."""
         if self.script is None or not self.can_link:
             return False
+        written = known_differences.written_by(self.verifier.ported.project.scripts[self.script])
+        if not written:
+            self.can_link, self.refusal = False, f"no area of {self.script} is written to a file: the whole program wasn't compared"
+            return False
         whole = self.whole(self.script)
         try:
             cc65 = self.verifier.linked_by_cc65(whole)
@@ -82,7 +86,8 @@ class Judge:
             self.where = "" if is_said else f"{self.script}: bin65 refuses the program: {said}"
             return False
         self.debug = cc65.debug
-        self.files = ", ".join(f"{'the image' if name == OUTPUT else name}, {len(data)} bytes" for name, data in cc65.files.items())
+        files = cc65.files or {name: b"" for name in written}
+        self.files = ", ".join(f"{'the image' if name == OUTPUT else name}, {len(data)} bytes" for name, data in files.items())
         if is_same(cc65, bin65) or self.is_same_filled(whole, cc65, bin65):
             return True
         self.where = f"{self.script}: {difference(cc65, bin65, self.verifier.finder(whole, bin65))}"

@@ -76,7 +76,7 @@ Gives = low.Gives × low.found
 """,
     "crates/high65/proofs/all/Answers.antt": """use Rattle.low65.specs.Outcome.{Gives}
 use Rattle.high65.proofs.all.Goals as goal
-returns c = c.read_all.ensures.read ∙ Gives
+returns c = c.read_all.ensures.read ∙ c.in_err-bytes.ensures.read ∙ c.all.ensures.read ∙ Gives
 """,
     "docs/PROVED.md": "### low65\n\n| it | `read_all` | `read`; `Gives` |\n\n### high65\n\n| `Gives` | `found` |\n",
 }
@@ -119,7 +119,8 @@ CASES = {
         ("low65/proofs/store/read_all/", None, "low65/proofs/store/read_whole/")]),
     "a label of one crate": ([LABEL], [
         ("low65/src/store.rt", "ensures read {", "ensures result {"), ("low65/proofs/store/read_all/Answers.antt", "clause-read", "clause-result"),
-        ("high65/proofs/all/Answers.antt", "ensures.read", "ensures.result"), ("PROVED", "`read`", "`result`")]),
+        ("high65/proofs/all/Answers.antt", "read_all.ensures.read", "read_all.ensures.result"),
+        ("high65/proofs/all/Answers.antt", "bytes.ensures.read", "bytes.ensures.result"), ("PROVED", "`read`", "`result`")]),
     "a method": (["low65\tmethod\tstore.Place\tmoved\tlater"], [
         ("low65/src/store.rt", "fn moved", "fn later"), ("low65/src/store.rt", ".moved(", ".later("), ("low65/proofs/store/read_all/Answers.antt", "in_ok-moved", "in_ok-later")]),
     "a field and a variable": ([LINE, LINE.replace("field", "variable")], [

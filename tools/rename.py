@@ -89,6 +89,7 @@ class Renaming:
         self.folder, self.rows, self.is_back = folder, rows, is_back
         self.tree = naming.Tree(folder)
         self.names, self.faults, self.notes = {}, [], []
+        self.functions = {name for it in self.tree.files for _, name in it.functions}
         self.parts = defaultdict(dict)
         self.labelled = defaultdict(dict)
         self.edits = defaultdict(dict)
@@ -206,6 +207,10 @@ class Renaming:
         """Renames a clause's label: in the contract, and in proofs where it is a clause of a function that has it."""
         function = file.function_at(at)
         row = self.labelled[word].get(function)
+        if not row and self.labelled[word] and file.area == "proofs" and function not in self.functions:
+            # (a call whose result has a name is known by that name alone)
+            row = next(iter(self.labelled[word].values()))
+            self.notes.append(f"{file.where(at)}: {word} became {row.new}: is it a clause of a function of row {row.line}?")
         if row and (file.area == "src" and self.applies(row, file) or file.area != "src"):
             self.change(file, at, word, row, row.new)
 

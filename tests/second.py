@@ -189,6 +189,14 @@ def without_bytes(tries):
         tries.says(f"port: {name}", ran, 0, last)
 
 
+def exports_without_use(tries):
+    """A symbol of an area that no object uses and that bin65 does not make (__M_FILEOFFS__) is no difference."""
+    rows = "BSS: load = M, type = bss; CODE: load = M, align = 8;"
+    pages.put(f"{tries.top}/m.cfg", f"MEMORY {{ M: start = $8000, size = $20, define = yes; }}\nSEGMENTS {{ {rows} }}\n")
+    pages.put(f"{tries.top}/m.s", ".bss\n .res 4\n.code\n .byte 9\n")
+    tries.says("no use of an area's symbols", tries.second("-C", "m.cfg", "m.s"), 0, "the same image: a.out, 5 bytes\n")
+
+
 def others(tries):
     """Included files, names and data given, libraries in their order, and what is refused."""
     for folder in ("inc/deep", "gfx", "lib"):
@@ -282,7 +290,7 @@ def main():
         alone(tries)
         images(tries)
         if all(map(shutil.which, ("ca65", "ld65", "ar65"))):
-            for part in (readme, places, without_bytes, others, documented, workflow):
+            for part in (readme, places, without_bytes, exports_without_use, others, documented, workflow):
                 part(tries)
         else:
             print("cc65 isn't here: nothing is built twice and compared")

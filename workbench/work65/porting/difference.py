@@ -6,7 +6,7 @@ from typing import Dict, List, Optional, Tuple
 from work65.layout import Layout, layout_of
 from work65.porting.leaves import Leaf, of_debug_file, records
 from work65.porting.port import Ported
-from work65.porting.tools import Linked
+from work65.porting.tools import Linked, other_exports
 from work65.scripts import OUTPUT, read_script, with_files
 
 
@@ -119,8 +119,7 @@ def _unwritten(cc65: Linked, bin65: Linked) -> str:
     for name in sorted({*cc65.sizes, *bin65.sizes}):
         if cc65.sizes.get(name, 0) != bin65.sizes.get(name, 0):
             return f"segment {name} has {cc65.sizes.get(name, 0)} bytes with cc65, {bin65.sizes.get(name, 0)} with bin65"
-    for name, value in sorted(cc65.exports.items()):
-        if bin65.exports.get(name) != value:
-            other = bin65.exports.get(name)
-            return f"{name} is ${value:04X} with cc65, {'no export' if other is None else f'${other:04X}'} with bin65"
+    for name in other_exports(cc65, bin65):
+        other = bin65.exports.get(name)
+        return f"{name} is ${cc65.exports[name]:04X} with cc65, {'no export' if other is None else f'${other:04X}'} with bin65"
     return "nothing differs"

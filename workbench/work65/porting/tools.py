@@ -5,7 +5,7 @@ import resource
 import shutil
 import subprocess
 from dataclasses import dataclass, field
-from typing import Dict, Iterable, Optional, Sequence
+from typing import Dict, Iterable, List, Optional, Sequence, Set
 
 from work65.mapfile import Map, read_map
 from work65.mirror import Mirror
@@ -17,7 +17,9 @@ from work65.sources import read_bytes
 NAMES = ("ca65", "ld65", "od65", "ar65")
 # A segment in ld65's map, with its start, end and size; and an export with its value.
 SEGMENT = re.compile(r"^(\S+) +([0-9A-F]{6,}) +[0-9A-F]{6,} +([0-9A-F]{6,}) +[0-9A-F]+$")
-EXPORT = re.compile(r"(\S+) +([0-9A-F]{6,16}) +[A-Z]{1,6}(?= |$)")
+EXPORT = re.compile(r"(\S+) +([0-9A-F]{6,16}) +([A-Z]{1,6})(?= |$)")
+# The flag of an export that an object uses.
+USED = "R"
 WIDTH = 0xFFFFFFFF
 SECONDS, MEMORY, MOST_SAID = 8, 1 << 30, 1 << 16
 
@@ -40,12 +42,13 @@ class Options:
 @dataclass
 class Linked:
     """What came of a link: its files, the sizes of segments, the values of exports, and cc65's debug file or bin65's map. cc65 also
-    tells where segments without bytes begin."""
+    tells where segments without bytes begin, and which exports an object uses."""
 
     files: Dict[str, bytes]
     sizes: Dict[str, int] = field(default_factory=dict)
     starts: Dict[str, int] = field(default_factory=dict)
     exports: Dict[str, int] = field(default_factory=dict)
+    used: Set[str] = field(default_factory=set)
     debug: str = ""
     map: Optional[Map] = None
 
@@ -80,6 +83,12 @@ def ran(words: Sequence[str], folder: str, is_limited: bool = False) -> None:
         if not said[0]:
             said = [f"it comes to no end in {SECONDS} seconds and {MEMORY >> 20} MB"]
         raise Refused(next((line for line in said if "rror" in line), said[0]))
+
+
+def other_exports(cc65: Linked, bin65: Linked) -> List[str]:
+    """The exports that have another value with bin65, without names that ld65 lists of its own accord."""
+    names = [it for it in cc65.exports if it in bin65.exports or not it.startswith("__")]
+    return sorted(it for it in names if bin65.exports.get(it) != cc65.exports[it])
 
 
 def _files(room: str, names: Dict[str, str]) -> Dict[str, bytes]:
@@ -136,7 +145,9 @@ class Theirs:
         sizes = [it for it in map(SEGMENT.match, lines[rows:first]) if it is not None]
         found.sizes = {it[1]: int(it[3], 16) for it in sizes if int(it[3], 16)}
         found.starts = {it[1]: int(it[2], 16) for it in sizes}
-        found.exports = {it[1]: int(it[2], 16) & WIDTH for line in lines[first + 2 : last] for it in EXPORT.finditer(line)}
+        exports = [it for line in lines[first + 2 : last] for it in EXPORT.finditer(line)]
+        found.exports = {it[1]: int(it[2], 16) & WIDTH for it in exports}
+        found.used = {it[1] for it in exports if USED in it[3]}
         return found
 
 

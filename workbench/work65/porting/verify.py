@@ -2,7 +2,7 @@
 import os
 import shutil
 import tempfile
-from dataclasses import dataclass, field
+from dataclasses import dataclass, field, replace
 from typing import Callable, Dict, Iterable, List, Optional, Sequence, Set, Tuple, Union
 
 from work65.build import Builder, Wanted
@@ -17,7 +17,7 @@ from work65.porting.measuring import Measure, Pair
 from work65.porting.port import Ported
 from work65.porting.project import Spread
 from work65.porting.statements import SIZE_UNKNOWN
-from work65.porting.tools import Linked, Options, Ours, Refused, Theirs
+from work65.porting.tools import Linked, Options, Ours, Refused, Theirs, other_exports
 from work65.problem import Problem
 from work65.program import Program
 from work65.progress import Progress
@@ -135,13 +135,14 @@ class Verifier:
     # The program.
 
     def linked_by_cc65(self, whole: Whole) -> Linked:
-        """The program as cc65's tools link the original."""
+        """The program as cc65's tools link the original, with the exports that its objects use."""
         inputs = [self.their_object(it) for it in whole.sources]
         for library in whole.libraries:
             made = os.path.join(self.room, f"theirs-{os.path.basename(library.name)}")
             self.theirs.archive(made, [self.their_object(it) for it in library.members], self.room)
             inputs.append(made)
-        return self.theirs.link_with(whole.theirs, inputs, os.path.join(self.room, "link"), self.options.symbols)
+        found = self.theirs.link_with(whole.theirs, inputs, os.path.join(self.room, "link"), self.options.symbols)
+        return replace(found, exports={it: value for it, value in found.exports.items() if it in found.used})
 
     def linked_by_bin65(self, whole: Whole) -> Linked:
         """The program as bin65 links the copy. Objects bear the numbers of their sources."""
@@ -345,7 +346,5 @@ class Verifier:
 
 
 def is_same(cc65: Linked, bin65: Linked) -> bool:
-    """Whether two links have the same files, segments of the same sizes, and exports of the same values. ld65 lists names of its
-    own, too."""
-    exports = {it: value for it, value in cc65.exports.items() if it in bin65.exports or not it.startswith("__")}
-    return cc65.files == bin65.files and cc65.sizes == bin65.sizes and all(bin65.exports.get(it) == value for it, value in exports.items())
+    """Whether two links have the same files, segments of the same sizes, and exports of the same values."""
+    return cc65.files == bin65.files and cc65.sizes == bin65.sizes and not other_exports(cc65, bin65)

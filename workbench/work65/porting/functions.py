@@ -25,7 +25,7 @@ class Folder:
         self.bank = bank
         self.sized = sized
         self.is_defined = is_defined
-        self.is_asked = self.is_in_braces = False
+        self.is_asked = self.is_in_braces = self.is_in_first_list = False
         self.calls: Dict[str, Callable[[str, List[Part]], Optional[str]]] = {
             ".sizeof": self.sizeof, ".strlen": self.strlen, ".strat": self.strat, ".concat": self.concat, ".string": self.string,
             ".sprintf": self.sprintf, ".ident": self.ident, ".min": self.least, ".max": self.least, ".loword": self.word,
@@ -76,6 +76,7 @@ class Folder:
             self.name = tokens[at].lower
             before = [it.text for it in tokens[:at]]
             self.is_in_braces = before.count("{") > before.count("}")
+            self.is_in_first_list = _is_in_first_list(tokens[:at])
             new = call(text, parts)
             if new is not None:
                 return edited(text, [(tokens[at].start, tokens[end].end, new)])
@@ -204,7 +205,7 @@ class Folder:
         return any(it.text in self.context.parameters or it.lower in FUNCTIONS for part in parts for it in part)
 
     def some(self, text: str, parts: List[Part]) -> Optional[str]:
-        """Some tokens of a list."""
+        """Some tokens of a list. A comma among them ends the first list of .match in cc65, if no braces are around it: that stays."""
         if len(parts) < 2 or self.has_open(parts[-1:]):
             return None
         numbers = [self.number(it) for it in parts[:-1]]
@@ -220,6 +221,8 @@ class Folder:
             tokens = tokens[known[0] : known[0] + known[1]]
         found = text_of_tokens(text, tokens)
         texts = [it.text for it in tokens]
+        if self.is_in_first_list and not self.is_in_braces and "," in texts:
+            return None
         is_whole = "," not in texts and texts.count("(") == texts.count(")")
         return found if is_whole or self.is_in_braces else "{" + found + "}"
 
@@ -288,6 +291,18 @@ def _called(tokens: Sequence[Token], at: int) -> "tuple[Optional[int], List[Part
             parts = parts_of(tokens[at + 2 : end])
             return end, [_unbraced(it) for it in parts]
     return None, []
+
+
+def _is_in_first_list(before: Sequence[Token]) -> bool:
+    """Whether tokens end in the first list of .match or .xmatch, within no other call."""
+    depth = 0
+    for at in range(len(before) - 1, -1, -1):
+        depth += (before[at].text in (")", "}")) - (before[at].text in ("(", "{"))
+        if depth < 0:
+            return at > 0 and before[at].text == "(" and before[at - 1].lower in (".match", ".xmatch")
+        if depth == 0 and before[at].text == ",":
+            return False
+    return False
 
 
 def _unbraced(part: Part) -> Part:

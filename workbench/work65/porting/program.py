@@ -96,7 +96,7 @@ class Comparison:
         differs = difference(cc65, bin65, self.verifier.finder(self.whole, bin65))
         heading = known_differences.heading(self.script, bin65, differs)
         causes = [f"MIGRATING: {heading}"] if heading else []
-        return Answer([differs, *causes, *(said(it) for it in self.verifier.ported.findings)], OTHER)
+        return Answer([differs, *causes, *(said(it) for it in [*self.verifier.ported.findings, *self.left])], OTHER)
 
     def same(self, cc65: Linked, notes: List[str]) -> Answer:
         """What is said of files that are the same; where the script writes none, no image was compared."""

@@ -72,9 +72,9 @@ class Rows:
         return self
 
     def has_other_fill(self, area: Entry, row: Row) -> bool:
-        """Whether the room of a row that only runs in an area has another fill there in cc65."""
+        """Whether the room of a row that isn't written in an area has another fill there in cc65."""
         load = _text(row.entry, "LOAD")
-        if load == area.name.text or self.usage.is_used(row.name) is False:
+        if row.is_written or not row.is_run or self.usage.is_used(row.name) is False:
             return False
         from_area = next((_byte(it) for it in self.areas if it.name.text == load), 0)
         return _byte(row.entry, from_area) != _byte(area)

@@ -196,6 +196,7 @@ class Known:
             context.segment = head[1:].upper()
         elif head == ".segment" and statement.rest:
             context.segment = statement.rest[0].text.strip('"')
+            self.note_opened(context.segment)
             if statement.rest[-1].lower in ("zeropage", "zp", "direct"):
                 context.zero_page.add(context.segment)
                 context.short_segments.add(context.segment)
@@ -203,6 +204,12 @@ class Known:
             context.saved_segments.append(context.segment)
         elif head == ".popseg" and context.saved_segments:
             context.segment = context.saved_segments.pop()
+
+    def note_opened(self, segment: str) -> None:
+        """Notes that an object has a segment, also where nothing follows in it."""
+        if not all(it.is_live is True for it in self.context.blocks):
+            self.project.segments_perhaps.add(segment)
+        self.project.segments_opened.add(segment)
 
     def keep_line(self, text: str) -> None:
         """Keeps a line of a macro, for calls that are written out: with the defines that there are by now, as cc65 does."""

@@ -93,7 +93,8 @@ def ported(project: Project, is_measured: bool = False, spread: Optional[Spread]
 
 def script_lines(project: Project, text: Text, findings: List[Finding]) -> "Tuple[List[str], Text]":
     """The lines of a script for bin65, for the sources of the tree; what can't be brought over is added to the findings."""
-    usage = Usage(project.segments, project.segments_there, project.segments_perhaps, project.words, bool(project.modules_walked))
+    usage = Usage(project.segments, project.segments_there, project.segments_perhaps, project.segments_opened, project.words,
+                  bool(project.modules_walked))
     lines, said = scripts.ported(text, usage, project.symbols)
     findings += [Finding(text.path, word.line, word.text, PLACE, note) for word, note in said]
     left = script_habits.found_in(_as_text(text.path, lines, text))

@@ -73,6 +73,7 @@ class Project:
     segments: Set[str] = field(default_factory=set)
     segments_there: Set[str] = field(default_factory=set)
     segments_perhaps: Set[str] = field(default_factory=set)
+    segments_opened: Set[str] = field(default_factory=set)
     symbols: Dict[str, int] = field(default_factory=dict)
     entries: Dict[Tuple[int, str], int] = field(default_factory=dict)
     banks: Dict[str, int] = field(default_factory=dict)

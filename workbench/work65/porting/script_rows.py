@@ -1,5 +1,5 @@
 """Rows of a script that cc65's linker and bin65 place otherwise: what makes both images equal, or what is said."""
-from dataclasses import dataclass, field
+from dataclasses import dataclass, field, replace
 from typing import Dict, Iterator, List, Optional, Set, Tuple
 
 from work65.language.scripts import Attribute, Block, Entry, Word
@@ -15,12 +15,13 @@ NO = frozenset(("NO", "FALSE", "0"))
 
 @dataclass
 class Usage:
-    """Which segments the sources have: surely with bytes, surely but perhaps without, and in lines that a condition may leave out;
-    and all words of the tree."""
+    """Which segments the sources have: surely with bytes, surely but perhaps without, in lines that a condition may leave out, and
+    opened at all; and all words of the tree."""
 
     sure: Set[str] = field(default_factory=set)
     there: Set[str] = field(default_factory=set)
     perhaps: Set[str] = field(default_factory=set)
+    opened: Set[str] = field(default_factory=set)
     words: Set[str] = field(default_factory=set)
     is_known: bool = False
 
@@ -29,6 +30,10 @@ class Usage:
         if not self.is_known or name in self.perhaps and name not in self.there:
             return None
         return name in self.there
+
+    def is_placed(self, name: str) -> bool:
+        """Whether cc65 places the row of a segment even if it has no bytes: an object has it."""
+        return name in ALWAYS or name in self.opened
 
 
 @dataclass
@@ -60,9 +65,9 @@ class Rows:
         """Looks at all areas, where the sources are known."""
         for area in self.areas if self.usage.is_known else ():
             rows = list(self.rows_of(area.name.text))
-            if rows and self.is_asked(area, "LAST") and _text(area, "FILE") == '""':
-                self.move_placing(area, rows)
-            elif rows and _text(area, "FILE") != '""':
+            if _text(area, "FILE") == '""':
+                self.move_placing(area, [replace(it, is_written=True) for it in rows])
+            elif rows:
                 self.move_placing(area, rows)
                 if _text(area, "FILL").upper() in NO | {""}:
                     self.part(area, rows)
@@ -92,13 +97,13 @@ class Rows:
         """The `align`, `start` or `offset` of a row that nobody uses counts in cc65: the next row that is used takes it over."""
         waiting: Dict[str, int] = {}
         is_moved = False
-        for row in rows:
-            placing, is_used = _placing(row), self.usage.is_used(row.name)
-            if is_used is None and placing and row.name in ALWAYS:
+        for at, row in enumerate(rows):
+            placing, is_used = _placing(row) if self.usage.is_placed(row.name) else {}, self.usage.is_used(row.name)
+            if is_used is None and placing and self.moves_any(area, rows[at + 1 :]):
                 self.said.append((row.entry.name, "whether it is used isn't known: cc65 places it even where it isn't"))
-            elif is_used is False and row.name in ALWAYS and placing and row.is_written:
+            elif is_used is False and placing and row.is_written:
                 waiting = {**waiting, **placing, **_joined(waiting.get("ALIGN", 1), placing.get("ALIGN", 1))}
-            elif is_used is False and row.name in ALWAYS and placing:
+            elif is_used is False and placing:
                 is_moved = True
             elif is_used and is_moved:
                 self.said.append((row.entry.name, ROW_BEFORE))
@@ -108,13 +113,19 @@ class Rows:
                 waiting = {}
         self.look_at_end(area, rows)
 
+    def moves_any(self, area: Entry, rows: List[Row]) -> bool:
+        """Whether a row without bytes before these rows is seen: in a file always, else by a row that has some, or by the area's end."""
+        is_used = any(self.usage.is_used(it.name) is not False for it in rows)
+        return is_used or _text(area, "FILE") != '""' or self.is_asked(area, "LAST")
+
     def look_at_end(self, area: Entry, rows: List[Row]) -> None:
         """Behind the last row with bytes, one without any moves the file's end in cc65 alone."""
-        late = self.ends_late(rows) if _text(area, "FILL").upper() in NO | {""} else None
+        is_cut = _text(area, "FILL").upper() in NO | {""} and _text(area, "FILE") != '""'
+        late = self.ends_late(rows) if is_cut else None
         if late is not None:
             self.said.append((late.entry.name, "it has no bytes: cc65's file goes on to where it would begin, bin65's doesn't"))
         if late is None and self.is_asked(area, "LAST"):
-            unused = [it for it in rows if it.name in ALWAYS and self.usage.is_used(it.name) is False and _placing(it)]
+            unused = [it for it in rows if self.usage.is_placed(it.name) and self.usage.is_used(it.name) is False and _placing(it)]
             last = next((at for at in range(len(rows) - 1, -1, -1) if self.usage.is_used(rows[at].name) is not False), -1)
             note = f"nobody uses it: __{area.name.text}_LAST__ counts it in cc65"
             self.said += [(it.entry.name, note) for it in unused if rows.index(it) > last]
@@ -128,7 +139,7 @@ class Rows:
         for row in reversed(rows):
             if row.name in self.usage.sure and row.is_written:
                 return None
-            if row.is_written and _placing(row) and (row.name in ALWAYS or self.usage.is_used(row.name) is not False):
+            if row.is_written and _placing(row) and (self.usage.is_placed(row.name) or self.usage.is_used(row.name) is not False):
                 return row
         return None
 

@@ -11,7 +11,7 @@ from work65.language import words
 from work65.language.files import Text, text_of
 from work65.language.tokens import line_of
 from work65.language.tree import Tree, surveyed
-from work65.porting import condes, packages, scripts
+from work65.porting import condes, imported, packages, scripts
 from work65.porting.leaves import Line
 from work65.porting.project import OWN, Project, Spread
 from work65.porting.script_rows import Said, Usage
@@ -85,6 +85,8 @@ def ported(project: Project, is_measured: bool = False, spread: Optional[Spread]
     found, origins = _written(project)
     _add_tables(project, all_scripts, found, origins)
     findings = list(project.findings.values()) + list(_left(project, found, origins))
+    if not is_measured or len(all_scripts) > 1:
+        findings += imported.found_in(project, project.below_zero)
     for path, text in project.scripts.items():
         found[path] = _as_text(path, *script_lines(project, text, findings))
     unique = {(it.path, it.line): it for it in reversed(findings)}
@@ -109,6 +111,8 @@ def _walk(project: Project) -> Dict[str, Dict[Tuple[str, ...], str]]:
         walk = Walk(project, it)
         walk.whole()
         found[it] = {key: segment for key, segment in walk.context.labels.items() if segment}
+        constants = walk.context.constants.items()
+        project.below_zero[it] = {key[0]: value for key, value in constants if len(key) == 1 and value is not None and value < 0}
         progress.step()
     progress.end()
     for path in list(project.texts):

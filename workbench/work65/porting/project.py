@@ -78,6 +78,7 @@ class Project:
     entries: Dict[Tuple[int, str], int] = field(default_factory=dict)
     banks: Dict[str, int] = field(default_factory=dict)
     label_segments: Dict[str, Dict[Tuple[str, ...], str]] = field(default_factory=dict)
+    below_zero: Dict[str, Dict[str, int]] = field(default_factory=dict)
     doubtful: List[Tuple[str, int, Unportable]] = field(default_factory=list)
     own_sources: List[str] = field(default_factory=list)
     guessed: Set[Line] = field(default_factory=set)

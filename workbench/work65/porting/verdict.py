@@ -127,7 +127,8 @@ class Judge:
         parts = [f"compared: each source alone at two placements: the same {same} of {len(self.verifier.modules)}"]
         more = f" and {len(others) - SHOWN} more" if len(others) > SHOWN else ""
         parts += [f"not compared: {', '.join(others[:SHOWN])}{more}"] if others else []
-        parts += [self.refusal] if self.refusal else []
+        count = len(self.verifier.ported.project.scripts)
+        parts += [self.refusal] if self.refusal else [f"the whole program wasn't compared: there are {count} scripts"] if count > 1 else []
         return lines, "; ".join(parts)
 
     def said(self, module: str, it: Outcome) -> str:

@@ -211,6 +211,9 @@ def others(tries):
         pages.put(f"{tries.top}/{name}", text)
     words = ("-C", "b.cfg", "-I", "inc/deep", "-D", "M=5", "--bin-include-dir", "gfx", "-t", "nes", "three.s")
     tries.says("options and a library of files", tries.second(*words, "--library", "l.lib=lib/g.s,lib/f.s"), 0, "the same image: a.out, 11 bytes\n")
+    pages.put(f"{tries.top}/number.s", " .byte BAR\n")
+    for number in ("0x12", "022", "$12"):
+        tries.says(f"-D BAR={number}", tries.second("-C", "b.cfg", "-D", f"BAR={number}", "number.s"), 0, "the same image: a.out, 1 bytes\n")
     ran = tries.second(*words, "--library", "l.lib=lib")
     tries.check("a folder of two members with one name", ran.returncode in (0, 2), ran)
     ran = tries.second("-C", "b.cfg", "bad.s")

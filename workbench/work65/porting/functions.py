@@ -25,7 +25,7 @@ class Folder:
         self.bank = bank
         self.sized = sized
         self.is_defined = is_defined
-        self.is_asked = self.is_in_braces = self.is_in_first_list = False
+        self.is_asked = self.is_in_braces = self.is_in_first_list = self.is_operand = False
         self.calls: Dict[str, Callable[[str, List[Part]], Optional[str]]] = {
             ".sizeof": self.sizeof, ".strlen": self.strlen, ".strat": self.strat, ".concat": self.concat, ".string": self.string,
             ".sprintf": self.sprintf, ".ident": self.ident, ".min": self.least, ".max": self.least, ".loword": self.word,
@@ -76,6 +76,7 @@ class Folder:
             self.name = tokens[at].lower
             before = [it.text for it in tokens[:at]]
             self.is_in_braces = before.count("{") > before.count("}")
+            self.is_operand = at > 0 and tokens[at - 1].lower in words.MNEMONICS
             self.is_in_first_list = _is_in_first_list(tokens[:at])
             new = call(text, parts)
             if new is not None:
@@ -239,11 +240,12 @@ class Folder:
         return str(sum(map(len, parts)) + max(0, len(parts) - 1))
 
     def word(self, text: str, parts: List[Part]) -> Optional[str]:
-        """The lower or upper sixteen bits."""
+        """The lower or upper sixteen bits. An operand doesn't begin with a parenthesis, which would make it an indirect one."""
         if len(parts) != 1 or not parts[0]:
             return None
         inner = in_parentheses(text, parts[0])
-        return f"({inner} & $FFFF)" if self.name == ".loword" else f"({inner} >> 16 & $FFFF)"
+        half = f"({inner} & $FFFF)" if self.name == ".loword" else f"({inner} >> 16 & $FFFF)"
+        return f"0 + {half}" if self.is_operand else half
 
 
 FUNCTIONS = frozenset(

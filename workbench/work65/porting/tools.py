@@ -20,6 +20,7 @@ SEGMENT = re.compile(r"^(\S+) +([0-9A-F]{6,}) +[0-9A-F]{6,} +([0-9A-F]{6,}) +[0-
 EXPORT = re.compile(r"(\S+) +([0-9A-F]{6,16}) +([A-Z]{1,6})(?= |$)")
 # The flag of an export that an object uses.
 USED = "R"
+C_NUMBER = re.compile(r"0[xX]([0-9A-Fa-f]+)|0[0-7]+")
 WIDTH = 0xFFFFFFFF
 SECONDS, MEMORY, MOST_SAID = 8, 1 << 30, 1 << 16
 
@@ -155,7 +156,7 @@ class Ours:
     """bin65, run in the copy."""
 
     def __init__(self, program: Program, copy: str, include: Iterable[str], define: Sequence[str]) -> None:
-        self.program, self.copy, self.define = program, copy, list(define)
+        self.program, self.copy, self.define = program, copy, [_in_decimal(it) for it in define]
         self.include = [it for it in include if os.path.isdir(os.path.join(copy, it))]
         self.words = [f"-D{it}" for it in self.define] + [f"-I{it}" for it in self.include]
 
@@ -176,6 +177,13 @@ class Ours:
         found.sizes = {it.name: it.size for it in links.rows if it.size}
         found.exports = {name: value & WIDTH for name, value in links.symbols.items()}
         return found
+
+
+def _in_decimal(define: str) -> str:
+    """What -D gives, with a number as C writes it (0x12, 012) in decimal: bin65 doesn't take those."""
+    name, _, number = define.partition("=")
+    found = C_NUMBER.fullmatch(number)
+    return define if found is None else f"{name}={int(found[1], 16) if found[1] else int(number, 8)}"
 
 
 def _text(room: str, name: str) -> str:

@@ -213,7 +213,8 @@ def others(tries):
     tries.says("options and a library of files", tries.second(*words, "--library", "l.lib=lib/g.s,lib/f.s"), 0, "the same image: a.out, 11 bytes\n")
     pages.put(f"{tries.top}/number.s", " .byte BAR\n")
     for number in ("0x12", "022", "$12"):
-        tries.says(f"-D BAR={number}", tries.second("-C", "b.cfg", "-D", f"BAR={number}", "number.s"), 0, "the same image: a.out, 1 bytes\n")
+        ran = tries.second("-C", "b.cfg", "-D", f"BAR={number}", "number.s")
+        tries.says(f"-D BAR={number}", ran, 0, "the same image: a.out, 1 bytes\n")
     ran = tries.second(*words, "--library", "l.lib=lib")
     tries.check("a folder of two members with one name", ran.returncode in (0, 2), ran)
     ran = tries.second("-C", "b.cfg", "bad.s")
@@ -248,10 +249,17 @@ def documented(tries):
     ran = tries.second("-C", "b.cfg", "diff.s")
     good = "\ndiff.s:4: n: cc65 takes it for not defined in a scope that has used it: " in ran.stdout
     tries.check("a place that was said", ran.returncode == 1 and good, ran)
+    pages.put(f"{tries.top}/k.s", " .export k\nk = -1\n")
+    pages.put(f"{tries.top}/l.s", " .import k\n .byte k < 0\n")
+    ran = tries.second("-C", "b.cfg", "k.s", "l.s")
+    lines = ran.stdout.splitlines()
+    is_named = len(lines) == 2 and lines[1].startswith("l.s:2: k: ") and lines[1].endswith("(MIGRATING: Numbers of more than 32 bits)")
+    tries.check("an import's sign", ran.returncode == 1 and is_named, ran)
     sys.path.insert(0, f"{pages.ROOT}/workbench")
-    from work65.porting import known_differences
+    from work65.porting import imported, known_differences
     text = pages.read("docs/MIGRATING.md")
-    for heading in (known_differences.UNUSED, known_differences.UNWRITTEN, *(it[1] for it in known_differences.BY_TEXT)):
+    fixed = (known_differences.UNUSED, known_differences.UNWRITTEN, imported.HABIT.heading)
+    for heading in (*fixed, *(it[1] for it in known_differences.BY_TEXT)):
         tries.check(f"MIGRATING has {heading}", f"\n### {heading}\n" in text)
 
 

@@ -6,7 +6,7 @@ from typing import Dict, List, Optional, Sequence, Union
 from work65.commands.check import said
 from work65.habits.habit import Finding
 from work65.language.files import Text, text_of
-from work65.porting import filling, known_differences
+from work65.porting import filling, imported, known_differences
 from work65.porting.difference import difference, first_file
 from work65.porting.measuring import FORMS, Measure, Pair
 from work65.porting.port import Ported, ported, read_project, script_lines
@@ -94,9 +94,11 @@ class Comparison:
         if self.is_same(cc65, bin65):
             return self.same(cc65, notes)
         differs = difference(cc65, bin65, self.verifier.finder(self.whole, bin65))
-        heading = known_differences.heading(self.script, bin65, differs)
+        project = self.verifier.ported.project
+        imports = list(imported.found_in(project, project.below_zero))
+        heading = "" if imports else known_differences.heading(self.script, bin65, differs)
         causes = [f"MIGRATING: {heading}"] if heading else []
-        return Answer([differs, *causes, *(said(it) for it in [*self.verifier.ported.findings, *self.left])], OTHER)
+        return Answer([differs, *causes, *(said(it) for it in [*self.verifier.ported.findings, *self.left, *imports])], OTHER)
 
     def same(self, cc65: Linked, notes: List[str]) -> Answer:
         """What is said of files that are the same; where the script writes none, no image was compared."""

@@ -10,7 +10,7 @@ ghost use Rattle.semantics65.specs.Symbols.{meaning_of};
 ghost use Rattle.syntax65.specs.declared.lexing.tokens.AddressSize.TheVariants.{ZeroPage};
 
 use crate::resolving::{
-    Meaning, NormCache, State, Stop, address, binary_form, meaning_of, norm, number_of,
+    Meaning, NormCache, State, Stop, address, binary_form, meaning_at, norm, number_of,
     pass_on_memory, prefix_form, settled,
 };
 use crate::table::Symbols;
@@ -231,17 +231,14 @@ fn reference_form_and_size(
         (constant_in (table_of symbols.now) context operand.now)) }
     ensures table { OnOk result (IsTable (table_of symbols.now) known.new.states.items) }
 {
-    match meaning_of(alloc, symbols, context, operand) {
-        Ok(meaning) => {
+    match meaning_at(symbols, context, operand) {
+        Some(meaning) => {
             let other = size_of_meaning(symbols, meaning);
             let form = meant_plain(alloc, symbols, known, context, operand, meaning)?;
             Ok(sized_by_value(form, other))
         }
-        Err(fault) => {
-            pass_on_memory(&fault)?;
-            // What has no meaning yet may come to lie anywhere.
-            Ok(sized_by_value(None, AddressSize::Absolute))
-        }
+        // What has no meaning yet may come to lie anywhere.
+        None => Ok(sized_by_value(None, AddressSize::Absolute)),
     }
 }
 

@@ -19,7 +19,7 @@ sys.path.insert(0, f"{pages.ROOT}/workbench")
 from work65 import arguments  # noqa: E402
 from work65 import pages as own_pages  # noqa: E402
 from work65.commands import explain  # noqa: E402
-from work65.message import message_of  # noqa: E402
+from work65.diagnosing.message import message_of  # noqa: E402
 
 WORK65 = f"{pages.ROOT}/workbench/work65.sh"
 # Lines that are refused, each for itself; what belongs to one stands behind a |.

@@ -2,8 +2,8 @@
 from dataclasses import dataclass, field
 from typing import Dict, List, Sequence, Tuple
 
+from work65.instrumenting.sources import Source
 from work65.lines import Kind, Token
-from work65.sources import Source
 from work65.statements import What
 
 Replaced = Tuple[Token, ...]

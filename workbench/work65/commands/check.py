@@ -4,13 +4,13 @@ import json
 import os
 from typing import AbstractSet, Callable, Iterator, List, Sequence
 
+from work65.frontend import words
+from work65.frontend.files import Text, text_of, walked
+from work65.frontend.includes import followed
+from work65.frontend.survey import surveyed
 from work65.habits import scripts, sources
 from work65.habits.files import Files
 from work65.habits.habit import Finding
-from work65.language import words
-from work65.language.files import Text, text_of, walked
-from work65.language.includes import followed
-from work65.language.tree import surveyed
 from work65.output import write
 from work65.problem import Problem, complain
 from work65.progress import Progress

@@ -2,9 +2,9 @@
 import argparse
 import os
 
-from work65.build import add_arguments as add_build_arguments, build, wanted_of
-from work65.debugfile import debug_file
-from work65.instrument import Constants
+from work65.formats.debug_file import debug_file
+from work65.instrumenting.build import add_arguments as add_build_arguments, build, wanted_of
+from work65.instrumenting.copies import Constants
 from work65.output import write
 from work65.program import Program
 from work65.signals import folder_for_a_while

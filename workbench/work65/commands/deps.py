@@ -4,13 +4,13 @@ import os
 import sys
 from typing import List
 
-from work65.build import add_assembler_arguments
+from work65.instrumenting.build import add_assembler_arguments
+from work65.instrumenting.reads import Reads, reads_of
+from work65.instrumenting.sources import Closure
 from work65.output import write
 from work65.problem import Problem
 from work65.program import Program
-from work65.reads import Reads, reads_of
 from work65.signals import folder_for_a_while
-from work65.sources import Closure
 
 HELP = "rules for make: the files that a source takes in by .include and .incbin"
 

@@ -6,16 +6,17 @@ import subprocess
 import sys
 from typing import IO, Iterator, List, Optional, Sequence, Tuple
 
-from work65 import arguments as bad_arguments
-from work65 import causes, leaving_out, pages
+from work65 import pages
+from work65.diagnosing import bad_arguments
+from work65.diagnosing import causes, leaving_out
+from work65.diagnosing.message import Message, message_of
+from work65.frontend import words
+from work65.frontend.files import Text, text_of
+from work65.frontend.statements import parts_of, statement_of
+from work65.frontend.survey import surveyed
+from work65.frontend.tokens import Kind, line_of
 from work65.habits import sources
 from work65.habits.table import BY_WORD
-from work65.language import words
-from work65.language.files import Text, text_of
-from work65.language.statements import parts_of, statement_of
-from work65.language.tokens import Kind, line_of
-from work65.language.tree import surveyed
-from work65.message import Message, message_of
 from work65.problem import Problem
 
 HELP = "adds the source line and the page's paragraph to each message"

@@ -2,11 +2,11 @@
 import argparse
 import os
 
-from work65.language.files import want_regular
+from work65.diagnosing.search import MOST, Search
+from work65.frontend.files import want_regular
 from work65.output import write
 from work65.problem import Problem, complain
 from work65.program import Program
-from work65.search import MOST, Search
 from work65.shadow import Shadow
 from work65.signals import folder_for_a_while
 

@@ -4,9 +4,9 @@ import os
 import re
 from typing import Callable, Dict, Iterator, List, Optional
 
-from work65.build import Build, add_arguments as add_build_arguments, build, wanted_of
-from work65.instrument import Constants
-from work65.names import Named, all_names
+from work65.instrumenting.build import Build, add_arguments as add_build_arguments, build, wanted_of
+from work65.instrumenting.copies import Constants
+from work65.instrumenting.names import Named, all_names
 from work65.output import write
 from work65.problem import Problem
 from work65.program import Program

@@ -2,12 +2,12 @@
 import argparse
 from typing import Iterator, List
 
-from work65.build import Unit, add_arguments as add_build_arguments, build, wanted_of
-from work65.instrument import Constants
+from work65.instrumenting.build import Unit, add_arguments as add_build_arguments, build, wanted_of
+from work65.instrumenting.copies import Constants
+from work65.instrumenting.replay import Reading, Row
+from work65.instrumenting.resolve import Resolver
 from work65.output import words, write
 from work65.program import Program
-from work65.replay import Reading, Row
-from work65.resolve import Resolver
 from work65.signals import folder_for_a_while
 
 HELP = "a listing: addresses as linked, bytes of the image, line numbers and lines"

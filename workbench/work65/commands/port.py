@@ -4,9 +4,9 @@ import os
 from typing import List, Optional, Tuple
 
 from work65.commands.check import said
-from work65.language import words
-from work65.language.files import walked
-from work65.language.tokens import value_of
+from work65.frontend import words
+from work65.frontend.files import walked
+from work65.frontend.tokens import value_of
 from work65.porting import copying, port, verdict
 from work65.porting.project import Spread
 from work65.porting.tools import Options, missing

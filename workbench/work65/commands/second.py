@@ -3,14 +3,14 @@ import argparse
 import os
 
 from work65.commands.port import add_options, options_of
-from work65.library import sources_of
+from work65.instrumenting.library import sources_of
+from work65.instrumenting.sources import read_bytes
 from work65.porting.program import NOT_COMPARED, Comparison, Line
 from work65.porting.tools import missing
 from work65.porting.verify import Library
 from work65.problem import Problem
 from work65.program import Program
 from work65.signals import folder_for_a_while
-from work65.sources import read_bytes
 
 # How objects and libraries of cc65's begin.
 MADE_BY_CC65 = (b"Uzna", b"naUz")

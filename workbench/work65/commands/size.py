@@ -5,19 +5,19 @@ import os
 import sys
 from typing import Iterator, List, Sequence
 
-from work65.build import add_arguments as add_build_arguments, build, wanted_of
-from work65.instrument import Constants
-from work65.language.files import want_regular
-from work65.layout import layout_of
-from work65.mapfile import read_map
+from work65.formats.maps import read_map
+from work65.formats.picture import svg
+from work65.frontend.files import want_regular
+from work65.instrumenting.build import add_arguments as add_build_arguments, build, wanted_of
+from work65.instrumenting.copies import Constants
+from work65.instrumenting.layout import layout_of
+from work65.instrumenting.sizes import AreaSize, Sizes, sizes_of
+from work65.instrumenting.sources import read_bytes, read_text
 from work65.output import write
-from work65.picture import svg
 from work65.problem import Problem
 from work65.program import Program
 from work65.scripts import read_script
 from work65.signals import folder_for_a_while
-from work65.sizes import AreaSize, Sizes, sizes_of
-from work65.sources import read_bytes, read_text
 
 HELP = "bytes used and free: by area, segment, module and procedure; of a map, or of sources"
 BAR = 30

@@ -1,9 +1,9 @@
 """Finds cheap labels that have two definitions with only a constant between them: in cc65 a constant ends their region."""
 from typing import Iterator, Sequence, Set, Tuple
 
-from work65.language import words
-from work65.language.files import Text
-from work65.language.tokens import Kind, Token, line_of
+from work65.frontend import words
+from work65.frontend.files import Text
+from work65.frontend.tokens import Kind, Token, line_of
 
 BLOCKS = words.CONDITIONS | words.MACRO_BEGINS | words.REPEAT_BEGINS
 ENDS = words.MACRO_ENDS | words.REPEAT_ENDS | {".endif"}

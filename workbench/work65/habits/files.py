@@ -2,11 +2,11 @@
 import os
 from typing import Dict, Iterable, Iterator, List, Optional, Sequence, Set, Tuple
 
-from work65.language.files import Text
-from work65.language.includes import found_file, names_in, word_of
-from work65.language.statements import Statement
-from work65.language.tree import asminc_file
-from work65.sources import candidates, is_regular, path_of_bytes, place_of
+from work65.frontend.files import Text
+from work65.frontend.includes import found_file, names_in, word_of
+from work65.frontend.statements import Statement
+from work65.frontend.survey import asminc_file
+from work65.instrumenting.sources import candidates, is_regular, path_of_bytes, place_of
 
 Wrong = Tuple[str, str, str]
 

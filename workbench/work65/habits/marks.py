@@ -1,12 +1,12 @@
 """What tells a habit: a token of its own, a label, or the form of a statement."""
 from typing import AbstractSet, Iterator, Tuple
 
+from work65.frontend import words
+from work65.frontend.statements import Statement, is_instruction, parts_of
+from work65.frontend.survey import Tree
+from work65.frontend.tokens import Kind, Token, is_closed, value_of
 from work65.habits.habit import Habit
 from work65.habits.table import BY_NAME, BY_WORD
-from work65.language import words
-from work65.language.statements import Statement, is_instruction, parts_of
-from work65.language.tokens import Kind, Token, is_closed, value_of
-from work65.language.tree import Tree
 
 Found = Tuple[str, Habit, str]
 PACKAGES = {"longbranch": "longbranch", "generic": "generic", "cpu": "package", "module": "package"}

@@ -2,10 +2,10 @@
 import re
 from typing import Iterator, List, Set, Tuple
 
+from work65.frontend.files import Text
+from work65.frontend.scripts import Attribute, Block, Entry, Word, blocks_of, symbols_of, words_of
 from work65.habits.habit import Finding
 from work65.habits.table import BY_NAME
-from work65.language.files import Text
-from work65.language.scripts import Attribute, Block, Entry, Word, blocks_of, symbols_of, words_of
 
 ATTRIBUTES = {
     "MEMORY": {"START", "SIZE", "TYPE", "FILE", "FILL", "FILLVAL", "DEFINE"},

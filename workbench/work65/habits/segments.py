@@ -1,9 +1,9 @@
 """Tracks the open segment, and whether it is a zero page one."""
 from typing import AbstractSet, Iterator, List, Set
 
-from work65.language import words
-from work65.language.statements import Statement, parts_of
-from work65.language.tokens import Kind
+from work65.frontend import words
+from work65.frontend.statements import Statement, parts_of
+from work65.frontend.tokens import Kind
 
 NAMES = {it: it[1:].upper() for it in words.SEGMENT_WORDS}
 ZERO_PAGE_SIZES = frozenset(("zeropage", "zp", "direct"))

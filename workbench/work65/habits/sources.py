@@ -2,19 +2,19 @@
 from functools import lru_cache
 from typing import Dict, Iterator, List, Optional, Sequence, Set, Tuple
 
+from work65.frontend import grammar, words
+from work65.frontend.conditions import Conditions
+from work65.frontend.files import Text
+from work65.frontend.includes import found_file, word_of
+from work65.frontend.statements import Statement, statement_of
+from work65.frontend.survey import Tree
+from work65.frontend.tokens import Kind, Line, Token, line_of
 from work65.habits import cheap, marks
 from work65.habits.files import Files
 from work65.habits.habit import Finding, Habit
 from work65.habits.segments import HEADS as SEGMENT_HEADS, Segments, short_names
 from work65.habits.table import BY_NAME, BY_WORD
-from work65.language import grammar, words
-from work65.language.conditions import Conditions
-from work65.language.files import Text
-from work65.language.includes import found_file, word_of
-from work65.language.statements import Statement, statement_of
-from work65.language.tokens import Kind, Line, Token, line_of
-from work65.language.tree import Tree
-from work65.sources import place_of
+from work65.instrumenting.sources import place_of
 
 TELLING = frozenset(BY_WORD)
 LOOKED_AT = TELLING | words.LISTS | words.MACRO_BEGINS | words.MACRO_ENDS | words.CONDITIONS | SEGMENT_HEADS | frozenset(

@@ -1,9 +1,9 @@
 """Which calls have to be written out, and how those that stay are written."""
 from typing import List, Sequence, Set
 
-from work65.language import words
-from work65.language.statements import Statement, parts_of, statement_of
-from work65.language.tokens import Kind, Token, line_of
+from work65.frontend import words
+from work65.frontend.statements import Statement, parts_of, statement_of
+from work65.frontend.tokens import Kind, Token, line_of
 from work65.porting import ranges, shifts, spelling
 from work65.porting.expansion import SCOPES, Macro
 from work65.porting.facts import star_in

@@ -1,8 +1,8 @@
 """What machines make of the characters of strings."""
 from typing import Dict, List, Optional, Sequence
 
-from work65.language import words
-from work65.language.tokens import Kind, Token, is_closed
+from work65.frontend import words
+from work65.frontend.tokens import Kind, Token, is_closed
 
 ESCAPES = {"\\": "\\", '"': '"', "'": "'", "n": "\n", "r": "\r", "t": "\t"}
 

@@ -2,12 +2,12 @@
 from dataclasses import dataclass
 from typing import Dict, Iterable, Iterator, List, Optional, Tuple
 
-from work65.language import words
-from work65.language.expression import value
-from work65.language.files import Text
-from work65.language.scripts import Entry, blocks_of, words_of
-from work65.language.statements import Statement, parts_of, statement_of
-from work65.language.tokens import Kind, line_of
+from work65.frontend import words
+from work65.frontend.expression import value
+from work65.frontend.files import Text
+from work65.frontend.scripts import Entry, blocks_of, words_of
+from work65.frontend.statements import Statement, parts_of, statement_of
+from work65.frontend.tokens import Kind, line_of
 from work65.porting.context import Context
 from work65.porting.line import Unportable
 

@@ -2,7 +2,7 @@
 from dataclasses import dataclass, field
 from typing import Dict, List, Optional, Set, Tuple
 
-from work65.language.tokens import Token
+from work65.frontend.tokens import Token
 from work65.porting.characters import Charmap
 from work65.porting.expansion import Macro
 

@@ -5,13 +5,13 @@ import shutil
 import tempfile
 from typing import Dict, Iterator, List, Optional, Sequence, Tuple
 
-from work65.language.tokens import Kind, Token, line_of
+from work65.frontend.tokens import Kind, Token, line_of
+from work65.instrumenting.sources import path_of_bytes, read_bytes
 from work65.output import words
 from work65.porting.line import edited
 from work65.porting.port import Ported
 from work65.porting.project import OWN
 from work65.problem import Problem
-from work65.sources import path_of_bytes, read_bytes
 
 # The list of what was written, in the format of sha256sum. A folder that has it is a copy.
 SUMS = ".work65"

@@ -1,10 +1,10 @@
 """`.define`: numbers become constants, all else stands where it is used."""
 from typing import List, Optional, Sequence, Tuple
 
-from work65.language import words
-from work65.language.expression import value
-from work65.language.statements import Statement
-from work65.language.tokens import Kind, Token, line_of
+from work65.frontend import words
+from work65.frontend.expression import value
+from work65.frontend.statements import Statement
+from work65.frontend.tokens import Kind, Token, line_of
 from work65.porting.context import Context, Define
 from work65.porting.line import Unportable, commented_out, edited, text_of_tokens
 

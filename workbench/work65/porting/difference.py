@@ -3,7 +3,7 @@ import os
 from dataclasses import dataclass
 from typing import Dict, List, Optional, Tuple
 
-from work65.layout import Layout, layout_of
+from work65.instrumenting.layout import Layout, layout_of
 from work65.porting.leaves import Leaf, of_debug_file, records
 from work65.porting.port import Ported
 from work65.porting.tools import Linked, other_exports

@@ -3,9 +3,9 @@ import re
 from dataclasses import dataclass, field
 from typing import Dict, List, Optional, Protocol, Sequence
 
-from work65.language import words
-from work65.language.statements import Statement, parts_of, statement_of
-from work65.language.tokens import Kind, Token, line_of
+from work65.frontend import words
+from work65.frontend.statements import Statement, parts_of, statement_of
+from work65.frontend.tokens import Kind, Token, line_of
 from work65.porting.expansion import EXITS, HARD, Macro, arguments_of, end_of_repeat, put_in
 from work65.porting.line import Unportable
 from work65.porting.logical import Logical

@@ -2,9 +2,9 @@
 from dataclasses import dataclass, field
 from typing import Dict, FrozenSet, List, Optional, Sequence, Set
 
-from work65.language import words
-from work65.language.statements import parts_of, statement_of
-from work65.language.tokens import Kind, Token, line_of
+from work65.frontend import words
+from work65.frontend.statements import parts_of, statement_of
+from work65.frontend.tokens import Kind, Token, line_of
 from work65.porting.characters import has_text
 from work65.porting.line import edited, text_of_tokens
 from work65.porting.logical import Logical

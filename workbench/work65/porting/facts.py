@@ -2,10 +2,10 @@
 from functools import lru_cache
 from typing import FrozenSet, NamedTuple, Sequence, Tuple
 
+from work65.frontend import words
+from work65.frontend.statements import parts_of
+from work65.frontend.tokens import Kind, Token, line_of
 from work65.habits.sources import is_plain
-from work65.language import words
-from work65.language.statements import parts_of
-from work65.language.tokens import Kind, Token, line_of
 from work65.porting.characters import has_text
 from work65.porting.long_lines import MOST_BYTES
 

@@ -1,8 +1,8 @@
 """Areas that cc65's linker fills up to a row that nobody uses: the script is written so that bin65's file ends there, too."""
 from typing import Dict, List, Optional, Tuple
 
-from work65.language.scripts import Entry, blocks_of, words_of
-from work65.layout import UNWRITTEN, Layout, layout_of
+from work65.frontend.scripts import Entry, blocks_of, words_of
+from work65.instrumenting.layout import UNWRITTEN, Layout, layout_of
 from work65.porting.line import edited
 from work65.porting.tools import Linked
 from work65.scripts import Script, number_of, read_script, with_files

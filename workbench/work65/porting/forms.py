@@ -1,10 +1,10 @@
 """Operands that bin65 would take otherwise than cc65's ca65 does, without a word."""
 from typing import AbstractSet, Sequence
 
-from work65.language import words
-from work65.language.expression import scoped_name, value
-from work65.language.statements import Statement, statement_of
-from work65.language.tokens import Kind, Token, line_of
+from work65.frontend import words
+from work65.frontend.expression import scoped_name, value
+from work65.frontend.statements import Statement, statement_of
+from work65.frontend.tokens import Kind, Token, line_of
 from work65.porting.context import Context
 from work65.porting.facts import star_in
 from work65.porting.line import edited

@@ -2,10 +2,10 @@
 import re
 from typing import Callable, Dict, List, Optional, Sequence, Tuple
 
-from work65.language import words
-from work65.language.expression import scoped_name, value
-from work65.language.statements import parts_of
-from work65.language.tokens import Kind, Token, is_closed, line_of
+from work65.frontend import words
+from work65.frontend.expression import scoped_name, value
+from work65.frontend.statements import parts_of
+from work65.frontend.tokens import Kind, Token, is_closed, line_of
 from work65.porting.characters import content
 from work65.porting.context import Context
 from work65.porting.line import edited, in_parentheses, text_of_tokens

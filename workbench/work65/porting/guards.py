@@ -1,8 +1,8 @@
 """Guards of included files: the name that a file asks for and defines, so that it counts once. No -D gives such a name."""
 from typing import List, Optional
 
-from work65.language.statements import Statement, statement_of
-from work65.language.tokens import line_of
+from work65.frontend.statements import Statement, statement_of
+from work65.frontend.tokens import line_of
 
 
 def guard_of(lines: List[str]) -> Optional[str]:

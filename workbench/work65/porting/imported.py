@@ -1,9 +1,9 @@
 """Imports of constants below 0 in expressions whose result depends on the sign: cc65's linker has them as numbers above 0."""
 from typing import Dict, Iterator, Sequence, Set, Tuple
 
+from work65.frontend.statements import Statement, parts_of, statement_of
+from work65.frontend.tokens import Kind, Token, line_of
 from work65.habits.habit import Finding, Habit
-from work65.language.statements import Statement, parts_of, statement_of
-from work65.language.tokens import Kind, Token, line_of
 from work65.porting.project import Project
 
 EXPORTS = frozenset((".export", ".exportzp", ".global", ".globalzp"))

@@ -2,18 +2,18 @@
 import os
 from typing import Dict, FrozenSet, List, Optional, Sequence, Tuple
 
-from work65.language import words
-from work65.language.expression import value
-from work65.language.statements import Statement, parts_of, statement_of
-from work65.language.tokens import Kind, Token, line_of
+from work65.frontend import words
+from work65.frontend.expression import value
+from work65.frontend.statements import Statement, parts_of, statement_of
+from work65.frontend.tokens import Kind, Token, line_of
+from work65.porting import defines, forms
 from work65.porting.characters import of_target
 from work65.porting.context import Context, Row
+from work65.porting.expansion import HARD, Macro, hard_macros
+from work65.porting.facts import facts_of
 from work65.porting.functions import Folder
 from work65.porting.line import Unportable
 from work65.porting.logical import Logical
-from work65.porting import defines, forms
-from work65.porting.facts import facts_of
-from work65.porting.expansion import HARD, Macro, hard_macros
 from work65.porting.project import Project
 
 BYTES = words.MNEMONICS | words.DATA | {".asciiz", ".tag", ".faraddr", ".lobytes", ".hibytes", ".bankbytes"}

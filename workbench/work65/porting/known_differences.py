@@ -2,8 +2,8 @@
 import re
 from typing import List
 
-from work65.language.files import Text
-from work65.language.scripts import Entry, blocks_of, words_of
+from work65.frontend.files import Text
+from work65.frontend.scripts import Entry, blocks_of, words_of
 from work65.porting.tools import Linked
 from work65.scripts import OUTPUT, with_files
 

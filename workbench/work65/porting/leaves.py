@@ -2,9 +2,9 @@
 import re
 from typing import Callable, Dict, Iterable, Iterator, List, NamedTuple, Optional, Sequence, Tuple
 
-from work65.marks import Sign
-from work65.objects import Place
-from work65.trace import Met
+from work65.formats.objects import Place
+from work65.instrumenting.marks import Sign
+from work65.instrumenting.trace import Met
 
 
 class Line(NamedTuple):

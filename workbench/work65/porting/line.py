@@ -1,8 +1,8 @@
 """A line that is rewritten: edits at the places of tokens, and several statements in place of one."""
 from typing import Iterable, List, Sequence, Tuple
 
-from work65.language.statements import Statement
-from work65.language.tokens import Token, line_of
+from work65.frontend.statements import Statement
+from work65.frontend.tokens import Token, line_of
 
 
 class Unportable(Exception):

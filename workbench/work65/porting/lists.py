@@ -2,8 +2,8 @@
 from dataclasses import dataclass, field
 from typing import Dict, List, Sequence
 
-from work65.language.statements import Statement, parts_of
-from work65.language.tokens import Kind, Token
+from work65.frontend.statements import Statement, parts_of
+from work65.frontend.tokens import Kind, Token
 from work65.porting.context import Context
 from work65.porting.line import Unportable, replaced, text_of_tokens
 

@@ -1,8 +1,8 @@
 """The lines of a file as ca65 reads them: comments of C are comments, and a line that goes on is one."""
 from typing import List, NamedTuple
 
-from work65.language import words
-from work65.language.tokens import line_of
+from work65.frontend import words
+from work65.frontend.tokens import line_of
 
 
 class Logical(NamedTuple):

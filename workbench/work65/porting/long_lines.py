@@ -1,9 +1,9 @@
 """Lines that are longer than bin65 takes."""
 from typing import List
 
-from work65.language import words
-from work65.language.statements import parts_of, statement_of
-from work65.language.tokens import line_of
+from work65.frontend import words
+from work65.frontend.statements import parts_of, statement_of
+from work65.frontend.tokens import line_of
 from work65.porting.line import Unportable
 
 MOST_BYTES, LONGEST = 4096, 100

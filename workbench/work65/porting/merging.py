@@ -1,10 +1,10 @@
 """Lists of data, each of which came of a line of its own, as fewer and longer ones."""
 from typing import List, Optional, Sequence, Tuple
 
-from work65.language import words
-from work65.language.expression import nothing_known, value
-from work65.language.statements import parts_of, statement_of
-from work65.language.tokens import Token, line_of
+from work65.frontend import words
+from work65.frontend.expression import nothing_known, value
+from work65.frontend.statements import parts_of, statement_of
+from work65.frontend.tokens import Token, line_of
 from work65.porting.facts import star_in
 
 MOST_ELEMENTS, LONGEST = 16, 100

@@ -4,13 +4,13 @@ import sys
 from dataclasses import dataclass
 from typing import Dict, Iterator, List, Optional, Sequence, Tuple
 
+from work65.frontend import words
+from work65.frontend.files import Text, text_of
+from work65.frontend.survey import Tree, surveyed
+from work65.frontend.tokens import line_of
 from work65.habits import scripts as script_habits
 from work65.habits import sources as source_habits
 from work65.habits.habit import Finding, Habit
-from work65.language import words
-from work65.language.files import Text, text_of
-from work65.language.tokens import line_of
-from work65.language.tree import Tree, surveyed
 from work65.porting import condes, imported, packages, scripts
 from work65.porting.leaves import Line
 from work65.porting.project import OWN, Project, Spread

@@ -4,20 +4,20 @@ import re
 from dataclasses import dataclass, field
 from typing import Dict, FrozenSet, List, Optional, Sequence, Set, Tuple
 
+from work65.frontend import words
+from work65.frontend.files import Text, text_of
+from work65.frontend.statements import Statement, statement_of
+from work65.frontend.survey import Tree, asminc_file, surveyed
+from work65.frontend.tokens import Kind, line_of
 from work65.habits.habit import Finding
 from work65.habits.table import BY_NAME
-from work65.language import words
-from work65.language.files import Text, text_of
-from work65.language.statements import Statement, statement_of
-from work65.language.tokens import Kind, line_of
-from work65.language.tree import Tree, asminc_file, surveyed
+from work65.instrumenting.sources import path_of_bytes
 from work65.output import words as words_of_path
 from work65.porting.context import Row
 from work65.porting.guards import guard_of
 from work65.porting.leaves import Line
 from work65.porting.line import Unportable
 from work65.porting.logical import Logical, logical_lines
-from work65.sources import path_of_bytes
 
 OWN = "work65"
 BANK = re.compile(r"\.bank\b", re.I)

@@ -1,10 +1,10 @@
 """`.feature force_range`: values that don't fit are cut, as cc65 cuts them."""
 from typing import List, Sequence, Tuple
 
-from work65.language import words
-from work65.language.expression import value
-from work65.language.statements import Statement, parts_of
-from work65.language.tokens import Kind, Token
+from work65.frontend import words
+from work65.frontend.expression import value
+from work65.frontend.statements import Statement, parts_of
+from work65.frontend.tokens import Kind, Token
 from work65.porting.context import Context
 from work65.porting.line import edited, text_of_tokens
 

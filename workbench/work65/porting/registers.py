@@ -1,10 +1,10 @@
 """`.org` before labels and room alone, as for the registers of a machine: each label is a constant."""
 from typing import List, Optional, Sequence
 
-from work65.language import words
-from work65.language.expression import value
-from work65.language.statements import Statement, parts_of, statement_of
-from work65.language.tokens import Kind, Token, line_of
+from work65.frontend import words
+from work65.frontend.expression import value
+from work65.frontend.statements import Statement, parts_of, statement_of
+from work65.frontend.tokens import Kind, Token, line_of
 from work65.porting.context import Context
 from work65.porting.line import Unportable, commented_out
 from work65.porting.logical import Logical

@@ -1,9 +1,9 @@
 """Names that become others: those that `.set` changes, cheap names of a .local or with a value, and imports of a scope."""
 from typing import Iterator, List, Optional, Sequence, Tuple
 
-from work65.language.expression import value
-from work65.language.statements import Statement
-from work65.language.tokens import Kind, Token, line_of
+from work65.frontend.expression import value
+from work65.frontend.statements import Statement
+from work65.frontend.tokens import Kind, Token, line_of
 from work65.porting import conditions, guards, shifts, spelling
 from work65.porting.facts import facts_of
 from work65.porting.known import Known

@@ -1,10 +1,10 @@
 """Rewrites the statements of a module."""
 from typing import Callable, Dict, List, Optional, Sequence
 
-from work65.language import words
-from work65.language.expression import scoped_name, value
-from work65.language.statements import Statement, statement_of
-from work65.language.tokens import Kind, Token, line_of
+from work65.frontend import words
+from work65.frontend.expression import scoped_name, value
+from work65.frontend.statements import Statement, statement_of
+from work65.frontend.tokens import Kind, Token, line_of
 from work65.porting import condes, conditions, defines, forms, guards, lists, packages, ranges, registers, shifts, spelling
 from work65.porting import statements, structures
 from work65.porting.characters import as_elements

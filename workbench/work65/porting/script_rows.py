@@ -2,7 +2,7 @@
 from dataclasses import dataclass, field, replace
 from typing import Dict, Iterator, List, Optional, Set, Tuple
 
-from work65.language.scripts import Attribute, Block, Entry, Word
+from work65.frontend.scripts import Attribute, Block, Entry, Word
 
 Edit = Tuple[int, int, str]
 Said = Tuple[Word, str]

@@ -1,8 +1,8 @@
 """Scripts: what bin65 doesn't take of them goes, or is written as it takes it."""
 from typing import Dict, Iterator, List, Optional, Set, Tuple
 
-from work65.language.files import Text
-from work65.language.scripts import Attribute, Block, Entry, Word, blocks_of, symbols_of, words_of
+from work65.frontend.files import Text
+from work65.frontend.scripts import Attribute, Block, Entry, Word, blocks_of, symbols_of, words_of
 from work65.porting.line import edited
 from work65.porting.script_rows import Rows, Said, Usage
 

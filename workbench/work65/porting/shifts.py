@@ -1,9 +1,9 @@
 """Shifts to the right of what may be negative: bin65's keep the sign, cc65's don't."""
 from typing import Optional, Sequence
 
-from work65.language import words
-from work65.language.expression import value
-from work65.language.tokens import Kind, Token
+from work65.frontend import words
+from work65.frontend.expression import value
+from work65.frontend.tokens import Kind, Token
 from work65.porting.context import Context
 from work65.porting.line import Unportable
 

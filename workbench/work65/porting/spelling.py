@@ -1,10 +1,10 @@
 """What features allow that is spelling alone, and the characters of strings."""
 from typing import List, Optional, Sequence, Tuple
 
-from work65.language import words
-from work65.language.expression import value
-from work65.language.statements import Statement, parts_of
-from work65.language.tokens import Kind, Token, is_closed, line_of
+from work65.frontend import words
+from work65.frontend.expression import value
+from work65.frontend.statements import Statement, parts_of
+from work65.frontend.tokens import Kind, Token, is_closed, line_of
 from work65.porting.characters import as_elements, content
 from work65.porting.context import Context
 from work65.porting.line import Unportable, edited, replaced, text_of_tokens

@@ -1,15 +1,15 @@
 """Statements that become others: data, imports of sizes, assertions, instructions that aren't documented."""
 from typing import Callable, Dict, List, Optional, Sequence
 
-from work65.language import words
-from work65.language.expression import scoped_name, value
-from work65.language.statements import Statement, parts_of
-from work65.language.tokens import Kind, Token, line_of
+from work65.frontend import words
+from work65.frontend.expression import scoped_name, value
+from work65.frontend.statements import Statement, parts_of
+from work65.frontend.tokens import Kind, Token, line_of
 from work65.porting.context import Context
 from work65.porting.facts import star_in
 from work65.porting.line import Unportable, commented_out, edited, in_parentheses, replaced, text_of_tokens
-from work65.porting.undocumented import OPCODES
 from work65.porting.structures import size_named
+from work65.porting.undocumented import OPCODES
 
 Rewrite = Callable[[str, Statement, Context], List[str]]
 SIZE_UNKNOWN = "whether the operand is short isn't known here: write z: or a: before it"

@@ -1,10 +1,10 @@
 """`.enum`, `.struct` and `.union`: their members become constants, and their size one more."""
 from typing import List, Optional, Sequence, Tuple
 
-from work65.language import words
-from work65.language.expression import scoped_name, value
-from work65.language.statements import Statement
-from work65.language.tokens import Kind, Token, line_of
+from work65.frontend import words
+from work65.frontend.expression import scoped_name, value
+from work65.frontend.statements import Statement
+from work65.frontend.tokens import Kind, Token, line_of
 from work65.porting import forms
 from work65.porting.context import Context, Structure
 from work65.porting.line import Unportable, commented_out, text_of_tokens

@@ -7,12 +7,12 @@ import subprocess
 from dataclasses import dataclass, field
 from typing import Dict, Iterable, List, Optional, Sequence, Set
 
-from work65.mapfile import Map, read_map
+from work65.formats.maps import Map, read_map
+from work65.instrumenting.sources import read_bytes
 from work65.mirror import Mirror
 from work65.problem import Problem
 from work65.program import Program
 from work65.scripts import OUTPUT, with_files
-from work65.sources import read_bytes
 
 NAMES = ("ca65", "ld65", "od65", "ar65")
 # A segment in ld65's map, with its start, end and size; and an export with its value.

@@ -3,7 +3,7 @@ import os
 from dataclasses import dataclass, field, replace
 from typing import List, Optional
 
-from work65.message import message_of
+from work65.diagnosing.message import message_of
 from work65.porting import filling, known_differences
 from work65.porting.difference import Finder, Module, difference
 from work65.porting.port import Ported

@@ -5,10 +5,11 @@ import tempfile
 from dataclasses import dataclass, field, replace
 from typing import Callable, Dict, Iterable, List, Optional, Sequence, Set, Tuple, Union
 
-from work65.build import Builder, Wanted
-from work65.instrument import Constants
-from work65.language import words
-from work65.message import message_of
+from work65.diagnosing.message import message_of
+from work65.frontend import words
+from work65.instrumenting.build import Builder, Wanted
+from work65.instrumenting.copies import Constants
+from work65.instrumenting.sources import Closure
 from work65.porting import alone, copying, unasserted
 from work65.porting.difference import Finder, Module
 from work65.porting.forms import prefixed
@@ -21,7 +22,6 @@ from work65.porting.tools import Linked, Options, Ours, Refused, Theirs, other_e
 from work65.problem import Problem
 from work65.program import Program
 from work65.progress import Progress
-from work65.sources import Closure
 
 # Files that are no sources by themselves, where nothing includes them either.
 PARTS = (".inc", ".mac", ".i65", ".h")

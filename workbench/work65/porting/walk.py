@@ -2,10 +2,11 @@
 import re
 from typing import List, Optional, Sequence
 
-from work65.language import words
-from work65.language.statements import Statement, parts_of, statement_of
-from work65.language.tokens import Kind, line_of
+from work65.frontend import words
+from work65.frontend.statements import Statement, parts_of, statement_of
+from work65.frontend.tokens import Kind, line_of
 from work65.porting import conditions, defines, forms, spelling, structures
+from work65.porting.calls import Calls
 from work65.porting.context import Block, Row
 from work65.porting.expander import Expander
 from work65.porting.expansion import HARD, OF_TOKENS, end_of_repeat
@@ -15,9 +16,8 @@ from work65.porting.leaves import Line
 from work65.porting.line import Unportable, commented_out, edited
 from work65.porting.logical import Logical
 from work65.porting.long_lines import MOST_BYTES, split
-from work65.porting.project import Project
 from work65.porting.merging import merged
-from work65.porting.calls import Calls
+from work65.porting.project import Project
 from work65.porting.rewriter import UNLABELLED
 
 # How deep files are included: bin65 takes 256.

@@ -1,8 +1,8 @@
 """Addresses and bytes of what stands in a module, after the link."""
 from typing import Callable, Dict, List, Optional
 
-from work65.build import Build, Unit
-from work65.objects import Form, Import, Operation, Place
+from work65.formats.objects import Form, Import, Operation, Place
+from work65.instrumenting.build import Build, Unit
 
 UNARY: Dict[int, Callable[[int], int]] = {
     0x10: lambda a: -a,

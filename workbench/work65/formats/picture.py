@@ -2,7 +2,7 @@
 from typing import List
 from xml.sax.saxutils import escape
 
-from work65.sizes import AreaSize, SegmentSize, Sizes
+from work65.instrumenting.sizes import AreaSize, SegmentSize, Sizes
 
 HEIGHT, WIDTH, GAP, TOP = 480, 150, 30, 60
 COLOURS = ("#7fb3d5", "#f7dc6f", "#82e0aa", "#f1948a", "#bb8fce", "#f0b27a", "#76d7c4", "#d5d8dc")

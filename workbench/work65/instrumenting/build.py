@@ -5,20 +5,20 @@ import os
 from dataclasses import dataclass, field
 from typing import Dict, List, Optional, Tuple
 
-from work65.instrument import Constants, Copies, How, instrument
-from work65.language.files import want_regular
-from work65.layout import Layout, layout_of
-from work65.library import sources_of
-from work65.mapfile import Module, read_map
+from work65.formats.maps import Module, read_map
+from work65.formats.objects import Object, read_object
+from work65.frontend.files import want_regular
+from work65.instrumenting.copies import Constants, Copies, How, instrument
+from work65.instrumenting.layout import Layout, layout_of
+from work65.instrumenting.library import sources_of
+from work65.instrumenting.replay import Told, replay
+from work65.instrumenting.sources import Closure, read_bytes, read_text
+from work65.instrumenting.trace import Met, met
 from work65.mirror import Mirror
-from work65.objects import Object, read_object
 from work65.problem import Problem
 from work65.program import Program
 from work65.progress import Progress
-from work65.replay import Told, replay
 from work65.scripts import OUTPUT, read_script, with_files
-from work65.sources import Closure, read_bytes, read_text
-from work65.trace import Met, met
 
 
 @dataclass(frozen=True)

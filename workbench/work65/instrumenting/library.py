@@ -3,9 +3,9 @@ import os
 import struct
 from typing import Dict, List, Optional, Tuple
 
+from work65.instrumenting.sources import read_bytes
 from work65.problem import Problem
 from work65.program import Program
-from work65.sources import read_bytes
 
 OWN, CC65 = b"R65l", b"naUz"
 

@@ -8,9 +8,9 @@ from dataclasses import dataclass
 from enum import Enum
 from typing import Iterator, List, Optional, Sequence, Set, Tuple
 
+from work65.instrumenting.marks import Marks, Sign
+from work65.instrumenting.sources import Closure, Source, word_of
 from work65.lines import Kind, Token
-from work65.marks import Marks, Sign
-from work65.sources import Closure, Source, word_of
 from work65.statements import PUTTING, Statement, What
 
 # A line of marks has so many characters, and those of one more mark: a line has 4,096 at most, and a name 200.

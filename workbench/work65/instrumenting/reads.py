@@ -3,11 +3,11 @@ import os
 from dataclasses import dataclass, field
 from typing import List, Optional, Sequence, Tuple
 
-from work65.instrument import free_names, inside
+from work65.instrumenting.copies import free_names, inside
+from work65.instrumenting.sources import Closure, Source, candidates, find_readable, word_of
 from work65.mirror import Mirror
 from work65.program import Program
 from work65.progress import Progress
-from work65.sources import Closure, Source, candidates, find_readable, word_of
 from work65.statements import Statement, What
 
 TAKING = (What.INCLUDE, What.INCBIN)

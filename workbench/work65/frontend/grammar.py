@@ -5,8 +5,8 @@ bin65, and else the token's text in small letters."""
 from functools import lru_cache
 from typing import Optional, Sequence, Tuple
 
-from work65.language import words
-from work65.language.tokens import Kind, Token, is_closed, value_of
+from work65.frontend import words
+from work65.frontend.tokens import Kind, Token, is_closed, value_of
 
 Shapes = Tuple[str, ...]
 PREFIXES = frozenset("+-~<>^") | words.PREFIX_WORDS

@@ -5,18 +5,18 @@ import re
 from dataclasses import dataclass, field, replace
 from typing import Dict, List, Optional, Set, Tuple
 
-from work65 import leaving_out
-from work65.language import words
-from work65.language.files import text_of
-from work65.language.includes import followed
-from work65.language.tokens import Kind, line_of
-from work65.language.tree import Tree, surveyed
-from work65.message import Message, message_of
+from work65.diagnosing import leaving_out
+from work65.diagnosing.message import Message, message_of
+from work65.diagnosing.suspects import Judge, Suspect, suspects_in
+from work65.frontend import words
+from work65.frontend.files import text_of
+from work65.frontend.includes import followed
+from work65.frontend.survey import Tree, surveyed
+from work65.frontend.tokens import Kind, line_of
 from work65.problem import Problem
 from work65.program import Program, Ran
 from work65.progress import Progress
 from work65.shadow import Shadow
-from work65.suspects import Judge, Suspect, suspects_in
 
 MOST = 1000
 # The number of errors after which lines are collected that bin65 rejects in any context.

@@ -3,9 +3,9 @@ import os
 from dataclasses import dataclass, field
 from typing import Dict, Iterable, List, Optional, Set, Tuple
 
-from work65.language import words
-from work65.language.files import Text, text_of
-from work65.language.tokens import Kind, Token, line_of
+from work65.frontend import words
+from work65.frontend.files import Text, text_of
+from work65.frontend.tokens import Kind, Token, line_of
 from work65.problem import Problem
 
 ASMINC = ("/usr/share/cc65/asminc", "/usr/local/share/cc65/asminc")

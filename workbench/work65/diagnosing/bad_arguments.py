@@ -2,8 +2,8 @@
 import re
 from typing import List, Optional, Sequence
 
-from work65.language import words
-from work65.language.tokens import value_of
+from work65.frontend import words
+from work65.frontend.tokens import value_of
 
 WITH_VALUE = {"ca65": ("-o", "-I", "-D"), "ld65": ("-C", "-o", "-m"), "ar65": ()}
 HELP = ("-h", "-V", "--help", "--version")

@@ -1,11 +1,11 @@
 """Included files, found by bin65's rules."""
 from typing import Dict, Iterable, Iterator, List, Optional, Sequence, Set
 
-from work65.language.files import Text, text_of
-from work65.language.statements import Statement, statement_of
-from work65.language.tokens import Kind, is_closed, line_of
+from work65.frontend.files import Text, text_of
+from work65.frontend.statements import Statement, statement_of
+from work65.frontend.tokens import Kind, is_closed, line_of
+from work65.instrumenting.sources import find, is_regular, place_of
 from work65.problem import Problem
-from work65.sources import find, is_regular, place_of
 
 
 def word_of(statement: Statement) -> Optional[str]:

@@ -2,13 +2,13 @@
 from dataclasses import dataclass, field
 from typing import Dict, List, Optional, Sequence, Union
 
+from work65.formats.objects import Form, Operation, Place
+from work65.instrumenting.marks import Mark, Sign
+from work65.instrumenting.sources import Closure, Source, word_of
+from work65.instrumenting.trace import Met
 from work65.lines import Kind, Token, text_of
 from work65.macros import Macro, Put, call_of, macro_of
-from work65.marks import Mark, Sign
-from work65.objects import Form, Operation, Place
-from work65.sources import Closure, Source, word_of
 from work65.statements import Statement, What, read_statement
-from work65.trace import Met
 
 
 @dataclass

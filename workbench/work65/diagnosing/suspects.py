@@ -3,14 +3,14 @@ import os
 from dataclasses import dataclass
 from typing import Callable, Dict, Iterator, List, NamedTuple, Optional, Sequence, Set, Tuple
 
-from work65.language import grammar, words
-from work65.language.files import Text, text_of
-from work65.language.includes import followed
-from work65.language.statements import Statement, statement_of
-from work65.language.tokens import Kind, Token, line_of
-from work65.language.tree import Tree, surveyed
-from work65.leaving_out import BLOCKS, defined_by
-from work65.message import message_of
+from work65.diagnosing.leaving_out import BLOCKS, defined_by
+from work65.diagnosing.message import message_of
+from work65.frontend import grammar, words
+from work65.frontend.files import Text, text_of
+from work65.frontend.includes import followed
+from work65.frontend.statements import Statement, statement_of
+from work65.frontend.survey import Tree, surveyed
+from work65.frontend.tokens import Kind, Token, line_of
 from work65.program import Program
 
 TOGETHER = 64

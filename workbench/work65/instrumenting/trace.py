@@ -2,9 +2,9 @@
 from dataclasses import dataclass
 from typing import Iterator, List, Optional, Union
 
-from work65.instrument import Copies
-from work65.marks import Mark
-from work65.objects import Fill, Form, Object
+from work65.formats.objects import Fill, Form, Object
+from work65.instrumenting.copies import Copies
+from work65.instrumenting.marks import Mark
 from work65.problem import Problem
 
 

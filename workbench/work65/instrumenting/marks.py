@@ -3,7 +3,7 @@ from dataclasses import dataclass
 from enum import IntEnum, auto
 from typing import List, Optional
 
-from work65.sources import Source
+from work65.instrumenting.sources import Source
 
 
 class Sign(IntEnum):

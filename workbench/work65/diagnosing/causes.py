@@ -5,9 +5,9 @@ source has the same kind as the line."""
 import enum
 from typing import AbstractSet, Callable, List, Optional, Sequence
 
-from work65.language import grammar, words
-from work65.language.statements import Statement, is_instruction, parts_of, statement_of
-from work65.language.tokens import Kind, Token, line_of
+from work65.frontend import grammar, words
+from work65.frontend.statements import Statement, is_instruction, parts_of, statement_of
+from work65.frontend.tokens import Kind, Token, line_of
 
 
 class Cause(enum.Enum):

@@ -1,9 +1,9 @@
 """Which lines conditions leave out, as far as names and numbers tell without an assembly."""
 from typing import AbstractSet, List, Optional
 
-from work65.language import words
-from work65.language.statements import Statement
-from work65.language.tokens import Kind, value_of
+from work65.frontend import words
+from work65.frontend.statements import Statement
+from work65.frontend.tokens import Kind, value_of
 
 
 class Conditions:

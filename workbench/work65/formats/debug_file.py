@@ -3,13 +3,13 @@ import os
 from dataclasses import dataclass, field
 from typing import Dict, Iterable, List, Optional, Sequence, Tuple
 
-from work65.address_sizes import AddressSizes
-from work65.build import Build, Unit
-from work65.objects import Place
-from work65.replay import Label, Reading, Row, Scope, Told
-from work65.resolve import Resolver
+from work65.formats.objects import Place
+from work65.instrumenting.address_sizes import AddressSizes
+from work65.instrumenting.build import Build, Unit
+from work65.instrumenting.replay import Label, Reading, Row, Scope, Told
+from work65.instrumenting.resolve import Resolver
+from work65.instrumenting.sources import Source
 from work65.scripts import OUTPUT
-from work65.sources import Source
 
 # How wide an element of a list of data is, and how a debug file writes its type: bytes, words, pointers, words with the high
 # byte first.

@@ -1,8 +1,8 @@
 """The value of an expression of numbers and known names."""
 from typing import Callable, Dict, Optional, Sequence, Tuple
 
-from work65.language.grammar import NOTS, PREFIXES
-from work65.language.tokens import Kind, Token, is_closed, value_of
+from work65.frontend.grammar import NOTS, PREFIXES
+from work65.frontend.tokens import Kind, Token, is_closed, value_of
 
 Lookup = Callable[[str], Optional[int]]
 LEVELS: Dict[str, int] = {}

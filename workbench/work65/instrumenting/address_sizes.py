@@ -1,11 +1,11 @@
 """Address sizes of a module's symbols, by ca65's rules: a label has its segment's size, a constant that of its expression."""
 from typing import Dict, Iterable, Iterator, List, Optional, Sequence, Set, Tuple
 
-from work65.layout import Layout
+from work65.formats.objects import Place
+from work65.instrumenting.layout import Layout
+from work65.instrumenting.replay import Label, Told
+from work65.instrumenting.sources import Closure
 from work65.lines import Kind, Token
-from work65.objects import Place
-from work65.replay import Label, Told
-from work65.sources import Closure
 from work65.statements import What
 
 SHORT, LONG = "zeropage", "absolute"

@@ -1,9 +1,9 @@
 """What of a refused line is left out of a copy, so that the lines after it can be looked at."""
 from typing import Iterable, List, Set, Tuple
 
-from work65.language import words
-from work65.language.statements import Statement, statement_of
-from work65.language.tokens import Kind, line_of
+from work65.frontend import words
+from work65.frontend.statements import Statement, statement_of
+from work65.frontend.tokens import Kind, line_of
 
 BLOCKS = {".struct": ".endstruct", ".union": ".endunion", ".enum": ".endenum"}
 CLOSING = {

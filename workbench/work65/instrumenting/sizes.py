@@ -2,10 +2,10 @@
 from dataclasses import asdict, dataclass, field
 from typing import Dict, List, Sequence
 
-from work65.build import Unit
-from work65.layout import Layout, Room
-from work65.mapfile import Placed
-from work65.names import scope_name
+from work65.formats.maps import Placed
+from work65.instrumenting.build import Unit
+from work65.instrumenting.layout import Layout, Room
+from work65.instrumenting.names import scope_name
 
 
 @dataclass(frozen=True)

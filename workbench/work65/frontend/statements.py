@@ -2,8 +2,8 @@
 from dataclasses import dataclass
 from typing import Callable, List, Optional, Sequence, Tuple
 
-from work65.language import words
-from work65.language.tokens import Kind, Token
+from work65.frontend import words
+from work65.frontend.tokens import Kind, Token
 
 
 @dataclass(frozen=True)

@@ -2,7 +2,7 @@
 from dataclasses import dataclass, field
 from typing import Dict, List, Optional
 
-from work65.mapfile import Map, Placed
+from work65.formats.maps import Map, Placed
 from work65.problem import Problem
 from work65.scripts import Area, Row, Script, number_of
 

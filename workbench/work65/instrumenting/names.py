@@ -2,10 +2,10 @@
 from dataclasses import dataclass
 from typing import Dict, Iterator, List, Optional, Tuple
 
-from work65.build import Build
-from work65.objects import Form, Place
-from work65.replay import Label, Told
-from work65.resolve import Resolver
+from work65.formats.objects import Form, Place
+from work65.instrumenting.build import Build
+from work65.instrumenting.replay import Label, Told
+from work65.instrumenting.resolve import Resolver
 
 
 @dataclass(frozen=True)

@@ -4,7 +4,7 @@ from dataclasses import dataclass, field
 from functools import lru_cache
 from typing import Callable, Dict, Iterable, Iterator, List, Optional, Sequence, Set, Tuple
 
-from work65.language.files import want_regular
+from work65.frontend.files import want_regular
 from work65.lines import Kind, Line, read_line
 from work65.problem import Problem
 from work65.statements import Statement, What, read_statement

@@ -65,7 +65,7 @@ here=$(cd "$(dirname "$(readlink -f "$0")")" && pwd)
 held='env --block-signal=INT'
 $held true 2> /dev/null || held=
 export BIN65="${BIN65:-$here/bin65}" PYTHONDONTWRITEBYTECODE=1
-exec $held python3 -c 'import sys; sys.path[0] = sys.argv.pop(1); import work65.__main__' "$here/../share/bin65" "$@"
+exec $held python3 -c 'import sys; sys.path[0] = sys.argv.pop(1); from work65.__main__ import start; start()' "$here/../share/bin65" "$@"
 END
 put 755 "$files.work65" bin/work65
 rm -f "$files.work65"

@@ -16,7 +16,7 @@ import sys
 import tarfile
 
 ROOT = os.path.dirname(os.path.dirname(os.path.realpath(__file__)))
-PARTS = ("README.md", "CHANGELOG.md", "CONTRIBUTING.md", "docs", "example", "man", "workbench/work65")
+PARTS = ("README.md", "CHANGELOG.md", "CONTRIBUTING.md", "docs", "example", "man", "workbench/work65", "workbench/pyproject.toml", "workbench/backend.py")
 LEFT_OUT = re.compile(r"(^|/)(__pycache__|out)(/|$)|\.pyc$")
 MAKEFILE = """# Installs what was released, and takes it out again; no toolchain is needed.
 PREFIX ?= /usr/local

@@ -1,7 +1,7 @@
 #!/usr/bin/env python3
 """Each link of a page leads to a file of the repository, and to a heading of it where it names one; the README has at most
-130 lines; tests/README.md has a row for each script of tests/; and the picture
-of the crates is the one that its script draws.
+130 lines; tests/README.md has a row for each script of tests/; the picture of the crates is the one that its script draws; and no
+file has the marks of a merge that was left undone.
 
 usage: links.py. The last line is 'N passed, M failed'."""
 import glob
@@ -51,6 +51,12 @@ def all_wrong(root):
     return [it for page in pages_of(root) for it in wrong(root, page)]
 
 
+def unmerged():
+    """Yields the lines of the repository's files that mark the two sides of a merge."""
+    ran = subprocess.run(["git", "grep", "-nIE", "^(<{7}|>{7}) "], cwd=pages.ROOT, capture_output=True, text=True, check=False)
+    yield from (f"a merge was left undone: {it}" for it in ran.stdout.splitlines())
+
+
 def main():
     faults = {page: list(wrong(pages.ROOT, page)) for page in pages_of(pages.ROOT)}
     if (lines := len(pages.read("README.md").splitlines())) > 130:
@@ -62,6 +68,7 @@ def main():
     drawn = subprocess.run([sys.executable, f"{pages.ROOT}/docs/tables/make_picture.py", "--print"], capture_output=True, text=True, check=False)
     if drawn.stdout != pages.read("docs/screens/crates.svg"):
         faults["docs/ARCHITECTURE.md"].append("docs/screens/crates.svg isn't what docs/tables/make_picture.py draws from crates.txt")
+    faults["merges"] = list(unmerged())
     for it in sum(faults.values(), []):
         print(it)
     failed = sum(map(bool, faults.values()))

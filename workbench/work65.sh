@@ -4,4 +4,4 @@
 here=$(dirname "$(readlink -f "$0")")
 held='env --block-signal=INT'
 $held true 2> /dev/null || held=
-exec $held python3 -c 'import sys; sys.path[0] = sys.argv.pop(1); import work65.__main__' "$here" "$@"
+exec $held python3 -c 'import sys; sys.path[0] = sys.argv.pop(1); from work65.__main__ import start; start()' "$here" "$@"

@@ -56,6 +56,7 @@ tree docs/tables '*' share/doc/bin65/tables
 tree example '*' share/doc/bin65/example
 page 's|](\.\./\.\./docs/|](../../|g' "$from/example/second/README.md" share/doc/bin65/example/second/README.md
 for it in "$from"/man/*.1; do page "s|/usr/local/share/doc/bin65|$prefix/share/doc/bin65|" "$it" "share/man/man1/${it##*/}"; done
+tree completions '*' share
 tree workbench/work65 '*.py' share/bin65/work65
 cat > "$files.work65" <<'END'
 #!/bin/sh

@@ -1,6 +1,6 @@
 #!/usr/bin/env python3
 """Packs a release: the program, its version, the commit and the kit that it is built of, what its proofs said, the pages, the
-examples, man pages, the workbench, and checksums of all. The same program and logs give the same archive.
+examples, man pages, the workbench, completions of command lines, and checksums of all. The same program and logs give the same archive.
 
 usage: release.py pack PROGRAM FOLDER [CRATES]    puts bin65-VERSION.tar.gz into the folder; the logs of proofs are those in CRATES,
                                                   and each crate of the program has to have one
@@ -16,7 +16,11 @@ import sys
 import tarfile
 
 ROOT = os.path.dirname(os.path.dirname(os.path.realpath(__file__)))
-PARTS = ("README.md", "CHANGELOG.md", "CONTRIBUTING.md", "docs", "example", "man", "workbench/work65", "workbench/pyproject.toml", "workbench/backend.py")
+sys.path.insert(0, f"{ROOT}/workbench")
+from work65.completing.scripts import all_scripts  # noqa: E402
+
+PARTS = ("README.md", "CHANGELOG.md", "CONTRIBUTING.md", "docs", "example", "man",
+         *(f"workbench/{it}" for it in ("work65", "pyproject.toml", "backend.py")))
 LEFT_OUT = re.compile(r"(^|/)(__pycache__|out)(/|$)|\.pyc$")
 MAKEFILE = """# Installs what was released, and takes it out again; no toolchain is needed.
 PREFIX ?= /usr/local
@@ -103,6 +107,7 @@ def logs(crates):
 def installed(program):
     """The files that are installed, by their names in the archive."""
     files = {"bin65": read(program), "VERSION": f"{version()}\n".encode(), "COMMIT": commit().encode()}
+    files |= {f"completions/{name}": text.encode() for name, text in all_scripts().items()}
     return files | {it: read(f"{ROOT}/{it}") for it in listed()}
 
 

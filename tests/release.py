@@ -46,6 +46,8 @@ sh /usr/local/share/bin65/labels.sh vice out/hello/c64/hello.map | head -1
 cd ../bin65-NUMBER
 make uninstall
 """
+# Where the three shells look for completions of a command.
+COMPLETIONS = ("bash-completion/completions/{}", "zsh/site-functions/_{}", "fish/vendor_completions.d/{}.fish")
 # The program's crates, each of which has to have a log.
 CRATES = ("ar65 asm65 ast65 base65 bin65 cli65 emit65 expand65 ld65 library65 link65 object65 output65 script65 semantics65 sources65 "
           "symbols65 syntax65 tools65 whole65").split()
@@ -71,6 +73,7 @@ def wanted():
     found |= {f"share/doc/bin65/{it}" for it in tracked("README.md", "CHANGELOG.md", "CONTRIBUTING.md", "example")}
     found |= {f"share/doc/bin65/{it[len('docs/'):]}" for it in tracked("docs")}
     found |= {f"share/man/man1/{os.path.basename(it)}" for it in tracked("man")}
+    found |= {f"share/{place.format(it)}" for place in COMPLETIONS for it in ("bin65", "work65")}
     return found | {f"share/bin65/{it[len('workbench/'):]}" for it in tracked("workbench/work65") if it.endswith(".py")}
 
 
@@ -138,6 +141,9 @@ def installed(checks, here, top):
     checks["it runs"] = run(top, f"{to}/bin/bin65", "ca65", "a.s").returncode == 0 and os.path.exists(f"{top}/a.o")
     os.symlink(f"{to}/bin/work65", f"{top}/work65")
     checks["the version of what is installed"] = run(top, f"{to}/bin/work65", "--version").stdout == f"work65 {VERSION}\n"
+    for shell, place in zip(("bash", "zsh", "fish"), COMPLETIONS):
+        own = open(f"{to}/share/{place.format('work65')}", encoding="utf-8").read()
+        checks[f"the completion for {shell}"] = run(top, f"{to}/bin/work65", "completion", shell).stdout == own and "--target" in own
     checks["work65 runs"] = all("usage" in run(top, it, "--help").stdout for it in (f"{to}/bin/work65", f"{top}/work65")) and files(to) == want
     for page in ("bin65", "bin65-ca65", "bin65-ld65", "bin65-ar65"):
         text = open(f"{to}/share/man/man1/{page}.1", encoding="utf-8").read().partition(".SH SEE ALSO")[2]

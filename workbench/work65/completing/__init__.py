@@ -1,0 +1,1 @@
+"""Completions of command lines for bash, zsh and fish, made from the tables of argparse."""

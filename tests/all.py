@@ -26,6 +26,7 @@ TEXTS = [
     ("the renaming tool", ["python3", "tests/rename.py"]),
     ("links of pages", ["python3", "tests/links.py"]),
     ("types of work65", ["python3", "tests/workbench_types.py"]),
+    ("units of work65", ["python3", "tests/workbench_units.py"]),
     ("completions", ["python3", "tests/completion.py"]),
 ]
 # With the program that `rt ci` builds, the longest first.

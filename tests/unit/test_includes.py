@@ -97,6 +97,6 @@ class Includes(rows.Rows):
 
     def test_survey(self):
         found = surveyed([Text("a.s", SURVEY.split("|"), [])])
-        wanted = {"macros": {"m": [("a.s", 1)], "k": [("a.s", 3)]}, "defines": {"D"}, "features": {"c_comments", "string_escapes"}, "structures": {"S"},
-                  "names": {"m", "k", "D", "n", "l", "p"}, "missing": [], "is_whole": True}
+        wanted = {"macros": {"m": [("a.s", 1)], "k": [("a.s", 3)]}, "defines": {"D"}, "features": {"c_comments", "string_escapes"},
+                  "structures": {"S"}, "names": {"m", "k", "D", "n", "l", "p"}, "missing": [], "is_whole": True}
         self.rows(wanted, lambda name: getattr(found, name))

@@ -58,7 +58,7 @@ class Scripts(rows.Rows):
         self.rows(WORDS, lambda text: "  ".join(f"{it.kind} {it.text}" for it in words_of(text)))
 
     def test_places(self):
-        self.rows({**WORDS, LINES: ""}, lambda text: WORDS.get(text, "") if all(text[it.start : it.end] == it.text for it in words_of(text)) else None)
+        self.rows(dict.fromkeys((*WORDS, LINES), True), lambda text: all(text[it.start : it.end] == it.text for it in words_of(text)))
 
     def test_lines(self):
         self.rows(LINES_OF, {it.text: it.line for it in words_of(LINES)}.get)

@@ -1,7 +1,7 @@
-"""Tries several wrong bodies of a crate in one check: each in functions of its own, judged by what is said of these alone.
+"""Tries several mutants of a crate in one check: each changes functions of its own and is judged by what the check reports of these.
 
-A function's proof reads contracts of others, and no body: so a wrong body beside it changes nothing. Where it calls one that is
-refused, it isn't looked at, and has its turn in a check after that."""
+The proof of a function uses the contracts of others and never their bodies, so another mutant in the same check changes nothing. A function
+that calls a rejected one isn't checked; its mutant gets another check."""
 import functools
 import os
 import re
@@ -13,22 +13,22 @@ IMPL = re.compile(r"impl(?:<.*?>)? (?:(?P<of>[\w:]+)(?:<(?P<with>[\w:]+).*>)? fo
 
 
 class Function:
-    """A function of a source file: its name below the crate, as a check prints it, its lines, which begin with its attributes, and
-    where its body begins."""
+    """A function of a source file: its path below the crate as a check prints it, its lines (attributes included), and the line where its body
+    begins."""
 
     def __init__(self, path, name, first, body, last):
         self.path, self.name, self.first, self.body, self.last = path, name, first, body, last
 
 
 def module_of(path):
-    """The words before a name of this file."""
+    """Returns the components of a file's module path."""
     module = path.removeprefix("src/").removesuffix(".rt").replace("/", "::")
     return [] if module in ("lib", "main") else [module]
 
 
 @functools.lru_cache(maxsize=None)
 def homes_of(folder):
-    """The files of a crate that declare a type of some name."""
+    """Returns the files of a crate that declare a type, by the type's name."""
     found = {}
     for at, _, names in os.walk(f"{folder}/src"):
         for path in (os.path.relpath(f"{at}/{name}", folder) for name in names if name.endswith(".rt")):
@@ -39,14 +39,14 @@ def homes_of(folder):
 
 
 def functions_of(path, lines, homes):
-    """The functions of a file; a method stands below the module that declares its type. The source is formatted: a function ends
-    where a brace closes at its own depth."""
+    """Returns the functions of a file. The path of a method is that of the module that declares its type. Relies on `rt fmt`: a function ends at a
+    closing brace with its own indentation."""
     front, found = module_of(path), []
     own, begun, body, depth = "", None, None, 0
     for number, line in enumerate(lines):
         if line.startswith(("impl", "pub trait", "trait")):
             it = IMPL.match(line)
-            # as a check prints it: the type, and the trait with what it is of
+            # A check prints the type, and the trait with its parameter.
             words = (it["type"], *((it["of"] or "", it["with"] or "") if it["of"] != "Drop" else ())) if it else (TYPE.match(line)[1],)
             own = "".join(word.rpartition("::")[2] for word in words)
             declaring = homes.get(words[0].rpartition("::")[2], [])
@@ -63,16 +63,16 @@ def functions_of(path, lines, homes):
         elif begun and line == f"{begun[0]}}}":
             found.append(Function(path, begun[1], begun[2], body, number))
             begun = None
-        # (how deep in the braces of a clause)
+        # (the depth in the braces of a clause)
         depth += line.count("{") - line.count("}")
         if begun and body is None and depth == 0 and line.endswith((";", "{}")):
-            # a trait's, or one that does nothing
+            # A trait's method, or an empty function.
             begun = None
     return found
 
 
 class Try:
-    """A wrong body: what it changes, line by line, and the functions in which that is: none where it isn't in functions alone."""
+    """A mutant: the lines that it changes, and the functions that contain them; no functions if it also changes something else."""
 
     def __init__(self, rt, crate, edit):
         self.edit, self.lines, self.functions = edit, {}, {}
@@ -95,7 +95,7 @@ def text_of(crate, path):
 
 
 def texts_of(crate, tries):
-    """The files that these wrong bodies change, with what all of them change there."""
+    """Returns the changed files with the changes of all these mutants."""
     texts = {}
     for path in sorted({path for it in tries for path in it.lines}):
         lines = text_of(crate, path).split("\n")
@@ -106,7 +106,7 @@ def texts_of(crate, tries):
 
 
 def apart(tries):
-    """As many of these as can stand side by side: no two change one function."""
+    """Returns as many of these mutants as fit into one check: no two change the same function."""
     chosen, taken = [], set()
     for it in tries:
         if taken.isdisjoint(it.functions):
@@ -115,12 +115,12 @@ def apart(tries):
     return chosen
 
 
-# A proof that names what a wrong body took away says nothing of the contract.
+# An error of a proof that names something the mutant removed says nothing about the contract.
 LACKS_A_NAME = re.compile(r"has no field|is not in scope|has no `|was not admitted")
 
 
 class Said:
-    """What a check said of functions, and what it found at which lines of code and of proofs."""
+    """The output of a check: the state of each function, and the errors by line of code and of proofs."""
 
     def __init__(self, crate, text):
         self.of = dict(re.findall(rf"^fn {crate.name}::(\S+): (.*)$", text, re.M))
@@ -128,14 +128,14 @@ class Said:
         self.found = [(path, int(line) - 1, said) for path, line, said in re.findall(places, text, re.M)]
 
     def is_in(self, function, path, line, said):
-        """Whether something was found in a function's body or in its own proof."""
+        """Returns whether an error is in a function's body or in its own proof."""
         if path == function.path:
             return function.first <= line <= function.last
         return path.startswith(f"proofs/{function.name.replace('::', '/')}/") and not LACKS_A_NAME.search(said)
 
     def against(self, it):
-        """What was found in a function that a wrong body changes and that isn't proved; None where there is nothing, or where a
-        function that it calls isn't proved either, which may be why."""
+        """Returns an error in a changed function that isn't proved. Returns None if there is none, or if the function calls another unproved
+        one, which may be the cause."""
         for name, function in sorted(it.functions.items()):
             state = self.of.get(name, "")
             if re.match("not proved|no proof: expected answers", state) and "it calls" not in state:
@@ -145,12 +145,12 @@ class Said:
         return None
 
     def hides(self, it):
-        """Whether nothing is known of a function since another one that it calls isn't proved."""
+        """Returns whether a changed function wasn't checked because it calls one that isn't proved."""
         return any("it calls" in self.of.get(name, "") for name in it.functions)
 
 
 def said_of(rt, crate, tries, over, jobs):
-    """What a check of the functions that these change says; None where it says nothing, as of a text that can't be read."""
+    """Checks the functions that these mutants change; returns None if the check gives no result, for example because a text can't be parsed."""
     texts, names = texts_of(crate, tries), sorted(name for it in tries for name in it.functions)
     flags = ["--jobs", str(jobs), *(word for it in names for word in ("--only", it))]
     ran = over(lambda kept: rt.checked(crate, texts, flags, kept))
@@ -160,26 +160,26 @@ def said_of(rt, crate, tries, over, jobs):
 
 
 def refused(rt, crate, tries, over, jobs):
-    """Those that are refused, with what was found. Of the others nothing is known: each has to be tried alone. `over` makes a
-    call with a copy of what the proof of the crate as it is kept; `jobs` is how many processors a check may use."""
+    """Returns the rejected mutants, each with an error. The others are undecided and must be tried one at a time. `over` runs a call with a copy of
+    the proofs that were kept for the unchanged crate; `jobs` is the number of processes of one check."""
     left, found = [it for it in tries if it.functions], {}
     while left:
         batch = apart(left)
         if len(batch) <= jobs:
-            # A check begins with what it loads, on one processor. So few stand side by side, each in its own.
+            # A check first loads its libraries on one processor. So a few mutants run side by side, each in a check of its own.
             with ThreadPoolExecutor(jobs) as pool:
                 each = pool.map(lambda it: said_of(rt, crate, [it], over, 1), left)
                 found.update((it, text) for it, said in zip(left, each) for text in [said and said.against(it)] if text)
             break
         said = said_of(rt, crate, batch, over, jobs)
         if said is None and len(batch) > 1:
-            # One of them can't be read, say: each half for itself.
+            # One of them may not parse: try each half.
             for half in (batch[: len(batch) // 2], batch[len(batch) // 2 :]):
                 found.update(refused(rt, crate, half, over, jobs))
             left = [it for it in left if it not in batch]
             continue
         found.update((it, text) for it in batch for text in [said and said.against(it)] if text)
-        # Where a function that it calls was refused, the next round tells.
+        # A mutant whose function calls a rejected one has its turn in the next round.
         hidden = [it for it in batch if said and it not in found and said.hides(it)] if len(batch) > 1 else []
         left = [it for it in left if it not in batch or it in hidden]
     return found

@@ -1,9 +1,9 @@
-"""Whether what docs/PROVED.md and docs/ARCHITECTURE.md cite is there: calls, clauses, modules of definitions, files, counts; whether a
-claim is short; and whether a page for maintainers has a paragraph that is too long.
+"""Checks docs/PROVED.md, docs/ARCHITECTURE.md and docs/DECISIONS.md: calls, clauses, modules of definitions, files and counts that they cite
+exist, claims are short, and so are paragraphs.
 
-A row of PROVED is a claim, its calls, their clauses and the modules of specs/ that define these, under a heading with the crate's
-name. A clause without a name stands in parentheses, as a text that it has, and 'law' for all that a law says; 'same' means the calls
-of the row before."""
+A row of PROVED has a claim, its calls, their clauses, and the modules of specs/ that define the clauses' terms, under a heading with the
+crate's name. A clause without a name is cited by a text that it contains, in parentheses; 'law' cites all clauses of a law; 'same' repeats
+the calls of the row before."""
 import glob
 import os
 import re
@@ -37,7 +37,7 @@ def without_code(text):
 
 
 def clauses(signature):
-    """The clauses of a signature, as (name, text); a name may be empty."""
+    """Yields the clauses of a signature as (name, text). The name may be empty."""
     for match in CLAUSE.finditer(signature):
         depth, end = 1, match.end()
         while depth:
@@ -47,7 +47,7 @@ def clauses(signature):
 
 
 def signature_at(lines, at, indent):
-    """The lines of a signature that begins here, up to its body."""
+    """Returns the lines of the signature that begins here, up to its body."""
     for end in range(at, len(lines)):
         line = lines[end]
         if line.startswith(indent + "{") or line.endswith(";") or (end == at and line.endswith("{")):
@@ -56,7 +56,7 @@ def signature_at(lines, at, indent):
 
 
 def functions(folder):
-    """The functions of a crate, as (file, type or trait, name, signature)."""
+    """Yields the functions of a crate as (file, type or trait, name, signature)."""
     for file in glob.glob(f"{folder}/src/**/*.rt", recursive=True):
         owner, lines = "", read(file).split("\n")
         for at, line in enumerate(lines):
@@ -76,7 +76,7 @@ class Crate:
         self.public = set(re.findall(r"\w+", " ".join(re.findall(r"^pub (?:use|mod) [^;]*;", face, re.M))))
 
     def calls(self, name):
-        """The functions that a call's name means, as (file, signature); a law is named without its module."""
+        """Returns the functions that a cited call refers to, as (file, signature). Laws are cited without their module."""
         front, _, last = name.rpartition("::")
         found = [(file, owner, signature) for file, owner, it, signature in self.functions if it == last]
         laws = [it for it in found if not front and it[0].endswith("/laws.rt")]
@@ -94,18 +94,18 @@ def module_file(root, crate, module):
 
 
 def uses(file):
-    """The modules that a file uses, as (crate, module)."""
+    """Returns the modules that a file imports, as (crate, module)."""
     return {(crate, module.replace(".", "/")) for crate, module in USED.findall(read(file))}
 
 
 def defines(root, crate, module, text):
-    """Whether a module defines a word of the text."""
+    """Returns whether a module defines a word of the text."""
     file = module_file(root, crate, module)
     return os.path.exists(file) and not set(DEFINED.findall(read(file))).isdisjoint(re.findall(r"[\w-]+", text))
 
 
 def is_near(root, crate, module, text, files):
-    """Whether a module defines a word of these clauses, or is used by a module that does."""
+    """Returns whether a module defines a word of these clauses, or is imported by a module that does."""
     if defines(root, crate, module, text):
         return True
     used = set().union(*map(uses, files))
@@ -116,7 +116,7 @@ def is_near(root, crate, module, text, files):
 
 
 def rows(text):
-    """The rows of the tables of claims, as (crate, cells)."""
+    """Yields the rows of the tables of claims, as (crate, cells)."""
     for part in re.split(r"^### ", text, flags=re.M)[1:]:
         crate, before = re.match(r"\w+", part)[0], ""
         for line in ROW.findall(part)[1:]:
@@ -126,7 +126,7 @@ def rows(text):
 
 
 def stated(found, named):
-    """What the clauses that a row names say, as (clause, call, text), for the calls that were found."""
+    """Yields the clauses that a row cites, as (clause, call, text), for the calls that exist."""
     for call, where in found.items():
         for file, signature in where:
             if "law" in TICKED.sub("", named) and file.endswith("/laws.rt"):
@@ -140,7 +140,7 @@ def stated(found, named):
 
 
 def why_row(root, crates, crate, cells):
-    """Why a row is wrong, if it is."""
+    """Returns why a row is wrong, or None."""
     claim, calls, named, modules = cells
     if (words := len(claim.split())) > CLAIM_WORDS:
         return f"a claim of {words} words"
@@ -163,12 +163,12 @@ def why_row(root, crates, crate, cells):
 
 
 def paragraphs(text):
-    """The paragraphs of a page without code: a row and a list's item are one each."""
+    """Splits a page without code into paragraphs; a table's row and a list's item are one each."""
     return re.split(r"\n(?:\s*\n|(?=\s*(?:\||- |\d+\. |#)))", text)
 
 
 def why_public(root, text):
-    """Which type or call of a table of crates isn't public."""
+    """Yields the types and calls in the table of crates that aren't public."""
     for cells in (line.split(" | ") for line in ROW.findall(text)):
         if len(cells) == 4 and re.fullmatch(r"\w+65", cells[0]):
             public = Crate(root, cells[0]).public
@@ -176,7 +176,7 @@ def why_public(root, text):
 
 
 def why_cited(root, text):
-    """Which module, path, step or count of a page is wrong."""
+    """Yields the modules, paths, steps and counts of a page that are wrong."""
     for crate, modules in CITED.findall(text):
         for module in TICKED.findall(modules):
             if not os.path.exists(module_file(root, crate, module)):
@@ -193,7 +193,7 @@ def why_cited(root, text):
 
 
 def why_page(root, page):
-    """Why a page is wrong, if it is."""
+    """Returns why a page is wrong, or None."""
     text = without_code(read(f"{root}/docs/{page}.md"))
     why = [f"a paragraph of {len(it)} characters: {it[:60]}" for it in paragraphs(text) if len(it) > PARAGRAPH]
     if page != "DECISIONS":
@@ -202,7 +202,7 @@ def why_page(root, page):
 
 
 def looked_at(root):
-    """What was looked at, as (what, why it is wrong): each row of PROVED, and each page."""
+    """Yields each row of PROVED and each page, with the reason why it is wrong, or None."""
     found = list(rows(without_code(read(f"{root}/docs/PROVED.md"))))
     crates = {it: Crate(root, it) for it in {crate for crate, _ in found}}
     for crate, cells in found:

@@ -1,23 +1,23 @@
-"""Whether a file of ours has somebody else's text: six or more of its lines, of at least 30 bytes, that an installed cc65 has in one
-of its files, too. Addresses are facts; texts aren't ours. Blanks don't count: a run of them is one."""
+"""Checks that no file contains text of cc65's: six or more of its lines, of at least 30 bytes each, that also occur in one file of an installed
+cc65. Addresses are facts and may be the same; sentences and code may not. Runs of blanks count as one."""
 import os
 import subprocess
 
-# Where cc65's files are: where it is told to look for them, or where packages and its own Makefile put them.
+# Folders of cc65: the one that its variable names, and those of packages and of its own Makefile.
 PLACES = (os.environ.get("CC65_HOME", ""), "/usr/share/cc65", "/usr/local/share/cc65")
 CC65 = next(filter(os.path.isdir, PLACES), PLACES[1])
 BYTES, LINES = 30, 6
 
 
 def lines(file):
-    """The lines of a text that are long enough to be somebody's."""
+    """Returns the lines of a file that are long enough to be compared."""
     with open(file, "rb") as it:
         text = it.read()
     return set() if b"\0" in text else {it for it in (b" ".join(line.split()) for line in text.split(b"\n")) if len(it) >= BYTES}
 
 
 def index(folder):
-    """The files that have a line, by the line."""
+    """Returns the files below a folder that contain a line, by the line."""
     found = {}
     for place, _, files in os.walk(folder):
         for it in files:
@@ -27,7 +27,7 @@ def index(folder):
 
 
 def why_others(file, there):
-    """Which file of theirs one of ours was taken from, if it was."""
+    """Returns which file of cc65's a file was taken from, or None."""
     shared = {}
     for line in lines(file):
         for it in there.get(line, ()):
@@ -37,7 +37,7 @@ def why_others(file, there):
 
 
 def files_of(root):
-    """The names of a repository's files, or where it is no clone, of all files."""
+    """Returns the names of a repository's files, or of all files if it is no clone."""
     if not os.path.exists(f"{root}/.git"):
         return sorted(os.path.relpath(f"{place}/{it}", root) for place, _, files in os.walk(root) for it in files)
     words = ["git", "ls-files", "-z", "--cached", "--others", "--exclude-standard"]
@@ -45,7 +45,7 @@ def files_of(root):
 
 
 def looked_at(root, folder=CC65):
-    """What was looked at, as (what, why it is wrong); nothing where cc65 isn't installed."""
+    """Yields one result for all files: what was compared, and why it is wrong, or None. Yields nothing if cc65 isn't installed."""
     if not os.path.isdir(folder):
         print(f"cc65 isn't here: no file is compared with those of {folder}")
         return

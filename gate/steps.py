@@ -1,8 +1,8 @@
 #!/usr/bin/env python3
-"""Tells which goals of a crate's proof take longest, by the steps that a check kept of each: a million are a second or so.
+"""Prints which goals of a crate's proof take longest, by the number of steps that its last checks kept. A million steps are about a second.
 
-usage: steps.py CRATE [COUNT]    behind `gate/prove.py CRATE`, or `rt check` in its folder; COUNT goals and files are told, else 20.
-What checks before kept of a function is counted too, until crates/CRATE/out/incremental is removed."""
+usage: steps.py CRATE [COUNT]    after `gate/prove.py CRATE`, or `rt check` in its folder; prints COUNT goals and files (default: 20)
+Kept steps of functions that have changed since are counted too, until crates/CRATE/out/incremental is removed."""
 import os
 import re
 import sys
@@ -13,7 +13,7 @@ DECLARATION = re.compile(rb'"name":"([^"]+)","notes":.*?"steps":\[(\d+),(\d+),\d
 
 
 def records(crate):
-    """What a check kept of each file of the crate's proofs: the file's name, and its bytes."""
+    """Yields, for each file of the crate's proofs, its name and the record that a check kept."""
     room = f"{crate.folder}/out/incremental"
     for folder in sorted(os.listdir(room)) if os.path.isdir(room) else []:
         kept = f"{room}/{folder}/records"
@@ -23,7 +23,7 @@ def records(crate):
 
 
 def goals(crate):
-    """The steps of each declaration, with its name and its file's."""
+    """Yields the steps of each declaration, its name and its file."""
     for file, text in records(crate):
         for found in DECLARATION.finditer(text) if file else ():
             yield int(found[2]) + int(found[3]), found[1].decode(), file

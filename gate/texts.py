@@ -1,10 +1,9 @@
 #!/usr/bin/env python3
-"""Checks texts before anything is proved: the layout of code, what the code of the linker and the assembler keeps, whether each edit of must-fail/
-and wrong-bodies/ can be applied, whether what the pages for maintainers cite is there, and whether a file has the text of an installed cc65's.
-Takes half a minute.
+"""Checks texts before anything is proved: the layout of code, what the linker's and the assembler's types hold, whether each mutant can be
+applied, whether the citations of the maintainers' pages exist, and whether a file contains text of an installed cc65's. Takes half a minute.
 
 usage: texts.py
-The last line is 'N passed, M failed', a crate, an edit, a claim or a page each."""
+The last line is 'N passed, M failed': one for each crate, mutant, claim and page."""
 import os
 import re
 import sys
@@ -19,7 +18,7 @@ FOLDERS = ("must-fail", "wrong-bodies")
 
 
 def why_stopped(rt, crate, crates):
-    """Why the gate would refuse the crate's text, if it would."""
+    """Returns why the gate would reject the crate's text, or None."""
     try:
         rt.rtlib.stop_on_links(crate.folder)
         rt.rtlib.stop_on_unread(crate.folder, crates)

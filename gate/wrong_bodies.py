@@ -1,11 +1,13 @@
 #!/usr/bin/env python3
-"""Tries the wrong bodies that the gate itself doesn't: crates/NAME/wrong-bodies/*.edit, each of which the prover must refuse.
+"""Tries mutants that a gate doesn't try each time: crates/NAME/wrong-bodies/*.edit. The prover must reject each.
 
-usage: wrong_bodies.py [--all] [--anew] [CRATE[/EDIT]..]    with --all those of must-fail/ too; WRONG_BODIES_JOBS takes so many processors.
-They are tried over what the proof of the crate as it is kept: first many in one check (batches.py); those of which nothing is known
-then each for itself, side by side, with the functions of the changed modules alone, and where these don't refuse it by the gate's
-own function. Where the kit keeps what came of an edit, an edit is tried once on this machine for the same files of its crate and those below: so a run
-that was stopped goes on where it was. --anew tries all. The last line is 'N refused, M not'."""
+usage: wrong_bodies.py [--all] [--anew] [CRATE[/EDIT]..]
+
+--all tries those of must-fail/ too, and --anew also those that an earlier run on this machine tried over the same files.
+WRONG_BODIES_JOBS sets the number of processors.
+Mutants are tried over the proofs kept for the unchanged crate: first many in one check (batches.py), then each undecided one alone, with the
+functions of the changed modules, and at last by the gate's own function. Results are kept per edit, so an interrupted run continues where it
+stopped. The last line is 'N refused, M not'."""
 import os
 import re
 import shutil
@@ -22,7 +24,7 @@ FOLDERS = ("wrong-bodies", "must-fail")
 
 
 def edits_of(crate, words, folders):
-    """The crate's edits that the words name; all where none names one."""
+    """Returns the crate's edits that the arguments name, or all if there are no arguments."""
     asked = {it.partition("/")[2].removesuffix(".edit") for it in words if it.partition("/")[0] == crate.name}
     found = []
     for folder in folders:
@@ -36,25 +38,25 @@ def edits_of(crate, words, folders):
 
 
 def kept_by(crate):
-    """Where the proof of the crate as it is kept what it found."""
+    """Returns the folder in which the crate's own check keeps its proofs."""
     return f"{crate.folder}/out/incremental"
 
 
 def over(rt, kept, call):
-    """What a call answers over a copy of what a proof kept. Where the kit can, the copy is made of links, as the gate's is: a
-    check replaces such files and changes none, which `main` looks at once all are tried."""
+    """Calls `call` with a copy of the kept proofs, and returns its result. The copy consists of links where the toolchain offers that: a check
+    replaces such files and never changes one, which `main` verifies at the end."""
     with tempfile.TemporaryDirectory(prefix="wrong-") as room:
         getattr(rt, "linked", shutil.copytree)(kept, f"{room}/kept")
         return call(f"{room}/kept")
 
 
 def listings(rt, crates):
-    """What tells whether files that proofs kept were changed, by crate."""
+    """Returns, by crate, a listing that shows whether kept proofs were changed."""
     return {it.name: rt.listing(kept_by(it)) for it in crates} if hasattr(rt, "linked") else {}
 
 
 def is_sound(rt, crate):
-    """Whether the crate as it is is proved over what its proof kept; where it isn't, a refusal over that would say nothing."""
+    """Returns whether the unchanged crate is proved over its kept proofs; if not, a rejection over them would mean nothing."""
     found = not over(rt, kept_by(crate), lambda kept: rt.checked(crate, {}, ["--jobs", "1"], kept).returncode)
     if not found:
         kit.say(f"{crate.name}: what was kept doesn't prove the crate as it is, so its wrong bodies are tried from nothing")
@@ -62,7 +64,7 @@ def is_sound(rt, crate):
 
 
 class Earlier:
-    """What came of edits in earlier runs on this machine, by the files that they stand on. Some kits keep nothing."""
+    """Results of earlier runs on this machine, keyed by the files that an edit depends on. Some toolchains keep none."""
 
     def __init__(self, rt, crates, anew):
         self.rt, self.anew, self.seen = rt, anew, {}
@@ -74,18 +76,18 @@ class Earlier:
         return self.kept.of_edit(edit, self.seen[crate.name])
 
     def told(self, crate, edit):
-        """What an edit came to, and what was said, or None."""
+        """Returns the kind and the text of an edit's earlier result, or None."""
         return self.kept.tried(self.name(crate, edit)) if self.kept and not self.anew else None
 
     def keep(self, crate, edit, kind, text):
-        """Keeps what an edit came to, unless a file that it stands on was touched since the run began."""
+        """Keeps an edit's result, unless a file that it depends on changed during the run."""
         if self.kept and kind in self.rt.SETTLED and all(self.kept.is_untouched(it) for it in (crate, *crate.below())):
             self.kept.keep_tried(self.name(crate, edit), kind, text)
 
 
 def said_of_modules(rt, crate, edit, kept):
-    """What the prover says against an edit where it looks at the functions of the changed modules alone: the first line that
-    it has on one of them. None where it has none, or where anything else came of it, as an edit that can't be read."""
+    """Checks only the functions of the changed modules, and returns the first error on one of their lines. Returns None if there is none, or if the
+    check gave no result, for example because the edit can't be parsed."""
     texts = rt.read_edit(edit, crate.folder)[0] or {}
     modules = [it.removeprefix("src/").removesuffix(".rt").replace("/", "::") for it in texts if re.fullmatch(r"src/.*\.rt", it)]
     if not modules or len(modules) != len(texts) or "lib" in modules:
@@ -102,20 +104,20 @@ def said_of_modules(rt, crate, edit, kept):
 
 
 def tried(rt, crate, edit, kept):
-    """What a try of an edit comes to, in the gate's own words, and what to say; from nothing where nothing was kept."""
+    """Tries one edit and returns the kind of its result in the gate's terms, and a text; without kept proofs the crate is proved from nothing."""
     said = said_of_modules(rt, crate, edit, kept) if kept and hasattr(rt, "unread") else None
     if said:
         return getattr(rt, "REFUSED", True), f"{crate.name}/{os.path.basename(edit)}: refused, as it must be, by its modules alone: {said[:160]}"
     flags = ["--jobs", "1"]
     kind, text = over(rt, kept, lambda room: rt.must_fail(crate, edit, flags, room)) if kept else rt.must_fail(crate, edit, flags)
     if means_refused(rt, kind) and text.endswith("refused, as it must be"):
-        # (so it is where the borrow checker, say, does not cover the edited function)
+        # (for example, if the borrow checker rejects the edited function)
         return None, f"{text}, but nothing that it breaks is named, so no contract was tried"
     return kind, text
 
 
 def tried_together(rt, crate, edits, kept, jobs):
-    """The edits of a crate that the prover refuses where many are tried in one check, with what is said of each."""
+    """Tries edits of a crate, many in one check, and returns the rejected ones, each with an error."""
     begun, tries = time.time(), [batches.Try(rt, crate, it) for it in edits]
     found = batches.refused(rt, crate, tries, lambda call: over(rt, kept, call), jobs)
     kit.say(f"{crate.name}: {len(found)} of {len(tries)} wrong bodies were refused in checks of many ({kit.minutes(time.time() - begun)})")
@@ -123,7 +125,7 @@ def tried_together(rt, crate, edits, kept, jobs):
 
 
 def refused(rt, crate, edits, kept, lanes, keep=lambda edit, kind, text: None):
-    """Those of a crate's edits that the prover refuses, with so many processors. One that can't be read or tried isn't refused."""
+    """Returns the rejected edits of a crate. An edit that can't be parsed or tried isn't rejected."""
     together = tried_together(rt, crate, edits, kept, lanes) if kept and hasattr(rt, "unread") else {}
     found = {edit: (getattr(rt, "REFUSED", True), text) for edit, text in together.items()}
     alone = [it for it in edits if it not in found]
@@ -136,12 +138,12 @@ def refused(rt, crate, edits, kept, lanes, keep=lambda edit, kind, text: None):
 
 
 def means_refused(rt, kind):
-    # (some kits answer a truth value, others a word, of which these two mean yes)
+    # (some toolchains return a truth value, others a word, of which these two mean yes)
     return kind is True or kind in [getattr(rt, it) for it in ("REFUSED", "AT_LIMIT") if hasattr(rt, it)]
 
 
 def try_all(rt, crates, tries, earlier):
-    """Which of the edits of these crates are refused."""
+    """Tries these edits, and returns for each whether it is rejected."""
     lanes, begun = int(os.environ.get("WRONG_BODIES_JOBS", 0)) or kit.lanes(rt), time.time()
     kit.say(f"{len(tries)} wrong bodies of {len(crates)} crates, on {lanes} processors")
     before = listings(rt, crates)
@@ -154,7 +156,7 @@ def try_all(rt, crates, tries, earlier):
         return refused(rt, crate, edits, kept, lanes // at_once, lambda *what: earlier.keep(crate, *what))
 
     with ThreadPoolExecutor(at_once) as pool:
-        # (the largest first, so that none is left alone at the end)
+        # (the largest first, so that it doesn't run alone at the end)
         found = set().union(*pool.map(of, sorted(crates, key=lambda it: -it.count(rb"\n"))))
     changed = [name for name, files in listings(rt, crates).items() if files != before[name]]
     for name in changed:

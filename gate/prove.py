@@ -20,6 +20,8 @@ PROGRAM = f"{kit.ROOT}/crates/bin65/out/bin65"
 SUM = f"{PROGRAM}.sum"
 # A proof is three or four processes of 1 to 2 GB.
 MEMORY = 5_000_000_000
+# The longest chain of proofs leads to this crate; then only the commands and the program are left.
+LONGEST = "asm65"
 
 
 def sum_of(files, begun=b""):
@@ -102,9 +104,8 @@ class Proofs:
         self.begun, self.ended = time.time(), threading.Event()
 
     def start(self, crate):
-        """Starts a proof in a thread of its own. The longest chain comes first: the other proofs take the processors that it leaves."""
-        others = [it for it, _ in self.running.values()]
-        is_first = all(self.crates.index(crate) < self.crates.index(it) for it in others)
+        """Starts a proof in a thread of its own. The assembler's crates come first: the linker's use the processors that these leave."""
+        is_first = crate.name == LONGEST or any(it.name == LONGEST and crate in it.below() for it in self.crates)
         begun, done = time.time(), Future()
 
         def run():

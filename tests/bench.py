@@ -1,6 +1,6 @@
 #!/usr/bin/env python3
-"""Runs bench/run.py with sizes a five-hundredth of its own, by a program that waits before it does anything: each line has to come
-as it happens, and to say which part it is and how long the rest will take; images have to be the same.
+"""Runs bench/run.py with sizes of a five-hundredth, on a program that sleeps before it starts: each line must appear as it happens, name its
+part, and estimate the rest; images must be the same.
 
 usage: bench.py BIN65. The last line is 'N passed, M failed'."""
 import os
@@ -19,7 +19,7 @@ LAST = re.compile(r"\d\d:\d\d:\d\d That took a minute\.\n")
 
 
 def lines_of(program, folder):
-    """The lines that are printed, each with the time at which it came."""
+    """Returns the printed lines, each with the time at which it appeared."""
     pages.put(f"{folder}/slow", f'#!/bin/sh\nsleep 0.02\nexec "{program}" "$@"\n')
     os.chmod(f"{folder}/slow", 0o755)
     words = ["python3", f"{pages.ROOT}/bench/run.py", f"{folder}/slow", f"{folder}/out", "500"]

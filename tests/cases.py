@@ -1,8 +1,8 @@
 #!/usr/bin/env python3
-"""Gives cases to the real program and compares all that it says and writes. tests/cases/README.md has the form of a case.
+"""Runs cases on the real program and compares everything it prints and writes. tests/cases/README.md describes the form of a case.
 
-usage: cases.py BIN65 [FILE..]    without a FILE all of tests/cases/*.txt. Prints a line a file and one for each case that
-fails, and last 'N passed, M failed'.
+usage: cases.py BIN65 [FILE..]    without FILE all of tests/cases/*.txt. Prints a line for each file and for each failed case; the last line
+is 'N passed, M failed'.
 """
 
 import concurrent.futures
@@ -28,7 +28,7 @@ class Malformed(Exception):
 
 
 def closing(text, at):
-    """Where the brace stands that closes the one before `at`."""
+    """Returns the index of the brace that closes the one before `at`."""
     depth = 1
     while depth:
         if at >= len(text):
@@ -39,8 +39,8 @@ def closing(text, at):
 
 
 def unescaped(text):
-    """The bytes of a text: \\n \\r \\t \\\\ \\xNN stand for bytes, \\*N{TEXT} for N times TEXT, \\i in it for the count from 0 and
-    \\j for one more."""
+    """Returns the bytes of a text. \\n \\r \\t \\\\ \\xNN are bytes, and \\*N{TEXT} is N times TEXT, in which \\i is the count from 0 and \\j is one
+    more."""
     found, at = bytearray(), 0
     for match in iter(lambda: ESCAPE.search(text, at), None):
         found += text[at : match.start()].encode()
@@ -64,7 +64,7 @@ def repeated(body, times):
 
 
 def file_bytes(lines):
-    """The bytes of a file's lines: each has a line end, but for a last one that ends in a single backslash."""
+    """Returns the bytes of a file's lines. Each line has a line end, except a last one that ends in a single backslash."""
     if not lines:
         return b""
     text = "\n".join(lines)
@@ -74,14 +74,14 @@ def file_bytes(lines):
 
 
 class Command:
-    """A line for the program and what it has to say."""
+    """A command line and the output that it must produce."""
 
     def __init__(self, line):
         self.words = [os.fsdecode(unescaped(word)) for word in shlex.split(line.replace("\\", "\\\\"))]
         self.out, self.err = [], []
 
     def output(self):
-        """The file that the command writes where all is well."""
+        """Returns the file that the command writes on success."""
         if "-o" in self.words:
             return self.words[self.words.index("-o") + 1]
         if self.words[0] == "ld65":
@@ -90,7 +90,7 @@ class Command:
 
 
 class Case:
-    """Files, commands, and what has to be there behind them."""
+    """Files, commands, and the files that must exist after them."""
 
     def __init__(self):
         self.name, self.line = "", 0
@@ -100,7 +100,7 @@ class Case:
         self.result = None
 
     def main(self):
-        """The file that the case is about."""
+        """Returns the file that the case is about."""
         return self.template[0] if self.template else "b.s"
 
     def all_commands(self):
@@ -111,7 +111,7 @@ class Case:
         return self.commands
 
     def settle(self, result):
-        """What a result in one line asks for: a fault of a line, a message, silence, or bytes."""
+        """Applies a result of one line: a fault of a line, a message, no output, or bytes."""
         last = self.all_commands()[-1]
         fault = re.fullmatch(r"(\d+): (.*)", result)
         if fault:
@@ -149,7 +149,7 @@ class Reader:
         return case
 
     def indented(self):
-        """The lines that follow, each without its four blanks."""
+        """Returns the lines that follow, without their indentation of four blanks."""
         found = []
         while self.at < len(self.lines) and re.match(r" {4}", self.lines[self.at]):
             found.append(self.lines[self.at][4:])
@@ -198,7 +198,7 @@ class Reader:
             raise Malformed(f"not understood: {line}")
 
     def row(self, left, result):
-        """A case in one line: what stands in the template's place, and the result."""
+        """Reads a case of one line: the text that replaces the template's mark, and the result."""
         case = self.begin(left.strip())
         left = left.rstrip(" ")
         name, lines, is_hex = case.template or ("b.s", ["@@"], False)
@@ -211,7 +211,7 @@ class Reader:
         self.case = None
 
     def columns_row(self, words):
-        """A case for each column: the operand of the column behind the mnemonic, and the cell's bytes before the column's."""
+        """Reads a case for each column: its operand after the mnemonic, and the cell's bytes before those of the column."""
         for (operand, behind), cell in zip(self.part.columns, words[1:]):
             result = "1: no such addressing form" if cell == "--" else f"{cell} {behind}"
             self.row(f"{words[0]} {operand}", result)

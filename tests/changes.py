@@ -1,4 +1,4 @@
-"""Changes of objects, libraries, scripts and sources, by a source of random numbers: of any bytes, and such as keep a file's form."""
+"""Random changes of objects, libraries, scripts and sources: of any bytes, and changes that keep the file's form."""
 
 import re
 
@@ -30,7 +30,7 @@ def change_bit(rng, file, _other):
 
 
 def change_number(rng, file, _other):
-    """Puts a number over 4 bytes, or for 8."""
+    """Changes a number to one above 4 bytes, or to one of 8."""
     at, size = rng.randrange(len(file) + 1), rng.choice((1, 2, 4, 4, 8))
     return file[:at] + (rng.choice(NUMBERS) % 256**size).to_bytes(size, "little") + file[at + size :]
 
@@ -63,7 +63,7 @@ def number_text(rng):
 
 
 def expression_text(rng, names, depth=3):
-    """An expression of numbers and a source's names."""
+    """Returns an expression of numbers and of a source's names."""
     if depth == 0 or rng.random() < 0.3:
         return rng.choice((number_text(rng), rng.choice(names), b"*", b":+", b":-"))
     way = rng.random()
@@ -76,7 +76,7 @@ def expression_text(rng, names, depth=3):
 
 
 def form_bytes(rng, depth=3):
-    """A form, mostly one that can't be folded: literals, sections and imports of small numbers, and operations on them."""
+    """Returns the bytes of a form, mostly one that can't be folded: literals, sections and imports with small numbers, and operations on them."""
     way = rng.random()
     if depth == 0 or way < 0.3:
         if rng.random() < 0.3:
@@ -90,7 +90,7 @@ def form_bytes(rng, depth=3):
 
 
 def with_form(rng, head, record):
-    """A VALUE, EXPORT or ASSERT with another form, in an object with this head."""
+    """Returns a VALUE, EXPORT or ASSERT record with another form, for an object with this head."""
     body, place = record[3:], 8 if head[4:] == b"\2" else 4
     text = body[1 + place] if len(body) > 1 + place else 0
     behind = {5: 1 + place, 6: 1 + place + body[0] if body else 0, 7: 2 + place + text}[record[0]]
@@ -99,7 +99,7 @@ def with_form(rng, head, record):
 
 
 def records_of(file):
-    """The records of an object, its head the first."""
+    """Returns the records of an object. The first is its head."""
     parts, at = [file[:5]], 5
     while at < len(file):
         end = at + 3 + int.from_bytes(file[at + 1 : at + 3], "little")
@@ -109,7 +109,7 @@ def records_of(file):
 
 
 def change_records(rng, file, other):
-    """Moves, drops, repeats, replaces and changes an object's records."""
+    """Moves, drops, repeats, replaces and changes records of an object."""
     parts, others = records_of(file), records_of(other)
     at, way = rng.randrange(len(parts)), rng.randrange(8)
     alike = [it for it in others if it[:1] == parts[at][:1]]
@@ -133,7 +133,7 @@ def names_of(file):
 
 
 def change_tokens(rng, file, other):
-    """Replaces, drops and repeats tokens of a text: mostly one of a kind by another of it."""
+    """Replaces, drops and repeats tokens of a text, mostly by others of the same kind."""
     parts, others = TOKEN.findall(file), TOKEN.findall(other)
     if not parts or not others:
         return other
@@ -151,7 +151,7 @@ def change_tokens(rng, file, other):
 
 
 def change_lines(rng, file, other):
-    """Moves, drops, repeats and replaces lines of a text, and what stands between its commas and semicolons."""
+    """Moves, drops, repeats and replaces lines of a text, and parts of lines between commas and semicolons."""
     mark = rng.choice((b"\n", b"\n", b";", b","))
     parts, others = file.split(mark), other.split(mark)
     at, where, way = rng.randrange(len(parts)), rng.randrange(len(parts)), rng.randrange(5)
@@ -173,7 +173,7 @@ class Cut(Exception):
 
 
 def index_of(library):
-    """The places of the members' sizes, and the sizes, and where the index ends; of a whole library."""
+    """Returns the offsets of the members' sizes, the sizes, and the end of the index of a valid library."""
     at, found = 9, []
 
     def number():
@@ -195,7 +195,7 @@ def index_of(library):
 
 
 def change_member(rng, library, other):
-    """Changes a member of a library, and its size in the index."""
+    """Changes a member of a library and its size in the index."""
     try:
         index, end = index_of(library)
     except Cut:
@@ -220,7 +220,7 @@ OWN = {
 
 
 def changed(rng, kind, file, other):
-    """A file as one to three changes make it, mostly such as keep its form."""
+    """Returns a file after one to three changes, most of which keep its form."""
     for _ in range(rng.choice((1, 1, 1, 1, 2, 3))):
         file = rng.choice(OWN[kind] if rng.random() < 0.7 else CHANGES)(rng, file, other)
     # Nothing is written outside the folder.

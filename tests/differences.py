@@ -1,6 +1,6 @@
 #!/usr/bin/env python3
-"""Random programs of two modules, built by bin65 and by cc65's tools: if both link, they write the same files. What differs in
-other programs stands in docs/MIGRATING.md.
+"""Builds random programs of two modules with bin65 and with cc65's tools: if both link, they must write the same files. docs/MIGRATING.md lists
+what differs in other programs.
 
 usage: differences.py BIN65 [PROGRAMS [SEED]]    PROGRAMS random programs (150). The last line is 'N passed, M failed'."""
 import collections

@@ -1,8 +1,8 @@
 #!/usr/bin/env python3
-"""The real program and the disk: where files end beside its buffers, files it may not read or write, streams that take
-nothing, and its status at each kind of end.
+"""Tests the real program on a disk: files that end near the boundary of its buffer, files that it may not read or write, streams that accept
+nothing, and its exit status.
 
-usage: disk.py BIN65    Prints a line a test, and last 'N passed, M failed'.
+usage: disk.py BIN65    Prints a line for each test; the last line is 'N passed, M failed'.
 """
 
 import os
@@ -30,7 +30,7 @@ def literals(piece):
 
 
 def object_of(*sections):
-    """An object of sections of one literal each, which ca65 writes so, too."""
+    """Returns an object whose sections have one literal each, as ca65 writes it."""
     heads = b"".join(section(name, len(piece)) for name, piece in sections)
     return b"R65o\x02" + heads + b"".join(literals(piece) for _, piece in sections) + record(8, b"")
 
@@ -60,7 +60,7 @@ class Tests:
             return opened.read()
 
     def run(self, *words, before=(), **streams):
-        """Runs the program, and answers its status and texts."""
+        """Runs the program, and returns its status and both texts."""
         streams = {"stdout": subprocess.PIPE, "stderr": subprocess.PIPE, **streams}
         ran = subprocess.run([*before, self.program, *words], stdin=subprocess.DEVNULL, timeout=120, **streams)
         return ran.returncode, ran.stdout, ran.stderr
@@ -82,7 +82,7 @@ def refused(message):
 
 
 def buffers(tests):
-    """Files that end, and records that begin, at the buffer's end and beside it."""
+    """Tests files and records that end or begin at the buffer's end, or a byte from it."""
     for size in (BUFFER - 1, BUFFER, BUFFER + 1, 2 * BUFFER, 2 * BUFFER + 1):
         tests.put("a.s", b"nop\n" + b" " * 3 + b"\n" * (size - 8) + b"\n")
         ran = tests.run("ca65", "a.s")
@@ -104,7 +104,7 @@ def buffers(tests):
 
 
 def in_turn(tests):
-    """A script and an object that are both longer than the buffer, and an object that is cut short there."""
+    """Tests a script and an object longer than the buffer, and an object that is cut short there."""
     tests.put("s.cfg", ONE_ROW.replace(b"SEG", b"# a line\n" * 20000 + b"SEG"))
     content = pattern(300000)
     tests.put("a.o", object_of((b"A", content)))
@@ -117,7 +117,7 @@ def in_turn(tests):
 
 
 def outputs(tests):
-    """Files that are there already, and one that can't be written."""
+    """Tests outputs that already exist, and one that can't be written."""
     tests.put("s.cfg", ONE_ROW)
     tests.put("a.o", object_of((b"A", b"\x05")))
     tests.put("image", b"longer than the image")
@@ -138,7 +138,7 @@ def outputs(tests):
 
 
 def streams(tests):
-    """Which text goes where, and streams that take nothing."""
+    """Tests which text goes to which stream, and streams that accept nothing."""
     tests.put("t.s", b'.out "one"\n.warning "two"\nnop\n')
     ran = tests.run("ca65", "t.s")
     tests.check("each text on its stream", ran, (0, b"one\n", b"t.s:2: Warning: two\n"))
@@ -159,7 +159,7 @@ def streams(tests):
 
 
 def ends(tests):
-    """The status at each kind of end."""
+    """Tests the status of each way to end."""
     tests.put("w.s", b'.warning "w"\n')
     tests.check("0 with a warning", tests.run("ca65", "w.s")[0], 0)
     tests.check("1 where the line is refused", tests.run("as65", "w.s")[0], 1)
@@ -170,7 +170,7 @@ def ends(tests):
 
 
 def unread(tests):
-    """What a source takes that is there and can't be read: the line is named, behind what those before say."""
+    """Tests files that exist and can't be read, named by a source: the message names the line, after the texts of earlier lines."""
     os.mkdir("folder")
     before = b'.warning "first"\n.out "second"\n'
     said = b"second\n", b"a.s:1: Warning: first\n"
@@ -206,7 +206,7 @@ FAULTS = (
 
 
 def faults(tests):
-    """Which error of the disk is which of the two faults. A name without bytes is none to write to: no object is written then."""
+    """Tests which error of the disk becomes which of the two faults. An empty name can't be written, so no object is written then."""
     os.symlink("nowhere/to/be/found", "dangling")
     os.symlink("looped", "looped")
     for what, name, read, written in FAULTS:
@@ -222,7 +222,7 @@ def faults(tests):
 
 
 def unread_outputs(tests):
-    """Outputs are written and never read: a pipe takes an object, whose bytes come out of it in order."""
+    """Tests that outputs are only written, never read: an object goes into a pipe, and its bytes come out in order."""
     wanted = object_of((b"CODE", pattern(50000)))
     tests.put("long.bin", pattern(50000))
     tests.put("long.s", b'.incbin "long.bin"\n')
@@ -233,7 +233,7 @@ def unread_outputs(tests):
 
 
 def permissions(tests):
-    """Files and folders that the user may not reach."""
+    """Tests files and folders that the user may not access."""
     before = ()
     if os.getuid() == 0:
         before = ("setpriv", f"--reuid={NOBODY}", f"--regid={NOBODY}", "--clear-groups")

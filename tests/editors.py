@@ -1,10 +1,10 @@
 #!/usr/bin/env python3
-"""Checks docs/EDITORS.md: each message of the three commands goes to the pattern of each editor that the page has, which has to
-find the file, the line, the kind and the text where the message has a line, and nothing elsewhere.
+"""Checks docs/EDITORS.md: every message of the three commands is matched with the patterns of each editor on the page. Where the message has a
+line, a pattern must find the file, the line, the kind and the text; elsewhere it must find nothing.
 
-Emacs' and VS Code's patterns are regular expressions, put in Python's form. Vim's `errorformat` is taken apart by what its manual
-says: a `%f` or `%m` finds a string, which ends at what follows, `%l` a number, `%t` one character, and `%*[..]` characters that
-aren't kept. Where Vim is installed, it reads the messages itself, too, and where Node is, it tries VS Code's expression.
+The patterns of Emacs and VS Code are regular expressions, converted to Python's syntax. Vim's `errorformat` is interpreted by its manual:
+`%f` and `%m` match a string up to the following text, `%l` a number, `%t` one character, and `%*[..]` characters that are skipped. If Vim is
+installed, it also reads the messages itself; if Node is, it runs VS Code's expression.
 
 usage: editors.py BIN65. The last line is 'N passed, M failed'."""
 import json
@@ -72,13 +72,13 @@ KINDS = {"E": "Error", "W": "Warning"}
 
 
 def block(page, name):
-    """The text of a page's only block of a kind."""
+    """Returns the text of a page's only block of a kind."""
     (found,) = re.findall(rf"^```{name}\n(.*?)^```$", page, re.M | re.S)
     return found
 
 
 def vim_forms(line):
-    """The patterns of a line `set errorformat=..`, by what Vim's manual says of their parts."""
+    """Returns the patterns of a line `set errorformat=..`, by the rules of Vim's manual."""
     value = re.sub(r"\\(.)", r"\1", line.strip().removeprefix("set errorformat="))
     part = re.compile(r"%\*(\[[^]]*\])|%([fltm])|(.)")
     meaning = {"f": "(?P<file>.+?)", "l": r"(?P<line>\d+)", "t": "(?P<kind>.)", "m": "(?P<text>.+)"}
@@ -131,7 +131,7 @@ def by_code(page):
 
 
 def by_node(page):
-    """VS Code's expression in JavaScript."""
+    """Runs VS Code's expression in JavaScript."""
     pattern = code_pattern(page)
     parts = [pattern[it] for it in ("file", "line", "severity", "message")]
     code = "const [form, message] = process.argv.slice(1); console.log(JSON.stringify(new RegExp(form).exec(message)))"
@@ -145,7 +145,7 @@ def by_node(page):
 
 
 def by_vim_itself(page):
-    """What Vim makes of a message, as an entry of its list of errors."""
+    """Returns the entry that Vim makes of a message in its list of errors."""
     setting = block(page, "vim").strip()
     ask = "let it = getqflist()[0]"
     say = "call writefile([json_encode([it.valid, bufname(it.bufnr), it.lnum, it.type, it.text])], 'found')"
@@ -163,7 +163,7 @@ def by_vim_itself(page):
 
 
 def finders(page):
-    """How each editor finds what a message is about."""
+    """Returns, for each editor, the function that matches a message."""
     found = {"Vim's pattern": by_vim(page), "Emacs' pattern": by_emacs(page), "VS Code's pattern": by_code(page)}
     if shutil.which("vim"):
         found["Vim"] = by_vim_itself(page)
@@ -182,7 +182,7 @@ def make_files():
 
 
 def wrong_of(wanted, message, editors):
-    """What is wrong with what editors find in a message."""
+    """Returns what the editors get wrong in a message."""
     for name, find in editors.items():
         it = find(message)
         if it != wanted:

@@ -1,4 +1,4 @@
-"""Starts of the real program with failing.c before it, and the runs that memory.py and failing_disk.py start so."""
+"""Starts the real program with failing.c preloaded, for memory.py and failing_disk.py."""
 
 import os
 import re
@@ -13,7 +13,7 @@ ROWS = os.path.join(HERE, "..", "crates", "testkit65", "src", "runs.rt")
 
 
 def build(folder):
-    """Builds failing.c with the kit's own compiler and linker, and answers the library's name."""
+    """Compiles failing.c with the kit's own compiler and linker, and returns the name of the library."""
     page = subprocess.run(["rt", "doc"], capture_output=True, text=True, check=True).stdout.strip()
     kit = os.path.join(os.path.dirname(page), "toolchain")
     library = os.path.join(folder, "failing.so")
@@ -24,7 +24,7 @@ def build(folder):
 
 
 class Run:
-    """What a run ended with, and the files behind it."""
+    """The result of a run, and the files after it."""
 
     def __init__(self, ended, files):
         self.status, self.out, self.err, self.files = ended.status, ended.out, ended.err, files
@@ -35,7 +35,7 @@ class Run:
 
 
 class Starter(starting.Starter):
-    """Starts the program with failing.c before it."""
+    """Starts the program with failing.c preloaded."""
 
     def __init__(self, program):
         super().__init__(program)
@@ -44,13 +44,13 @@ class Starter(starting.Starter):
         self.library = build(self.built.name)
 
     def run(self, words, failing):
-        """Runs the program; `failing` is what failing.c is to do."""
+        """Runs the program. `failing` tells failing.c what to do."""
         environment = {"LD_PRELOAD": self.library, "FAILING": failing} if failing else {}
         return Run(self.start(words, environment), self.files())
 
 
 def scenes():
-    """The rows of each scene."""
+    """Returns the rows of each scene."""
     with open(ROWS, encoding="ascii") as opened:
         text = re.search(r'RUNS: &str = "\\\n(.*?)\n";', opened.read(), re.DOTALL)[1]
     text = text.replace('\\"', '"')
@@ -63,7 +63,7 @@ def lines_of(text):
 
 
 def wanted_of(row):
-    """The words of a run, and the status and texts that it has to end with."""
+    """Returns the arguments of a run, and the status and texts that it must end with."""
     words, _, said = row.partition(" ==> ")
     lines = said.split(" // ") if said else []
     err = [line for line in lines if re.search(": (Error|Warning): ", line)]
@@ -73,14 +73,14 @@ def wanted_of(row):
 
 
 class Tests:
-    """Each run of each scene, by a trial of it."""
+    """Tries each run of each scene."""
 
     def __init__(self, program, trial):
         self.starter, self.trial = Starter(program), trial
         self.passed = self.failed = 0
 
     def check(self, name, why):
-        """Counts a test that failed for a reason, or for none."""
+        """Counts a test as failed if there is a reason, else as passed."""
         self.passed, self.failed = self.passed + (not why), self.failed + bool(why)
         if why:
             print(f"{name}: FAILED: {why}", flush=True)
@@ -91,7 +91,7 @@ class Tests:
         return files.get(name) == (lines_of(rest) if verb == "says" else bytes.fromhex(rest))
 
     def row(self, files, row):
-        """The files behind a row."""
+        """Checks the files after a row."""
         verb, _, rest = row.partition(" ")
         if verb == "$":
             words, wanted = wanted_of(rest)
@@ -120,14 +120,14 @@ class Tests:
 
 
 def created(report):
-    """The names that a run created, in order."""
+    """Returns the names of the files that a run created, in order."""
     calls = [line.rsplit(" ", 1)[0].split(" ", 1) for line in report.splitlines()]
     return [name for call, name in calls if call == "create"]
 
 
 def is_written(found, before, plain, order):
-    """Whether files are those before with the first outputs of the plain run, and of the next one a first part. Answers how many
-    outputs are there; none where the files are no such ones."""
+    """Returns how many outputs of the plain run were written, if the files are those before the run with the first outputs and a first part of
+    the next one; None if they aren't."""
     for count in range(len(order), -1, -1):
         files = {**before, **{name: plain[name] for name in order[:count]}}
         if found == files:

@@ -1,10 +1,10 @@
 #!/usr/bin/env python3
-"""The real program where its disk and its streams fail: each opening, reading, writing and seeking of each run fails in turn, then
-all from each on; each with one byte moved at a time; and each write takes nothing. A run names the file that failed, with its place
-where a source is read, has status 1, and leaves its files as they were, or those written before and a first part of one. Where a
-stream stops, nothing further is said and no file written. One byte at a time is the same as all at once.
+"""Tests the real program with a disk and streams that fail: in turn, each call that opens, reads, writes or seeks fails; then all calls from
+each one on; every call moves one byte; and writes write nothing. A run must name the file that failed, with its location while a source is
+read, end with status 1, and leave its files as they were, or the outputs written before and a first part of one. After a stream stops,
+nothing is printed and no file is written. Moving one byte at a time changes no result.
 
-usage: failing_disk.py BIN65    Prints a line a run, and last 'N passed, M failed'.
+usage: failing_disk.py BIN65    Prints a line for each run; the last line is 'N passed, M failed'.
 """
 
 import os
@@ -17,8 +17,8 @@ LIMIT = 16_777_216
 
 
 class Call:
-    """A call as failing.c reports it: what was asked, of which file, and what came of it. `place` is where in the file a reading
-    stands, also that for which a file is opened or sought."""
+    """A call as failing.c reports it: its kind, its file and its result. `place` is the offset in the file at which it reads, or for which the
+    file is opened or sought."""
 
     def __init__(self, line):
         self.asked, rest = line.split(" ", 1)
@@ -45,7 +45,7 @@ def calls_of(report):
 
 
 def asking(before, name):
-    """The place of the line that asks for a file."""
+    """Returns the location of the line that asks for a file."""
     wanted = f'"{os.path.basename(name)}"'.encode()
     for file, text in before.items():
         for number, line in enumerate(text.split(b"\n"), 1):
@@ -55,9 +55,9 @@ def asking(before, name):
 
 
 def source_place(words, before, call):
-    """The place of a call on a file that a source is made of: the line of it in which it reads, or the line before where that is
-    before a line's first byte. Where there is none yet, or a file is looked for by what stands behind the limit of files, it is the
-    line that asks for the file, or the source without a line."""
+    """Returns the location of a call on a file of a source: the line that is being read, or the line before if the offset is before a line's first
+    byte. Before the first line, and when a file is looked for past the limit of files, it is the line that asks for the file, or the source
+    without a line."""
     is_text = call.name.endswith((".s", ".inc")) and call.place < LIMIT
     front = before.get(call.name, b"")[: call.place] if is_text else b""
     line = front.count(b"\n") + (front != b"" and not front.endswith(b"\n"))
@@ -66,7 +66,7 @@ def source_place(words, before, call):
 
 
 def input_places(before, call):
-    """The names of a file that ld65 or ar65 reads: of a library also the member that stands where it is read."""
+    """Returns the names for a file that ld65 or ar65 reads; for a library also the name of the member at the offset."""
     file = before.get(call.name, b"")
     if not file.startswith(b"R65l"):
         return {call.name}
@@ -74,7 +74,7 @@ def input_places(before, call):
 
 
 def members(library):
-    """The name, the begin and the end of each member."""
+    """Returns the name, the begin and the end of each member."""
     at = 5
 
     def number():
@@ -102,7 +102,7 @@ def members(library):
 
 
 def messages_of(words, before, calls, failed):
-    """What a run may say where a call failed."""
+    """Returns the messages that a run may print after a failed call."""
     is_written = any(it.asked == "create" for it in calls) or failed.asked == "create"
     if is_written:
         places = {failed.name}
@@ -114,7 +114,7 @@ def messages_of(words, before, calls, failed):
 
 
 def why_stream_wrong(ended, before, plain, failed):
-    """What is wrong with a run of which a stream stopped."""
+    """Returns what is wrong with a run whose stream stopped, or None."""
     if failed.name == "out" and ended.err:
         return f"standard output failed, said {ended.err}"
     if failed.name == "err" and ended.out != plain.out:
@@ -125,7 +125,7 @@ def why_stream_wrong(ended, before, plain, failed):
 
 
 def why_file_wrong(ended, words, before, plain, calls):
-    """What is wrong with a run of which a call on a file failed, the last of these."""
+    """Returns what is wrong with a run whose last call on a file failed, or None."""
     *calls, failed = calls
     lines = messages_of(words, before, calls, failed)
     said = next((ended.err[: -len(it)] for it in lines if ended.err.endswith(it)), None)
@@ -141,7 +141,7 @@ def why_file_wrong(ended, words, before, plain, calls):
 
 
 def why_dead_wrong(ended, words, before, plain, calls):
-    """What is wrong with a run of which the last of these calls failed and all behind it: it can say nothing more."""
+    """Returns what is wrong with a run in which the last of these calls and all later ones failed, or None: it can print nothing more."""
     order = [it.name for it in calls if it.asked == "create"]
     is_said = plain.out.startswith(ended.out) and plain.err.startswith(ended.err)
     if ended.status != 1 or not is_said or failing.is_written(ended.files, before, plain.files, order) is None:
@@ -150,7 +150,7 @@ def why_dead_wrong(ended, words, before, plain, calls):
 
 
 def why_wrong(ended, words, before, plain, calls):
-    """What is wrong with a run of which the last of these calls failed."""
+    """Returns what is wrong with a run in which the last of these calls failed, or None."""
     failed = calls[-1]
     if ended.status != 1:
         return f"{failed.asked} {failed.name} failed, status {ended.status}"
@@ -160,7 +160,7 @@ def why_wrong(ended, words, before, plain, calls):
 
 
 def fail_in_turn(tests, words, before, plain, letters, wanted):
-    """Fails each call that is wanted in turn. Answers how many, and what was wrong first."""
+    """Lets each selected call fail in turn. Returns how many there are, and the first that went wrong."""
     run, restore = tests.starter.run, tests.starter.restore
     restore(before)
     ended = run(words, f"d{letters}")

@@ -118,7 +118,7 @@ class Crate:
 
 
 def together(rt):
-    """Checks of mutants that are tried together."""
+    """Checks mutants that are tried in one check."""
     checks = {}
     with tempfile.TemporaryDirectory() as room:
         crate = Crate(f"{room}/made")
@@ -149,7 +149,7 @@ def together(rt):
 
 
 def turns():
-    """Checks that each mutant has its turn, whatever number of commits a landing has."""
+    """Checks that each mutant has its turn, for any number of commits per landing."""
     names = [f"crate/mutant_{number}" for number in range(500)]
     tried, last, most = set(), 1234, 0
     for commits in [1, 7, 60, 3, 25, 41, 90, 12, 33, 5] * 4:
@@ -181,7 +181,7 @@ rt: FAILED: link65 ld65""".split("\n")
 
 
 def failures():
-    """Checks what is said of a gate that failed."""
+    """Checks what a failed gate prints."""
     reader = ci.Reader()
     for line in ("== base65", "logic=proved", "rt: base65 proved"):
         first = reader.read(line)
@@ -207,7 +207,7 @@ def failures():
 
 
 def listed():
-    """Checks that the gate runs each script of tests/ that counts what passed."""
+    """Checks that the gate runs each script of tests/ that prints counts."""
     names = {it.removesuffix(".py") for it in os.listdir(f"{kit.ROOT}/tests") if it.endswith(".py")}
     counting = {it for it in names if "passed, M failed" in "".join(kit.lines_of(f"{kit.ROOT}/tests/{it}.py")[:20])} - {"all"}
     run = {*gate.SCRIPTS, *(words[1].removeprefix("tests/").removesuffix(".py") for _, words in gate.TEXTS)}
@@ -215,7 +215,7 @@ def listed():
 
 
 class Proved:
-    """A crate by its name, and those below it."""
+    """A crate by its name, and the crates below it."""
 
     def __init__(self, name, *below):
         self.name, self.folder, self.under = name, f"{kit.ROOT}/crates/{name}", below
@@ -228,7 +228,7 @@ class Proved:
 
 
 def beside():
-    """Checks that the mutants of a crate wait until those below it are proved, and that none is lost."""
+    """Checks that mutants of a crate wait until the crates below it are proved, and that none is lost."""
     low, high, never = Proved("low"), Proved("higher"), Proved("never")
     every = {Proved("one", low): ["a"], Proved("two", low, high): ["b", "c"], Proved("three", never): ["d"]}
     began, was = [], (mutants.chosen, mutants.not_refused, kit.lanes)

@@ -1,7 +1,7 @@
 #!/usr/bin/env python3
-"""The real program on inputs that promise much, nest deep or go on long, each with so much memory as its bytes warrant.
+"""Tests the real program on inputs that announce large counts, nest deeply or are very long, with memory in proportion to their bytes.
 
-usage: hostile.py BIN65    Prints a line a test, and last 'N passed, M failed'.
+usage: hostile.py BIN65    Prints a line for each test; the last line is 'N passed, M failed'.
 """
 
 import os
@@ -27,7 +27,7 @@ class Tests:
         self.program, self.passed, self.failed = program, 0, 0
 
     def run(self, memory, *words):
-        """Runs the program with so much memory, and answers its status and texts."""
+        """Runs the program with a bound on memory, and returns its status and texts."""
         limit = lambda: resource.setrlimit(resource.RLIMIT_AS, (memory, memory))
         ran = subprocess.run([self.program, *words], stdin=subprocess.DEVNULL, capture_output=True, timeout=60, preexec_fn=limit)
         return ran.returncode, ran.stdout, ran.stderr
@@ -66,12 +66,12 @@ def object_of(*records, version=1):
 
 
 def place(version):
-    """Line 1, in version 2 of the first file."""
+    """Returns the bytes of a location: line 1, in version 2 of the first file."""
     return number(0, 4) * (version - 1) + number(1, 4)
 
 
 def long_lines(tests):
-    """A line of 2,040 operators is folded to a number, or has too many parts."""
+    """Tests lines of 2,040 operators: folded to a number, or rejected for too many parts."""
     put("b.s", ".byte 5" + "+0" * 2040 + "\n")
     tests.check("2,040 operators", (tests.run(LITTLE, "ca65", "b.s"), get("b.o")), (QUIET, object_of(section(1), literals(b"\5"), version=2)))
     put("b.s", ".import v\n.byte <v" + "+v" * 2039 + "\n")
@@ -81,7 +81,7 @@ def long_lines(tests):
 
 
 def deep_forms(tests):
-    """Forms that fill a record of either version: one operation within the other, as many as there is room for and one less."""
+    """Tests forms that fill a record of either version with nested operations: as many as fit, and one fewer."""
     leaf = b"\2" + bytes(4)
     for version in (1, 2):
         files, most = [record(9, b"a.s")] * (version - 1), 4095 - len(place(version)) - len(leaf)
@@ -102,7 +102,7 @@ def deep_forms(tests):
 
 
 def promises(tests):
-    """Counts and sizes of 2^32 - 1 that nothing stands behind."""
+    """Tests counts and sizes of 2^32 - 1 that no bytes follow."""
     most = b"\xff" * 4
     put("main.o", object_of(record(1, b"v"), section(2), record(5, b"\1" + number(1, 4) + b"\2" + bytes(4))))
     head = b"R65l\1"
@@ -133,7 +133,7 @@ def promises(tests):
 
 
 def large_areas(tests):
-    """An area of 4 GB takes what stands in it; its fill isn't there for want of memory."""
+    """Tests an area of 4 GB: its contents fit, and its fill doesn't, for lack of memory."""
     put("b.s", "nop\n")
     tests.check("a source", tests.run(LITTLE, "ca65", "b.s"), QUIET)
     put("l.cfg", "MEMORY { A: start = 0, size = $FFFFFFFF; } SEGMENTS { CODE: load = A; }")
@@ -149,7 +149,7 @@ def large_areas(tests):
 
 
 def long_chains(tests):
-    """Constants of a module, and exports of two in turn, each the value of the next."""
+    """Tests chains of constants of one module, and of exports of two modules in turn, each the value of the next."""
     chain = "".join(f"a{at} = a{at + 1}\n" for at in range(CHAIN))
     put("b.s", f".byte a0\n{chain}a{CHAIN} = 7\n")
     linked(tests, "a chain of 20,000 constants", b"\7", "b", memory=MUCH)

@@ -1,6 +1,6 @@
 #!/usr/bin/env python3
-"""Tests what the gate sees of code that keeps what it may not: code is planted in the text of the crates and has to be refused, and the crates as
-they are have to pass. What no type shows is measured (tests/measured.py).
+"""Tests gate/kept.py: types that hold what they may not are added to the text of the crates and must be rejected; the crates as they are must
+pass. What no type shows is measured (tests/measured.py).
 
 usage: kept.py. The last line is 'N passed, M failed'."""
 import os

@@ -1,6 +1,6 @@
 #!/usr/bin/env python3
-"""Makes label files of a map by example/labels.sh: the lines have to be those that are written here, and for VICE those
-that cc65's `ld65 -Ln` writes of the same source and script, where cc65 is installed.
+"""Makes label files of a map with example/labels.sh: the lines must be the expected ones, and for VICE those that cc65's `ld65 -Ln` writes of the
+same source and script, if cc65 is installed.
 
 usage: labels.py BIN65. The last line is 'N passed, M failed'."""
 import os

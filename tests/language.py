@@ -1,7 +1,6 @@
 #!/usr/bin/env python3
-"""Checks the examples of docs/LANGUAGE.md: each is taken and places the bytes that the page says, with bin65 and, where it is installed,
-with cc65; each directive of its tables has a heading with an example, in alphabetical order; and no paragraph of a page for users
-has more than 600 characters.
+"""Checks the examples of docs/LANGUAGE.md: each is accepted and emits the listed bytes, in bin65 and, if it is installed, in cc65; each directive
+of the tables has a heading with an example, in alphabetical order; and no paragraph of a page for users has more than 600 characters.
 
 usage: language.py BIN65. The last line is 'N passed, M failed'."""
 import os
@@ -45,7 +44,7 @@ PAGES = ("README", "docs/LANGUAGE", "docs/TUTORIAL", "docs/DEBUGGING", "docs/REL
 
 
 def image(assembler, linker, source, files):
-    """The image of a source, or what was said."""
+    """Returns the image of a source, or the output of the failed command."""
     with tempfile.TemporaryDirectory() as folder:
         for name, text in (*files, ("a.s", source), ("a.cfg", SCRIPT)):
             pages.put(f"{folder}/{name}", text)
@@ -58,7 +57,7 @@ def image(assembler, linker, source, files):
 
 
 def examples(text):
-    """The examples of a page, as (source, files, the bytes that it says)."""
+    """Returns the examples of a page, as (source, files, listed bytes)."""
     parts = re.split(r"^```asm\n", text, flags=re.M)
     for before, part in zip(parts, parts[1:]):
         source, _, after = part.partition("\n```\n")
@@ -67,7 +66,7 @@ def examples(text):
 
 
 def why_wrong(program, source, files, said):
-    """What is wrong with an example, if anything is."""
+    """Returns what is wrong with an example, or None."""
     if said is None:
         return "the page doesn't say what it places"
     if (found := image([program, "ca65"], [program, "ld65"], source, files)) != said:
@@ -78,14 +77,14 @@ def why_wrong(program, source, files, said):
 
 
 def directives(page):
-    """The directives of the page's tables of statements and of macros."""
+    """Returns the directives in the page's tables of statements and of macros."""
     tables = page.split("| Statement | What it says |")[1].split("\n\n")[0] + page.split("| Directive | What it does |")[1].split("\n\n")[0]
     rows = re.findall(r"^\| (`[^|]*?) \|", tables, re.M)
     return {it for row in rows for it in re.findall(r"(?<![\w.])\.[a-z]\w+", row)} | {".paramcount"}
 
 
 def why_headings(page):
-    """What is wrong with the headings of directives, if anything is."""
+    """Returns what is wrong with the headings of directives, or None."""
     part = page.split("\n## Each directive, with an example\n")[1].split("\n## ")[0]
     found = pages.sections(part, "###")
     named = [re.findall(r"`(\.\w+)`", title) for title, _ in found]

@@ -1,10 +1,10 @@
 #!/usr/bin/env python3
-"""The real program past all sizes at once: a source of more than 100,000 lines with 5,000 imports, 1,000 sections of 4 MB and
-1 MB of text for each stream; and its link without the imports, by a script of 2,000 areas and 21,000 rows, into an image of 4 MB
-with 1 MB of warnings; a script of 10,000 areas and rows, each area by the one before it; and a library of 2,000 members. Whole
-answers are compared with what is computed here.
+"""Tests the real program with large inputs: a source of more than 100,000 lines with 5,000 imports, 1,000 sections of 4 MB and 1 MB of text for
+each stream; its link without the imports, by a script of 2,000 areas and 21,000 rows, into an image of 4 MB with 1 MB of warnings; a script
+of 10,000 areas and rows, each area placed after the one before; and a library of 2,000 members. The results are compared with values
+computed here.
 
-usage: large.py BIN65    Prints a line a test, and last 'N passed, M failed'.
+usage: large.py BIN65    Prints a line for each test; the last line is 'N passed, M failed'.
 """
 
 import os
@@ -30,7 +30,7 @@ def value(section, line, place):
 
 
 def data(section):
-    """The bytes of a section's data."""
+    """Returns the bytes of a section's data."""
     values = (value(section, line, place) for line in range(LINES) for place in range(VALUES))
     return b"".join(it.to_bytes(4, "little") for it in values)
 
@@ -44,7 +44,7 @@ def literals(piece):
 
 
 class Source:
-    """A source as it is made, with what is said of it and the values of its imports."""
+    """A source under construction, with its expected messages and the values of its imports."""
 
     def __init__(self, with_imports):
         self.lines, self.out, self.err = [], [], []
@@ -74,7 +74,7 @@ class Source:
             self.err.append(f"b.s:{len(self.lines)}: Warning: {text}")
 
     def object(self):
-        """The object's bytes."""
+        """Returns the expected bytes of the object."""
         parts = [b"R65o\x02"]
         if self.with_imports:
             parts += [record(9, b"b.s")]
@@ -96,7 +96,7 @@ def joined(lines):
 
 
 def section_of(area):
-    """The section whose row lies in an area; sections and areas have other orders."""
+    """Returns the section whose row is in an area; sections and areas are ordered differently."""
     return area * 7 % SECTIONS
 
 
@@ -105,7 +105,7 @@ def absent(at):
 
 
 def script():
-    """Half of the areas follow each other in the output, each with a row; the others in another file, without."""
+    """Returns a script: half of the areas follow each other in the output, with a row each; the others are in another file and have none."""
     parts = ["MEMORY {"]
     for area in range(AREAS // 2):
         parts.append(f"A{area}:start=0,size={AREA_SIZE},fill=yes,fillval={area % 256};")
@@ -128,7 +128,7 @@ def side():
 
 
 def chained():
-    """Areas each of which begins a byte after the one before it does, with a row each, and is as long: by names of both."""
+    """Returns a script of areas that each begin a byte after the area before and have its size, both by name, with a row each."""
     parts = ["MEMORY {A0:start=$1000,size=9;"]
     for at in range(1, CHAINED):
         before = at - 1
@@ -166,7 +166,7 @@ class Tests:
         return ran
 
     def check(self, name, pairs):
-        """Each pair is what was found and what is wanted."""
+        """Compares pairs of what was found and what is expected."""
         wrong = [what for what, found, wanted in pairs if found != wanted]
         self.passed, self.failed = self.passed + (not wrong), self.failed + bool(wrong)
         print(f"{name}: " + (f"FAILED: {', '.join(wrong)} differ" if wrong else f"ok, {self.took:.1f} s"), flush=True)
@@ -196,7 +196,7 @@ def number(value, size):
 
 
 def member(at):
-    """An object of four bytes that exports a name, and imports the next one; every third is of version 1."""
+    """Returns an object of four bytes that exports a name and imports the next one; every third is of version 1."""
     export, wanted = f"f{at}".encode(), f"f{at + 1}".encode()
     head, place = (b"R65o\2" + record(9, b"m.s"), bytes(4)) if at % 3 else (b"R65o\1", b"")
     section = record(2, number(4, 4) + b"\0CODE") + literals(number(value(at, at, 0), 4))
@@ -205,7 +205,7 @@ def member(at):
 
 
 def library(members):
-    """The library of these members."""
+    """Returns the library of these members."""
     index = b"R65l\1" + number(len(members), 4)
     for at in members:
         names = [f"m{at}.o".encode(), f"f{at}".encode(), f"f{at + 1}".encode()]
@@ -215,7 +215,7 @@ def library(members):
 
 
 def keep_library(tests):
-    """Puts all members into a library, lists them, takes every other one out, and the others apart."""
+    """Adds all members to a library, lists them, deletes every other one, and extracts the rest."""
     files = [f"m{at}.o" for at in range(MEMBERS)]
     for at, name in enumerate(files):
         with open(name, "wb") as opened:

@@ -1,7 +1,7 @@
 #!/usr/bin/env python3
-"""Each link of a page leads to a file of the repository, and to a heading of it where it names one; the README has at most
-130 lines; tests/README.md has a row for each script of tests/; the picture of the crates is the one that its script draws; and no
-file has the marks of a merge that was left undone.
+"""Checks that each link of a page leads to a file of the repository and, where it names one, to a heading; that the README has at most 130 lines;
+that tests/README.md has a row for each script of tests/; that the picture of the crates is what its script draws; and that no file contains
+the marks of an unfinished merge.
 
 usage: links.py. The last line is 'N passed, M failed'."""
 import glob
@@ -21,14 +21,14 @@ def read(file):
 
 
 def anchors(file):
-    """The names of a page's headings, as they stand in links."""
+    """Returns the names of a page's headings, in the form that links use."""
     text = re.sub(r"^```.*?^```$", "", read(file), flags=re.M | re.S)
     for heading in re.findall(r"^#+ (.*)$", text, re.M):
         yield re.sub(r"[^\w\- ]", "", heading.lower()).replace(" ", "-")
 
 
 def wrong(root, page):
-    """The links of a page that lead nowhere in a folder."""
+    """Returns the links of a page in a folder that lead nowhere."""
     text = re.sub(r"^```.*?^```$", "", read(f"{root}/{page}"), flags=re.M | re.S)
     for link in LINK.findall(re.sub(r"`[^`\n]*`", "", text)):
         file, _, anchor = link.partition("#")
@@ -47,12 +47,12 @@ def pages_of(root):
 
 
 def all_wrong(root):
-    """The links of all pages that lead nowhere."""
+    """Returns the links of all pages that lead nowhere."""
     return [it for page in pages_of(root) for it in wrong(root, page)]
 
 
 def unmerged():
-    """Yields the lines of the repository's files that mark the two sides of a merge."""
+    """Yields the lines of the repository's files that mark the sides of a merge."""
     ran = subprocess.run(["git", "grep", "-nIE", "^(<{7}|>{7}) "], cwd=pages.ROOT, capture_output=True, text=True, check=False)
     yield from (f"a merge was left undone: {it}" for it in ran.stdout.splitlines())
 

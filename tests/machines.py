@@ -1,7 +1,7 @@
 #!/usr/bin/env python3
-"""Loads the images of example/hello as each machine does, runs them on a small processor, and looks at what they give to the machine's
-own routine for a character: the C64 and the VIC-20 (the load address, the line of BASIC with its SYS, CHROUT), the Apple II (an
-AppleSingle file, COUT), and the Atari (blocks, RUNAD, CIO). The NES has no such routine: of it the header and the vectors are looked at.
+"""Loads the images of example/hello as each machine does, runs them on a small processor, and checks the characters that they pass to the
+machine's own routine: C64 and VIC-20 (load address, the line of BASIC with its SYS, CHROUT), Apple II (an AppleSingle file, COUT), Atari
+(blocks, RUNAD, CIO). The NES has no such routine, so its header and vectors are checked.
 
 usage: machines.py BIN65. The last line is 'N passed, M failed'."""
 import os
@@ -26,7 +26,7 @@ def word(memory, at):
 
 
 def run(memory, start, routines):
-    """Runs from an address until a jump to itself, and answers what each call of one of the machine's routines had in A."""
+    """Runs from an address until a jump to itself, and returns the value of A at each call of one of the machine's routines."""
     a = x = y = zero = 0
     stack, calls, at = [], [], start
     for _ in range(10000):
@@ -75,7 +75,7 @@ def run(memory, start, routines):
 
 
 def commodore(image):
-    """What a C64 or a VIC-20 prints: the file says where it is loaded, BASIC's first line has the SYS."""
+    """Returns what a C64 or a VIC-20 prints: the file begins with its load address, and BASIC's first line has the SYS."""
     memory, begun = bytearray(65536), image[0] + 256 * image[1]
     memory[begun : begun + len(image) - 2] = image[2:]
     line = memory[begun + 4 : memory.index(0, begun + 4)]
@@ -86,7 +86,7 @@ def commodore(image):
 
 
 def apple(image):
-    """What an Apple II prints, of an AppleSingle file."""
+    """Returns what an Apple II prints, from an AppleSingle file."""
     if image[:8] != bytes.fromhex("0005160000020000") or any(image[8:24]) or image[24:26] != b"\0\2":
         raise ValueError("no AppleSingle file of two entries")
     found = {}
@@ -103,7 +103,7 @@ def apple(image):
 
 
 def atari(image):
-    """What an Atari prints: blocks are loaded, the last one puts the start at RUNAD."""
+    """Returns what an Atari prints: its blocks are loaded, the last one puts the start address at RUNAD."""
     memory, at, first = bytearray(65536), 2, None
     if image[:2] != b"\xff\xff":
         raise ValueError("no mark")
@@ -121,7 +121,7 @@ def atari(image):
 
 
 def nes(image):
-    """The sizes and the vectors of a cartridge."""
+    """Returns the sizes and the vectors of a cartridge."""
     if image[:4] != b"NES\x1a" or len(image) != 16 + image[4] * 16384 + image[5] * 8192 or image[6] & 0xF0 or image[7]:
         raise ValueError("another header, or another size")
     vectors = [word(image, 16 + 0x7FFA + it) for it in (0, 2, 4)]

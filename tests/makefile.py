@@ -1,8 +1,7 @@
 #!/usr/bin/env python3
-"""Runs example/Makefile in a copy of example/: from nothing with `make -j4`, with nothing to do, after a source, a script, a
-library's source, an included file or one of .incbin changed, came or went, with sources that are refused and a disk that is
-full, and what the run after each of them makes; without work65, and with it. Each machine's image has to be the one that cc65
-makes of the same sources and script, and have its checksum.
+"""Runs example/Makefile in a copy of example/: from nothing with `make -j4`; with nothing to do; after a source, a script, a library's source, an
+included file or a file of .incbin changed, was added or was removed; with rejected sources; with a full disk; and the run after each of
+these; with and without work65. Each machine's image must equal the one that cc65 makes of the same sources and script, and have its checksum.
 
 usage: makefile.py BIN65. The last line is 'N passed, M failed'."""
 import glob
@@ -26,7 +25,7 @@ IMAGES = {
 
 
 def content(file):
-    """A file's bytes, or None where there is none."""
+    """Returns a file's bytes, or None if it doesn't exist."""
     if not os.path.exists(file):
         return None
     with open(file, "rb") as it:
@@ -34,7 +33,7 @@ def content(file):
 
 
 class Trial:
-    """A copy of the example in a folder of its own, and what was found wrong."""
+    """A copy of the example in a folder of its own, and the failures found."""
 
     def __init__(self, folder, program):
         self.folder, self.program = folder, program
@@ -43,7 +42,7 @@ class Trial:
         shutil.copytree(f"{pages.ROOT}/example/hello", f"{folder}/hello")
 
     def make(self, *words, before=""):
-        """Runs make, and answers its status and all that it says."""
+        """Runs make, and returns its status and its output."""
         line = " ".join(("make", f"BIN65='{self.program}'", "WORK65=", *words))
         ran = subprocess.run(["bash", "-c", before + line], cwd=self.folder, stdout=subprocess.PIPE, stderr=subprocess.STDOUT)
         return ran.returncode, ran.stdout.decode(errors="replace")
@@ -55,7 +54,7 @@ class Trial:
         return {it: self.image(it) for it in IMAGES}
 
     def age(self):
-        """Makes all files two seconds older, so that one that is written now is newer than what was built of it."""
+        """Makes all files two seconds older, so that a file written now is newer than what was built from it."""
         for it in filter(os.path.isfile, glob.glob(f"{self.folder}/**", recursive=True)):
             os.utime(it, (os.stat(it).st_mtime - 2,) * 2)
 
@@ -78,7 +77,7 @@ class Trial:
 
 
 def cc65_image(folder, target):
-    """The image that cc65 makes of a machine's sources and script."""
+    """Returns the image that cc65 makes of a machine's sources and script."""
     out = f"{folder}/cc65/{target}"
     os.makedirs(out)
     own = sorted(os.path.basename(it) for it in glob.glob(f"{folder}/hello/{target}/*.s"))
@@ -104,7 +103,7 @@ def from_nothing(trial):
 
 
 def after_changes(trial):
-    """A change is built, and nothing that it doesn't touch."""
+    """Tests that a change is built, and nothing else."""
     trial.edit("hello/main.s", '"HELLO"', '"HELLOO"')
     status, said = trial.make("TARGET=c64")
     trial.check("a source", status == 0 and b"HELLOO" in trial.image("c64") and said.count(" ca65 ") == 1, said)
@@ -123,13 +122,13 @@ def after_changes(trial):
 
 
 def members(trial, target):
-    """The names of the members of a machine's library."""
+    """Returns the names of the members of a machine's library."""
     words = [trial.program, "ar65", "t", f"{trial.folder}/out/hello/{target}/hello.lib"]
     return subprocess.run(words, capture_output=True, text=True, check=False).stdout.split()
 
 
 def gone(trial):
-    """A source that came or went: the library has the members whose sources are there, and no other."""
+    """Tests sources that are added or removed: the library has exactly the members whose sources exist."""
     trial.put("hello/lib/more.s", " .export more\nmore: rts\n")
     status, said = trial.make("TARGET=c64")
     trial.check("a member that came", status == 0 and members(trial, "c64") == ["more.o", "print.o", "print_hex.o"], said)
@@ -155,7 +154,7 @@ def gone(trial):
 
 
 def taken_in(trial):
-    """A file that a module includes or takes in, in a folder of its own, and one of another machine."""
+    """Tests a file in a folder of its own that a module includes or reads by .incbin, and one of another machine."""
     trial.put("hello/parts/deep/text.inc", " .byte 'O', 'N', 'E'\n")
     trial.put("hello/parts/data.bin", "DATA1")
     trial.edit("hello/c64/machine.s", ".code", '.rodata\n .include "parts/deep/text.inc"\n .incbin "../parts/data.bin"\n.code')
@@ -178,7 +177,7 @@ def taken_in(trial):
 
 
 def with_work65(trial):
-    """With work65 a module is built again after the files that it takes in, and after no other."""
+    """Tests that with work65 a module is rebuilt after the files that it includes, and after no others."""
     trial.put("hello/parts/deep/text.inc", " .byte 'S', 'I', 'X'\n")
     trial.put("hello/parts/spare.inc", "; of no module\n")
     work65 = f"WORK65='sh {pages.ROOT}/workbench/work65.sh'"
@@ -197,7 +196,7 @@ def with_work65(trial):
 
 
 def other_makefile(trial):
-    """A Makefile of another name builds what it says itself, on all machines."""
+    """Tests that a Makefile with another name builds what it lists, on all machines."""
     with open(f"{trial.folder}/Makefile", encoding="utf-8") as it:
         text = it.read()
     pages.put(f"{trial.folder}/other.mk", text.replace("NAME    := hello", "NAME    := other").replace(" nes c64 vic20 apple2 atari", " c64 lone"))
@@ -210,7 +209,7 @@ def other_makefile(trial):
 
 
 def refused(trial, before):
-    """A source that is refused: make fails, what was built stays, and the next run builds it."""
+    """Tests a rejected source: make fails, what was built before stays, and the next run builds it."""
     trial.edit("hello/main.s", "jsr     print", "jsrr    print")
     status, said = trial.make("-j4")
     trial.check("a refused source", status != 0 and "hello/main.s:10: Error: statement not understood" in said, said)
@@ -221,7 +220,7 @@ def refused(trial, before):
 
 
 def full_disk(trial, before):
-    """A disk that takes no more: no half image is left to be taken for a whole one."""
+    """Tests a full disk: no partial image is left that could pass for a complete one."""
     trial.edit("hello/nes/nes.cfg", "MEMORY {", "MEMORY { ")
     status, said = trial.make("TARGET=nes", before="trap '' XFSZ; ulimit -f 16; ")
     trial.check("a full disk", status != 0 and "hello.nes: Error: file error" in said, said)

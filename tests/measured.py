@@ -1,10 +1,11 @@
 #!/usr/bin/env python3
-"""Measures what no contract can say: memory.
+"""Measures memory, about which no contract can say anything.
 
-Calls that take no memory are made once and many times (crates/tests_calls65): the number of requests for memory has to be the same. The linker keeps no module and no record: its memory doesn't grow with the number of modules, and stays near
-the bytes of the image. The assembler keeps no statement: its memory doesn't grow with the number of statements that put nothing.
+Calls that may not allocate are made once and many times (crates/tests_calls65): the number of requests must be the same. The linker keeps no
+module and no record: its memory doesn't grow with the number of modules, and stays near the size of the image. The assembler keeps no
+statement: its memory doesn't grow with the number of statements that emit nothing.
 
-usage: measured.py BIN65    Prints what it measured; the last line is 'N passed, M failed'."""
+usage: measured.py BIN65    Prints the measurements; the last line is 'N passed, M failed'."""
 import os
 import re
 import subprocess
@@ -27,7 +28,7 @@ def put(folder, name, text):
 
 
 def used(library, words, folder):
-    """Returns how many requests for memory a program makes, and the most bytes that it holds at once. It has to end well."""
+    """Runs a program, which must succeed. Returns its number of requests for memory, and the most bytes that it holds at once."""
     read, write = os.pipe()
     environment = {**os.environ, "LD_PRELOAD": library, "FAILING": "m0"}
     with open(read, encoding="ascii") as report:
@@ -41,14 +42,14 @@ def used(library, words, folder):
 
 
 def calls(library, program, folder, checks):
-    """Counts requests of calls that take no memory."""
+    """Counts the requests of calls that may not allocate."""
     few, many = (used(library, [CALLS, str(times)], folder)[0] for times in (1, 1000))
     print(f"requests for memory of calls made once {few}, 1,000 times {many}")
     checks["calls that take no memory"] = few == many
 
 
 def links(library, program, folder, checks):
-    """Measures links of few and of many modules with the same bytes in all."""
+    """Measures links of few and of many modules with the same number of bytes in total."""
     put(folder, "s.cfg", SCRIPT)
     found = []
     for count in (20, 400):
@@ -62,7 +63,7 @@ def links(library, program, folder, checks):
 
 
 def sources(library, program, folder, checks):
-    """Measures sources of few and of many statements. A statement that was kept would take 32 bytes and more."""
+    """Measures sources of few and of many statements. A statement that is kept would take 32 bytes or more."""
     for statement in STATEMENTS:
         found = []
         for count in (1000, 100000):

@@ -1,9 +1,9 @@
 #!/usr/bin/env python3
-"""Every request for memory of each run is refused in turn, by the real program; then all from each on. A run that meets a refusal
-has status 1 and says first parts of what it says with memory, then that memory ran out, and writes nothing: or, where its files are
-being written, those before and a first part of one. A refusal that ends with status 0 has been lost.
+"""Refuses each request for memory of each run of the real program in turn, and then all requests from each one on. A run that is refused memory
+must end with status 1, print a first part of what it prints with enough memory and then that memory ran out, and write nothing; or, if it
+was writing its files, the earlier ones and a first part of one. If it ends with status 0, the refusal was lost.
 
-usage: memory.py BIN65    Prints a line a run, and last 'N passed, M failed'.
+usage: memory.py BIN65    Prints a line for each run; the last line is 'N passed, M failed'.
 """
 
 import sys
@@ -12,12 +12,12 @@ import failing
 
 
 def names_of(words):
-    """Who may say that memory ran out."""
+    """Returns the names that may report that memory ran out."""
     return ["bin65", {"ca65": words[-1], "ld65": "ld65", "ar65": words[min(2, len(words) - 1)]}[words[0]]]
 
 
 def why_wrong(ended, words, before, plain, order):
-    """What is wrong with a run that was refused memory."""
+    """Returns what is wrong with a run that was refused memory, or None."""
     if ended.status != 1:
         return f"status {ended.status}, said {ended.err}"
     if not plain.out.startswith(ended.out):

@@ -1,4 +1,4 @@
-"""The stated forms of what the program says."""
+"""The documented forms of the program's messages."""
 
 import re
 

@@ -1,6 +1,6 @@
 #!/usr/bin/env python3
-"""Checks docs/MESSAGES.md: each example gives what the page shows, of a table's two sources the first is refused and the
-second taken, the headings stand in alphabetical order and in the contents, and each text that the code can print stands on the page.
+"""Checks docs/MESSAGES.md: each example prints what the page shows; of a table's two sources the first is rejected and the second accepted; the
+headings are in alphabetical order and in the contents; and each text that the code can print is on the page.
 
 usage: messages.py BIN65. The last line is 'N passed, M failed'."""
 import glob
@@ -21,7 +21,7 @@ ROW = re.compile(r"^\| [^|]+ \| (`[^|]+`) \| (`[^|]+`) \|$", re.M)
 
 
 def sources():
-    """The code's files that aren't tests."""
+    """Returns the files of code that aren't tests."""
     files = glob.glob(f"{pages.ROOT}/crates/*/src/**/*.rt", recursive=True)
     return sorted(it for it in files if not TESTS.search(it))
 
@@ -31,7 +31,7 @@ def without_comments(text):
 
 
 def printed():
-    """The texts that the code's functions make, in the page's form, and where each stands."""
+    """Returns the texts that the code's functions make, in the form of the page, with their locations."""
     for file in sources():
         with open(file, encoding="utf-8") as it:
             code = without_comments(it.read())
@@ -43,19 +43,19 @@ def printed():
 
 
 def plain(text):
-    """A text without the form around it, and with N and n for what is put in."""
+    """Returns a text without the form around it, with N and n for inserted values."""
     text = re.sub(r"^.*?: ?(Error|Warning): ?", "", text.replace("\\n", ""))
     text = re.sub(r"\{\w+\}", "N", text.replace("{bytes}", "n"))
     return text.strip(" :,")
 
 
 def forms(heading):
-    """The texts that make a heading: whole, without the name behind it, or without what a warning puts before and behind."""
+    """Returns the texts that can be a heading: whole, without the name at the end, or without the surrounding text of a warning."""
     return {heading, heading.split(":")[0], heading.split(",")[0], heading.removeprefix("segment N ").removesuffix(" K")}
 
 
 def missing(page):
-    """The texts of the code that aren't on the page."""
+    """Returns the texts of the code that aren't on the page."""
     texts = set().union(*(forms(it) for it, _ in pages.sections(page, "###")))
     texts |= set(re.findall(r"`([^`]+)`", page.split("## Texts that no command prints")[1]))
     for text, place in sorted(set(printed())):
@@ -64,12 +64,12 @@ def missing(page):
 
 
 def anchor(title):
-    """A heading's name, as it stands in links."""
+    """Returns the name of a heading in the form that links use."""
     return re.sub(r"[^\w\- ]", "", title.lower()).replace(" ", "-")
 
 
 def rows_wrong(text, tools, folder):
-    """The rows of a table whose first source isn't refused, or whose second one is."""
+    """Returns the rows of a table whose first source is accepted or whose second one is rejected."""
     for refused, taken in ROW.findall(text):
         for source, wanted in ((refused, "statement not understood"), (taken, None)):
             pages.put(f"{folder}/row.s", "\n".join(re.findall(r"`([^`]+)`", source)) + "\n")
@@ -79,7 +79,7 @@ def rows_wrong(text, tools, folder):
 
 
 def check(title, text, before, tools, folder):
-    """What is wrong with the examples of a message."""
+    """Returns what is wrong with the examples of a message."""
     os.makedirs(folder)
     shown = pages.steps(text)
     wrong = pages.carry_out(before, tools, folder) + pages.carry_out(shown, tools, folder)

@@ -1,7 +1,7 @@
 #!/usr/bin/env python3
-"""Tries what docs/MIGRATING.md says to a user of cc65: what it says to write places the bytes that it names, and with cc65
-those of the text before; what gives other bytes gives those in both; its search finds each text that has to change and none
-that is taken; its opcodes and the lists of cc65's own files are right. What cc65 does is tried where it is installed.
+"""Checks docs/MIGRATING.md: a replacement gives the listed bytes in bin65, and so does the original in cc65; constructs that give other bytes give
+the listed ones in both; the search finds each text that must change and none that is accepted; and the lists of opcodes and of cc65's own
+files are right. cc65 is run if it is installed.
 
 usage: migrating.py BIN65. The last line is 'N passed, M failed'."""
 import os
@@ -43,7 +43,7 @@ UNSEEN = ("`.export` within a scope",)
 
 
 def image(assembler, linker, text, script=None):
-    """The image of a source, or what was said."""
+    """Returns the image of a source, or the output of the failed command."""
     with tempfile.TemporaryDirectory() as folder:
         for name, content in (("a.s", text), ("l.cfg", script or SCRIPT)):
             pages.put(f"{folder}/{name}", content)
@@ -56,19 +56,19 @@ def image(assembler, linker, text, script=None):
 
 
 def is_said(found, said):
-    """Whether an image is what the document says: its bytes, how many, or that there is none."""
+    """Returns whether an image is the documented one: its bytes, its size, or that there is none."""
     if not isinstance(found, bytes):
         return said == "refuses it"
     return said.removeprefix("places ") in (f"`{found.hex(' ').upper()}`", f"{len(found)} bytes")
 
 
 def lines_of(cell):
-    """The source whose lines are a table's cell, each in quotes of its own."""
+    """Returns the source whose lines are a table's cell, each in its own quotes."""
     return "".join(f"{it}\n" for it in re.findall(r"`([^`]+)`", cell))
 
 
 class Tries:
-    """What passed and failed, with the two programs that are tried."""
+    """Counts of passed and failed rows, with the two programs."""
 
     def __init__(self, program):
         self.passed = self.failed = 0
@@ -81,7 +81,7 @@ class Tries:
             print(f"{name}: {found}")
 
     def pair(self, title, before, after, said):
-        """What both take places the bytes that are named, which are those of the text before in cc65."""
+        """Checks that the replacement gives the listed bytes in both, and the original in cc65."""
         found = image(*self.ours, after)
         good = is_said(found, said)
         if self.cc65:
@@ -89,7 +89,7 @@ class Tries:
         self.check(title, good, found)
 
     def other(self, title, script, before, cc65, bin65, script_after, after, said):
-        """What gives other bytes gives those that are named, and what stands in its place the same in both."""
+        """Checks a construct that gives the listed, different bytes, and its replacement, which gives the same bytes in both."""
         found = image(*self.ours, before, script), image(*self.ours, after, script_after or script)
         good = is_said(found[0], bin65) and is_said(found[1], f"places {said}")
         if self.cc65:
@@ -98,7 +98,7 @@ class Tries:
         self.check(title, good, found)
 
     def script(self, before, after, source, said):
-        """A script that both take, and cc65's before it was edited, give the same image."""
+        """Checks that a script that both accept and cc65's original give the same image."""
         found = image(*self.ours, source, after)
         good = is_said(found, said)
         if self.cc65:
@@ -106,7 +106,7 @@ class Tries:
         self.check(f"a script, {said}", good, found)
 
     def search(self, command, pairs):
-        """The search finds what has to change, and nothing in what stands in its place."""
+        """Checks that the search finds the text that must change, and nothing in its replacement."""
         for title, before, after, _ in pairs:
             with tempfile.TemporaryDirectory() as folder:
                 for name, text in (("a.inc", ""), ("a.s", before)):
@@ -117,7 +117,7 @@ class Tries:
                 self.check(f"the search, {title}", (found or title in UNSEEN) and not left, f"{found!r} {left!r}")
 
     def opcodes(self, text):
-        """Each opcode of the table is the one that cc65 takes for this instruction and form."""
+        """Checks that each opcode of the table is the one that cc65 accepts for this instruction and form."""
         for name, cells in OPCODES.findall(text):
             for form, cell in zip(FORMS, map(str.strip, cells.split("|"))):
                 if cell and self.cc65:
@@ -125,7 +125,7 @@ class Tries:
                     self.check(f"{name} {form}", isinstance(found, bytes) and found[0] == int(cell, 16), found)
 
     def files(self, text):
-        """The lists of cc65's own files are those of the files that place the same here and there."""
+        """Checks that the lists of cc65's files are those of the files that give the same bytes in both."""
         program, named = self.ours[0][0], set(re.findall(r"^(?:`[\w-]+\.(?:inc|mac)`(?:, )?)+$", text, re.M))
         listed = sorted(re.findall(r"`([^`]+)`", " ".join(named)))
         taken = sorted(stock.taken(program))

@@ -1,4 +1,4 @@
-"""Objects of either version as docs/FORMATS.md describes them, shown as text.
+"""Prints objects of either version, as docs/FORMATS.md describes them.
 
 usage: objects.py FILE..    prints a line for each file, import, section, fragment, export and assertion.
 """
@@ -15,7 +15,7 @@ HEADS = {b"R65o\x01": 1, b"R65o\x02": 2}
 
 
 class Section:
-    """A section: its name, size, alignment, and its fragments: bytes, a count of room, or (width, place, form)."""
+    """A section: its name, size, alignment and fragments, which are bytes, a number of reserved bytes, or (width, location, form)."""
 
     def __init__(self, name, size, align):
         self.name, self.size, self.align = name, size, align
@@ -31,7 +31,7 @@ class Section:
 
 
 class Object:
-    """An object in parts."""
+    """The parts of an object."""
 
     def __init__(self, file):
         if file[:5] not in HEADS:
@@ -83,18 +83,18 @@ class Object:
             raise ValueError(f"kind {kind}")
 
     def place(self, body, at):
-        """What stands in a body about where its part comes from: a line, before it the file in version 2; and what is behind it."""
+        """Reads the location at the front of a body: a line, and before it the file in version 2. Returns it and the rest."""
         if self.version == 1:
             return f"line {struct.unpack_from('<I', body, at)[0]}", at + 4
         file, line = struct.unpack_from("<II", body, at)
         return f"{self.files[file]}:{line}", at + 8
 
     def open_section(self):
-        """The first section that isn't full."""
+        """Returns the first section that isn't full."""
         return next(it for it in self.sections if it.left)
 
     def form(self, body):
-        """A form in words: an operation in parentheses before its parts."""
+        """Returns a form as text, with an operation in parentheses before its operands."""
         shown, behind = self.part(body, 0)
         if behind != len(body):
             raise ValueError("bytes behind a form")
@@ -131,7 +131,7 @@ def shown_fragment(fragment):
 
 
 def dump(file):
-    """The lines of an object."""
+    """Returns the lines of an object."""
     it = Object(file)
     lines = [f"file {name}" for name in it.files] + [f"import {name}" for name in it.imports]
     for section in it.sections:
@@ -144,7 +144,7 @@ def dump(file):
 
 
 def cells(section):
-    """A section's bytes in hexadecimal, '--' for room and '??' for each byte of a value."""
+    """Returns a section's bytes in hexadecimal, '--' for a reserved byte and '??' for each byte of a value."""
     found = []
     for fragment in section.fragments:
         if isinstance(fragment, bytes):

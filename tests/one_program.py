@@ -1,14 +1,12 @@
 #!/usr/bin/env python3
-"""Evaluates programs of one or several modules as one program, and compares their images with those of separate assembly and
-linking.
+"""Evaluates programs of one or several modules as one program, and compares the images with those of separate assembly and linking.
 
-An image is evaluated from the sources alone (whole/): for each segment one list of the statements of all modules, the
-address of each statement, and the value of each expression by its tree. No object is made there; only how long a
-statement is goes by what its own module knows at its line. The programs are the cases of tests/cases that link sources
-which whole/sources.py can read, and random ones.
+The expected image is computed from the sources alone (whole/): for each segment one list of the statements of all modules, the address of
+each statement, and the value of each expression from its tree. No object is made; only the size of a statement depends on what its own
+module knows at its line. The programs are the cases of tests/cases that link sources which whole/sources.py can parse, and random ones.
 
-usage: one_program.py BIN65 [SEED]. Both have to make the same files, or both to refuse; in the cases of cases/programs.txt,
-which have one fault at most, for the same reason, and none of those may be left out. The last line is 'N passed, M failed'."""
+usage: one_program.py BIN65 [SEED]. Both must make the same files, or both reject the program; in cases/programs.txt, whose cases have at
+most one fault and of which none may be skipped, for the same reason. The last line is 'N passed, M failed'."""
 
 import glob
 import os
@@ -31,7 +29,7 @@ LIBRARY = "l.lib"
 
 
 class Link:
-    """Sources and a script by their names, the members of the library, and what is linked to which output."""
+    """Sources and a script by name, the members of the library, and the inputs of each output."""
 
     def __init__(self, name, files, members, script, output, inputs):
         self.name, self.files, self.members = name, files, members
@@ -47,7 +45,7 @@ class Link:
         return Module(self.text(name.removesuffix(".o") + ".s"))
 
     def image(self):
-        """The files of the whole program, or why there are none."""
+        """Returns the files of the whole program, or why there are none."""
         try:
             script, modules = Script(self.text(self.script)), []
             for name in self.inputs:
@@ -69,7 +67,7 @@ class Link:
         yield ["ld65", "-C", self.script, "-o", self.output, *self.inputs]
 
     def linked(self, program):
-        """The files that the program writes, or what it says where it refuses."""
+        """Returns the files that the program writes, or its message if it rejects the link."""
         with tempfile.TemporaryDirectory(prefix="one-") as folder:
             for name, file in self.files.items():
                 with open(f"{folder}/{name}", "wb") as it:
@@ -91,7 +89,7 @@ def read(path):
 
 
 def link_of(case, name):
-    """The link of a case that assembles sources and links them, each with no other option than -o, if it is one."""
+    """Returns the link of a case that assembles sources and links them with no options but -o; None for other cases."""
     members, assembled = [], {"ca65": [], "ar65": [], "ld65": []}
     for command in case.commands:
         assembled.get(command.words[0], []).append(command.words[1:])
@@ -132,7 +130,7 @@ def shown(result):
 
 
 def is_same(link, image, found):
-    """Whether linking comes to what the whole program does. (An assertion is refused in its own words.)"""
+    """Returns whether linking gives the result of the whole program. (A failed assertion has its own message.)"""
     if isinstance(image, dict) or isinstance(found, dict):
         return image == found
     return not link.is_own_case() or image == "assertion" or image in found

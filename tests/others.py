@@ -1,6 +1,6 @@
 #!/usr/bin/env python3
-"""Tries what the gate says of a file that was taken from cc65: six lines of 30 bytes that stand in one of its files are refused,
-however they are indented; five aren't, nor six of two files, nor short lines, nor lines of a program's bytes.
+"""Tests gate/others.py: a file with six lines of 30 bytes from one file of cc65's is rejected, whatever their indentation. Five lines pass, and so
+do six of two files, short lines, and lines of a program's bytes.
 
 usage: others.py. The last line is 'N passed, M failed'."""
 import os
@@ -18,7 +18,7 @@ LINES = [f"ROM{it}:  start = $800{it}, size = $2000;  # bank {it}" for it in ran
 
 
 def said(ours, *theirs, is_clone=True):
-    """What is said of a file with these lines, where cc65 has files with those."""
+    """Returns the verdict on a file with these lines, if cc65 has files with those."""
     with tempfile.TemporaryDirectory() as top:
         for folder in ("ours", "theirs/cfg"):
             os.makedirs(f"{top}/{folder}")

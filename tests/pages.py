@@ -1,8 +1,9 @@
-"""Reads what a page of docs/ shows: files by their names, and commands with what they print; and carries it out.
+"""Reads the files and commands that a page of docs/ shows, and follows them.
 
-A file stands in a block behind a line with its name, as '**game.s**'; with ', at its end' behind the name the block is added
-to what the file has. Commands stand in a block 'console', each behind '$ ', and below it what it prints on both streams.
-A command 'cat NAME' whose file isn't there gives the file instead."""
+A file is a block after a line with its name, as '**game.s**'; after a name with ', at its end' the block is appended to the file. Commands are
+in a block 'console', each after '$ ', followed by what it prints on both streams. A command 'cat NAME' whose file doesn't exist makes the
+file instead.
+"""
 import os
 import re
 import subprocess
@@ -19,13 +20,13 @@ def read(name):
 
 
 def sections(text, mark):
-    """The parts of a page under headings of one rank, as (heading, text)."""
+    """Returns the parts of a page below headings of one level, as (heading, text)."""
     parts = re.split(f"^{mark} (.*)$", text, flags=re.M)
     return list(zip(parts[1::2], parts[2::2]))
 
 
 def steps(text):
-    """What a page shows, in its order: ('file', name, is added, bytes) and ('run', command, what it prints)."""
+    """Returns the steps of a page in order: ('file', name, is appended, bytes) and ('run', command, output)."""
     found = [(it.start(), ("file", it[1], bool(it[2]), it[3])) for it in FILE.finditer(text)]
     for block in CONSOLE.finditer(text):
         found += [(block.start() + it.start(), ("run", it[1], it[2])) for it in COMMAND.finditer(block[1])]
@@ -38,14 +39,14 @@ def put(name, text, is_added=False):
 
 
 def run(command, tools, folder):
-    """What a command prints, with the folder `tools` before all others on the path."""
+    """Returns the output of a command, run with the folder `tools` first on the path."""
     how = {**os.environ, "PATH": f"{tools}:{os.environ['PATH']}", "LC_ALL": "C.UTF-8"}
     ran = subprocess.run(["sh", "-c", command], cwd=folder, env=how, stdout=subprocess.PIPE, stderr=subprocess.STDOUT)
     return ran.stdout.decode(errors="replace")
 
 
 def carry_out(shown, tools, folder):
-    """Makes the files and runs the commands; answers what printed anything else than the page shows."""
+    """Makes the files and runs the commands. Returns those whose output differs from the page."""
     wrong = []
     for kind, name, *rest in shown:
         if kind == "file":
@@ -60,7 +61,7 @@ def carry_out(shown, tools, folder):
 
 
 def tools_of(program, folder):
-    """A folder in which `bin65` and `work65` are programs."""
+    """Returns a folder with `bin65` and `work65` as programs."""
     os.makedirs(folder)
     os.symlink(program, f"{folder}/bin65")
     put(f"{folder}/work65", f'#!/bin/sh\nexec sh "{ROOT}/workbench/work65.sh" "$@"\n')
@@ -69,7 +70,7 @@ def tools_of(program, folder):
 
 
 def cc65_of(folder):
-    """A folder in which `bin65 ca65` is cc65's ca65, and so on."""
+    """Returns a folder in which `bin65 ca65` is cc65's ca65, and likewise for ld65 and ar65."""
     os.makedirs(folder)
     put(f"{folder}/bin65", '#!/bin/sh\nexec "$@"\n')
     os.chmod(f"{folder}/bin65", 0o755)

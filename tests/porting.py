@@ -1,4 +1,5 @@
-"""Ports small trees with `work65 port` and links them by cc65's tools and by bin65, for the tests that compare the images."""
+"""Ports small trees with `work65 port` and links them with cc65's tools and with bin65, for tests that compare the images.
+"""
 import contextlib
 import io
 import os
@@ -37,7 +38,7 @@ SECONDS = 20
 
 
 def put_tree(folder, files):
-    """Writes the files of a tree, with a script where it has none."""
+    """Writes the files of a tree, with a script if it has none."""
     os.makedirs(folder, exist_ok=True)
     for name, text in {"l.cfg": SCRIPT, **files}.items():
         os.makedirs(os.path.dirname(f"{folder}/{name}"), exist_ok=True)
@@ -45,7 +46,7 @@ def put_tree(folder, files):
 
 
 def port(folder, target="none", *more):
-    """Ports the folder's `in` to its `out`: the status, and what was said."""
+    """Ports the folder's `in` to its `out`. Returns the status and the output."""
     said, here = io.TextIOWrapper(io.BytesIO(), encoding="utf-8", write_through=True), os.getcwd()
     os.chdir(folder)
     try:
@@ -57,7 +58,8 @@ def port(folder, target="none", *more):
 
 
 def image(assembler, linker, folder, room):
-    """The image of a folder's sources in the order of their names, those in its folder work65 last; or what was said."""
+    """Returns the image of a folder's sources in the order of their names, those in its folder work65 last; or the output of the failed
+    command."""
     own = f"{folder}/work65"
     sources = sorted(it for it in os.listdir(folder) if it.endswith(".s"))
     sources += [f"work65/{it}" for it in sorted(os.listdir(own)) if it.endswith(".s")] if os.path.isdir(own) else []

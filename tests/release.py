@@ -1,7 +1,7 @@
 #!/usr/bin/env python3
-"""Packs a release of the program, installs it from its archive where no toolchain is on the path, runs it, and takes it out
-again; what differs from its checksums, has no version or lacks a log of a proof has to be refused. The version is the same in
-all places. Reads the man pages: `groff -ww` has nothing to say, each is a page, and bin65's has the lines of docs/LANGUAGE.md.
+"""Packs a release of the program, installs it from its archive with no toolchain on the path, runs it, and uninstalls it. Archives that differ
+from their checksums, have no version or lack a log of a proof must be rejected. The version is the same in all places. Checks the man
+pages: `groff -ww` prints no warning, each is a page, and bin65's has the command lines of docs/LANGUAGE.md.
 
 usage: release.py BIN65. The last line is 'N passed, M failed'."""
 import glob
@@ -59,7 +59,7 @@ def run(folder, *words, **how):
 
 
 def files(folder):
-    """The files below a folder, by their names in it."""
+    """Returns the files below a folder, by their relative names."""
     return {os.path.relpath(f"{place}/{it}", folder) for place, _, names in os.walk(folder) for it in names}
 
 
@@ -68,7 +68,7 @@ def tracked(*parts):
 
 
 def wanted():
-    """The files that have to be installed."""
+    """Returns the files that must be installed."""
     found = {"bin/bin65", "bin/work65", *(f"share/bin65/{it}" for it in ("FILES", "VERSION", "COMMIT", "labels.sh"))}
     found |= {f"share/doc/bin65/{it}" for it in tracked("README.md", "CHANGELOG.md", "CONTRIBUTING.md", "example")}
     found |= {f"share/doc/bin65/{it[len('docs/'):]}" for it in tracked("docs")}
@@ -78,7 +78,7 @@ def wanted():
 
 
 def refused(text):
-    """Whether a text of changes has no version for a release."""
+    """Returns whether a list of changes has no version for a release."""
     try:
         release.version_of(text)
     except release.Refused:
@@ -87,7 +87,7 @@ def refused(text):
 
 
 def versions(checks):
-    """One version in all places."""
+    """Tests that the version is the same in all places."""
     checks["the version of CHANGELOG"] = release.version_of(pages.read("CHANGELOG.md")) == VERSION
     checks["a heading that is no version"] = refused("# Changes\n\n## Since 1.0\n\n## 1.0\n") and refused("# Changes\n\n## 1.1 soon\n")
     checks["no heading"] = refused("# Changes\n") and release.version_of("# Changes\n\n## 2.10.3\n") == "2.10.3"
@@ -107,7 +107,7 @@ def pack(program, folder, crates):
 
 
 def packed(checks, program, top):
-    """The archive; one without a log is refused."""
+    """Tests the archive. Packing without a log must be rejected."""
     for name in CRATES:
         os.makedirs(f"{top}/crates/{name}/out")
         pages.put(f"{top}/crates/{name}/out/prove.log", "logic=proved\n")
@@ -127,7 +127,7 @@ def packed(checks, program, top):
 
 
 def installed(checks, here, top):
-    """What is installed from the archive, and taken out."""
+    """Tests an installation from the archive, and its removal."""
     made = run(here, "make", "install", f"DESTDIR={top}/to", "PREFIX=/p")
     to, want = f"{top}/to/p", wanted()
     checks["it is installed"] = made.returncode == 0 and not made.stderr
@@ -157,7 +157,7 @@ def installed(checks, here, top):
 
 
 def taken_out(checks, here, top, to):
-    """What goes with an uninstall, or with the next install."""
+    """Tests what an uninstall removes, and what the next install removes."""
     pages.put(f"{to}/share/doc/bin65/mine", "a user's own file")
     pages.put(f"{to}/share/bin65/old.py", "a file of an earlier release")
     pages.put(f"{to}/share/bin65/FILES", "share/bin65/old.py\n", True)
@@ -172,7 +172,7 @@ def taken_out(checks, here, top, to):
 
 
 def by_the_page(checks, archive, top):
-    """The first lines of RELEASE, as they are printed."""
+    """Tests the first commands of docs/RELEASE.md, as printed there."""
     lines = re.search(r"^```\n(tar .*?)^```$", pages.read("docs/RELEASE.md"), re.M | re.S)[1]
     os.makedirs(f"{top}/home")
     shutil.copy(archive, f"{top}/home")
@@ -189,7 +189,7 @@ def libraries_of(file):
 
 
 def in_an_empty_root(checks, archive, program, top):
-    """The archive where there is nothing but the C library, a shell, the usual commands and make: it is installed, runs and goes."""
+    """Installs, runs and uninstalls the archive in a root that has only the C library, a shell, the usual commands and make."""
     if os.geteuid() != 0 or not shutil.which("chroot", path=SYSTEM) or open(program, "rb").read(4) != b"\x7fELF":
         print("this isn't root, or the program is a script: nothing is installed in an empty root")
         return
@@ -212,7 +212,7 @@ def in_an_empty_root(checks, archive, program, top):
 
 
 def changed(checks, here, top):
-    """Files that differ from their checksums are refused."""
+    """Tests that files that differ from their checksums are rejected."""
     for file in ("bin65", "docs/LANGUAGE.md", "COMMIT", "VERSION"):
         with open(f"{here}/{file}", "r+b") as it:
             byte = it.read(1)
@@ -226,7 +226,7 @@ def changed(checks, here, top):
 
 
 def libraries(checks, program):
-    """The C library that the program needs is the one that RELEASE says."""
+    """Tests that the program needs the version of the C library that docs/RELEASE.md names."""
     if not shutil.which("objdump") or open(program, "rb").read(4) != b"\x7fELF":
         print("objdump isn't here, or the program is a script: the C library that it needs isn't looked at")
         return

@@ -1,4 +1,4 @@
-"""Starts of the real program in a folder in memory, some 1,000 a second."""
+"""Starts the real program in a folder in memory, some 1,000 times a second."""
 
 import os
 import resource
@@ -10,7 +10,7 @@ REPORT = 100
 
 
 class Ended:
-    """What a run ended with; no status where it was ended by a signal or by its time."""
+    """The result of a run; the status is None if it was ended by a signal or by its time limit."""
 
     def __init__(self, status, out, err, report):
         self.status, self.out, self.err, self.report = status, out, err, report
@@ -25,8 +25,8 @@ def late(_number, _frame):
 
 
 class Starter:
-    """A folder for runs, and the program that is started in it. A run has so many seconds of a processor, and ten times as many in
-    all."""
+    """A folder for runs, and the program that is started in it. A run may use a number of seconds of a processor, and ten times as many on the
+    clock."""
 
     def __init__(self, program, seconds=10):
         self.program, self.seconds = os.path.abspath(program), seconds
@@ -50,7 +50,7 @@ class Starter:
         shutil.rmtree(self.folder)
 
     def ended(self, process):
-        """The process's status: none where it ended by a signal, or didn't end within its seconds."""
+        """Returns the process's status: None if it was ended by a signal, or didn't end within its time."""
         signal.setitimer(signal.ITIMER_REAL, 10 * self.seconds)
         try:
             _, status, used = os.wait4(process, 0)
@@ -74,13 +74,13 @@ class Starter:
         return Ended(status, *(os.pread(stream, os.fstat(stream).st_size, 0) for stream in self.streams))
 
     def files(self):
-        """All files by name."""
+        """Returns all files by name."""
         if self.there is None:
             self.there = read_below("")
         return self.there
 
     def restore(self, files):
-        """Leaves these files, and no others."""
+        """Leaves exactly these files."""
         there = self.files()
         for name in there.keys() - files.keys():
             os.remove(name)
@@ -94,7 +94,7 @@ class Starter:
 
 
 def read_below(folder):
-    """All files below a folder of the one that is open, by name."""
+    """Returns all files below the folder that is open, by name."""
     found = {}
     with os.scandir(folder or ".") as entries:
         for entry in entries:
@@ -108,5 +108,5 @@ def read_below(folder):
 
 
 def bound_memory(size):
-    """Gives each run so much memory at most."""
+    """Bounds the memory of each run."""
     resource.setrlimit(resource.RLIMIT_AS, (size, resource.getrlimit(resource.RLIMIT_AS)[1]))

@@ -1,4 +1,4 @@
-"""Which of cc65's own files bin65 takes, and whether they mean the same: include files, macro files and scripts."""
+"""Finds which of cc65's own include files, macro files and scripts bin65 accepts with the same meaning."""
 import glob
 import os
 import re
@@ -27,7 +27,7 @@ def is_there():
 
 
 def source_of(file):
-    """A source that includes a file, calls its macros and places the values of the constants that it defines."""
+    """Returns a source that includes a file, calls its macros, and emits the values of the constants that it defines."""
     with open(f"{INCLUDES}/{file}", encoding="latin-1") as it:
         names = re.findall(r"^[ \t]*([A-Za-z_]\w*)[ \t]*:?=", it.read(), re.M)
     places = "".join(f".ifdef {it}\n .dword {it} & $FFFFFFFF\n.endif\n" for it in dict.fromkeys(names))
@@ -35,7 +35,7 @@ def source_of(file):
 
 
 def image(assembler, linker, source):
-    """The image of a source, or None where it is refused."""
+    """Returns the image of a source, or None if it is rejected."""
     with tempfile.TemporaryDirectory() as folder:
         for name, text in (("a.s", source), ("a.cfg", SCRIPT)):
             with open(f"{folder}/{name}", "w", encoding="utf-8") as it:
@@ -48,7 +48,7 @@ def image(assembler, linker, source):
 
 
 def taken(program):
-    """The files of INCLUDES that place the same with the program as with cc65."""
+    """Returns the files of INCLUDES for which both programs emit the same bytes."""
     for file in sorted(os.listdir(INCLUDES)):
         ours = image([program, "ca65"], [program, "ld65"], source_of(file))
         if ours is not None and ours == image(["ca65"], ["ld65"], source_of(file)):
@@ -56,7 +56,7 @@ def taken(program):
 
 
 def scripts(program):
-    """The scripts of SCRIPTS that are read without a fault."""
+    """Returns the scripts of SCRIPTS that are read without a fault."""
     for file in sorted(glob.glob(f"{SCRIPTS}/*.cfg")):
         ran = subprocess.run([program, "ld65", "-C", file, "-o", "/dev/null", "/dev/null"], capture_output=True, text=True, check=False)
         if not ran.stderr.startswith(f"{file}:"):

@@ -1,10 +1,9 @@
 #!/usr/bin/env python3
-"""Takes five scripts of an installed cc65, edits them by the rules of docs/MIGRATING.md, and links a source with cc65 by its own
-script and with bin65 by the edited one: both images have to be the same. Where cc65 isn't installed, the rules alone are tried,
-on a script of a few lines.
+"""Edits five scripts of an installed cc65 by the rules of docs/MIGRATING.md, and links a source with cc65 by the original and with bin65 by the
+edited script: the images must be the same. If cc65 isn't installed, only the rules are tested, on a script of a few lines.
 
-The rules: FEATURES, FILES and FORMATS go; `%S` is the start address as a number; a weak symbol that an area needs is an export.
-What FORMATS makes cc65's linker write around an Atari program has areas of its own, and its bytes stand in the source.
+The rules: FEATURES, FILES and FORMATS are removed; `%S` becomes the start address; a weak symbol that an area needs becomes an export. What
+FORMATS makes cc65's linker write around an Atari program gets areas of its own, and its bytes are in the source.
 
 usage: stock_scripts.py BIN65. The last line is 'N passed, M failed'."""
 import os
@@ -39,7 +38,7 @@ XEX = """ .import start, __MAIN_START__, __BSS_RUN__
 
 
 def ported(text):
-    """A script of cc65's as bin65 takes it."""
+    """Returns a script of cc65's in the form that bin65 accepts."""
     start = re.search(r"STARTADDRESS:\s*default\s*=\s*(\S+?);", text)
     text = re.sub(r"^(FEATURES|FILES|FORMATS) \{.*?^\}\n", "", text, flags=re.M | re.S)
     text = re.sub(r"%S\b", start[1] if start else "%S", text)
@@ -48,7 +47,7 @@ def ported(text):
 
 
 def for_atari(text):
-    """The areas and rows in the place of FORMATS, without the chunk that checks the system."""
+    """Returns the areas and rows that replace FORMATS, without the chunk that checks the system."""
     text = re.sub(r"^.*(SYSCHK|__SYSTEM_CHECK__).*\n", "", text, flags=re.M)
     around = ("MARK", "FROMTO"), ("RUN",)
     areas = [[f"    {it}: file = %O, start = 0, size = {'6' if it == 'RUN' else '4' if it == 'FROMTO' else '2'};\n" for it in names] for names in around]
@@ -57,7 +56,7 @@ def for_atari(text):
 
 
 def image(assembler, linker, script, sources):
-    """The image of sources, or what was said."""
+    """Returns the image of sources, or the output of the failed command."""
     with tempfile.TemporaryDirectory() as folder:
         objects = []
         for number, source in enumerate(sources):

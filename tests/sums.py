@@ -1,6 +1,6 @@
 #!/usr/bin/env python3
-"""Random scripts whose areas begin and span what sums say: where the program places their areas and rows, by its map, is
-compared with what the model of scripts (whole/scripts.py) computes, and so is why either refuses.
+"""Tests random scripts whose areas have sums as start and size: the program's placement of areas and rows, read from its map, is compared with
+that of the model of scripts (whole/scripts.py), and so is the reason of a rejection.
 
 usage: sums.py BIN65 [SEED [SCRIPTS]]. The last line is 'N passed, M failed'."""
 
@@ -34,7 +34,7 @@ def object_file():
 
 
 class Text:
-    """A script in the making: the names of its areas, in MEMORY order."""
+    """A script under construction: the names of its areas, in MEMORY order."""
 
     def __init__(self, chance):
         self.chance = chance
@@ -43,7 +43,7 @@ class Text:
         self.is_wild = chance.randrange(3) == 0
 
     def name(self, place):
-        """A name for a sum of the area at a place, mostly one that is known there."""
+        """Returns a name for a sum of the area at an index, mostly one that is known there."""
         chance, before = self.chance, self.areas[:place]
         if self.is_wild and chance.randrange(4) == 0:
             return chance.choice(["nobody", "soft", "wanted", "A", "__A_RUN__", "__T_LAST__", "__SIZE__", "__e_SIZE__"])
@@ -96,7 +96,7 @@ class Text:
 
 
 def wanted(text):
-    """The map's lines behind SEGMENTS, or why the script is refused."""
+    """Returns the expected lines of the map after SEGMENTS, or the reason of a rejection."""
     try:
         script = Script(text)
         script.place(SIZES)
@@ -108,7 +108,7 @@ def wanted(text):
 
 
 def found(program, text):
-    """The same of the program."""
+    """Returns the program's lines of the map after SEGMENTS, or the reason of a rejection."""
     with open("s.cfg", "w", encoding="ascii") as it:
         it.write(text)
     ran = subprocess.run([program, "ld65", "-C", "s.cfg", "-m", "map", "a.o"], capture_output=True)

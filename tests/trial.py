@@ -1,11 +1,11 @@
 #!/usr/bin/env python3
-"""A seeded trial: objects, libraries, scripts and sources of the cases, changed, cut and spliced, are given to the real program. Each
-run has to end by itself within 10 seconds, with status 0 or 1 and one message of the stated forms where it is refused, and a
-refused run writes no file.
+"""A seeded trial: objects, libraries, scripts and sources of the cases are changed, cut and spliced, and given to the real program. Each run must
+end by itself within 10 seconds, with status 0, or with status 1 and a message of one of the documented forms; a rejected run writes no file.
 
-usage: trial.py BIN65 [--seed N] [--first N] [--count N] [--seconds N]    --count trials from the number --first on, or as many as
-begin within so many seconds. A failed trial prints what it ran; --first and --count 1 run it again. The last line is
-'N passed, M failed'.
+usage: trial.py BIN65 [--seed N] [--first N] [--count N] [--seconds N]
+
+Runs --count trials from number --first on, or as many as begin within --seconds. A failed trial prints what it ran; --first and --count 1
+repeat it. The last line is 'N passed, M failed'.
 """
 
 import argparse
@@ -42,7 +42,7 @@ def kind_of(name, file, words):
 
 
 def targets_of(files, words):
-    """What may be changed before a run: each file that the program may read."""
+    """Returns the files that may be changed before a run: those that the program may read."""
     found = []
     for name, file in files.items():
         kind = kind_of(name, file, words)
@@ -62,8 +62,7 @@ def is_small(case):
 
 
 def corpus(starter, rng):
-    """The targets of each kind, from cases that are small and end soon: a part of those that link or archive, and of the others, which
-    assemble a source."""
+    """Returns the targets of each kind, from cases that are small and end quickly: some that link or archive, and others that assemble a source."""
     paths = sorted(glob.glob(os.path.join(HERE, "cases", "*.txt")))
     small = [case for path in paths for case in cases.Reader(path).read() if is_small(case)]
     links = [case for case in small if any(it.words[0] != "ca65" for it in case.all_commands())]
@@ -81,12 +80,12 @@ def corpus(starter, rng):
 
 
 def messages_of(text):
-    """The messages of what was said: the text that an object brings along for one may hold line ends."""
+    """Returns the messages of an output; the text that an object contains for one may have line ends."""
     return re.split(rb"\n(?=[^\n]*: (?:Error|Warning): )", text[:-1]) if text else []
 
 
 def why_wrong(ended, target, files, found):
-    """What is wrong with a run."""
+    """Returns what is wrong with a run, or None."""
     tool = target.words[0]
     if ended.status not in (0, 1):
         return f"status {ended.status}"

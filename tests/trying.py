@@ -1,6 +1,6 @@
 #!/usr/bin/env python3
-"""Runs `make try` with a stand-in for the toolchain, which runs the program in the place of one that it would compile, and prints
-in the toolchain's form: without words, with a source and a script of one's own, and with what is refused.
+"""Runs `make try` with a stand-in for the toolchain, which runs the built program instead of compiling one and prints in the toolchain's form:
+without arguments, with the user's own source and script, and with a rejected source.
 
 usage: trying.py BIN65. The last line is 'N passed, M failed'."""
 import os
@@ -42,7 +42,7 @@ class Tries:
         self.how = {**os.environ, "PATH": f"{top}/tools:{os.environ['PATH']}", "BIN65": program}
 
     def make(self, *words, **more):
-        """Runs `make try`, and answers its status, and what it prints on both streams."""
+        """Runs `make try`, and returns its status and its output on both streams."""
         line = ["make", "--no-print-directory", "-C", pages.ROOT, "try", *words]
         ran = subprocess.run(line, env={**self.how, **more}, stdout=subprocess.PIPE, stderr=subprocess.STDOUT, text=True, check=False)
         return ran.returncode, ran.stdout

@@ -1,7 +1,7 @@
 #!/usr/bin/env python3
-"""Follows README.md, docs/TUTORIAL.md and docs/THEOREM.md in an empty folder each, and docs/DEBUGGING.md in the one where TUTORIAL
-ends: each command has to print what the page shows. If cc65 is installed, its tools follow the page too, and each image has to be
-theirs; if its sim65 is, it runs the images that print.
+"""Follows README.md, docs/TUTORIAL.md and docs/THEOREM.md, each in an empty folder, and docs/DEBUGGING.md in the folder of TUTORIAL: each command
+must print what the page shows. If cc65 is installed, its tools follow the page too, and must make the same images; if its sim65 is, it
+runs the images that print.
 
 usage: tutorial.py BIN65. The last line is 'N passed, M failed'."""
 import glob
@@ -16,7 +16,7 @@ IMAGES = ("*.bin", "*.nes")
 
 
 def images(folder):
-    """The images in a folder, by their names."""
+    """Returns the images in a folder, by name."""
     found = {}
     for file in (it for pattern in IMAGES for it in glob.glob(f"{folder}/{pattern}")):
         with open(file, "rb") as it:
@@ -25,12 +25,12 @@ def images(folder):
 
 
 def is_simulated(step):
-    """Whether a step runs an image in cc65's simulator."""
+    """Returns whether a step runs an image in cc65's simulator."""
     return step[0] == "run" and step[1].startswith("sim65 ")
 
 
 def follow(page, program, before=()):
-    """Follows a page after those before it, and yields its parts that show something with what is wrong in each."""
+    """Follows a page after the earlier ones, and yields each part that shows something, with what is wrong in it."""
     with tempfile.TemporaryDirectory() as top:
         ours, theirs = f"{top}/ours", f"{top}/theirs"
         tools = pages.tools_of(program, f"{top}/tools")

@@ -1,9 +1,10 @@
 #!/usr/bin/env python3
-"""Objects and a library of version 1, as the first release wrote them, link to their image for good, alone and beside objects of
-today: tests/version1 has them beside the sources that they were made of (`bin65 ca65 -o F.o F.s` for each, `bin65 ar65 r
-runtime.lib wait.o tick.o helper.o`, by commit 76cb2b88), the script, the image, which is cc65's of the same sources, and the map.
+"""Links objects and a library of version 1, as the first release wrote them, alone and beside objects of today: they must always give the same
+image. tests/version1 has them beside their sources (`bin65 ca65 -o F.o F.s` for each, `bin65 ar65 r runtime.lib wait.o tick.o helper.o`, at
+commit 76cb2b88), the script, the image, which cc65 also makes of these sources, and the map.
 
-usage: version1.py BIN65    The last line is 'N passed, M failed'."""
+usage: version1.py BIN65    The last line is 'N passed, M failed'.
+"""
 import itertools
 import os
 import shutil
@@ -26,19 +27,19 @@ def read(path):
 
 
 def run(program, folder, *words):
-    """A run's status and both its texts."""
+    """Returns a run's status and both texts."""
     ran = subprocess.run([program, *words], cwd=folder, capture_output=True, check=False)
     return ran.returncode, ran.stdout, ran.stderr
 
 
 def linked(program, folder):
-    """What linking the objects of a folder and its library says, and whether the image and the map are the old ones."""
+    """Links the objects of a folder and its library. Returns the output, and whether the image and the map are the old ones."""
     said = run(program, folder, "ld65", "-C", "game.cfg", "-o", "out.bin", "-m", "out.map", *OBJECTS, "runtime.lib")
     return said, all(read(f"{folder}/{out}") == read(f"{HERE}/{kept}") for out, kept in (("out.bin", "game.bin"), ("out.map", "game.map")))
 
 
 def anew(program, top):
-    """Folders with the objects and members of each version: the old ones, and those that ca65 writes of the sources now."""
+    """Returns folders with the objects and members of each version: the old ones, and those that ca65 writes of the sources now."""
     folders = {version: f"{top}/{version}" for version in VERSIONS}
     for folder in folders.values():
         os.mkdir(folder)
@@ -53,7 +54,7 @@ def anew(program, top):
 
 
 def mix(program, top, folders, versions):
-    """Whether modules of these versions, and a library of members of these, link to the old image and map."""
+    """Returns whether modules of these versions and a library of such members give the old image and map."""
     folder = f"{top}/{''.join(map(str, versions))}"
     os.mkdir(folder)
     shutil.copy(f"{HERE}/game.cfg", folder)

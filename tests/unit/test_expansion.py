@@ -1,8 +1,9 @@
 """Macros and repeats: arguments, what stands for parameters, and the lines that come of a call, by docs/LANGUAGE.md."""
 import rows
 from work65.frontend.expression import value
+from work65.frontend.macros import arguments_of, substituted
 from work65.porting.expander import Expander
-from work65.porting.expansion import Macro, arguments_of, end_of_repeat, hard_macros, put_in
+from work65.porting.expansion import Macro, end_of_repeat, hard_macros
 from work65.porting.logical import Logical
 
 # Commas within braces part nothing, braces round a whole argument are dropped, and an argument may be empty.
@@ -16,12 +17,12 @@ ARGUMENTS = {
     "m ,2": ["", "2"],
     "m 1,": ["1", ""],
     "m {{1}}": ["{1}"],
-    "m (1,x), 2": ["(1,x)", "2"],
+    "m (1,x), 2": ["(1", "x)", "2"],
     'm "a,b"': ['"a,b"'],
     "m <(a1+1) , y": ["<(a1+1)", "y"],
 }
 GIVEN = {"n": "5", "v": "a1, b1", "empty": "", ".paramcount": "2"}
-PUT_IN = {
+SUBSTITUTED = {
     " lda #n": " lda #5",
     " lda #n+n": " lda #5+5",
     " lda nn": " lda nn",
@@ -141,8 +142,8 @@ class Expansion(rows.Rows):
     def test_arguments(self):
         self.rows(ARGUMENTS, lambda text: arguments_of(text, rows.statement(text, "m").rest))
 
-    def test_put_in(self):
-        self.rows(PUT_IN, lambda text: put_in(text, GIVEN, False))
+    def test_substituted(self):
+        self.rows(SUBSTITUTED, lambda text: substituted(text, GIVEN, False))
 
     def test_repeats(self):
         self.rows(REPEATS, lambda text: end_of_repeat([Logical(0, it) for it in text.split("|")], 0))

@@ -4,7 +4,7 @@ import tempfile
 
 import rows
 from work65.frontend.files import Text, text_of, walked
-from work65.frontend.includes import followed, found_file, names_in
+from work65.frontend.includes import find_file, followed, names_in
 from work65.frontend.survey import surveyed
 from work65.problem import Problem
 
@@ -67,7 +67,7 @@ class Includes(rows.Rows):
         self.rows(NAMES, lambda text: list(names_in(Text("a.s", text.split("|"), []))))
 
     def test_found(self):
-        self.rows(FOUND, lambda row: found_file(row[1], text_of(row[0]), row[2].split()))
+        self.rows(FOUND, lambda row: find_file(row[1], row[0], row[2].split()))
 
     def test_followed(self):
         self.rows(FOLLOWED, lambda row: " ".join(it.path for it in followed([text_of(row[0])], row[1].split())))

@@ -4,10 +4,10 @@ import os
 
 from work65.diagnosing.search import MOST, Search
 from work65.frontend.files import want_regular
+from work65.frontend.linked_tree import LinkedTree
 from work65.output import write
 from work65.problem import Problem, complain
 from work65.program import Program
-from work65.shadow import Shadow
 from work65.signals import folder_for_a_while
 
 HELP = "says all faults of a source in one go, each as bin65 says it"
@@ -28,7 +28,7 @@ def run(arguments: argparse.Namespace) -> int:
         raise Problem(f"{arguments.source}: no such file")
     want_regular(arguments.source)
     with folder_for_a_while() as folder:
-        search = Search(program, Shadow(folder), arguments, folder)
+        search = Search(program, LinkedTree(os.path.join(folder, "root")), arguments, folder)
         found = search.all()
     write(None, os.fsencode("".join(f"{it}\n" for it in found)))
     if search.has_more:

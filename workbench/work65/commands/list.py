@@ -4,7 +4,7 @@ from typing import Iterator, List
 
 from work65.instrumenting.build import Unit, add_arguments as add_build_arguments, build, wanted_of
 from work65.instrumenting.copies import Constants
-from work65.instrumenting.replay import Reading, Row
+from work65.instrumenting.located import FileReading, LocatedLine
 from work65.instrumenting.resolve import Resolver
 from work65.output import words, write
 from work65.program import Program
@@ -15,7 +15,7 @@ WIDTH = 8
 
 
 def add_arguments(parser: argparse.ArgumentParser) -> None:
-    """Adds what this subcommand takes."""
+    """Adds the arguments of this subcommand."""
     add_build_arguments(parser)
     parser.add_argument("-o", dest="output", metavar="FILE", help="the file for the listing (standard output)")
     parser.add_argument("--bytes", type=int, default=24, metavar="N", help="how many bytes of a line are shown, 0 for all (24)")
@@ -29,63 +29,63 @@ class Listing:
         self.lines: List[str] = []
         self.shown = ""
 
-    def heading(self, reading: Reading) -> None:
-        """The name of the file whose lines follow."""
+    def heading(self, reading: FileReading) -> None:
+        """Adds the name of a file before its lines."""
         if self.shown != reading.source.name:
             self.shown = reading.source.name
             self.lines.append(f"== {words(self.shown)}")
 
-    def reading(self, reading: Reading) -> None:
-        """All lines of a file, with what came of them."""
+    def file(self, reading: FileReading) -> None:
+        """Adds all lines of a file, each followed by the lines of its call, repeat or included file."""
         self.heading(reading)
         for number in range(1, len(reading.source.lines) + 1):
             self.heading(reading)
             below = reading.below.get(number, [])
-            row = reading.rows.get(number)
-            if row is not None:
-                self.row(row, "")
+            located = reading.lines.get(number)
+            if located is not None:
+                self.located(located, "")
             else:
-                first = next((it for it in below if isinstance(it, Row)), None)
+                first = next((it for it in below if isinstance(it, LocatedLine)), None)
                 address = "" if first is None else self.address(first)
-                self.line(address, "", str(number), reading.source.text(number))
+                self.line(address, "", str(number), reading.source.line(number).text)
             for it in below:
-                if isinstance(it, Row):
-                    self.row(it, "+" * it.depth)
+                if isinstance(it, LocatedLine):
+                    self.located(it, "+" * it.depth)
                 else:
-                    self.reading(it)
+                    self.file(it)
 
-    def address(self, row: Row) -> str:
-        """The address of a row."""
-        return f"{self.resolver.address(row.place):04X}"
+    def address(self, line: LocatedLine) -> str:
+        """Returns the address of a line."""
+        return f"{self.resolver.address(line.place):04X}"
 
-    def row(self, row: Row, mark: str) -> None:
-        """A row, with as many bytes as are wanted."""
-        data = self.resolver.bytes_at(row.place, row.size)
+    def located(self, line: LocatedLine, mark: str) -> None:
+        """Adds a located line, with at most `limit` bytes."""
+        data = self.resolver.bytes_at(line.place, line.size)
         shown = data[: self.limit] if self.limit > 0 else data
         parts = [shown[at : at + WIDTH].hex(" ").upper() for at in range(0, len(shown), WIDTH)] or [""]
-        self.line(self.address(row), parts[0], f"{mark}{row.line}", row.text)
-        address = self.resolver.address(row.place)
+        self.line(self.address(line), parts[0], f"{mark}{line.line}", line.text)
+        address = self.resolver.address(line.place)
         for number, part in enumerate(parts[1:], 1):
             self.line(f"{address + number * WIDTH:04X}", part, "", "")
         if len(shown) < len(data):
             self.line("", f"and {len(data) - len(shown)} more", "", "")
 
     def line(self, address: str, data: str, number: str, text: str) -> None:
-        """A line of the listing."""
+        """Adds a line to the listing."""
         self.lines.append(f"{address:<6}{data:<23} {number:>7}  {text}".rstrip())
 
 
 def listing(units: List[Unit], resolvers: List[Resolver], limit: int) -> Iterator[str]:
-    """The lines of the listing."""
+    """Yields the lines of the listing."""
     for unit, resolver in zip(units, resolvers):
-        if unit.told is not None:
+        if unit.located is not None:
             it = Listing(resolver, limit)
-            it.reading(unit.told.reading)
+            it.file(unit.located.reading)
             yield from it.lines
 
 
 def run(arguments: argparse.Namespace) -> int:
-    """Runs it, and answers the status."""
+    """Runs the subcommand. Returns the exit status."""
     program = Program.find(arguments.bin65)
     with folder_for_a_while() as folder:
         built = build(program, wanted_of(arguments), folder, Constants.NONE)

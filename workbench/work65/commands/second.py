@@ -3,8 +3,8 @@ import argparse
 import os
 
 from work65.commands.port import add_options, options_of
+from work65.frontend.files import read_bytes
 from work65.instrumenting.library import sources_of
-from work65.instrumenting.sources import read_bytes
 from work65.porting.program import NOT_COMPARED, Comparison, Line
 from work65.porting.tools import missing
 from work65.porting.verify import Library

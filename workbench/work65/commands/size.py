@@ -7,16 +7,14 @@ from typing import Iterator, List, Sequence
 
 from work65.formats.maps import read_map
 from work65.formats.picture import svg
-from work65.frontend.files import want_regular
+from work65.frontend.files import read_bytes, read_text
+from work65.frontend.link_script import read_script
 from work65.instrumenting.build import add_arguments as add_build_arguments, build, wanted_of
 from work65.instrumenting.copies import Constants
 from work65.instrumenting.layout import layout_of
 from work65.instrumenting.sizes import AreaSize, Sizes, sizes_of
-from work65.instrumenting.sources import read_bytes, read_text
 from work65.output import write
-from work65.problem import Problem
 from work65.program import Program
-from work65.scripts import read_script
 from work65.signals import folder_for_a_while
 
 HELP = "bytes used and free: by area, segment, module and procedure; of a map, or of sources"
@@ -32,12 +30,7 @@ def add_arguments(parser: argparse.ArgumentParser) -> None:
 
 def is_map(name: str) -> bool:
     """Whether a file is a map."""
-    try:
-        want_regular(name)
-        with open(name, "rb") as it:
-            return it.read(8) == b"MODULES\n"
-    except OSError as error:
-        raise Problem(f"{name}: {error.strerror}") from error
+    return read_bytes(name, 8) == b"MODULES\n"
 
 
 def sizes_of_line(arguments: argparse.Namespace) -> Sizes:

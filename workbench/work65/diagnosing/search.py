@@ -11,12 +11,12 @@ from work65.diagnosing.suspects import Judge, Suspect, suspects_in
 from work65.frontend import words
 from work65.frontend.files import text_of
 from work65.frontend.includes import followed
+from work65.frontend.linked_tree import LinkedTree
 from work65.frontend.survey import Tree, surveyed
 from work65.frontend.tokens import Kind, line_of
 from work65.problem import Problem
 from work65.program import Program, Ran
 from work65.progress import Progress
-from work65.shadow import Shadow
 
 MOST = 1000
 # The number of errors after which lines are collected that bin65 rejects in any context.
@@ -45,7 +45,7 @@ class Search:
     """The copy and the errors found so far. `steps` counts how often a part of a line was removed."""
 
     program: Program
-    mirror: Shadow
+    linked: LinkedTree
     arguments: argparse.Namespace
     folder: str
     lines: Dict[str, List[str]] = field(default_factory=dict)
@@ -82,16 +82,16 @@ class Search:
     def run(self) -> Ran:
         """Runs bin65 on the copy."""
         words = ["ca65", "-o", ""]
-        words += [f"-I{self.mirror.name(it)}" for it in self.arguments.include]
+        words += [f"-I{self.linked.inside(it)}" for it in self.arguments.include]
         words += [f"-D{it}" for it in self.arguments.define]
-        return self.program.run([*words, "--", self.mirror.name(self.arguments.source)], self.mirror.inside)
+        return self.program.run([*words, "--", self.linked.inside(self.arguments.source)], self.linked.here)
 
     def message_of(self, ran: Ran) -> Optional[Message]:
         """Returns the error that ended a run, None if it succeeded."""
         if ran.status == 0:
             return None
         said = os.fsdecode(ran.err).rstrip("\n").split("\n")[-1]
-        message = message_of(said.replace(self.mirror.root + "/", "/"))
+        message = message_of(said.replace(self.linked.root + "/", "/"))
         if message is None:
             raise Problem(f"bin65 said: {said}")
         return message
@@ -165,9 +165,12 @@ class Search:
         return self.lines[file]
 
     def write(self, file: str) -> bool:
-        """Writes a file of the copy."""
-        path = self.mirror.name(file)
-        return self.mirror.write(path, "\n".join(self.lines[file]) + "\n")
+        """Writes a file of the copy. Returns False if that fails."""
+        try:
+            self.linked.put(file, "\n".join(self.lines[file]) + "\n")
+        except OSError:
+            return False
+        return True
 
     def closed(self, message: Message, lines: List[str]) -> bool:
         """Closes the blocks that are open at the end of a file, and records the error. Returns False if none is open."""

@@ -4,12 +4,12 @@ from dataclasses import dataclass, field
 from typing import Dict, Iterable, List, Optional, Sequence, Tuple
 
 from work65.formats.objects import Place
+from work65.frontend.link_script import OUTPUT
 from work65.instrumenting.address_sizes import AddressSizes
 from work65.instrumenting.build import Build, Unit
-from work65.instrumenting.replay import Label, Reading, Row, Scope, Told
+from work65.instrumenting.located import FileReading, LocatedLine, Scope, Symbol, LocatedModule
 from work65.instrumenting.resolve import Resolver
 from work65.instrumenting.sources import Source
-from work65.scripts import OUTPUT
 
 # How wide an element of a list of data is, and how a debug file writes its type: bytes, words, pointers, words with the high
 # byte first.
@@ -33,12 +33,12 @@ class Numbered:
         return len(self.lines) - 1
 
 
-def type_of(row: Row) -> str:
-    """The type of a row's data: an array of so many elements; nothing where it has none."""
-    width, element = TYPES.get(row.word, (0, ""))
-    if not width or not row.size:
+def type_of(line: LocatedLine) -> str:
+    """Returns the type of a line's data, an array of elements. Empty if it has none."""
+    width, element = TYPES.get(line.word, (0, ""))
+    if not width or not line.size:
         return ""
-    count = row.size // width
+    count = line.size // width
     length = max((count.bit_length() + 7) // 8, 1)
     return f"{0x7F + length:02X}{count.to_bytes(length, 'little').hex().upper()}{element}"
 
@@ -69,8 +69,8 @@ class DebugFile:
         for it in self.layout.map.rows:
             self.segment(it.name)
         for number, unit in enumerate(self.build.units):
-            if unit.told is not None:
-                Module(self, number, unit, unit.told).add()
+            if unit.located is not None:
+                Module(self, number, unit, unit.located).add()
         for number, (source, modules) in enumerate(zip(self.sources, self.file_modules)):
             self.file(number, source, modules)
         for key, number in self.lines.items():
@@ -82,8 +82,8 @@ class DebugFile:
 
     def segment(self, name: str) -> None:
         """A row of the script."""
-        placed, row = self.layout.map.row(name), self.layout.script.row(name)
-        kind = row.kind if row else "rw"
+        placed, entry = self.layout.map.row(name), self.layout.script.segment(name)
+        kind = entry.kind if entry else "rw"
         size = "zeropage" if kind == "zp" else "absolute"
         text = f'name="{name}",start=0x{placed.run:06X},size=0x{placed.size:04X},addrsize={size},type={"ro" if kind == "ro" else "rw"}'
         at = self.layout.place_in_file(name)
@@ -152,12 +152,12 @@ class DebugFile:
 class Module:
     """Adds the entries of one module."""
 
-    def __init__(self, file: DebugFile, number: int, unit: Unit, told: Told) -> None:
-        self.file, self.number, self.unit, self.told = file, number, unit, told
+    def __init__(self, file: DebugFile, number: int, unit: Unit, module: LocatedModule) -> None:
+        self.file, self.number, self.unit, self.module = file, number, unit, module
         self.resolver = Resolver(file.build, unit)
-        self.sizes = None if unit.closure is None else AddressSizes(file.layout, unit.closure, told)
+        self.sizes = None if unit.closure is None else AddressSizes(file.layout, unit.closure, module)
         self.numbers: Dict[str, int] = {}
-        self.scope_of = {it.label: it for it in told.scopes if it.label is not None}
+        self.scope_of = {it.label: it for it in module.scopes if it.label is not None}
         self.first_scope = len(file.kinds["scope"].lines)
         self.first_symbol = len(file.kinds["sym"].lines)
 
@@ -165,35 +165,35 @@ class Module:
         """Adds all of them."""
         library = self.file.library(self.unit.module)
         name = self.unit.module[self.unit.module.find("(") + 1 :].rstrip(")")
-        text = f'name="{name}",file={self.file.file_number(self.told.reading.source, self.number)}'
+        text = f'name="{name}",file={self.file.file_number(self.module.reading.source, self.number)}'
         self.file.kinds["mod"].add(text + ("" if library is None else f",lib={library}"))
-        self.files(self.told.reading)
+        self.files(self.module.reading)
         self.lines()
-        for scope in self.told.scopes:
+        for scope in self.module.scopes:
             self.scope(scope)
-        for label in self.told.labels:
-            self.symbol(label)
+        for symbol in self.module.symbols:
+            self.symbol(symbol)
 
-    def files(self, reading: Reading) -> None:
+    def files(self, reading: FileReading) -> None:
         """The files that were read, also those that put nothing."""
         waiting = [reading]
         while waiting:
             it = waiting.pop()
             self.file.file_number(it.source, self.number)
             for below in it.below.values():
-                waiting += [one for one in below if isinstance(one, Reading)]
+                waiting += [one for one in below if isinstance(one, FileReading)]
 
     def lines(self) -> None:
         """The lines that put something, and calls and repeats with all that came of them."""
         offsets, spans = self.resolver.offsets, self.file.line_spans
-        for row in self.told.rows:
-            number = self.line_of(row.source, row.line, row.depth, row.in_macro)
-            if row.size:
-                name, offset = row.place
-                spans[number][self.file.span(name, offsets[name] + offset, row.size, type_of(row))] = None
-        for block in self.told.blocks:
-            number = self.line_of(block.source, block.line, block.depth, block.in_macro)
-            self.put(number, self.runs(block.rows))
+        for line in self.module.lines:
+            number = self.line_of(line.source, line.line, line.depth, line.in_macro)
+            if line.size:
+                name, offset = line.place
+                spans[number][self.file.span(name, offsets[name] + offset, line.size, type_of(line))] = None
+        for it in self.module.expansions:
+            number = self.line_of(it.source, it.line, it.depth, it.in_macro)
+            self.put(number, self.runs(it.lines))
 
     def line_of(self, source: Source, line: int, depth: int, in_macro: bool) -> int:
         """The number of a line."""
@@ -206,23 +206,24 @@ class Module:
         """Gives a line its spans, each but once."""
         self.file.line_spans[line].update(dict.fromkeys(spans))
 
-    def runs(self, rows: Sequence[Row]) -> List[int]:
-        """The spans of rows: bytes that follow each other are one."""
+    def runs(self, lines: Sequence[LocatedLine]) -> List[int]:
+        """Returns the spans of lines. Adjacent bytes share a span."""
         found: Dict[str, List[List[int]]] = {}
-        for row in rows:
-            if row.size:
-                runs = found.setdefault(row.place.section, [])
-                if runs and runs[-1][1] == row.place.offset:
-                    runs[-1][1] += row.size
+        for line in lines:
+            if line.size:
+                start = line.place.offset
+                runs = found.setdefault(line.place.section, [])
+                if runs and runs[-1][1] == start:
+                    runs[-1][1] += line.size
                 else:
-                    runs.append([row.place.offset, row.place.offset + row.size])
+                    runs.append([start, start + line.size])
         offsets = self.resolver.offsets
         return [self.file.span(name, offsets[name] + it[0], it[1] - it[0], "") for name, runs in found.items() for it in runs]
 
     def scope(self, scope: Scope) -> None:
         """A scope."""
-        rows = self.told.rows[scope.first : scope.last]
-        size = self.size_of_scope(scope, rows)
+        lines = self.module.lines[scope.first : scope.last]
+        size = self.size_of_scope(scope, lines)
         number = len(self.file.kinds["scope"].lines) - self.first_scope
         name = scope.name or (f"$anon-SCOPE-{number:04X}" if number else "")
         text = f'name="{name}",mod={self.number}'
@@ -233,41 +234,41 @@ class Module:
             text += f",parent={self.first_scope + scope.parent}"
         if scope.label is not None:
             text += f",sym={self.first_symbol + scope.label}"
-        spans = self.runs(rows)
+        spans = self.runs(lines)
         self.file.kinds["scope"].add(text + (f",span={ids(spans)}" if spans else ""))
 
-    def size_of_scope(self, scope: Scope, rows: Sequence[Row]) -> int:
+    def size_of_scope(self, scope: Scope, lines: Sequence[LocatedLine]) -> int:
         """How many bytes a scope has in the segment in which it was opened, or else in the first one that it puts something into."""
         sizes: Dict[str, int] = {}
-        for it in rows:
+        for it in lines:
             sizes[it.place.section] = sizes.get(it.place.section, 0) + it.size
         return next((sizes[it] for it in (scope.section, *FIRST, *sizes) if sizes.get(it)), 0)
 
-    def size_of(self, number: int, label: Label) -> int:
+    def size_of(self, number: int, symbol: Symbol) -> int:
         """How many bytes a label's scope or line has."""
         scope = self.scope_of.get(number)
         if scope is not None:
-            return sum(it.size for it in self.told.rows[scope.first : scope.last])
-        return 0 if label.row is None else self.told.rows[label.row].size
+            return sum(it.size for it in self.module.lines[scope.first : scope.last])
+        return 0 if symbol.at is None else self.module.lines[symbol.at].size
 
-    def symbol(self, label: Label) -> None:
+    def symbol(self, symbol: Symbol) -> None:
         """A label or a constant."""
         number = len(self.file.kinds["sym"].lines) - self.first_symbol
-        value, place = self.resolver.value(label.value), label.value if isinstance(label.value, Place) else None
+        value, place = self.resolver.value(symbol.value), symbol.value if isinstance(symbol.value, Place) else None
         depth, in_macro = 0, False
-        if label.row is not None:
-            depth, in_macro = self.told.rows[label.row].depth, self.told.rows[label.row].in_macro
-        size = self.size_of(number, label)
-        address_size = self.sizes.of_label(label, value or 0) if self.sizes else "absolute"
-        text = f'name="{label.name}",addrsize={address_size}' + (f",size={size}" if size else "")
-        if label.region is not None:
-            text += f",parent={self.first_symbol + label.region}"
+        if symbol.at is not None:
+            depth, in_macro = self.module.lines[symbol.at].depth, self.module.lines[symbol.at].in_macro
+        size = self.size_of(number, symbol)
+        address_size = self.sizes.of_symbol(symbol, value or 0) if self.sizes else "absolute"
+        text = f'name="{symbol.name}",addrsize={address_size}' + (f",size={size}" if size else "")
+        if symbol.region is not None:
+            text += f",parent={self.first_symbol + symbol.region}"
         else:
-            text += f",scope={self.first_scope + label.scope}"
-        text += f",def={self.line_of(label.source, label.line, depth, in_macro)}"
+            text += f",scope={self.first_scope + symbol.scope}"
+        text += f",def={self.line_of(symbol.source, symbol.line, depth, in_macro)}"
         text += "" if value is None else f",val=0x{value & 0xFFFFFFFF:X}"
         text += "" if place is None else f",seg={self.file.segments[place.section]}"
-        self.file.kinds["sym"].add(f"{text},type={'equ' if label.is_equate else 'lab'}")
+        self.file.kinds["sym"].add(f"{text},type={'equ' if symbol.is_equate else 'lab'}")
 
 
 def debug_file(build: Build) -> str:

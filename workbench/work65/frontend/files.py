@@ -1,4 +1,4 @@
-"""The files of a tree: which are sources and which are scripts, and their lines."""
+"""Reads files, and finds the sources and scripts of folders."""
 import os
 import stat
 from dataclasses import dataclass
@@ -12,7 +12,7 @@ SCRIPTS = (".cfg",)
 
 @dataclass(frozen=True)
 class Text:
-    """A file's lines without their ends, and the ends."""
+    """The lines of a file without their line ends, and the line ends."""
 
     path: str
     lines: List[str]
@@ -24,6 +24,12 @@ class Text:
         return self.path.lower().endswith(SCRIPTS)
 
 
+def place_of(name: str) -> str:
+    """Returns a file's path with the true path of its folder, by which each file has one name."""
+    folder, file = os.path.split(name)
+    return os.path.join(os.path.realpath(folder or "."), file)
+
+
 def want_regular(path: str) -> None:
     """Raises a Problem for a pipe or a device, which might never end, and an OSError if there is no such file."""
     kind = os.stat(path).st_mode
@@ -31,15 +37,24 @@ def want_regular(path: str) -> None:
         raise Problem(f"{path}: not a regular file")
 
 
-def text_of(path: str) -> Text:
-    """Reads a file. Each byte is one sign, so any file can be read and written back as it was."""
+def read_bytes(path: str, size: int = -1) -> bytes:
+    """Reads a file, or at most its first `size` bytes."""
     try:
         want_regular(path)
-        with open(path, encoding="latin-1", newline="") as it:
-            whole = it.read()
+        with open(path, "rb") as it:
+            return it.read(size)
     except OSError as error:
         raise Problem(f"{path}: {error.strerror}") from error
-    parts = whole.split("\n")
+
+
+def read_text(path: str) -> str:
+    """Reads a file as a text of one character per byte, so that any file can be read and written back unchanged."""
+    return read_bytes(path).decode("latin-1")
+
+
+def text_of(path: str) -> Text:
+    """Reads a file and splits it into lines."""
+    parts = read_text(path).split("\n")
     last = parts.pop()
     lines = [it[:-1] if it.endswith("\r") else it for it in parts]
     ends = ["\r\n" if it.endswith("\r") else "\n" for it in parts]

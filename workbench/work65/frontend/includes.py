@@ -1,11 +1,49 @@
-"""Included files, found by bin65's rules."""
+"""Finds included files as bin65 does (docs/LANGUAGE.md)."""
+import os
 from typing import Dict, Iterable, Iterator, List, Optional, Sequence, Set
 
-from work65.frontend.files import Text, text_of
+from work65.frontend.files import Text, place_of, text_of, want_regular
 from work65.frontend.statements import Statement, statement_of
 from work65.frontend.tokens import Kind, is_closed, line_of
-from work65.instrumenting.sources import find, is_regular, place_of
 from work65.problem import Problem
+
+
+def path_of_bytes(word: str) -> Optional[str]:
+    """Decodes a name in a source, one character per byte, to a path. Returns None if it isn't UTF-8."""
+    try:
+        path = word.encode("latin-1").decode("utf-8")
+    except UnicodeDecodeError:
+        return None
+    return None if "\0" in path else path
+
+
+def candidates(word: str, opened: str, folders: Sequence[str]) -> List[str]:
+    """Returns the names that bin65 tries for the string of an .include in the file `opened`; an .incbin has no folders."""
+    path = path_of_bytes(word)
+    if path is None:
+        return []
+    if path.startswith("/"):
+        return [path]
+    return [opened[: opened.rfind("/") + 1] + path] + [f"{it}/{path}" for it in folders]
+
+
+def find(word: str, opened: str, folders: Sequence[str]) -> Optional[str]:
+    """Returns the first of these names that exists, None if none does."""
+    return next((it for it in candidates(word, opened, folders) if os.path.exists(it)), None)
+
+
+def find_readable(word: str, opened: str, folders: Sequence[str]) -> Optional[str]:
+    """Like `find`, but raises a Problem for a pipe or a device, for which bin65 might wait forever."""
+    name = find(word, opened, folders)
+    if name is not None:
+        want_regular(name)
+    return name
+
+
+def find_file(word: str, opened: str, folders: Sequence[str]) -> Optional[str]:
+    """Like `find`, but returns None for anything but a regular file."""
+    name = find(word, opened, folders)
+    return name if name is not None and os.path.isfile(name) else None
 
 
 def word_of(statement: Statement) -> Optional[str]:
@@ -25,12 +63,6 @@ def names_in(text: Text) -> Iterator[str]:
                 yield word
 
 
-def found_file(word: str, text: Text, folders: Sequence[str]) -> Optional[str]:
-    """Resolves the name of an included file to the name that bin65 prints. None if there is no such regular file."""
-    name = find(word, text.path, folders)
-    return name if name is not None and is_regular(name) else None
-
-
 def followed(texts: Iterable[Text], folders: Sequence[str]) -> List[Text]:
     """Returns the files that these include, directly or indirectly, without these and without unreadable ones."""
     waiting = list(texts)
@@ -39,7 +71,7 @@ def followed(texts: Iterable[Text], folders: Sequence[str]) -> List[Text]:
     while waiting:
         text = waiting.pop(0)
         for word in names_in(text):
-            name = found_file(word, text, folders)
+            name = find_file(word, text.path, folders)
             if name is None or place_of(name) in seen:
                 continue
             seen.add(place_of(name))

@@ -1,4 +1,4 @@
-"""Linker scripts: their tokens with places, and their blocks, entries and attributes, as cc65's linker takes them."""
+"""The linker-script reader: tokens with their positions, and blocks, entries and attributes, as cc65's linker reads them."""
 import re
 from dataclasses import dataclass, field
 from typing import Dict, Iterator, List, NamedTuple, Optional, Tuple
@@ -11,7 +11,7 @@ _TOKEN = re.compile(
 
 
 class Word(NamedTuple):
-    """A token of a script: its kind, text, place in the whole text, and line."""
+    """A token of a script: its kind, its text, its position in the whole text, and its line."""
 
     kind: str
     text: str
@@ -21,13 +21,13 @@ class Word(NamedTuple):
 
     @property
     def upper(self) -> str:
-        """The text in capitals."""
+        """The text in upper case."""
         return self.text.upper()
 
 
 @dataclass
 class Attribute:
-    """An attribute of an entry: its name and its value's tokens."""
+    """An attribute of an entry: its name, and the tokens of its value."""
 
     name: Word
     value: List[Word]
@@ -35,20 +35,20 @@ class Attribute:
 
 @dataclass
 class Entry:
-    """An entry of a block, up to its `;`."""
+    """An entry of a block, up to its `;`, which is `last`."""
 
     name: Word
     attributes: List[Attribute]
     last: Word
 
     def get(self, name: str) -> List[Word]:
-        """The tokens of an attribute's value; none where it isn't there."""
+        """Returns the tokens of an attribute's value, empty if the entry doesn't have it."""
         return next((it.value for it in self.attributes if it.name.upper == name), [])
 
 
 @dataclass
 class Block:
-    """A block: its word, its entries, and its closing brace."""
+    """A block: its word, its entries, and its closing brace, None if it lacks one."""
 
     word: Word
     entries: List[Entry] = field(default_factory=list)
@@ -56,7 +56,7 @@ class Block:
 
 
 def words_of(text: str) -> List[Word]:
-    """The tokens of a script."""
+    """Splits a script into tokens."""
     found, line, at = [], 1, 0
     for match in _TOKEN.finditer(text):
         line += text.count("\n", at, match.start())
@@ -68,8 +68,18 @@ def words_of(text: str) -> List[Word]:
 
 
 def blocks_of(found: List[Word]) -> List[Block]:
-    """The blocks of a script; what can't be read ends the last one."""
+    """Returns the blocks of a script. Tokens that begin no block are blocks without a brace."""
     return list(_Blocks(found).all())
+
+
+def entries_of(blocks: List[Block], word: str) -> List[Entry]:
+    """Returns the entries of all blocks of a kind, given in upper case."""
+    return [it for block in blocks if block.word.upper == word for it in block.entries]
+
+
+def entries_in(text: str, word: str) -> List[Entry]:
+    """Returns the entries of all blocks of a kind in a script."""
+    return entries_of(blocks_of(words_of(text)), word)
 
 
 class _Blocks:
@@ -84,7 +94,7 @@ class _Blocks:
         return self.found[self.at] if self.at < len(self.found) else None
 
     def is_at(self, *texts: str) -> bool:
-        """Whether one of these stands here."""
+        """Returns whether the next token is one of these."""
         return self.now is not None and self.now.text in texts
 
     def all(self) -> Iterator[Block]:
@@ -132,16 +142,14 @@ class _Blocks:
 
 
 def _ends(last: Word, following: Word) -> bool:
-    """Whether a value is whole: two tokens that no sign joins."""
+    """Returns whether a value ends between two tokens, which no operator joins."""
     return last.text not in "+-*/(" and following.text not in "+-*/()"
 
 
 def symbols_of(blocks: List[Block]) -> Dict[str, Tuple[Entry, str]]:
-    """The symbols of a script, with their types in small letters."""
+    """Returns the symbols of a script, with their types in lower case."""
     found = {}
-    for block in blocks:
-        if block.word.upper == "SYMBOLS":
-            for it in block.entries:
-                kind = it.get("TYPE")
-                found[it.name.text] = (it, kind[0].text.lower() if kind else "")
+    for it in entries_of(blocks, "SYMBOLS"):
+        kind = it.get("TYPE")
+        found[it.name.text] = (it, kind[0].text.lower() if kind else "")
     return found

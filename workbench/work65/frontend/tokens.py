@@ -1,4 +1,4 @@
-"""The tokens of a line, with their places, so that a line can be rewritten and keep its layout."""
+"""The lexer: splits a line into tokens with their positions, so that a line can be rewritten and keep its layout."""
 import enum
 import re
 from functools import lru_cache
@@ -6,7 +6,7 @@ from typing import List, NamedTuple, Optional, Tuple
 
 
 class Kind(enum.Enum):
-    """What a token is."""
+    """The kind of a token."""
 
     NAME = "name"
     CHEAP = "cheap name"
@@ -21,7 +21,7 @@ class Kind(enum.Enum):
 
 
 class Token(NamedTuple):
-    """A token: what it is, its text, its text in small letters, and where it stands."""
+    """A token: its kind, its text, its text in lower case, and its first column and the one after its last, from 0."""
 
     kind: Kind
     text: str
@@ -31,7 +31,7 @@ class Token(NamedTuple):
 
 
 class Line(NamedTuple):
-    """The tokens of a line, and where its comment begins (the line's length where it has none)."""
+    """The tokens of a line, and the column of its comment (the line's length if it has none)."""
 
     tokens: Tuple[Token, ...]
     comment: int
@@ -44,6 +44,8 @@ _COMMON = r"""(?P<space>[ \t]+)|(?P<comment>;.*)
 |(?P<sign>::|:=|<>|<=|>=|<<|>>|&&|\|\|)|(?P<unnamed>:(?:\++|-+|<+|>+))|(?P<one>[-:+*/&|^~<>=!()\#,{}\[\]])|(?P<bad>.)"""
 _PLAIN = re.compile(_COMMON, re.X | re.S)
 _ESCAPED = re.compile(_COMMON.replace(r'"[^"]*"?', r'"(?:\\.|[^"\\])*"?'), re.X | re.S)
+# A name of .local in a line of a call: the name, `?` and the number of the call.
+_EXPANDED = re.compile(_COMMON.replace("(?P<name>", r"(?P<name>[A-Za-z_][0-9A-Za-z_]*\?[0-9]+|"), re.X | re.S)
 _KINDS = {
     "string": Kind.STRING, "character": Kind.CHARACTER, "number": Kind.NUMBER, "directive": Kind.DIRECTIVE,
     "cheap": Kind.CHEAP, "name": Kind.NAME, "sign": Kind.SIGN, "unnamed": Kind.UNNAMED, "one": Kind.SIGN, "bad": Kind.BAD,
@@ -51,11 +53,12 @@ _KINDS = {
 
 
 @lru_cache(maxsize=1 << 16)
-def line_of(text: str, has_escapes: bool = False) -> Line:
-    """The tokens of a line without its end. With escapes a backslash in a string takes the next sign with it."""
+def line_of(text: str, has_escapes: bool = False, is_expanded: bool = False) -> Line:
+    """Splits a line into tokens. With escapes, a backslash in a string takes the next character with it. In an expanded line, the
+    names of .local have the numbers that bin65 gives them."""
     found = []
     comment = len(text)
-    for match in (_ESCAPED if has_escapes else _PLAIN).finditer(text):
+    for match in (_ESCAPED if has_escapes else _EXPANDED if is_expanded else _PLAIN).finditer(text):
         group = match.lastgroup or "bad"
         if group == "space":
             continue
@@ -68,7 +71,7 @@ def line_of(text: str, has_escapes: bool = False) -> Line:
 
 
 def _with_prefixes(tokens: List[Token]) -> List[Token]:
-    """The tokens, with `a`, `z` or `f` and a colon right behind it as one size prefix."""
+    """Joins `a`, `z` or `f` and a colon right after it to a size prefix."""
     found: List[Token] = []
     at = 0
     while at < len(tokens):
@@ -90,7 +93,7 @@ _NUMBER = re.compile(r"\$[0-9A-Fa-f]+|%[01]+|[0-9]+|[0-9][0-9A-Fa-f]*h", re.A)
 
 
 def value_of(text: str) -> Optional[int]:
-    """The value of a number as it is written, underlines left out; None where it is none."""
+    """Returns the value of a number, ignoring underscores. None if the text is no number."""
     plain = text.replace("_", "")
     if not _NUMBER.fullmatch(plain):
         return None
@@ -102,7 +105,7 @@ def value_of(text: str) -> Optional[int]:
 
 
 def is_closed(token: Token) -> bool:
-    """Whether a string or a character is closed on its line, and holds what one may hold."""
+    """Returns whether a string or a character has its closing quote, and a character has one byte."""
     if token.kind is Kind.STRING:
         return len(token.text) > 1 and token.text.endswith('"')
     return len(token.text) == 3 and token.text.endswith("'")

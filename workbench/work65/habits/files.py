@@ -2,11 +2,10 @@
 import os
 from typing import Dict, Iterable, Iterator, List, Optional, Sequence, Set, Tuple
 
-from work65.frontend.files import Text
-from work65.frontend.includes import found_file, names_in, word_of
+from work65.frontend.files import Text, place_of
+from work65.frontend.includes import candidates, find_file, names_in, path_of_bytes, word_of
 from work65.frontend.statements import Statement
 from work65.frontend.survey import asminc_file
-from work65.instrumenting.sources import candidates, is_regular, path_of_bytes, place_of
 
 Wrong = Tuple[str, str, str]
 
@@ -26,7 +25,7 @@ class Files:
     def included(self, text: Text) -> Iterator[str]:
         """Yields the files that a file includes."""
         for word in names_in(text):
-            name = found_file(word, text, self.folders)
+            name = find_file(word, text.path, self.folders)
             if name is not None:
                 yield name
 
@@ -38,7 +37,7 @@ class Files:
             return None
         places = self.texts if is_in_macro else [text]  # bin65 starts from the file that has the call
         folders = self.folders if statement.head == ".include" else []
-        if any(is_regular(name) for it in places for name in candidates(word, it.path, folders)):
+        if any(os.path.isfile(name) for it in places for name in candidates(word, it.path, folders)):
             return None
         shown = f'"{word}"'
         if statement.head == ".incbin":
@@ -59,7 +58,7 @@ class Files:
             if path in seen:
                 continue
             seen.add(path)
-            if any(is_regular(it) for it in candidates(word, path, [])):
+            if any(os.path.isfile(it) for it in candidates(word, path, [])):
                 return path
             waiting += sorted(self.includers.get(place_of(path), ()))
         return None

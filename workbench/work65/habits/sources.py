@@ -4,8 +4,8 @@ from typing import Dict, Iterator, List, Optional, Sequence, Set, Tuple
 
 from work65.frontend import grammar, words
 from work65.frontend.conditions import Conditions
-from work65.frontend.files import Text
-from work65.frontend.includes import found_file, word_of
+from work65.frontend.files import Text, place_of
+from work65.frontend.includes import find_file, word_of
 from work65.frontend.statements import Statement, statement_of
 from work65.frontend.survey import Tree
 from work65.frontend.tokens import Kind, Line, Token, line_of
@@ -14,7 +14,6 @@ from work65.habits.files import Files
 from work65.habits.habit import Finding, Habit
 from work65.habits.segments import HEADS as SEGMENT_HEADS, Segments, short_names
 from work65.habits.table import BY_NAME, BY_WORD
-from work65.instrumenting.sources import place_of
 
 TELLING = frozenset(BY_WORD)
 LOOKED_AT = TELLING | words.LISTS | words.MACRO_BEGINS | words.MACRO_ENDS | words.CONDITIONS | SEGMENT_HEADS | frozenset(
@@ -166,7 +165,7 @@ class Reader:
     def named(self, statement: Statement, files: Files) -> Iterator[Tuple[str, Habit, str]]:
         """The file that a line names, if bin65 doesn't find it; an included one that it finds is noted."""
         word = word_of(statement)
-        name = found_file(word, self.text, files.folders) if word is not None and statement.head == ".include" else None
+        name = find_file(word, self.text.path, files.folders) if word is not None and statement.head == ".include" else None
         if name is not None:
             self.includes.add(place_of(name))
         wrong = files.wrong(statement, self.text, self.places.macro is not None)

@@ -2,11 +2,11 @@
 from typing import Dict, Iterable, Iterator, List, Optional, Sequence, Set, Tuple
 
 from work65.formats.objects import Place
+from work65.frontend.tokens import Kind, Token
 from work65.instrumenting.layout import Layout
-from work65.instrumenting.replay import Label, Told
+from work65.instrumenting.located import LocatedModule, Symbol
+from work65.instrumenting.roles import Role
 from work65.instrumenting.sources import Closure
-from work65.lines import Kind, Token
-from work65.statements import What
 
 SHORT, LONG = "zeropage", "absolute"
 # The first words of a one-byte expression, and operators whose result is 0 or 1.
@@ -26,40 +26,40 @@ def short_imports(closure: Closure) -> Set[str]:
     """Returns the names that are imported as zero page addresses."""
     found: Set[str] = set()
     for source in closure.sources.values():
-        for it in source.statements:
-            if it.what is What.OTHER and it.tokens and it.tokens[0].text.lower() in (".importzp", ".globalzp"):
-                found |= {token.text for token in it.tokens[1:] if token.kind is Kind.NAME}
+        for line in source.lines:
+            if line.role is Role.OTHER and line.statement.head in (".importzp", ".globalzp"):
+                found |= {token.text for token in line.statement.rest if token.kind is Kind.NAME}
     return found
 
 
 class AddressSizes:
     """The address sizes of one module."""
 
-    def __init__(self, layout: Layout, closure: Closure, told: Told) -> None:
-        self.rows = {it.name: it.kind for it in layout.script.rows}
+    def __init__(self, layout: Layout, closure: Closure, module: LocatedModule) -> None:
+        self.kinds = {it.name: it.kind for it in layout.script.segments}
         self.short = short_imports(closure)
-        self.scopes = told.scopes
-        self.labels: Dict[Tuple[int, str], Label] = {(it.scope, it.name): it for it in told.labels}
-        self.by_scope: Dict[Tuple[str, str], Label] = {(told.scopes[it.scope].name, it.name): it for it in told.labels}
+        self.scopes, symbols = module.scopes, module.symbols
+        self.symbols: Dict[Tuple[int, str], Symbol] = {(it.scope, it.name): it for it in symbols}
+        self.by_scope: Dict[Tuple[str, str], Symbol] = {(self.scopes[it.scope].name, it.name): it for it in symbols}
 
     def of_segment(self, name: str) -> str:
         """Returns the size of a segment."""
-        return SHORT if self.rows.get(name) == "zp" else LONG
+        return SHORT if self.kinds.get(name) == "zp" else LONG
 
-    def of_label(self, label: Label, value: int, depth: int = 0) -> str:
+    def of_symbol(self, symbol: Symbol, value: int, depth: int = 0) -> str:
         """Returns the size of a label or a constant."""
-        if not label.is_constant:
-            return self.of_segment(label.value.section) if isinstance(label.value, Place) else LONG
-        tokens: Sequence[Token] = label.source.statements[label.line - 1].tokens
-        return self.of_expression(tokens[2:], label.scope, value, depth)
+        if not symbol.is_constant:
+            return self.of_segment(symbol.value.section) if isinstance(symbol.value, Place) else LONG
+        tokens = symbol.source.line(symbol.line).statement.body
+        return self.of_expression(tokens[2:], symbol.scope, value, depth)
 
-    def found(self, name: Sequence[str], scope: Optional[int]) -> Optional[Label]:
+    def found(self, name: Sequence[str], scope: Optional[int]) -> Optional[Symbol]:
         """Resolves a name with its scopes from a scope outward."""
         if len(name) > 1:
             return self.by_scope.get((name[-2], name[-1]))
         while scope is not None:
-            if (scope, name[0]) in self.labels:
-                return self.labels[scope, name[0]]
+            if (scope, name[0]) in self.symbols:
+                return self.symbols[scope, name[0]]
             scope = self.scopes[scope].parent
         return None
 
@@ -69,13 +69,13 @@ class AddressSizes:
         if texts[:1] and texts[0] in BYTES or LOGICAL.intersection(_outer(texts[1:])):
             return SHORT
         for name in _names(tokens):
-            label = self.found(name, scope)
-            if label is None:
+            symbol = self.found(name, scope)
+            if symbol is None:
                 return SHORT if name[-1] in self.short else LONG
-            if not label.is_constant:
-                return self.of_segment(label.value.section) if isinstance(label.value, Place) else LONG
-            if depth < DEEPEST and not isinstance(label.value, int):
-                return self.of_label(label, value, depth + 1)
+            if not symbol.is_constant:
+                return self.of_segment(symbol.value.section) if isinstance(symbol.value, Place) else LONG
+            if depth < DEEPEST and not isinstance(symbol.value, int):
+                return self.of_symbol(symbol, value, depth + 1)
         return LONG if "*" in texts[:1] else of_number(value)
 
 

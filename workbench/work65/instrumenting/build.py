@@ -7,18 +7,19 @@ from typing import Dict, List, Optional, Tuple
 
 from work65.formats.maps import Module, read_map
 from work65.formats.objects import Object, read_object
-from work65.frontend.files import want_regular
-from work65.instrumenting.copies import Constants, Copies, How, instrument
+from work65.frontend.files import read_bytes, read_text
+from work65.frontend.link_script import OUTPUT, read_script, with_files
+from work65.frontend.linked_tree import LinkedTree
+from work65.instrumenting.copies import Constants, Copies
 from work65.instrumenting.layout import Layout, layout_of
 from work65.instrumenting.library import sources_of
-from work65.instrumenting.replay import Told, replay
-from work65.instrumenting.sources import Closure, read_bytes, read_text
-from work65.instrumenting.trace import Met, met
-from work65.mirror import Mirror
+from work65.instrumenting.located import LocatedModule
+from work65.instrumenting.marks import ReachedMark
+from work65.instrumenting.replay import replay
+from work65.instrumenting.sources import Closure
 from work65.problem import Problem
 from work65.program import Program
 from work65.progress import Progress
-from work65.scripts import OUTPUT, read_script, with_files
 
 
 @dataclass(frozen=True)
@@ -43,7 +44,7 @@ class Unit:
     module: str
     linked: Optional[Module] = None
     closure: Optional[Closure] = None
-    told: Optional[Told] = None
+    located: Optional[LocatedModule] = None
 
 
 @dataclass
@@ -84,12 +85,7 @@ def wanted_of(arguments: argparse.Namespace) -> Wanted:
 
 def is_linked_as_it_is(name: str) -> bool:
     """Whether a word names an object or a library."""
-    try:
-        want_regular(name)
-        with open(name, "rb") as it:
-            return it.read(4) in (b"R65o", b"R65l")
-    except OSError as error:
-        raise Problem(f"{name}: {error.strerror}") from error
+    return read_bytes(name, 4) in (b"R65o", b"R65l")
 
 
 def in_library(module: str) -> str:
@@ -158,10 +154,10 @@ class Builder:
         try:
             built = self.link(self.inputs(progress))
             closures = [self.closures[it.source] for it in built.units]
-            mirror = self.mirror(closures)
+            tree = LinkedTree(self.path("copies"))
             for unit, closure in zip(built.units, closures):
                 progress.step()
-                self.tell(unit, closure, mirror)
+                self.tell(unit, closure, tree)
         finally:
             progress.end()
         return built
@@ -216,45 +212,39 @@ class Builder:
             said = f"{name} isn't the image of these sources: it has {len(given)} bytes, theirs {len(made)}; they differ from ${at:X} on"
             raise Problem(said + "; are the library's members in another order?" * bool(self.libraries))
 
-    def mirror(self, closures: List[Closure]) -> Mirror:
-        """A folder for the copies of these sources."""
-        folders = {os.path.dirname(it) for closure in closures for it in closure.sources}
-        folders |= {os.path.realpath(it) for it in [".", *self.wanted.folders] if os.path.isdir(it)}
-        return Mirror(self.path("copies"), folders)
-
-    def tell(self, unit: Unit, closure: Closure, mirror: Mirror) -> None:
+    def tell(self, unit: Unit, closure: Closure, tree: LinkedTree) -> None:
         """Has a copy of a source say where its lines are."""
-        marks, sizes = self.marks(unit, closure, mirror)
+        marks, sizes = self.marks(unit, closure, tree)
         unit.closure = closure
-        unit.told = replay(closure, marks, sizes)
+        unit.located = replay(closure, marks, sizes)
 
-    def marks(self, unit: Unit, closure: Closure, mirror: Mirror) -> Tuple[List[Met], Dict[str, int]]:
+    def marks(self, unit: Unit, closure: Closure, tree: LinkedTree) -> Tuple[List[ReachedMark], Dict[str, int]]:
         """The marks that a copy of a source writes, and the sizes of the source's own sections."""
         try:
-            copies = self.copy(unit, closure, mirror, self.constants)
+            copies = self.copy(unit, closure, tree, self.constants)
         except Problem:
             if self.constants is Constants.NONE:
                 raise
-            copies = self.copy(unit, closure, mirror, Constants.NONE)  # a constant's expression may be as large as one can be
+            copies = self.copy(unit, closure, tree, Constants.NONE)  # a constant's expression may be as large as one can be
         copy, plain = self.read(self.path("copy")), self.read(self.path(unit.object))
         if not plain.is_same_program(copy.without(copies.names.segment)):
             raise Problem(f"{unit.source}: a copy that says where its lines are isn't the same program: nothing can be said of it")
-        return met(copy, copies), {it.name: it.size for it in plain.sections}
+        return copies.marks.reached(copy, copies.names.segment, closure.main.name), {it.name: it.size for it in plain.sections}
 
-    def copy(self, unit: Unit, closure: Closure, mirror: Mirror, constants: Constants) -> Copies:
+    def copy(self, unit: Unit, closure: Closure, tree: LinkedTree, constants: Constants) -> Copies:
         """Assembles a copy of a source."""
-        copies = instrument(closure, How(constants, mirror.root))
-        for source, text in copies.texts:
-            mirror.put(source.place, text)
-        options = [f"-I{mirror.inside(it)}" for it in self.wanted.folders] + [f"-D{it}" for it in self.wanted.defines]
-        words = ["ca65", f"-o{self.path('copy')}", *options, "--", mirror.inside(unit.source)]
+        copies = Copies(closure, constants, tree.root)
+        for source, text in list(copies.texts()):
+            tree.put(source.name, text)
+        options = [f"-I{tree.inside(it)}" for it in self.wanted.folders] + [f"-D{it}" for it in self.wanted.defines]
+        words = ["ca65", f"-o{self.path('copy')}", *options, "--", tree.inside(unit.source)]
         try:
-            self.run(words, mirror.inside(os.path.realpath(".")))
+            self.run(words, tree.here)
         except Problem as problem:
             said = f"{unit.source}: a copy that says where its lines are is refused: {problem}"
-            raise Problem(said.replace(mirror.root, "")) from problem
+            raise Problem(said.replace(tree.root, "")) from problem
         finally:
-            mirror.take_back()
+            tree.restore()
         return copies
 
     def read(self, name: str) -> Object:

@@ -1,43 +1,44 @@
-"""A copy of a source that writes down, while it is assembled, which lines are taken and where they stand.
+"""The instrumented copy of a source, which records while it is assembled which lines are assembled and where they lie.
 
-Before a line that puts something stands a constant `= *`; its value goes into a segment of the copy's own, behind the number
-of the line. A constant puts no bytes, opens no region of cheap labels, and isn't counted among unnamed labels. Within a file
-that is read once it has a name of its own. Elsewhere it stands in a scope without a name, since such lines may come again."""
+A constant `= *` stands before each line that emits something; its value goes into a segment of the copy's own, after the number
+of the line's mark. A constant emits no bytes, begins no region of cheap labels, and isn't counted among unnamed labels. In a file
+that is read once it has a name of its own. Elsewhere it is in a scope without a name, since the line may be read again."""
 import os
 from dataclasses import dataclass
 from enum import Enum
-from typing import Iterator, List, Optional, Sequence, Set, Tuple
+from typing import Iterator, List, Optional, Set, Tuple
 
+from work65.frontend.includes import word_of
+from work65.frontend.tokens import Kind, line_of
 from work65.instrumenting.marks import Marks, Sign
-from work65.instrumenting.sources import Closure, Source, word_of
-from work65.lines import Kind, Token
-from work65.statements import PUTTING, Statement, What
+from work65.instrumenting.roles import LOCATED, Role
+from work65.instrumenting.sources import Closure, Source, SourceLine
 
-# A line of marks has so many characters, and those of one more mark: a line has 4,096 at most, and a name 200.
+# The number of characters after which a line of marks ends. A line has at most 4,096, one mark more at most 200.
 TOGETHER = 2000
-# Before these lines, marks that wait are written: what follows may be left out, come again, or see other names.
+# Waiting marks are written before these lines, since what follows may be skipped, be read again, or see other names.
 EDGES = frozenset(
     (
-        What.CALL, What.MACRO, What.END_MACRO, What.EXIT_MACRO, What.REPEAT, What.END_REPEAT, What.CONDITION, What.INCLUDE,
-        What.SCOPE, What.PROC, What.END_SCOPE, What.END,
+        Role.CALL, Role.MACRO, Role.END_MACRO, Role.EXIT_MACRO, Role.REPEAT, Role.END_REPEAT, Role.CONDITION, Role.INCLUDE,
+        Role.SCOPE, Role.PROC, Role.END_SCOPE, Role.END,
     )
 )  # fmt: skip
-BEFORE = {What.CALL: Sign.CALL, What.REPEAT: Sign.REPEAT, What.INCLUDE: Sign.INCLUDE}
+BEFORE = {Role.CALL: Sign.CALL, Role.REPEAT: Sign.REPEAT, Role.INCLUDE: Sign.INCLUDE}
 AFTER = {
-    What.CALL: Sign.BACK,
-    What.REPEAT: Sign.TURN,
-    What.END_REPEAT: Sign.OVER,
-    What.INCLUDE: Sign.INCLUDED,
-    What.END_MACRO: Sign.DEFINED,
-    What.LOCAL: Sign.LOCAL,
-    What.SCOPE: Sign.OPEN,
-    What.PROC: Sign.OPEN,
-    What.END_SCOPE: Sign.CLOSE,
+    Role.CALL: Sign.BACK,
+    Role.REPEAT: Sign.TURN,
+    Role.END_REPEAT: Sign.OVER,
+    Role.INCLUDE: Sign.INCLUDED,
+    Role.END_MACRO: Sign.DEFINED,
+    Role.LOCAL: Sign.LOCAL,
+    Role.SCOPE: Sign.OPEN,
+    Role.PROC: Sign.OPEN,
+    Role.END_SCOPE: Sign.CLOSE,
 }
 
 
 class Constants(Enum):
-    """Of which constants the values are written down."""
+    """The constants whose values are recorded."""
 
     NONE = 0
     LABELS = 1
@@ -45,49 +46,41 @@ class Constants(Enum):
 
 
 @dataclass(frozen=True)
-class How:
-    """What a copy is to write down, and the folder below which the copies lie as their sources do."""
-
-    constants: Constants
-    root: str
-
-
-@dataclass(frozen=True)
-class Names:
-    """The names of a copy: its segment, and how its constants begin."""
+class CopyNames:
+    """The names of a copy: its segment, and the beginning of its constants."""
 
     segment: str
     constant: str
 
 
-def free_names(closure: Closure) -> Names:
-    """Names that no file has."""
-    used = {it.text.strip('"') for source in closure.sources.values() for line in source.lines for it in line.tokens}
+def free_names(closure: Closure) -> CopyNames:
+    """Returns names that no file contains."""
+    used = {it.text.strip('"') for source in closure.sources.values() for line in source.lines for it in line_of(line.text).tokens}
     number = 65
     while any(it.startswith((f"W{number}_", f"w{number}_")) for it in used):
         number += 1
-    return Names(f"W{number}_MARKS", f"w{number}_")
+    return CopyNames(f"W{number}_MARKS", f"w{number}_")
 
 
-def inside(source: Source) -> List[Optional[Set[str]]]:
-    """For each line: None outside of all macros and repeats, else the parameters of the macro around it."""
+def parameters_around(source: Source) -> List[Optional[Set[str]]]:
+    """Returns, for each line, the parameters of the macro around it, an empty set in a repeat, None outside both."""
     found: List[Optional[Set[str]]] = []
     repeats, parameters = 0, None
-    for statement in source.statements:
-        if statement.what is What.END_REPEAT:
-            repeats = max(repeats - 1, 0)  # one may stand alone in a branch that isn't taken
-        elif statement.what is What.END_MACRO:
+    for line in source.lines:
+        if line.role is Role.END_REPEAT:
+            repeats = max(repeats - 1, 0)  # one may stand alone in a branch that isn't assembled
+        elif line.role is Role.END_MACRO:
             parameters = None
         found.append(set() if parameters is None and repeats > 0 else parameters)
-        if statement.what is What.REPEAT:
+        if line.role is Role.REPEAT:
             repeats += 1
-        elif statement.what is What.MACRO:
-            parameters = {it.text for it in statement.tokens[2:] if it.kind is Kind.NAME}
+        elif line.role is Role.MACRO:
+            parameters = {it.text for it in line.statement.body[2:] if it.kind is Kind.NAME}
     return found
 
 
 def read_once(closure: Closure) -> Set[str]:
-    """The places of the files whose lines outside of macros and repeats are read once at most."""
+    """Returns the places of the files whose lines outside macros and repeats are read at most once."""
     times = {closure.main.place: 1}
     once = {closure.main.place}
     for source in closure.sources.values():
@@ -96,7 +89,7 @@ def read_once(closure: Closure) -> Set[str]:
     waiting = [closure.main] if closure.is_plain else []
     while waiting:
         source = waiting.pop()
-        around = inside(source)
+        around = parameters_around(source)
         for number, included in source.includes.items():
             if around[number - 1] is None and times[included.place] == 1 and included.place not in once:
                 once.add(included.place)
@@ -104,107 +97,103 @@ def read_once(closure: Closure) -> Set[str]:
     return once
 
 
-class Copier:
+def copied_line(source: Source, number: int, root: str) -> str:
+    """Returns a line for a copy below the folder `root`. A file that it includes by an absolute path is a copy, too."""
+    line = source.line(number)
+    word = word_of(line.statement) or ""
+    if number in source.includes and word.startswith("/"):
+        return line.text.replace(f'"{word}"', f'"{os.fsencode(root).decode("latin-1")}{word}"', 1)
+    return line.text
+
+
+class CopyWriter:
     """Writes the copy of one file."""
 
-    def __init__(self, source: Source, names: Names, marks: Marks, is_once: bool, how: "How") -> None:
-        self.source, self.names, self.marks, self.how = source, names, marks, how
-        self.is_once = is_once
-        self.macros: Set[str] = set()
+    def __init__(self, source: Source, copies: "Copies", macros: Set[str], is_once: bool) -> None:
+        self.source, self.copies, self.macros, self.is_once = source, copies, macros, is_once
         self.written: List[str] = []
         self.waiting: List[str] = []
         self.length = 0
 
-    def copy(self) -> str:
-        """The text of the copy."""
-        around = inside(self.source)
-        for number, statement in enumerate(self.source.statements, 1):
-            self.add(number, statement, around[number - 1])
+    def text(self) -> str:
+        """Returns the text of the copy."""
+        around = parameters_around(self.source)
+        for number, line in enumerate(self.source.lines, 1):
+            self.add(number, line, around[number - 1])
         self.flush()
         return "\n".join(self.written) + "\n"
 
-    def add(self, number: int, statement: Statement, parameters: Optional[Set[str]]) -> None:
-        """A line, with the marks before and after it."""
-        what = statement.what
-        if what is What.CONSTANT and statement.tokens[0].text in self.macros:
-            what = What.CALL
-        is_unsure = what is What.CALL and bool(parameters) and statement.tokens[0].text in (parameters or ())
-        if what in EDGES and (what not in BEFORE or statement.label or is_unsure):
+    def add(self, number: int, line: SourceLine, parameters: Optional[Set[str]]) -> None:
+        """Writes a line with the marks before and after it."""
+        role, statement = line.role, line.statement
+        if role is Role.CONSTANT and statement.body[0].text in self.macros:
+            role = Role.CALL
+        is_unsure = role is Role.CALL and bool(parameters) and statement.body[0].text in (parameters or ())
+        if role in EDGES and (role not in BEFORE or statement.label or is_unsure):
             self.flush()
-        if statement.label or what in PUTTING or is_unsure:
-            self.address(number, BEFORE.get(what, Sign.AT), parameters is None)
-        elif what in BEFORE:
-            self.wait(self.marks.add(BEFORE[what], self.source, number))
-        if what in EDGES:
+        if statement.label or role in LOCATED or is_unsure:
+            self.address(number, BEFORE.get(role, Sign.AT), parameters is None)
+        elif role in BEFORE:
+            self.wait(self.mark(BEFORE[role], number))
+        if role in EDGES:
             self.flush()
-        self.written.append(self.line(number))
-        if what is What.SCOPE:
-            self.address(number, Sign.OPEN, parameters is None)  # it tells the segment
-        elif what in AFTER:
-            self.wait(self.marks.add(AFTER[what], self.source, number))
-        elif what is What.CONSTANT and self.is_wanted(statement.tokens):
-            name = statement.tokens[0].text
-            self.wait(self.marks.add(Sign.CONSTANT, self.source, number, True), f"({name})&$FFFFFFFF")
+        self.written.append(copied_line(self.source, number, self.copies.root))
+        if role is Role.SCOPE:
+            self.address(number, Sign.OPEN, parameters is None)  # it has the segment
+        elif role in AFTER:
+            self.wait(self.mark(AFTER[role], number))
+        elif role is Role.CONSTANT and self.is_wanted(statement.body[1].text):
+            name = statement.body[0].text
+            self.wait(self.mark(Sign.CONSTANT, number, True), f"({name})&$FFFFFFFF")
 
-    def line(self, number: int) -> str:
-        """The line as it stands in the copy: a file that it includes by its whole path is a copy, too."""
-        if number in self.source.includes and (word := word_of(self.source.statements[number - 1]) or "").startswith("/"):
-            root = os.fsencode(self.how.root).decode("latin-1")
-            return self.source.text(number).replace(f'"{word}"', f'"{root}{word}"', 1)
-        return self.source.text(number)
+    def mark(self, sign: Sign, number: int, has_value: bool = False) -> int:
+        """Adds a mark. Returns its number."""
+        return self.copies.marks.add(sign, self.source, number, has_value)
 
-    def is_wanted(self, tokens: Sequence[Token]) -> bool:
-        """Whether a constant's value is written down."""
-        return self.how.constants is Constants.ALL or (self.how.constants is Constants.LABELS and tokens[1].text == ":=")
+    def is_wanted(self, operator: str) -> bool:
+        """Returns whether the value of a constant that is defined with this operator is recorded."""
+        constants = self.copies.constants
+        return constants is Constants.ALL or (constants is Constants.LABELS and operator == ":=")
 
     def wait(self, mark: int, value: Optional[str] = None) -> None:
-        """A mark, to be written with those that follow."""
+        """Keeps a mark, to be written together with others."""
         self.waiting.append(str(mark) if value is None else f"{mark},{value}")
         self.length += len(self.waiting[-1]) + 1
         if self.length >= TOGETHER:
             self.flush()
 
     def address(self, number: int, sign: Sign, is_outside: bool) -> None:
-        """The mark of an address."""
-        mark = self.marks.add(sign, self.source, number, True)
+        """Adds a mark with the address at this line."""
+        mark = self.mark(sign, number, True)
+        name = self.copies.names.constant
         if is_outside and self.is_once:
-            name = f"{self.names.constant}{mark}"
-            self.written.append(f"{name}=*")
-            self.wait(mark, name)
+            self.written.append(f"{name}{mark}=*")
+            self.wait(mark, f"{name}{mark}")
             return
-        name = f"{self.names.constant}_"
-        self.written += [".scope", f"{name}=*"]
-        self.wait(mark, name)
+        self.written += [".scope", f"{name}_=*"]
+        self.wait(mark, f"{name}_")
         self.flush()
         self.written.append(".endscope")
 
     def flush(self) -> None:
         """Writes the marks that wait."""
         if self.waiting:
-            self.written += [".pushseg", f'.segment "{self.names.segment}"', ".dword " + ",".join(self.waiting), ".popseg"]
+            segment = self.copies.names.segment
+            self.written += [".pushseg", f'.segment "{segment}"', ".dword " + ",".join(self.waiting), ".popseg"]
             self.waiting, self.length = [], 0
 
 
-@dataclass(frozen=True)
 class Copies:
-    """The copies of a module's files, and what their marks mean."""
+    """The copies of a module's files below the folder `root`, and their marks."""
 
-    closure: Closure
-    names: Names
-    marks: Marks
-    texts: List[Tuple[Source, str]]
+    def __init__(self, closure: Closure, constants: Constants, root: str) -> None:
+        self.closure, self.constants, self.root = closure, constants, root
+        self.names, self.marks = free_names(closure), Marks()
 
-
-def instrument(closure: Closure, how: How) -> Copies:
-    """The copies of a source and of all that it may include."""
-    names, marks, once = free_names(closure), Marks(), read_once(closure)
-    heads = (it.tokens for source in closure.sources.values() for it in source.statements if it.what is What.MACRO)
-    macros = {it[1].text for it in heads if len(it) > 1}
-
-    def texts() -> Iterator[Tuple[Source, str]]:
-        for source in closure.sources.values():
-            copier = Copier(source, names, marks, source.place in once, how)
-            copier.macros = macros
-            yield source, copier.copy()
-
-    return Copies(closure, names, marks, list(texts()))
+    def texts(self) -> Iterator[Tuple[Source, str]]:
+        """Yields each file with the text of its copy."""
+        once, sources = read_once(self.closure), self.closure.sources.values()
+        heads = (line.statement.rest for source in sources for line in source.lines if line.role is Role.MACRO)
+        macros = {it[0].text for it in heads if it}
+        for source in sources:
+            yield source, CopyWriter(source, self, macros, source.place in once).text()

@@ -1,10 +1,12 @@
 """Where the rows of a script lie: in which area, and in which file. Of a script and the map of a link."""
 from dataclasses import dataclass, field
-from typing import Dict, List, Optional
+from typing import Dict, List, Optional, Sequence
 
 from work65.formats.maps import Map, Placed
+from work65.frontend.link_script import Area, Script, Segment
+from work65.frontend.script_sums import UnknownName, evaluated
+from work65.frontend.scripts import Word
 from work65.problem import Problem
-from work65.scripts import Area, Row, Script, number_of
 
 UNWRITTEN = ("bss", "zp")
 
@@ -19,9 +21,9 @@ class Room:
     rows: List[Placed] = field(default_factory=list)
     offset: int = 0
 
-    def address(self, placed: Placed, row: Row) -> int:
+    def address(self, placed: Placed, segment: Segment) -> int:
         """Where a row stands in this area."""
-        return placed.run if row.run == self.area.name else placed.load
+        return placed.run if segment.run == self.area.name else placed.load
 
 
 @dataclass
@@ -34,7 +36,7 @@ class Layout:
 
     def place_in_file(self, segment: str) -> Optional[int]:
         """Where the bytes of a segment begin in its file, if it is written to one."""
-        row = self.script.row(segment)
+        row = self.script.segment(segment)
         if row is None or row.kind in UNWRITTEN or not self.rooms[row.load].area.file:
             return None
         room = self.rooms[row.load]
@@ -47,7 +49,7 @@ class Layout:
 
     def file_of(self, segment: str) -> str:
         """The file of a segment's load area, as the script names it."""
-        row = self.script.row(segment)
+        row = self.script.segment(segment)
         return self.rooms[row.load].area.file if row else ""
 
     def used(self, room: Room) -> int:
@@ -69,24 +71,14 @@ class Builder:
         for it in links.rows:
             self.names.update({f"__{it.name}_LOAD__": it.load, f"__{it.name}_RUN__": it.run, f"__{it.name}_SIZE__": it.size})
 
-    def sum(self, words: List[str]) -> int:
-        """The value of a sum."""
-        value, sign = 0, 1
-        for word in words:
-            if word in ("+", "-"):
-                sign = 1 if word == "+" else -1
-            elif word in self.names:
-                value += sign * self.names[word]
-            else:
-                value += sign * self.number(word)
-        return value
-
-    def number(self, word: str) -> int:
-        """A number of a sum."""
+    def sum(self, value: Sequence[Word]) -> int:
+        """Returns the value of a sum."""
         try:
-            return number_of(word)
+            return evaluated(value, self.names)
+        except UnknownName as name:
+            raise Problem(f"{self.name}: nothing gives the name {str(name)[:80]}") from None
         except ValueError:
-            raise Problem(f"{self.name}: nothing gives the name {word[:80]}") from None
+            raise Problem(f"{self.name} is no script: see what bin65 ld65 says of it") from None
 
     def build(self) -> Layout:
         """The layout."""
@@ -103,7 +95,7 @@ class Builder:
     def fill(self, room: Room) -> None:
         """Puts its rows into an area, and gives the names that it defines."""
         name, last = room.area.name, room.start
-        for row in self.layout.script.rows:
+        for row in self.layout.script.segments:
             if name in (row.load, row.run):
                 placed = next((it for it in self.layout.map.rows if it.name == row.name), None)
                 if placed is None:
@@ -116,7 +108,7 @@ class Builder:
         """How many bytes an area has in its file."""
         if room.area.is_filled:
             return room.size
-        written = {it.name for it in self.layout.script.rows if it.load == room.area.name and it.kind not in UNWRITTEN}
+        written = {it.name for it in self.layout.script.segments if it.load == room.area.name and it.kind not in UNWRITTEN}
         ends = (it.load + it.size - room.start for it in room.rows if it.size and it.name in written)
         return max(ends, default=0)
 

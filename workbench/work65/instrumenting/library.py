@@ -3,7 +3,7 @@ import os
 import struct
 from typing import Dict, List, Optional, Tuple
 
-from work65.instrumenting.sources import read_bytes
+from work65.frontend.files import read_bytes
 from work65.problem import Problem
 from work65.program import Program
 

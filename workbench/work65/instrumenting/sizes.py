@@ -66,8 +66,8 @@ class Sizes:
 
 def segment_of(layout: Layout, placed: Placed) -> SegmentSize:
     """A segment's size."""
-    row = layout.script.row(placed.name)
-    return SegmentSize(placed.name, placed.run, placed.load, placed.size, row.run if row else "", row.load if row else "")
+    entry = layout.script.segment(placed.name)
+    return SegmentSize(placed.name, placed.run, placed.load, placed.size, entry.run if entry else "", entry.load if entry else "")
 
 
 def area_of(layout: Layout, room: Room) -> AreaSize:
@@ -78,14 +78,14 @@ def area_of(layout: Layout, room: Room) -> AreaSize:
 
 def procedures_of(unit: Unit) -> List[ProcedureSize]:
     """The procedures of a module."""
-    told = unit.told
-    if told is None:
+    module = unit.located
+    if module is None:
         return []
     found = []
-    for number, scope in enumerate(told.scopes):
+    for number, scope in enumerate(module.scopes):
         if scope.is_proc:
-            size = sum(it.size for it in told.rows[scope.first : scope.last])
-            found.append(ProcedureSize(scope_name(told, number)[:-2], unit.module, size))
+            size = sum(it.size for it in module.lines[scope.first : scope.last])
+            found.append(ProcedureSize(scope_name(module, number)[:-2], unit.module, size))
     return found
 
 

@@ -2,12 +2,12 @@
 from typing import List, Sequence, Set
 
 from work65.frontend import words
+from work65.frontend.edits import edited
 from work65.frontend.statements import Statement, parts_of, statement_of
 from work65.frontend.tokens import Kind, Token, line_of
 from work65.porting import ranges, shifts, spelling
-from work65.porting.expansion import SCOPES, Macro
+from work65.porting.expansion import Macro
 from work65.porting.facts import star_in
-from work65.porting.line import edited
 from work65.porting.rewriter import Rewriter
 
 ASKING = frozenset((".ifdef", ".ifndef", ".defined", ".def"))
@@ -41,7 +41,7 @@ class Calls(Rewriter):
             return True
         if any(self.has_codes(it) for it in rest if it.kind is Kind.STRING) and not self.takes_lists(name, rest):
             return True
-        if any(it.text in self.sized_names for it in rest) and any(it.directives & SCOPES for it in reached):
+        if any(it.text in self.sized_names for it in rest) and any(it.directives & words.SCOPE_BEGINS for it in reached):
             return True
         return self.is_hidden_there(reached, rest) or any(self.has_other_regions(it) for it in reached)
 
@@ -67,7 +67,7 @@ class Calls(Rewriter):
         names = {it.text for it in rest} | {name for it in reached for name in it.names}
         if self.project.is_measured and not any(it.directives & ASKING for it in reached):
             return False
-        is_inner = any(it.directives & (ASKING | SCOPES) for it in reached)
+        is_inner = any(it.directives & (ASKING | words.SCOPE_BEGINS) for it in reached)
         scopes = self.context.scopes if is_inner else self.context.scopes[:-1]
         return any(not names.isdisjoint(it.used) for it in scopes)
 

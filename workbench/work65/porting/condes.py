@@ -5,7 +5,7 @@ from typing import Dict, Iterable, Iterator, List, Optional, Tuple
 from work65.frontend import words
 from work65.frontend.expression import value
 from work65.frontend.files import Text
-from work65.frontend.scripts import Entry, blocks_of, words_of
+from work65.frontend.scripts import Entry, entries_in
 from work65.frontend.statements import Statement, parts_of, statement_of
 from work65.frontend.tokens import Kind, line_of
 from work65.porting.context import Context
@@ -49,12 +49,10 @@ def entry_of(statement: Statement, context: Context) -> Tuple[int, str, int]:
 
 def tables_of(script: Text) -> Iterator[Table]:
     """The tables that a script asks for."""
-    for block in blocks_of(words_of("\n".join(script.lines))):
-        for entry in block.entries:
-            if block.word.upper == "FEATURES" and entry.name.upper == "CONDES":
-                table = _table(entry)
-                if table is not None:
-                    yield table
+    for entry in entries_in("\n".join(script.lines), "FEATURES"):
+        table = _table(entry) if entry.name.upper == "CONDES" else None
+        if table is not None:
+            yield table
 
 
 def _table(entry: Entry) -> Optional[Table]:

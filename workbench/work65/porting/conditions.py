@@ -4,10 +4,11 @@ from dataclasses import dataclass
 from typing import Dict, List, Optional, Sequence
 
 from work65.frontend import words
+from work65.frontend.edits import text_of_tokens
 from work65.frontend.statements import Statement, statement_of
 from work65.frontend.tokens import Kind, Token, line_of
 from work65.porting.context import Block, Context
-from work65.porting.line import Unportable, replaced, text_of_tokens
+from work65.porting.line import Unportable, replaced
 from work65.porting.logical import Logical
 
 ANDS, ORS, NOTS = frozenset(("&&", ".and")), frozenset(("||", ".or")), frozenset(("!", ".not"))

@@ -5,10 +5,11 @@ import shutil
 import tempfile
 from typing import Dict, Iterator, List, Optional, Sequence, Tuple
 
+from work65.frontend.edits import edited
+from work65.frontend.files import read_bytes
+from work65.frontend.includes import path_of_bytes
 from work65.frontend.tokens import Kind, Token, line_of
-from work65.instrumenting.sources import path_of_bytes, read_bytes
 from work65.output import words
-from work65.porting.line import edited
 from work65.porting.port import Ported
 from work65.porting.project import OWN
 from work65.problem import Problem

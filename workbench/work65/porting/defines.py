@@ -2,11 +2,12 @@
 from typing import List, Optional, Sequence, Tuple
 
 from work65.frontend import words
+from work65.frontend.edits import edited, text_of_tokens
 from work65.frontend.expression import value
 from work65.frontend.statements import Statement
 from work65.frontend.tokens import Kind, Token, line_of
 from work65.porting.context import Context, Define
-from work65.porting.line import Unportable, commented_out, edited, text_of_tokens
+from work65.porting.line import Unportable, commented_out
 
 BEFORE = frozenset((",", "#", "(", "=", ":=", "{"))
 AFTER = frozenset((",", ")", "}"))

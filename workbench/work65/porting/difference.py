@@ -3,11 +3,11 @@ import os
 from dataclasses import dataclass
 from typing import Dict, List, Optional, Tuple
 
+from work65.frontend.link_script import OUTPUT, read_script, with_files
 from work65.instrumenting.layout import Layout, layout_of
 from work65.porting.leaves import Leaf, of_debug_file, records
 from work65.porting.port import Ported
 from work65.porting.tools import Linked, other_exports
-from work65.scripts import OUTPUT, read_script, with_files
 
 
 @dataclass(frozen=True)
@@ -78,7 +78,7 @@ class Finder:
         found = self.segment(file, at)
         if found is None or self.layout is None:
             return "in no segment"
-        row = self.layout.script.row(found[0])
+        row = self.layout.script.segment(found[0])
         said = f"{f'area {row.load}, ' if row is not None else ''}segment {found[0]}"
         part = self.module(*found)
         if part is None:

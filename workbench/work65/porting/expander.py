@@ -4,9 +4,10 @@ from dataclasses import dataclass, field
 from typing import Dict, List, Optional, Protocol, Sequence
 
 from work65.frontend import words
+from work65.frontend.macros import arguments_of, given_by, substituted
 from work65.frontend.statements import Statement, parts_of, statement_of
 from work65.frontend.tokens import Kind, Token, line_of
-from work65.porting.expansion import EXITS, HARD, Macro, arguments_of, end_of_repeat, put_in
+from work65.porting.expansion import HARD, Macro, end_of_repeat
 from work65.porting.line import Unportable
 from work65.porting.logical import Logical
 
@@ -94,9 +95,7 @@ class Expander:
             raise Unportable(name, "macro-call", "it has too many arguments, or calls itself without an end")
         if macro.is_ambiguous:
             raise Unportable(name, "macro-call", "the macro has other lines where a condition holds: write the call out")
-        given = dict(zip(macro.parameters, values + [""] * len(macro.parameters)))
-        given[".paramcount"] = str(len(values))
-        self.frames.append(Frame(macro.lines, given))
+        self.frames.append(Frame(macro.lines, given_by(macro.parameters, values)))
 
     def repeat(self, lines: Sequence[str], text: str, given: Dict[str, str]) -> None:
         """Begins a repeat."""
@@ -114,7 +113,7 @@ class Expander:
             frame = self.frames[-1]
             if frame.at < len(frame.lines):
                 frame.at += 1
-                self.line(frame, put_in(frame.lines[frame.at - 1], frame.given, self.host.has_escapes))
+                self.line(frame, substituted(frame.lines[frame.at - 1], frame.given, self.host.has_escapes))
             elif frame.turn + 1 < frame.turns:
                 frame.turn, frame.at = frame.turn + 1, 0
                 if frame.counter:
@@ -139,7 +138,7 @@ class Expander:
         elif statement.head == ".local":
             names = [it.text for it in statement.rest if it.text != ","]
             frame.given.update({it: f"{it}_{self.unique}_{self.calls}" for it in names})
-        elif statement.head in EXITS:
+        elif statement.head in words.MACRO_EXITS:
             self.leave()
         elif statement.head in words.REPEAT_BEGINS:
             self.nested_repeat(frame, text, statement)
@@ -176,14 +175,14 @@ class Expander:
                 self.emit(text[: statement.body[0].start].rstrip())
             self.repeat(body, text, frame.given)
             return
-        for it in (text, *(put_in(it, frame.given, self.host.has_escapes) for it in body), ".endrepeat"):
+        for it in (text, *(substituted(it, frame.given, self.host.has_escapes) for it in body), ".endrepeat"):
             self.emit(it)
 
     def has_to_go(self, text: str, frame: Frame) -> bool:
         """Whether a line has its repeat written out."""
-        tokens = line_of(put_in(text, frame.given, self.host.has_escapes), self.host.has_escapes).tokens
+        tokens = line_of(substituted(text, frame.given, self.host.has_escapes), self.host.has_escapes).tokens
         statement = statement_of(tokens, lambda _: False)
-        if statement.head in EXITS or any(it.lower in HARD for it in tokens):
+        if statement.head in words.MACRO_EXITS or any(it.lower in HARD for it in tokens):
             return True
         return self.host.is_written_out(statement)
 
@@ -197,7 +196,7 @@ class Expander:
             known = self.answer(text, statement) if frame.is_live else False
             is_dead = not frame.is_live
             if known is None:
-                self.emit(text, [put_in(it, frame.given, self.host.has_escapes) for it in frame.lines[frame.at :]])
+                self.emit(text, [substituted(it, frame.given, self.host.has_escapes) for it in frame.lines[frame.at :]])
             conditions.append(Condition(known is not None, known is not False, is_dead or known is not False))
         elif head in (".elseif", ".else", ".endif") and conditions:
             self.goes_on(conditions, text, head)

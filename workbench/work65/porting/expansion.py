@@ -3,10 +3,9 @@ from dataclasses import dataclass, field
 from typing import Dict, FrozenSet, List, Optional, Sequence, Set
 
 from work65.frontend import words
-from work65.frontend.statements import parts_of, statement_of
+from work65.frontend.statements import statement_of
 from work65.frontend.tokens import Kind, Token, line_of
 from work65.porting.characters import has_text
-from work65.porting.line import edited, text_of_tokens
 from work65.porting.logical import Logical
 from work65.porting.packages import BRANCHES
 
@@ -17,9 +16,7 @@ HARD = OF_TOKENS | frozenset(
     (".strlen", ".strat", ".concat", ".sprintf", ".set", ".charmap", ".min", ".max", ".define", ".undefine", ".undef", ".const",
      ".constructor", ".destructor", ".interruptor", ".condes", ".bank")
 )
-EXITS = frozenset((".exitmacro", ".exitmac"))
-SCOPES = frozenset((".scope", ".proc"))
-SCOPE_ENDS = frozenset((".endscope", ".endproc"))
+SCOPES = words.SCOPE_BEGINS | words.SCOPE_ENDS
 
 
 @dataclass
@@ -69,8 +66,8 @@ class Macro:
         elif statement.head == ".proc" and statement.rest:
             self.labels.append(statement.rest[0].text)
         self.repeats += (statement.head in words.REPEAT_BEGINS) - (statement.head in words.REPEAT_ENDS)
-        self.leaves_repeat = self.leaves_repeat or self.repeats > 0 and statement.head in EXITS
-        self.depth += (statement.head in SCOPES) - (statement.head in SCOPE_ENDS)
+        self.leaves_repeat = self.leaves_repeat or self.repeats > 0 and statement.head in words.MACRO_EXITS
+        self.depth += (statement.head in words.SCOPE_BEGINS) - (statement.head in words.SCOPE_ENDS)
         self.has_nested_scopes = self.has_nested_scopes or not 0 <= self.depth <= 1
 
     @property
@@ -104,7 +101,7 @@ def _is_hard(macro: Macro) -> bool:
     """Whether a macro's own lines have it written out. A scope that it opens and closes may stay."""
     if macro.directives & HARD or macro.has_cheap_constant or macro.leaves_repeat:
         return True
-    if not macro.directives & (SCOPES | SCOPE_ENDS):
+    if not macro.directives & SCOPES:
         return False
     return macro.has_nested_scopes or macro.depth != 0 or bool(macro.directives & (words.LISTS | {".ifdef", ".ifndef", ".defined", ".def"}))
 
@@ -133,21 +130,3 @@ def end_of_repeat(lines: Sequence[Logical], at: int) -> int:
             depth -= 1
         depth += head in words.REPEAT_BEGINS
     return len(lines)
-
-
-def put_in(text: str, given: Dict[str, str], has_escapes: bool) -> str:
-    """A line with what stands for its names."""
-    edits = [(it.start, it.end, given[it.text]) for it in line_of(text, has_escapes).tokens
-             if it.text in given and it.kind in (Kind.NAME, Kind.CHEAP, Kind.DIRECTIVE)]
-    return edited(text, edits) if edits else text
-
-
-def arguments_of(text: str, tokens: Sequence[Token]) -> List[str]:
-    """The arguments of a call, without the braces round each."""
-    return [_unbraced(text, it) for it in parts_of(tokens)]
-
-
-def _unbraced(text: str, part: Sequence[Token]) -> str:
-    if len(part) > 1 and part[0].text == "{" and part[-1].text == "}":
-        part = part[1:-1]
-    return text_of_tokens(text, part)

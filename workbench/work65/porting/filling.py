@@ -1,11 +1,12 @@
 """Areas that cc65's linker fills up to a row that nobody uses: the script is written so that bin65's file ends there, too."""
 from typing import Dict, List, Optional, Tuple
 
-from work65.frontend.scripts import Entry, blocks_of, words_of
+from work65.frontend.edits import edited
+from work65.frontend.link_script import Script, read_script, with_files
+from work65.frontend.script_sums import number_of
+from work65.frontend.scripts import Entry, entries_in
 from work65.instrumenting.layout import UNWRITTEN, Layout, layout_of
-from work65.porting.line import edited
 from work65.porting.tools import Linked
-from work65.scripts import Script, number_of, read_script, with_files
 
 # The segments that are in each object of cc65's, also without bytes.
 ALWAYS = frozenset(("CODE", "RODATA", "DATA"))
@@ -33,20 +34,19 @@ def filled(text: str, cc65: Linked, bin65: Linked) -> Optional[Tuple[str, List[s
 def _aligned(text: str, layout: Layout) -> Dict[str, int]:
     """Where rows without bytes begin that each object of cc65's has, by their alignment."""
     found = {}
-    for block in blocks_of(words_of(text)):
-        for entry in block.entries if block.word.upper == "SEGMENTS" else ():
-            align, row = entry.get("ALIGN"), layout.script.row(entry.name.text)
-            if align and row is not None and row.name in ALWAYS:
-                room = layout.rooms[row.load]
-                step, end = number_of(align[0].text), max((it.load + it.size for it in room.rows if it.size), default=room.start)
-                found[row.name] = -(-end // step) * step
+    for entry in entries_in(text, "SEGMENTS"):
+        align, row = entry.get("ALIGN"), layout.script.segment(entry.name.text)
+        if align and row is not None and row.name in ALWAYS:
+            room = layout.rooms[row.load]
+            step, end = number_of(align[0].text), max((it.load + it.size for it in room.rows if it.size), default=room.start)
+            found[row.name] = -(-end // step) * step
     return found
 
 
 def _unused(script: Script, area: str, bin65: Linked, starts: Dict[str, int]) -> Optional[str]:
     """The last of the rows at the end of an area that nobody uses, and that cc65's linker places all the same."""
     found = None
-    for row in reversed([it for it in script.rows if it.load == area and it.kind not in UNWRITTEN]):
+    for row in reversed([it for it in script.segments if it.load == area and it.kind not in UNWRITTEN]):
         if bin65.sizes.get(row.name):
             return found
         if found is None and row.name in starts:
@@ -57,10 +57,9 @@ def _unused(script: Script, area: str, bin65: Linked, starts: Dict[str, int]) ->
 def _written(text: str, lengths: Dict[str, int]) -> str:
     """The script with areas of these lengths, filled."""
     edits: List[Tuple[int, int, str]] = []
-    for block in blocks_of(words_of(text)):
-        for entry in block.entries if block.word.upper == "MEMORY" else ():
-            if entry.name.text in lengths:
-                edits += _edits(entry, lengths[entry.name.text])
+    for entry in entries_in(text, "MEMORY"):
+        if entry.name.text in lengths:
+            edits += _edits(entry, lengths[entry.name.text])
     return edited(text, edits)
 
 

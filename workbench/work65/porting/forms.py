@@ -2,12 +2,12 @@
 from typing import AbstractSet, Sequence
 
 from work65.frontend import words
+from work65.frontend.edits import edited
 from work65.frontend.expression import scoped_name, value
 from work65.frontend.statements import Statement, statement_of
 from work65.frontend.tokens import Kind, Token, line_of
 from work65.porting.context import Context
 from work65.porting.facts import star_in
-from work65.porting.line import edited
 
 SHIFTS = frozenset((">>", ".shr"))
 # Instructions whose operand is no address of a byte.

@@ -3,12 +3,13 @@ import re
 from typing import Callable, Dict, List, Optional, Sequence, Tuple
 
 from work65.frontend import words
+from work65.frontend.edits import edited, text_of_tokens
 from work65.frontend.expression import scoped_name, value
 from work65.frontend.statements import parts_of
 from work65.frontend.tokens import Kind, Token, is_closed, line_of
 from work65.porting.characters import content
 from work65.porting.context import Context
-from work65.porting.line import edited, in_parentheses, text_of_tokens
+from work65.porting.line import in_parentheses
 from work65.porting.structures import size_named
 
 Part = Sequence[Token]

@@ -3,9 +3,9 @@ import re
 from typing import List
 
 from work65.frontend.files import Text
-from work65.frontend.scripts import Entry, blocks_of, words_of
+from work65.frontend.link_script import OUTPUT, with_files
+from work65.frontend.scripts import Entry, entries_in
 from work65.porting.tools import Linked
-from work65.scripts import OUTPUT, with_files
 
 UNUSED = "A row with `align`, `start` or `offset` whose segment nobody uses"
 UNWRITTEN = "A row that takes room and isn't written, before rows that are"
@@ -27,16 +27,14 @@ def files_of(script: Text) -> List[str]:
 
 def written_by(script: Text) -> List[str]:
     """The files of the areas of a script, by their names as they stand there; nothing where no area has one."""
-    blocks = blocks_of(words_of("\n".join(script.lines)))
-    values = [it.get("FILE") for block in blocks if block.word.upper == "MEMORY" for it in block.entries]
+    values = [it.get("FILE") for it in entries_in("\n".join(script.lines), "MEMORY")]
     names = [it[0].text.strip('"') if it else OUTPUT for it in values]
     return [it for it in dict.fromkeys(names) if it]
 
 
 def heading(script: Text, bin65: Linked, difference: str) -> str:
     """The heading of MIGRATING that tells of a difference; nothing where none is known."""
-    blocks = blocks_of(words_of("\n".join(script.lines)))
-    rows = [it for block in blocks if block.word.upper == "SEGMENTS" for it in block.entries]
+    rows = entries_in("\n".join(script.lines), "SEGMENTS")
     for at, row in enumerate(rows):
         is_used = bool(bin65.sizes.get(row.name.text, 0))
         if not is_used and any(row.get(it) for it in ("ALIGN", "START", "OFFSET")):

@@ -3,8 +3,7 @@ import re
 from typing import Callable, Dict, Iterable, Iterator, List, NamedTuple, Optional, Sequence, Tuple
 
 from work65.formats.objects import Place
-from work65.instrumenting.marks import Sign
-from work65.instrumenting.trace import Met
+from work65.instrumenting.marks import ReachedMark, Sign
 
 
 class Line(NamedTuple):
@@ -92,7 +91,7 @@ class _Opened(NamedTuple):
 PAIRS = {Sign.BACK: Sign.CALL, Sign.OVER: Sign.REPEAT, Sign.INCLUDED: Sign.INCLUDE}
 
 
-def of_marks(marks: Iterable[Met], sizes: Dict[str, int], key: Callable[[str], str]) -> List[Leaf]:
+def of_marks(marks: Iterable[ReachedMark], sizes: Dict[str, int], key: Callable[[str], str]) -> List[Leaf]:
     """The leaves of a module that bin65 assembled, by the marks of its copy. `key` names a file by its place."""
     opened: List[_Opened] = [_Opened(Sign.INCLUDE, 0, ())]
     begun: Dict[str, List[Tuple[int, Tuple[Line, ...]]]] = {}

@@ -2,10 +2,11 @@
 from dataclasses import dataclass, field
 from typing import Dict, List, Sequence
 
+from work65.frontend.edits import text_of_tokens
 from work65.frontend.statements import Statement, parts_of
 from work65.frontend.tokens import Kind, Token
 from work65.porting.context import Context
-from work65.porting.line import Unportable, replaced, text_of_tokens
+from work65.porting.line import Unportable, replaced
 
 SHORT = frozenset(("zp", "zeropage", "direct"))
 LONG = frozenset(("abs", "absolute", "near"))

@@ -2,11 +2,11 @@
 from typing import AbstractSet, Callable, Dict, Iterator, List, NamedTuple, Optional, Sequence, Set, Tuple
 
 from work65.frontend import words
+from work65.frontend.edits import edited
 from work65.frontend.files import Text
 from work65.frontend.statements import Statement, statement_of
 from work65.frontend.tokens import Kind, line_of
 from work65.porting.leaves import Leaf, Line, grouped
-from work65.porting.line import edited
 from work65.porting.packages import BRANCHES, NEAR
 from work65.porting.port import Ported
 from work65.porting.project import Spread

@@ -5,8 +5,9 @@ from typing import Dict, List, Optional, Sequence, Union
 
 from work65.commands.check import said
 from work65.frontend.files import Text, text_of
+from work65.frontend.files import read_bytes
+from work65.frontend.link_script import OUTPUT
 from work65.habits.habit import Finding
-from work65.instrumenting.sources import read_bytes
 from work65.porting import filling, imported, known_differences
 from work65.porting.difference import difference, first_file
 from work65.porting.measuring import FORMS, Measure, Pair
@@ -16,7 +17,6 @@ from work65.porting.tools import Linked, Options, Refused
 from work65.porting.verdict import Judge
 from work65.porting.verify import Library, Verifier, Whole, is_same
 from work65.program import Program
-from work65.scripts import OUTPUT
 
 SAME, OTHER, NOT_COMPARED = 0, 1, 2
 # The opcode of an absolute form is that of the short one and this; so many forms are mended by an image.

@@ -6,12 +6,12 @@ from typing import Dict, FrozenSet, List, Optional, Sequence, Set, Tuple
 
 from work65.frontend import words
 from work65.frontend.files import Text, text_of
+from work65.frontend.includes import path_of_bytes
 from work65.frontend.statements import Statement, statement_of
 from work65.frontend.survey import Tree, asminc_file, surveyed
 from work65.frontend.tokens import Kind, line_of
 from work65.habits.habit import Finding
 from work65.habits.table import BY_NAME
-from work65.instrumenting.sources import path_of_bytes
 from work65.output import words as words_of_path
 from work65.porting.context import Row
 from work65.porting.guards import guard_of

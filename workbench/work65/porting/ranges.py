@@ -2,11 +2,11 @@
 from typing import List, Sequence, Tuple
 
 from work65.frontend import words
+from work65.frontend.edits import edited, text_of_tokens
 from work65.frontend.expression import value
 from work65.frontend.statements import Statement, parts_of
 from work65.frontend.tokens import Kind, Token
 from work65.porting.context import Context
-from work65.porting.line import edited, text_of_tokens
 
 Edit = Tuple[int, int, str]
 BITS = {".byte": 8, ".byt": 8, ".word": 16, ".addr": 16, ".dbyt": 16, ".dword": 32}

@@ -1,13 +1,14 @@
 """Names that become others: those that `.set` changes, cheap names of a .local or with a value, and imports of a scope."""
 from typing import Iterator, List, Optional, Sequence, Tuple
 
+from work65.frontend.edits import edited
 from work65.frontend.expression import value
 from work65.frontend.statements import Statement
 from work65.frontend.tokens import Kind, Token, line_of
 from work65.porting import conditions, guards, shifts, spelling
 from work65.porting.facts import facts_of
 from work65.porting.known import Known
-from work65.porting.line import Unportable, edited
+from work65.porting.line import Unportable
 
 Edit = Tuple[int, int, str]
 ASKED = frozenset((".ifdef", ".ifndef"))

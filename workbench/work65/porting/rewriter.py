@@ -2,6 +2,7 @@
 from typing import Callable, Dict, List, Optional, Sequence
 
 from work65.frontend import words
+from work65.frontend.edits import edited
 from work65.frontend.expression import scoped_name, value
 from work65.frontend.statements import Statement, statement_of
 from work65.frontend.tokens import Kind, Token, line_of
@@ -12,7 +13,7 @@ from work65.porting.context import Scope
 from work65.porting.expansion import Macro
 from work65.porting.facts import facts_of
 from work65.porting.leaves import Line
-from work65.porting.line import Unportable, commented_out, edited, replaced
+from work65.porting.line import Unportable, commented_out, replaced
 from work65.porting.project import Project
 from work65.porting.renaming import Renaming, global_definition
 

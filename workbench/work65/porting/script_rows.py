@@ -2,7 +2,7 @@
 from dataclasses import dataclass, field, replace
 from typing import Dict, Iterator, List, Optional, Set, Tuple
 
-from work65.frontend.scripts import Attribute, Block, Entry, Word
+from work65.frontend.scripts import Attribute, Block, Entry, Word, entries_of
 
 Edit = Tuple[int, int, str]
 Said = Tuple[Word, str]
@@ -55,8 +55,7 @@ class Rows:
 
     def __init__(self, whole: str, blocks: List[Block], usage: Usage) -> None:
         self.whole, self.usage = whole, usage
-        self.areas = [it for block in blocks if block.word.upper == "MEMORY" for it in block.entries]
-        self.entries = [it for block in blocks if block.word.upper == "SEGMENTS" for it in block.entries]
+        self.areas, self.entries = entries_of(blocks, "MEMORY"), entries_of(blocks, "SEGMENTS")
         self.script_words = {word.text for block in blocks for it in block.entries for one in it.attributes for word in one.value}
         self.edits: List[Edit] = []
         self.said: List[Said] = []

@@ -1,9 +1,10 @@
 """Scripts: what bin65 doesn't take of them goes, or is written as it takes it."""
 from typing import Dict, Iterator, List, Optional, Set, Tuple
 
+from work65.frontend.edits import edited
 from work65.frontend.files import Text
-from work65.frontend.scripts import Attribute, Block, Entry, Word, blocks_of, symbols_of, words_of
-from work65.porting.line import edited
+from work65.frontend.script_sums import accepted_number, value_of
+from work65.frontend.scripts import Attribute, Block, Entry, Word, blocks_of, entries_of, symbols_of, words_of
 from work65.porting.script_rows import Rows, Said, Usage
 
 Edit = Tuple[int, int, str]
@@ -29,11 +30,10 @@ def ported(text: Text, usage: Usage, symbols: Dict[str, int]) -> Tuple[List[str]
 def _given(blocks: List[Block], more: Dict[str, int]) -> List[Edit]:
     """The symbols of a script whose values ld65's -D gives: they have those, and are no more."""
     found = []
-    for block in blocks:
-        for entry in block.entries if block.word.upper == "SYMBOLS" else ():
-            value = entry.get("VALUE")
-            if value and entry.name.text in more:
-                found.append((value[0].start, value[-1].end, f"${more.pop(entry.name.text):04X}"))
+    for entry in entries_of(blocks, "SYMBOLS"):
+        value = entry.get("VALUE")
+        if value and entry.name.text in more:
+            found.append((value[0].start, value[-1].end, f"${more.pop(entry.name.text):04X}"))
     return found
 
 
@@ -41,25 +41,23 @@ def banks_of(text: Text) -> Dict[str, int]:
     """The banks of segments, by the areas in which they run."""
     blocks = blocks_of(words_of("\n".join(text.lines)))
     numbers, areas = _numbers(blocks), {}
-    for block in blocks:
-        for entry in block.entries:
-            if block.word.upper == "MEMORY" and entry.get("BANK"):
-                areas[entry.name.text] = _value(entry.get("BANK"), numbers)
+    for entry in entries_of(blocks, "MEMORY"):
+        if entry.get("BANK"):
+            areas[entry.name.text] = value_of(entry.get("BANK"), numbers)
     found = {}
-    for block in blocks:
-        for entry in block.entries:
-            run = entry.get("RUN") or entry.get("LOAD")
-            bank = areas.get(run[0].text) if run and block.word.upper == "SEGMENTS" else None
-            if bank is not None:
-                found[entry.name.text] = bank
+    for entry in entries_of(blocks, "SEGMENTS"):
+        run = entry.get("RUN") or entry.get("LOAD")
+        bank = areas.get(run[0].text) if run else None
+        if bank is not None:
+            found[entry.name.text] = bank
     return found
 
 
 def _sizes(blocks: List[Block]) -> Dict[str, Optional[int]]:
     """The sizes of areas that are numbers."""
     numbers = _numbers(blocks)
-    areas = [it for block in blocks if block.word.upper == "MEMORY" for it in block.entries]
-    return {it.name.text: _value(it.get("SIZE"), numbers) if it.get("SIZE") else None for it in areas}
+    areas = entries_of(blocks, "MEMORY")
+    return {it.name.text: value_of(it.get("SIZE"), numbers) if it.get("SIZE") else None for it in areas}
 
 
 def _symbols(symbols: Dict[str, int]) -> List[str]:
@@ -95,32 +93,22 @@ def _edits(whole: str, blocks: List[Block]) -> Iterator[Edit]:
 
 def _start_address(blocks: List[Block]) -> str:
     """The start address that FEATURES gives; cc65's own where it gives none."""
-    for block in blocks:
-        for entry in block.entries:
-            if block.word.upper == "FEATURES" and entry.name.upper == "STARTADDRESS" and entry.get("DEFAULT"):
-                return _number(entry.get("DEFAULT")[0])
+    for entry in entries_of(blocks, "FEATURES"):
+        if entry.name.upper == "STARTADDRESS" and entry.get("DEFAULT"):
+            return accepted_number(entry.get("DEFAULT")[0].text)
     return "$0200"
 
 
 def _is_binary(blocks: List[Block]) -> bool:
     """Whether all formats are plain bytes, so that FILES and FORMATS may go."""
-    for block in blocks:
-        if block.word.upper in ("FILES", "FORMATS"):
-            for entry in block.entries:
-                form = entry.get("FORMAT")
-                if form and form[0].upper not in ("BIN", "BINARY"):
-                    return False
-    return True
+    forms = [it.get("FORMAT") for word in ("FILES", "FORMATS") for it in entries_of(blocks, word)]
+    return all(it[0].upper in ("BIN", "BINARY") for it in forms if it)
 
 
 def _names_in_sums(blocks: List[Block]) -> Set[str]:
     """The names that sums of areas have."""
-    found = set()
-    for block in blocks:
-        for entry in block.entries:
-            if block.word.upper == "MEMORY":
-                found |= {it.text for name in ("START", "SIZE") for it in entry.get(name) if it.kind == "word"}
-    return found
+    areas = entries_of(blocks, "MEMORY")
+    return {it.text for area in areas for name in ("START", "SIZE") for it in area.get(name) if it.kind == "word"}
 
 
 def _exported(entry: Entry) -> Iterator[Edit]:
@@ -138,7 +126,7 @@ def _numbers(blocks: List[Block]) -> Dict[str, Optional[int]]:
         before = dict(found)
         for name, (entry, _kind) in symbols.items():
             value = entry.get("VALUE")
-            found[name] = _value(value, found) if value else None
+            found[name] = value_of(value, found) if value else None
         if found == before:
             break
     return found
@@ -154,8 +142,8 @@ def _attribute(whole: str, kind: str, it: Attribute, start: str, numbers: Dict[s
     for word in value:
         if word.kind == "output" and word.upper == "%S":
             yield word.start, word.end, start
-        elif word.kind == "number" and _number(word) != word.text:
-            yield word.start, word.end, _number(word)
+        elif word.kind == "number" and accepted_number(word.text) != word.text:
+            yield word.start, word.end, accepted_number(word.text)
     if name in ("FILL", "DEFINE", "OPTIONAL") and value and value[0].upper in SWITCHES:
         yield value[0].start, value[0].end, SWITCHES[value[0].upper]
     if name in ("START", "SIZE", "VALUE", "OFFSET", "FILLVAL", "ALIGN", "ALIGN_LOAD"):
@@ -168,75 +156,6 @@ def _sum(kind: str, name: str, value: List[Word], numbers: Dict[str, Optional[in
     plain = not any(it.text in "*/()" for it in value) and value and value[0].text not in "+-"
     if not value or (is_area and plain) or (len(value) == 1 and value[0].kind != "word") or any(it.text == "%S" for it in value):
         return
-    found = _value(value, numbers)
+    found = value_of(value, numbers)
     if found is not None and found >= 0:
         yield value[0].start, value[-1].end, f"${found:04X}"
-
-
-def _number(word: Word) -> str:
-    """A number as bin65 takes it."""
-    text = word.text
-    if text[:2].lower() == "0x":
-        return "$" + text[2:]
-    if text[0] == "%":
-        return f"${int(text[1:], 2):02X}" if len(text) > 1 and set(text[1:]) <= {"0", "1"} else text
-    return f"${int(text[:-1]) * 1024:04X}" if text[-1] in "kK" else text
-
-
-def _value(value: List[Word], numbers: Dict[str, Optional[int]]) -> Optional[int]:
-    """The value of a sum; None where a name in it isn't known."""
-    reader = _Sum(value, numbers)
-    try:
-        found = reader.sum()
-    except (ValueError, IndexError, ZeroDivisionError):
-        return None
-    return found if reader.at == len(value) else None
-
-
-class _Sum:
-    """Reads a sum from the left."""
-
-    def __init__(self, value: List[Word], numbers: Dict[str, Optional[int]]) -> None:
-        self.value, self.numbers, self.at = value, numbers, 0
-
-    def is_at(self, *texts: str) -> bool:
-        """Whether one of these signs stands here."""
-        return self.at < len(self.value) and self.value[self.at].text in texts
-
-    def sum(self) -> int:
-        """A sum of products."""
-        found = self.product()
-        while self.is_at("+", "-"):
-            sign = self.value[self.at].text
-            self.at += 1
-            found = found + self.product() if sign == "+" else found - self.product()
-        return found
-
-    def product(self) -> int:
-        """A product of factors."""
-        found = self.factor()
-        while self.is_at("*", "/"):
-            sign = self.value[self.at].text
-            self.at += 1
-            found = found * self.factor() if sign == "*" else found // self.factor()
-        return found
-
-    def factor(self) -> int:
-        """A number, a name, or a sum in parentheses."""
-        word = self.value[self.at]
-        self.at += 1
-        if word.text == "-":
-            return -self.factor()
-        if word.text == "(":
-            found = self.sum()
-            if not self.is_at(")"):
-                raise ValueError
-            self.at += 1
-            return found
-        if word.kind == "word":
-            known = self.numbers.get(word.text)
-            if known is None:
-                raise ValueError
-            return known
-        text = _number(word)
-        return int(text[1:], 16) if text[0] == "$" else int(text)

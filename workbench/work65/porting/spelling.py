@@ -2,12 +2,13 @@
 from typing import List, Optional, Sequence, Tuple
 
 from work65.frontend import words
+from work65.frontend.edits import edited, text_of_tokens
 from work65.frontend.expression import value
 from work65.frontend.statements import Statement, parts_of
 from work65.frontend.tokens import Kind, Token, is_closed, line_of
 from work65.porting.characters import as_elements, content
 from work65.porting.context import Context
-from work65.porting.line import Unportable, edited, replaced, text_of_tokens
+from work65.porting.line import Unportable, replaced
 
 Edit = Tuple[int, int, str]
 # Directives whose strings are names and texts, not data.

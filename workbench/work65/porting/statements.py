@@ -2,12 +2,13 @@
 from typing import Callable, Dict, List, Optional, Sequence
 
 from work65.frontend import words
+from work65.frontend.edits import edited, text_of_tokens
 from work65.frontend.expression import scoped_name, value
 from work65.frontend.statements import Statement, parts_of
 from work65.frontend.tokens import Kind, Token, line_of
 from work65.porting.context import Context
 from work65.porting.facts import star_in
-from work65.porting.line import Unportable, commented_out, edited, in_parentheses, replaced, text_of_tokens
+from work65.porting.line import Unportable, commented_out, in_parentheses, replaced
 from work65.porting.structures import size_named
 from work65.porting.undocumented import OPCODES
 

@@ -2,12 +2,13 @@
 from typing import List, Optional, Sequence, Tuple
 
 from work65.frontend import words
+from work65.frontend.edits import text_of_tokens
 from work65.frontend.expression import scoped_name, value
 from work65.frontend.statements import Statement
 from work65.frontend.tokens import Kind, Token, line_of
 from work65.porting import forms
 from work65.porting.context import Context, Structure
-from work65.porting.line import Unportable, commented_out, text_of_tokens
+from work65.porting.line import Unportable, commented_out
 
 UNITS = {".byte": 1, ".byt": 1, ".char": 1, ".word": 2, ".addr": 2, ".dbyt": 2, ".faraddr": 3, ".dword": 4}
 OPENERS = (".struct", ".union", ".enum")

@@ -8,11 +8,11 @@ from dataclasses import dataclass, field
 from typing import Dict, Iterable, List, Optional, Sequence, Set
 
 from work65.formats.maps import Map, read_map
-from work65.instrumenting.sources import read_bytes
-from work65.mirror import Mirror
+from work65.frontend.files import read_bytes
+from work65.frontend.link_script import OUTPUT, with_files
+from work65.frontend.linked_tree import LinkedTree
 from work65.problem import Problem
 from work65.program import Program
-from work65.scripts import OUTPUT, with_files
 
 NAMES = ("ca65", "ld65", "od65", "ar65")
 # A segment in ld65's map, with its start, end and size; and an export with its value.
@@ -119,13 +119,13 @@ class Theirs:
         self.words += [w for it in options.data for w in ("--bin-include-dir", it)]
         self.words += ["-t", options.target] if options.target and options.target != "none" else []
 
-    def assemble(self, source: str, made: str, mirror: Optional[Mirror] = None) -> None:
-        """Assembles a source, with what the debug file needs; or what stands for it in a mirror."""
-        if mirror is None:
+    def assemble(self, source: str, made: str, tree: Optional[LinkedTree] = None) -> None:
+        """Assembles a source, with what the debug file needs; or the file that represents it in a tree of links."""
+        if tree is None:
             ran(["ca65", "-g", *self.words, "-o", made, source], os.getcwd(), True)
             return
-        words = [f"-I{mirror.inside(os.path.realpath(it[2:]))}" if it.startswith("-I") else it for it in self.words]
-        ran(["ca65", "-g", *words, "-o", made, mirror.inside(source)], mirror.inside(os.path.realpath(".")), True)
+        words = [f"-I{tree.inside(os.path.realpath(it[2:]))}" if it.startswith("-I") else it for it in self.words]
+        ran(["ca65", "-g", *words, "-o", made, tree.inside(source)], tree.here, True)
 
     def archive(self, library: str, members: Sequence[str], folder: str) -> None:
         """Makes a library of objects."""

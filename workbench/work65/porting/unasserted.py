@@ -3,7 +3,7 @@ import os
 import re
 from typing import Iterable
 
-from work65.mirror import Mirror
+from work65.frontend.linked_tree import LinkedTree
 from work65.porting.copying import put
 from work65.porting.port import Ported
 from work65.porting.tools import Ours, Theirs
@@ -25,12 +25,11 @@ def their_object(ported: Ported, theirs: Theirs, module: str, root: str, made: s
     """Has ca65 assemble a source without assertions, in a folder that stands for the root of all folders."""
     project = ported.project
     texts = [project.texts[it] for it in project.closure(module)]
-    folders = {os.path.dirname(os.path.realpath(it.path)) for it in texts} | {os.path.realpath(it) for it in [".", *project.include_folders]}
-    mirror = Mirror(root, folders)
+    tree = LinkedTree(root)
     for it in texts:
         text = "".join(line + end for line, end in zip(it.lines, it.ends))
-        mirror.put(os.path.realpath(it.path), without(text.encode("latin-1")).decode("latin-1"))
-    theirs.assemble(project.texts[module].path, made, mirror)
+        tree.put(it.path, without(text.encode("latin-1")).decode("latin-1"))
+    theirs.assemble(project.texts[module].path, made, tree)
 
 
 def our_copy(files: "dict[str, bytes]", ours: Ours, copy: str) -> Ours:

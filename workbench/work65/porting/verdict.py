@@ -4,13 +4,13 @@ from dataclasses import dataclass, field, replace
 from typing import List, Optional
 
 from work65.diagnosing.message import message_of
+from work65.frontend.link_script import OUTPUT
 from work65.porting import filling, known_differences
 from work65.porting.difference import Finder, Module, difference
 from work65.porting.port import Ported
 from work65.porting.tools import Linked, Options, Refused
 from work65.porting.verify import Outcome, Port, Verifier, Whole, is_same
 from work65.program import Program
-from work65.scripts import OUTPUT
 
 
 # So many sources that weren't compared are named.

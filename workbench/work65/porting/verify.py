@@ -7,6 +7,7 @@ from typing import Callable, Dict, Iterable, List, Optional, Sequence, Set, Tupl
 
 from work65.diagnosing.message import message_of
 from work65.frontend import words
+from work65.frontend.linked_tree import LinkedTree
 from work65.instrumenting.build import Builder, Wanted
 from work65.instrumenting.copies import Constants
 from work65.instrumenting.sources import Closure
@@ -85,7 +86,7 @@ class Verifier:
         self.spread = Spread()
         self.ported = port(self.spread)
         self.outcomes: Dict[str, Outcome] = {}
-        self.mirrors: List[str] = []
+        self.linked_trees: List[str] = []
 
     # The copy and its build.
 
@@ -220,7 +221,7 @@ class Verifier:
         unasserted.their_object(self.ported, self.theirs, module, os.path.join(folder, "root"), theirs)
         files = copying.files_of(self.ported, self.options.data)
         unasserted.our_copy(files, self.ours(), os.path.join(folder, "copy")).assemble(module, ours)
-        self.mirrors.append(os.path.join(folder, "root"))
+        self.linked_trees.append(os.path.join(folder, "root"))
         return theirs, ours
 
     def linked(self, found: Outcome, module: str, theirs: str, ours: str) -> None:
@@ -324,7 +325,7 @@ class Verifier:
     def key(self, name: str) -> str:
         """The file of the tree that a path of a debug file names; nothing for another file."""
         path = os.fsdecode(name.encode("latin-1"))
-        root = next((it for it in self.mirrors if path.startswith(it + "/")), "")
+        root = next((it for it in self.linked_trees if path.startswith(it + "/")), "")
         place = os.path.realpath(path[len(root) :])
         return self.ported.places.get(place, "")
 
@@ -337,7 +338,7 @@ class Verifier:
         try:
             unit = builder.assemble(source, "object", "object")
             closure = Closure(source, wanted.folders)
-            marks, sizes = builder.marks(unit, closure, builder.mirror([closure]))
+            marks, sizes = builder.marks(unit, closure, LinkedTree(os.path.join(folder, "copies")))
         except Problem:
             return None
         finally:

@@ -3,6 +3,7 @@ import re
 from typing import List, Optional, Sequence
 
 from work65.frontend import words
+from work65.frontend.edits import edited
 from work65.frontend.statements import Statement, parts_of, statement_of
 from work65.frontend.tokens import Kind, line_of
 from work65.porting import conditions, defines, forms, spelling, structures
@@ -13,7 +14,7 @@ from work65.porting.expansion import HARD, OF_TOKENS, end_of_repeat
 from work65.porting.facts import Facts, facts_of
 from work65.porting.functions import FUNCTIONS
 from work65.porting.leaves import Line
-from work65.porting.line import Unportable, commented_out, edited
+from work65.porting.line import Unportable, commented_out
 from work65.porting.logical import Logical
 from work65.porting.long_lines import MOST_BYTES, split
 from work65.porting.merging import merged

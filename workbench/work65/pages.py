@@ -34,7 +34,7 @@ def version() -> str:
 
 
 @dataclass(frozen=True)
-class Entry:
+class PageEntry:
     """A text of the page: a pattern of it, its paragraph, the list after it, and the rows of its table as (what, refused source)."""
 
     heading: str
@@ -50,7 +50,7 @@ class Entry:
             yield from textwrap.wrap(it, width, initial_indent="- ", subsequent_indent="  ")
 
 
-def entries() -> List[Entry]:
+def entries() -> List[PageEntry]:
     """The entries of the page; none where it isn't there."""
     path = found("MESSAGES.md")
     if path is None:
@@ -60,13 +60,13 @@ def entries() -> List[Entry]:
     return [_entry(heading, text) for heading, text in zip(parts[1::2], parts[2::2])]
 
 
-def _entry(heading: str, text: str) -> Entry:
+def _entry(heading: str, text: str) -> PageEntry:
     words = re.escape(heading).replace(r"N,\ M,\ \.\.", ".+").replace(r",\ M", "")
     pattern = re.compile(re.sub(r"\bN\b", ".+", re.sub(r"\b[Kn]\b", r"\\d+", words)))
     paragraph, _, rest = text.strip().partition("\n\n")
     items = tuple(map(plain, _items(rest.partition("\n\n")[0])))
     rows = [(what, "\n".join(re.findall(r"`([^`]+)`", source))) for what, source in ROW.findall(text)]
-    return Entry(heading, pattern, plain(paragraph), items, tuple(rows))
+    return PageEntry(heading, pattern, plain(paragraph), items, tuple(rows))
 
 
 def _items(block: str) -> Iterator[str]:
@@ -84,6 +84,6 @@ def plain(text: str) -> str:
     return re.sub(r"\*([^*\n]+)\*", r"\1", re.sub(r"\[([^\]]+)\]\([^)]*\)", r"\1", text)).replace("``", "`").replace("`", "")
 
 
-def entry_for(text: str, all_entries: List[Entry]) -> Optional[Entry]:
+def entry_for(text: str, all_entries: List[PageEntry]) -> Optional[PageEntry]:
     """The entry of a message's text."""
     return next((it for it in all_entries if it.pattern.fullmatch(text)), None)

@@ -1,4 +1,4 @@
-"""work65 check: every place that bin65 refuses by its profile, with what to write in its place."""
+"""work65 check: lists constructs that bin65 rejects, with replacements."""
 import argparse
 import json
 import os
@@ -19,7 +19,7 @@ HELP = "lists every place in sources and scripts that bin65 refuses, with what t
 
 
 def add_arguments(parser: argparse.ArgumentParser) -> None:
-    """Adds what this subcommand takes."""
+    """Adds the arguments of this subcommand."""
     parser.add_argument("paths", nargs="+", metavar="PATH", help="a source, an include file, a script, or a folder of them")
     parser.add_argument("-I", dest="include", action="append", default=[], metavar="DIR", help="where included files are looked for")
     parser.add_argument("-D", dest="define", action="append", default=[], metavar="NAME[=NUMBER]", help="what -D gives to ca65")
@@ -28,7 +28,7 @@ def add_arguments(parser: argparse.ArgumentParser) -> None:
 
 
 def run(arguments: argparse.Namespace) -> int:
-    """Lists what is found; the status is 1 where something is, or where a file can't be read."""
+    """Lists all findings. Returns 1 if there are any, or if a file can't be read."""
     names = {it.split("=")[0] for it in arguments.define} | words.defined_by(arguments.target)
     unread: List[str] = []
     found = findings(arguments.paths, arguments.include, names, unread.append)
@@ -43,7 +43,7 @@ def run(arguments: argparse.Namespace) -> int:
 
 def findings(paths: Sequence[str], include: Sequence[str] = (), defined: AbstractSet[str] = frozenset(),
              unread: Callable[[str], None] = complain) -> List[Finding]:
-    """What is found in files and folders, and in what they include, in the order of their names and lines. `unread` is given a
+    """Returns the findings in files and folders and in the files that they include, sorted by name and line. Calls `unread` with a
     message for each file and folder that can't be read."""
     names = list(walked(paths, unread))
     if not names:
@@ -72,16 +72,16 @@ def _texts(names: Sequence[str], unread: Callable[[str], None]) -> Iterator[Text
 
 
 def shown(word: str) -> str:
-    """A word of a source as it is printed."""
+    """Returns a word of a source in printable characters."""
     text = word.encode("latin-1", "replace").decode("utf-8", "replace")
     return "".join(sign if sign.isprintable() else "?" for sign in text)
 
 
 def said(it: Finding) -> str:
-    """A finding in one line."""
+    """Returns a finding as a line."""
     return f"{it.path}:{it.line}: {shown(it.word)}: {it.cure} (MIGRATING: {it.heading})"
 
 
 def as_json(it: Finding) -> "dict[str, object]":
-    """A finding for JSON."""
+    """Returns a finding for JSON."""
     return {"file": it.path, "line": it.line, "word": it.word, "habit": it.habit.name, "cure": it.cure, "heading": it.heading}

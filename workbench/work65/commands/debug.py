@@ -13,13 +13,13 @@ HELP = "the debug file that cc65's linker writes with --dbgfile, for stepping th
 
 
 def add_arguments(parser: argparse.ArgumentParser) -> None:
-    """Adds what this subcommand takes."""
+    """Adds the arguments of this subcommand."""
     add_build_arguments(parser)
     parser.add_argument("-o", dest="output", metavar="FILE.dbg", required=True, help="the debug file")
 
 
 def run(arguments: argparse.Namespace) -> int:
-    """Runs it, and answers the status."""
+    """Runs the subcommand. Returns the exit status."""
     program = Program.find(arguments.bin65)
     with folder_for_a_while() as folder:
         built = build(program, wanted_of(arguments), folder, Constants.ALL)

@@ -1,4 +1,4 @@
-"""work65 explain: messages of bin65 with their source lines, and with what the page says of them."""
+"""work65 explain: messages of bin65 with their source lines and with the page's paragraphs."""
 import argparse
 import os
 import signal
@@ -24,13 +24,13 @@ FIRST = "        "
 
 
 def add_arguments(parser: argparse.ArgumentParser) -> None:
-    """Adds what this subcommand takes."""
+    """Adds the arguments of this subcommand."""
     said = "behind --: a command whose messages are read, in place of standard input"
     parser.add_argument("words", nargs="*", metavar="COMMAND", help=said)
 
 
 def run(arguments: argparse.Namespace) -> int:
-    """Explains standard input, or what a command says; the status is the command's."""
+    """Explains the messages on standard input or of a command. Returns the command's status."""
     all_entries = pages.entries()
     if not arguments.words:
         _explain(sys.stdin.buffer, all_entries, (), sys.stdout)
@@ -50,8 +50,8 @@ def run(arguments: argparse.Namespace) -> int:
     return status if status >= 0 else 128 - status
 
 
-def _explain(stream: IO[bytes], all_entries: List[pages.Entry], line: Sequence[str], out: IO[str]) -> None:
-    """Writes each line, and below a message what it means."""
+def _explain(stream: IO[bytes], all_entries: List[pages.PageEntry], line: Sequence[str], out: IO[str]) -> None:
+    """Prints each line, and below a message its explanation."""
     for raw in stream:
         text = raw.decode("utf-8", "replace").rstrip("\n")
         print(text, file=out)
@@ -62,8 +62,8 @@ def _explain(stream: IO[bytes], all_entries: List[pages.Entry], line: Sequence[s
         out.flush()
 
 
-def explained(message: Message, all_entries: List[pages.Entry], line: Sequence[str] = ()) -> Iterator[str]:
-    """The lines below a message: the source line, what it is of the page's causes, and the paragraph."""
+def explained(message: Message, all_entries: List[pages.PageEntry], line: Sequence[str] = ()) -> Iterator[str]:
+    """Yields the lines below a message: the source line, its cause, and the page's paragraph."""
     text = _text(message.file)
     if text is not None and message.line is not None and 0 < message.line <= len(text.lines):
         yield f"{message.line:>6} | {text.lines[message.line - 1].strip()}"
@@ -83,8 +83,8 @@ def _text(file: str) -> Optional[Text]:
         return None
 
 
-def _causes(message: Message, entry: Optional[pages.Entry], text: Optional[Text], line: Sequence[str]) -> Iterator[str]:
-    """What the line itself tells of the cause."""
+def _causes(message: Message, entry: Optional[pages.PageEntry], text: Optional[Text], line: Sequence[str]) -> Iterator[str]:
+    """Yields the causes that are found in the line itself."""
     if message.text == "bad arguments" and line:
         at = next((at for at, it in enumerate(line) if os.path.basename(it).startswith("bin65")), None)
         why = bad_arguments.why_bad(line[at + 1 :]) if at is not None else None
@@ -111,18 +111,18 @@ def _causes(message: Message, entry: Optional[pages.Entry], text: Optional[Text]
 
 
 def _called(lines: Sequence[str], at: int) -> str:
-    """The macro of the file that a line calls; nothing where it calls none."""
+    """Returns the name of the file's macro that a line calls, empty if it calls none."""
     body = statement_of(line_of(lines[at]).tokens, lambda _: False).body
     return body[0].text if body and body[0].text in causes.macros_in(lines, lambda it: it < at) else ""
 
 
 def _counted(count: int, what: str) -> str:
-    """A count with its noun."""
+    """Returns a count with its noun."""
     return f"{count} {what}" if count == 1 else f"{count or 'no'} {what}s"
 
 
 def _counts(lines: Sequence[str], at: int, name: str) -> Tuple[int, int]:
-    """How many parameters a macro has, and how many arguments a call gives it."""
+    """Returns the number of a macro's parameters, and of the arguments of a call."""
     parameters = 0
     for line in lines[:at]:
         statement = statement_of(line_of(line).tokens, lambda _: False)
@@ -131,8 +131,8 @@ def _counts(lines: Sequence[str], at: int, name: str) -> Tuple[int, int]:
     return parameters, len(parts_of(statement_of(line_of(lines[at]).tokens, lambda _: False).rest))
 
 
-def rows_for(lines: Sequence[str], at: int, entry: Optional[pages.Entry]) -> List[str]:
-    """The causes of the page's table that a line may have."""
+def rows_for(lines: Sequence[str], at: int, entry: Optional[pages.PageEntry]) -> List[str]:
+    """Returns the rows of the page's table that are causes of a line."""
     cause = cause_at(lines, at)
     if cause is None:
         return []
@@ -141,13 +141,13 @@ def rows_for(lines: Sequence[str], at: int, entry: Optional[pages.Entry]) -> Lis
 
 
 def cause_at(lines: Sequence[str], at: int) -> Optional[causes.Cause]:
-    """The cause of a line of a file."""
+    """Returns the cause of a line of a file, None if it is unknown."""
     later = causes.macros_in(lines, lambda it: it > at)
     return causes.cause_of(lines, at, frozenset(BY_WORD), later, causes.scopes_before(lines, at))
 
 
 def row_cause(source: str) -> Optional[causes.Cause]:
-    """The cause that a row's refused source shows: that of its first line that has one."""
+    """Returns the cause of a row's rejected source: that of its first line that has one."""
     lines = source.split("\n")
     for at, it in enumerate(lines):
         cause = cause_at(lines, at)
@@ -157,6 +157,6 @@ def row_cause(source: str) -> Optional[causes.Cause]:
 
 
 def _is_refused(line: str) -> bool:
-    """Whether the form of a line alone has it refused."""
+    """Returns whether a line is rejected by its form."""
     body = statement_of(line_of(line).tokens, lambda _: False).body
     return bool(body) and not sources.is_plain(line, False) and body[0].lower not in sources.LOOKED_AT

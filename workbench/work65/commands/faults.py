@@ -1,4 +1,4 @@
-"""work65 faults: all faults of a source in one go, each as bin65 says it."""
+"""work65 faults: all errors in a source, in bin65's words."""
 import argparse
 import os
 
@@ -14,7 +14,7 @@ HELP = "says all faults of a source in one go, each as bin65 says it"
 
 
 def add_arguments(parser: argparse.ArgumentParser) -> None:
-    """Adds what this subcommand takes."""
+    """Adds the arguments of this subcommand."""
     parser.add_argument("source", metavar="SOURCE")
     parser.add_argument("-I", dest="include", action="append", default=[], metavar="DIR", help="as for ca65")
     parser.add_argument("-D", dest="define", action="append", default=[], metavar="NAME[=NUMBER]", help="as for ca65")
@@ -22,7 +22,7 @@ def add_arguments(parser: argparse.ArgumentParser) -> None:
 
 
 def run(arguments: argparse.Namespace) -> int:
-    """Says all faults; the status is 1 where there is one."""
+    """Reports all errors. Returns 1 if there are any."""
     program = Program.find(arguments.bin65)
     if not os.path.exists(arguments.source):
         raise Problem(f"{arguments.source}: no such file")

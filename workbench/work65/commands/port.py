@@ -1,4 +1,4 @@
-"""work65 port: a copy of a tree that bin65 takes, and which places of cc65's can't be brought over."""
+"""work65 port: converts a tree for bin65, and reports what can't be converted."""
 import argparse
 import os
 from typing import List, Optional, Tuple
@@ -18,7 +18,7 @@ HELP = "writes a copy of sources and scripts that bin65 takes, and says what can
 
 
 def add_arguments(parser: argparse.ArgumentParser) -> None:
-    """Adds what this subcommand takes."""
+    """Adds the arguments of this subcommand."""
     parser.add_argument("paths", nargs="+", metavar="PATH", help="a source, an include file, a script, or a folder of them")
     parser.add_argument("-o", dest="folder", required=True, metavar="FOLDER", help="where the copy goes")
     add_options(parser)
@@ -28,7 +28,7 @@ def add_arguments(parser: argparse.ArgumentParser) -> None:
 
 
 def add_options(parser: argparse.ArgumentParser) -> None:
-    """Adds what a Makefile hands to ca65."""
+    """Adds the options that a Makefile passes to ca65."""
     add = parser.add_argument
     add("-I", dest="include", action="append", default=[], metavar="DIR", help="where included files are looked for")
     add("--bin-include-dir", dest="data", action="append", default=[], metavar="DIR", help="where files of .incbin are looked for")
@@ -38,13 +38,13 @@ def add_options(parser: argparse.ArgumentParser) -> None:
 
 
 def options_of(arguments: argparse.Namespace) -> Options:
-    """What a line hands to ca65."""
+    """Returns the options for ca65 of a command line."""
     symbols = dict(_symbol(it) for it in arguments.symbols)
     return Options(arguments.target, arguments.include, arguments.data, arguments.define, symbols)
 
 
 def _symbol(text: str) -> "Tuple[str, int]":
-    """A symbol and its number."""
+    """Reads a symbol and its number. Raises a Problem if they are invalid."""
     name, _, number = text.partition("=")
     value = value_of(number)
     if not name.isidentifier() or value is None:
@@ -53,7 +53,7 @@ def _symbol(text: str) -> "Tuple[str, int]":
 
 
 def run(arguments: argparse.Namespace) -> int:
-    """Ports; the status is 1 where something stays behind or images differ."""
+    """Converts a tree. Returns 1 if something couldn't be converted, or if images differ."""
     if os.path.lexists(arguments.folder) and not os.path.isdir(arguments.folder):
         raise Problem(f"{arguments.folder}: is no folder")
     options, paths = options_of(arguments), sources_of(arguments)
@@ -79,7 +79,7 @@ def run(arguments: argparse.Namespace) -> int:
 
 
 def tools_of(arguments: argparse.Namespace) -> "Tuple[Optional[Program], str]":
-    """The program to compare with, or why nothing is compared."""
+    """Returns the program to compare with, or the reason why nothing is compared."""
     lacking = missing()
     if arguments.no_verify or lacking is not None:
         return None, "--no-verify" if arguments.no_verify else f"cc65's {lacking} isn't on the path"
@@ -90,7 +90,7 @@ def tools_of(arguments: argparse.Namespace) -> "Tuple[Optional[Program], str]":
 
 
 def sources_of(arguments: argparse.Namespace) -> List[str]:
-    """The files that are ported: none of an earlier copy."""
+    """Returns the files to convert, without those of an earlier copy."""
     inside = os.path.realpath(arguments.folder)
     folders = [it for it in arguments.paths if os.path.isdir(it)]
     same = next((it for it in folders if os.path.realpath(it) == inside), None)

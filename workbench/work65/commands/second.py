@@ -1,4 +1,4 @@
-"""work65 second: whether bin65 makes the image of a cc65 project that cc65's own tools make. The project stays as it is."""
+"""work65 second: builds a cc65 project with cc65's tools and with bin65, and compares the images. Changes nothing in the project."""
 import argparse
 import os
 
@@ -18,7 +18,7 @@ HELP = "says whether bin65 makes the image that cc65's tools make of a project, 
 
 
 def add_arguments(parser: argparse.ArgumentParser) -> None:
-    """Adds what this subcommand takes."""
+    """Adds the arguments of this subcommand."""
     add = parser.add_argument
     add("-C", dest="script", metavar="SCRIPT", required=True, help="the linker script, as ld65 takes it")
     add_options(parser)
@@ -29,7 +29,7 @@ def add_arguments(parser: argparse.ArgumentParser) -> None:
 
 
 def run(arguments: argparse.Namespace) -> int:
-    """Compares; the status is 0 for the same image, 1 for another one, 2 where nothing can be compared."""
+    """Compares. Returns 0 for the same image, 1 for another one, and 2 if nothing can be compared."""
     try:
         return compared(arguments)
     except Problem as problem:
@@ -37,7 +37,7 @@ def run(arguments: argparse.Namespace) -> int:
 
 
 def compared(arguments: argparse.Namespace) -> int:
-    """Compares, and says what came of it."""
+    """Compares, and prints the result."""
     lacking = missing()
     if lacking is not None and arguments.image is None:
         raise Problem(f"cc65's {lacking} isn't on the path: --image names an image to compare with")

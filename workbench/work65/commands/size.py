@@ -22,19 +22,19 @@ BAR = 30
 
 
 def add_arguments(parser: argparse.ArgumentParser) -> None:
-    """Adds what this subcommand takes."""
+    """Adds the arguments of this subcommand."""
     add_build_arguments(parser)
     parser.add_argument("--json", action="store_true", help="all of it as JSON")
     parser.add_argument("--svg", metavar="FILE", help="a picture of memory, in place of the text")
 
 
 def is_map(name: str) -> bool:
-    """Whether a file is a map."""
+    """Returns whether a file is a map."""
     return read_bytes(name, 8) == b"MODULES\n"
 
 
 def sizes_of_line(arguments: argparse.Namespace) -> Sizes:
-    """The sizes of the map, or of the sources, that the line names."""
+    """Returns the sizes of the map or of the sources of a command line."""
     names: List[str] = arguments.sources
     if len(names) == 1 and is_map(names[0]):
         script = read_script(read_text(arguments.script), arguments.script)
@@ -45,13 +45,13 @@ def sizes_of_line(arguments: argparse.Namespace) -> Sizes:
 
 
 def bar(area: AreaSize) -> str:
-    """How full an area is."""
+    """Returns a bar that shows how full an area is."""
     full = round(BAR * area.used / area.size) if area.size else BAR
     return "#" * max(full, int(area.used > 0)) + "." * (BAR - max(full, int(area.used > 0)))
 
 
 def table(heads: Sequence[str], rows: Sequence[Sequence[str]]) -> Iterator[str]:
-    """Lines of columns: the first to the left, all others to the right."""
+    """Yields the lines of a table, the first column aligned left, the others right."""
     widths = [max(len(it) for it in column) for column in zip(heads, *rows)]
     for row in (heads, *rows):
         first, rest = row[0].ljust(widths[0]), (it.rjust(width) for it, width in zip(row[1:], widths[1:]))
@@ -59,7 +59,7 @@ def table(heads: Sequence[str], rows: Sequence[Sequence[str]]) -> Iterator[str]:
 
 
 def text(sizes: Sizes, has_bars: bool) -> Iterator[str]:
-    """The sizes as tables."""
+    """Yields the sizes as tables."""
     heads = ["AREA", "start", "size", "used", "free"] + (["full"] if has_bars else [])
     areas = []
     for area in sizes.areas:
@@ -78,7 +78,7 @@ def text(sizes: Sizes, has_bars: bool) -> Iterator[str]:
 
 
 def run(arguments: argparse.Namespace) -> int:
-    """Runs it, and answers the status."""
+    """Runs the subcommand. Returns the exit status."""
     sizes = sizes_of_line(arguments)
     if arguments.svg is not None:
         write(arguments.svg, svg(sizes).encode())

@@ -1,4 +1,4 @@
-"""Why bin65 says *bad arguments* of a command line."""
+"""Explains the message *bad arguments* for a command line."""
 import re
 from typing import List, Optional, Sequence
 
@@ -10,7 +10,7 @@ HELP = ("-h", "-V", "--help", "--version")
 
 
 def why_bad(line: Sequence[str]) -> Optional[str]:
-    """What is wrong with the words behind `bin65`; None where nothing is seen."""
+    """Returns the error in the words after `bin65`, None if none is found."""
     if not line or line[0] not in WITH_VALUE:
         return "the first word is none of ca65, ld65 and ar65"
     tool, rest, plain = line[0], list(line[1:]), []
@@ -45,7 +45,7 @@ def _foreign(word: str) -> str:
 
 
 def _definition(value: str) -> Optional[str]:
-    """What is wrong with the value of a -D."""
+    """Returns the error in the value of a -D, None if it is valid."""
     name, _, number = value.partition("=")
     if not re.fullmatch(r"[A-Za-z_]\w*", name, re.A) or name.lower() in words.MNEMONICS | words.REGISTERS:
         return f"{name} is no name that a source may have"
@@ -55,7 +55,7 @@ def _definition(value: str) -> Optional[str]:
 
 
 def _count(tool: str, plain: Sequence[str], seen: Sequence[str]) -> Optional[str]:
-    """What is wrong with the words that are no options."""
+    """Returns the error in the words that are no options, None if they are valid."""
     if tool == "ca65":
         return None if len(plain) == 1 else "there is no source" if not plain else "there are two sources: one run each"
     if tool == "ld65":

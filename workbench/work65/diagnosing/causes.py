@@ -1,4 +1,4 @@
-"""Why bin65 says *statement not understood* of a line: which of the page's causes it is.
+"""Finds the cause of the message *statement not understood* for a line.
 
 The page MESSAGES has a table of causes, each with a source that is refused. A line's cause is that of the row whose refused
 source has the same kind as the line."""
@@ -11,7 +11,7 @@ from work65.frontend.tokens import Kind, Token, line_of
 
 
 class Cause(enum.Enum):
-    """The kinds of lines that aren't understood."""
+    """The causes, by the kind of line."""
 
     COLON = "a label without its colon"
     LATE = "a macro that is defined further down"
@@ -44,7 +44,7 @@ OWN = words.TAKEN - words.PREFIX_WORDS - words.INFIX_WORDS - words.NOT_WORDS
 
 
 def cause_of(lines: Sequence[str], at: int, known: AbstractSet[str], later: AbstractSet[str], scopes: int) -> Optional[Cause]:
-    """The cause of a line, by the directives of cc65's, the macros defined further down, and the scopes open there."""
+    """Returns the cause of a line, given ca65's directives, the macros defined further down, and the number of open scopes."""
     tokens = line_of(lines[at]).tokens
     if not tokens:
         return None
@@ -140,13 +140,13 @@ def _of_indirect(texts: List[str]) -> Cause:
 
 
 def scopes_before(lines: Sequence[str], at: int) -> int:
-    """How many scopes are open before a line."""
+    """Returns the number of scopes that are open before a line."""
     heads = [statement_of(line_of(it).tokens, lambda _: False).head for it in lines[:at]]
     return sum(it in (".scope", ".proc") for it in heads) - sum(it in (".endscope", ".endproc") for it in heads)
 
 
 def macros_in(lines: Sequence[str], chosen: Callable[[int], bool]) -> AbstractSet[str]:
-    """The names of macros that lines define."""
+    """Returns the names of the macros that the chosen lines define."""
     found = set()
     for at, it in enumerate(lines):
         statement = statement_of(line_of(it).tokens, lambda _: False)

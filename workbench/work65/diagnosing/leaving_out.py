@@ -1,4 +1,4 @@
-"""What of a refused line is left out of a copy, so that the lines after it can be looked at."""
+"""Removes a rejected line from a copy, so that the lines after it can be checked."""
 from typing import Iterable, List, Set, Tuple
 
 from work65.frontend import words
@@ -17,12 +17,12 @@ TWICE = ("defined twice", "scope defined twice", "macro defined twice")
 
 
 def statement_in(line: str) -> Statement:
-    """The statement of a line."""
+    """Returns the statement of a line."""
     return statement_of(line_of(line).tokens, lambda _: False)
 
 
 def span_of(lines: List[str], line: int, said: str = "") -> Tuple[int, int]:
-    """The first and last line (from 0) that go with a refused line: all of a structure, of a repeat and of a macro."""
+    """Returns the indices of the first and last line to remove with a rejected one: a whole structure, repeat or macro."""
     head = statement_in(lines[line]).head
     if head in BLOCKS:
         return line, _end_of(lines, line, BLOCKS, BLOCKS.values())
@@ -34,7 +34,7 @@ def span_of(lines: List[str], line: int, said: str = "") -> Tuple[int, int]:
 
 
 def _end_of(lines: List[str], line: int, begins: Iterable[str], ends: Iterable[str]) -> int:
-    """The line that ends a block; the line itself where none does."""
+    """Returns the index of the line that ends a block, or the line itself if none does."""
     depth = 0
     for at in range(line, len(lines)):
         word = statement_in(lines[at]).head if "." in lines[at] else ""
@@ -45,7 +45,7 @@ def _end_of(lines: List[str], line: int, begins: Iterable[str], ends: Iterable[s
 
 
 def _begin_of(lines: List[str], line: int) -> int:
-    """The .repeat that a line ends; the line itself where there is none."""
+    """Returns the index of the .repeat that a line ends, or the line itself if there is none."""
     depth = 0
     for at in range(line, -1, -1):
         word = statement_in(lines[at]).head if "." in lines[at] else ""
@@ -56,7 +56,7 @@ def _begin_of(lines: List[str], line: int) -> int:
 
 
 def closers_of(lines: List[str], is_scope: bool) -> List[str]:
-    """The lines that close what is open at the end of a file, the innermost first: scopes, or all other blocks."""
+    """Returns the lines that close the open scopes, or all other open blocks, at the end of a file, the innermost first."""
     found: List[str] = []
     for it in lines:
         head = statement_in(it).head if "." in it else ""
@@ -68,7 +68,7 @@ def closers_of(lines: List[str], is_scope: bool) -> List[str]:
 
 
 def left(line: str) -> str:
-    """What stays of a line that is left out: its label, and what opens a block."""
+    """Returns the rest of a removed line: its label and the opening of a block."""
     statement = statement_in(line)
     label = ""
     if statement.label is not None and statement.label.lower not in words.MNEMONICS | words.REGISTERS:
@@ -86,8 +86,8 @@ def left(line: str) -> str:
 
 
 def without_definition(line: str, name: str, other: str) -> str:
-    """A line without the definition that defines a name again: without its label, or with another name. The line itself where it
-    doesn't define the name."""
+    """Removes the definition of a name from a line: its label, or its name for another one. Returns the line itself if it doesn't define
+    the name."""
     statement = statement_in(line)
     if statement.label is not None and statement.label.text == name:
         return line[statement.body[0].start :] if statement.body else ""
@@ -98,7 +98,7 @@ def without_definition(line: str, name: str, other: str) -> str:
 
 
 def names_of(lines: List[str], first: int, last: int) -> Set[str]:
-    """The names that lines left out would have defined."""
+    """Returns the names that removed lines would have defined."""
     found: Set[str] = set()
     for at in range(first, last + 1):
         statement = statement_in(lines[at])
@@ -113,7 +113,7 @@ def names_of(lines: List[str], first: int, last: int) -> Set[str]:
 
 
 def defined_by(statement: Statement) -> Set[str]:
-    """The names that a statement may define, its label's too."""
+    """Returns the names that a statement may define, with its label."""
     found: Set[str] = set()
     tokens = statement.body
     if len(tokens) > 1 and tokens[0].kind is Kind.NAME and tokens[1].lower in ("=", ":=", ".set"):
@@ -128,7 +128,7 @@ def defined_by(statement: Statement) -> Set[str]:
 
 
 def _in_branches(lines: List[str], line: int) -> Set[str]:
-    """The names that lines define from a condition to its .endif: without the condition, one branch alone is there."""
+    """Returns the names that lines define between a condition and its .endif. Without the condition, one of its branches is missing."""
     depth, found = 1, set()
     for at in range(line + 1, len(lines)):
         statement = statement_in(lines[at])

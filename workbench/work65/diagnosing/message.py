@@ -1,4 +1,4 @@
-"""The messages of bin65: their forms."""
+"""The form of bin65's messages."""
 import os
 import re
 from dataclasses import dataclass
@@ -9,7 +9,7 @@ _FORM = re.compile(r"(?:(?P<place>.+?): )(?P<kind>Error|Warning): (?P<text>.*)",
 
 @dataclass(frozen=True)
 class Message:
-    """A message: what it is about, the line of it where one is told, whether it is an error, and its text."""
+    """A message: its file, its line if it has one, whether it is an error, and its text."""
 
     whole: str
     file: str
@@ -19,12 +19,12 @@ class Message:
 
     @property
     def name(self) -> str:
-        """The name that the text ends with, behind a colon; nothing where there is none."""
+        """The name after the colon in the text, empty if there is none."""
         return self.text.partition(": ")[2]
 
 
 def message_of(whole: str) -> Optional[Message]:
-    """Reads a line of standard error; None where it is no message."""
+    """Reads a line of standard error. Returns None if it is no message."""
     match = _FORM.fullmatch(whole.rstrip("\r\n"))
     if match is None:
         return None

@@ -7,7 +7,7 @@ from typing import Dict, List, Optional, Set, Tuple
 
 from work65.diagnosing import leaving_out
 from work65.diagnosing.message import Message, message_of
-from work65.diagnosing.suspects import Judge, Suspect, suspects_in
+from work65.diagnosing.suspects import LineChecker, Suspect, suspects_in
 from work65.frontend import words
 from work65.frontend.files import text_of
 from work65.frontend.includes import followed
@@ -187,7 +187,7 @@ class Search:
         """Finds lines that bin65 rejects in any context, and replaces each by an .out: a run prints those that it assembles."""
         self.was_looked = True
         found = suspects_in(self.arguments.source, self.arguments.include, self.arguments.define, self.lines_of)
-        judge = Judge(self.program, self.folder)
+        judge = LineChecker(self.program, self.folder)
         for file in dict.fromkeys(it.file for it in found):
             lines = self.lines_of(file)
             of_file = [it for it in found if it.file == file]

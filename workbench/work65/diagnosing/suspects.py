@@ -190,7 +190,7 @@ def _is_constant(statement: Statement) -> bool:
     return is_definition and statement.label is None and not _is_bound(statement)
 
 
-class Judge:
+class LineChecker:
     """Runs bin65 on small sources and keeps the results."""
 
     def __init__(self, program: Program, folder: str) -> None:

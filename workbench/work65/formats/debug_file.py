@@ -1,4 +1,4 @@
-"""The debug file of a build, in the form that cc65's linker writes with --dbgfile, version 2."""
+"""The debug file of a build, in version 2 of the format of ld65 --dbgfile."""
 import os
 from dataclasses import dataclass, field
 from typing import Dict, Iterable, List, Optional, Sequence, Tuple
@@ -22,13 +22,13 @@ SpanKey = Tuple[int, int, int]
 
 @dataclass
 class Numbered:
-    """The entries of a kind: each has its number."""
+    """The entries of a kind, by their numbers."""
 
     kind: str
     lines: List[str] = field(default_factory=list)
 
     def add(self, text: str) -> int:
-        """A new entry."""
+        """Adds an entry. Returns its number."""
         self.lines.append(f"{self.kind}\tid={len(self.lines)},{text}")
         return len(self.lines) - 1
 
@@ -44,12 +44,12 @@ def type_of(line: LocatedLine) -> str:
 
 
 def ids(numbers: Iterable[int]) -> str:
-    """Numbers of entries."""
+    """Returns a list of entry numbers as text."""
     return "+".join(map(str, numbers))
 
 
 class DebugFile:
-    """Gathers the entries."""
+    """Collects the entries."""
 
     def __init__(self, build: Build) -> None:
         self.build, self.layout = build, build.layout
@@ -65,12 +65,12 @@ class DebugFile:
         self.types: Dict[str, int] = {}
 
     def text(self) -> str:
-        """The whole file."""
+        """Returns the text of the file."""
         for it in self.layout.map.rows:
             self.segment(it.name)
         for number, unit in enumerate(self.build.units):
             if unit.located is not None:
-                Module(self, number, unit, unit.located).add()
+                ModuleWriter(self, number, unit, unit.located).add()
         for number, (source, modules) in enumerate(zip(self.sources, self.file_modules)):
             self.file(number, source, modules)
         for key, number in self.lines.items():
@@ -81,7 +81,7 @@ class DebugFile:
         return "".join(f"{it}\n" for it in [*head, *(line for kind in kinds.values() for line in kind.lines)])
 
     def segment(self, name: str) -> None:
-        """A row of the script."""
+        """Adds a segment of the script."""
         placed, entry = self.layout.map.row(name), self.layout.script.segment(name)
         kind = entry.kind if entry else "rw"
         size = "zeropage" if kind == "zp" else "absolute"
@@ -93,7 +93,7 @@ class DebugFile:
         self.kinds["seg"].add(text)
 
     def file_number(self, source: Source, module: int) -> int:
-        """The number of a file, which a module reads."""
+        """Returns the number of a file that a module reads."""
         if source.place not in self.files:
             self.files[source.place] = len(self.sources)
             self.sources.append(source)
@@ -104,7 +104,7 @@ class DebugFile:
         return number
 
     def file(self, number: int, source: Source, modules: Sequence[int]) -> None:
-        """A file."""
+        """Adds a file."""
         try:
             found = os.stat(source.place)
             size, time = found.st_size, int(found.st_mtime)
@@ -113,20 +113,20 @@ class DebugFile:
         self.kinds["file"].add(f'name="{source.name}",size={size},mtime=0x{time & 0xFFFFFFFF:08X},mod={ids(modules)}')
 
     def line_number(self, key: LineKey) -> int:
-        """The number of a line."""
+        """Returns the number of a line."""
         if key not in self.lines:
             self.lines[key] = len(self.lines)
             self.line_spans.append({})
         return self.lines[key]
 
     def line(self, key: LineKey, spans: Iterable[int]) -> None:
-        """A line, with the spans that it puts."""
+        """Adds a line with its spans."""
         file, line, depth, in_macro = key
         text = f"file={file},line={line}" + (",type=2" if in_macro else "") + (f",count={depth}" if depth else "")
         self.kinds["line"].add(text + (f",span={ids(spans)}" if spans else ""))
 
     def span(self, segment: str, start: int, size: int, kind: str) -> int:
-        """A run of bytes of a segment, which may have a type."""
+        """Returns the number of a span of a segment, which may have a type."""
         key = (self.segments[segment], start, size)
         if key not in self.spans:
             said = f",type={self.type(kind)}" if kind else ""
@@ -134,13 +134,13 @@ class DebugFile:
         return self.spans[key]
 
     def type(self, value: str) -> int:
-        """The number of a type."""
+        """Returns the number of a type."""
         if value not in self.types:
             self.types[value] = self.kinds["type"].add(f'val="{value}"')
         return self.types[value]
 
     def library(self, module: str) -> Optional[int]:
-        """The library of a module `library(member)`."""
+        """Returns the number of the library of a module `library(member)`, None for another module."""
         if not module.endswith(")"):
             return None
         name = module[: module.index("(")]
@@ -149,7 +149,7 @@ class DebugFile:
         return self.libraries[name]
 
 
-class Module:
+class ModuleWriter:
     """Adds the entries of one module."""
 
     def __init__(self, file: DebugFile, number: int, unit: Unit, module: LocatedModule) -> None:
@@ -162,7 +162,7 @@ class Module:
         self.first_symbol = len(file.kinds["sym"].lines)
 
     def add(self) -> None:
-        """Adds all of them."""
+        """Adds all entries."""
         library = self.file.library(self.unit.module)
         name = self.unit.module[self.unit.module.find("(") + 1 :].rstrip(")")
         text = f'name="{name}",file={self.file.file_number(self.module.reading.source, self.number)}'
@@ -175,7 +175,7 @@ class Module:
             self.symbol(symbol)
 
     def files(self, reading: FileReading) -> None:
-        """The files that were read, also those that put nothing."""
+        """Adds the files that were read, also those that emit nothing."""
         waiting = [reading]
         while waiting:
             it = waiting.pop()
@@ -184,7 +184,7 @@ class Module:
                 waiting += [one for one in below if isinstance(one, FileReading)]
 
     def lines(self) -> None:
-        """The lines that put something, and calls and repeats with all that came of them."""
+        """Adds the lines that emit something, and calls and repeats with the spans of their lines."""
         offsets, spans = self.resolver.offsets, self.file.line_spans
         for line in self.module.lines:
             number = self.line_of(line.source, line.line, line.depth, line.in_macro)
@@ -196,14 +196,14 @@ class Module:
             self.put(number, self.runs(it.lines))
 
     def line_of(self, source: Source, line: int, depth: int, in_macro: bool) -> int:
-        """The number of a line."""
+        """Returns the number of a line."""
         file = self.numbers.get(source.place)
         if file is None:
             file = self.numbers[source.place] = self.file.file_number(source, self.number)
         return self.file.line_number((file, line, depth, in_macro))
 
     def put(self, line: int, spans: Sequence[int]) -> None:
-        """Gives a line its spans, each but once."""
+        """Adds spans to a line, each once."""
         self.file.line_spans[line].update(dict.fromkeys(spans))
 
     def runs(self, lines: Sequence[LocatedLine]) -> List[int]:
@@ -221,7 +221,7 @@ class Module:
         return [self.file.span(name, offsets[name] + it[0], it[1] - it[0], "") for name, runs in found.items() for it in runs]
 
     def scope(self, scope: Scope) -> None:
-        """A scope."""
+        """Adds a scope."""
         lines = self.module.lines[scope.first : scope.last]
         size = self.size_of_scope(scope, lines)
         number = len(self.file.kinds["scope"].lines) - self.first_scope
@@ -238,21 +238,21 @@ class Module:
         self.file.kinds["scope"].add(text + (f",span={ids(spans)}" if spans else ""))
 
     def size_of_scope(self, scope: Scope, lines: Sequence[LocatedLine]) -> int:
-        """How many bytes a scope has in the segment in which it was opened, or else in the first one that it puts something into."""
+        """Returns the size of a scope in the segment in which it was opened, or else in the first one with bytes of it."""
         sizes: Dict[str, int] = {}
         for it in lines:
             sizes[it.place.section] = sizes.get(it.place.section, 0) + it.size
         return next((sizes[it] for it in (scope.section, *FIRST, *sizes) if sizes.get(it)), 0)
 
     def size_of(self, number: int, symbol: Symbol) -> int:
-        """How many bytes a label's scope or line has."""
+        """Returns the size of a symbol: that of its scope or line."""
         scope = self.scope_of.get(number)
         if scope is not None:
             return sum(it.size for it in self.module.lines[scope.first : scope.last])
         return 0 if symbol.at is None else self.module.lines[symbol.at].size
 
     def symbol(self, symbol: Symbol) -> None:
-        """A label or a constant."""
+        """Adds a label or a constant."""
         number = len(self.file.kinds["sym"].lines) - self.first_symbol
         value, place = self.resolver.value(symbol.value), symbol.value if isinstance(symbol.value, Place) else None
         depth, in_macro = 0, False
@@ -272,5 +272,5 @@ class Module:
 
 
 def debug_file(build: Build) -> str:
-    """The text of the debug file."""
+    """Returns the text of the debug file."""
     return DebugFile(build).text()

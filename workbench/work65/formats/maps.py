@@ -1,4 +1,4 @@
-"""The map that ld65 writes (docs/FORMATS.md)."""
+"""The map of ld65 -m (docs/FORMATS.md)."""
 import os
 from dataclasses import dataclass, field
 from typing import Dict, List, NamedTuple
@@ -7,7 +7,7 @@ from work65.problem import Problem
 
 
 class Part(NamedTuple):
-    """A section of a module: its segment, where in it, and its size."""
+    """A section of a module: its segment, its offset in it, and its size."""
 
     segment: str
     offset: int
@@ -15,7 +15,7 @@ class Part(NamedTuple):
 
 
 class Placed(NamedTuple):
-    """A row of the script: where its segment runs, where it is loaded, and its size."""
+    """A segment: its run and load addresses, and its size."""
 
     name: str
     run: int
@@ -40,12 +40,12 @@ class Map:
     symbols: Dict[str, int] = field(default_factory=dict)
 
     def row(self, name: str) -> Placed:
-        """The row of a segment."""
+        """Returns the row of a segment."""
         return next(it for it in self.rows if it.name == name)
 
 
 def read_map(data: bytes, name: str) -> Map:
-    """The map of these bytes."""
+    """Reads a map. Raises a Problem if the file isn't one."""
     lines = os.fsdecode(data).split("\n")
     try:
         first, second = lines.index("SEGMENTS"), lines.index("SYMBOLS")

@@ -1,4 +1,4 @@
-"""Objects as ca65 writes them (docs/FORMATS.md): sections, their fragments, imports, exports and assertions."""
+"""Objects of bin65 ca65 (docs/FORMATS.md): sections with fragments, imports, exports and assertions."""
 import struct
 from dataclasses import dataclass, field
 from typing import List, NamedTuple, Optional, Tuple, Union
@@ -7,7 +7,7 @@ from work65.problem import Problem
 
 
 class Place(NamedTuple):
-    """A place in a section, by the section's name."""
+    """An offset in a section, given by its name."""
 
     section: str
     offset: int
@@ -20,7 +20,7 @@ class Import(NamedTuple):
 
 
 class Operation(NamedTuple):
-    """An operation by its code, and what it works on."""
+    """An operation by its code, and its operands."""
 
     code: int
     parts: Tuple["Form", ...]
@@ -37,7 +37,7 @@ class Value(NamedTuple):
 
 
 class Fill(NamedTuple):
-    """Room that the linker fills."""
+    """A number of bytes that the linker fills."""
 
     size: int
 
@@ -47,7 +47,7 @@ Fragment = Union[bytes, Value, Fill]
 
 @dataclass
 class Section:
-    """A section and its content."""
+    """A section: its name, size, alignment and content."""
 
     name: str
     size: int
@@ -57,7 +57,7 @@ class Section:
 
 @dataclass
 class Object:
-    """A module, without the places of its statements."""
+    """A module without source locations."""
 
     imports: List[str] = field(default_factory=list)
     sections: List[Section] = field(default_factory=list)
@@ -65,16 +65,16 @@ class Object:
     asserts: List[Tuple[int, bytes, Form]] = field(default_factory=list)
 
     def without(self, name: str) -> "Object":
-        """The same without a section."""
+        """Returns the same object without a section."""
         return Object(self.imports, [it for it in self.sections if it.name != name], self.exports, self.asserts)
 
     def section(self, name: str) -> Optional[Section]:
-        """The section of a name, if there is one."""
+        """Returns the section of a name, None if there is none."""
         return next((it for it in self.sections if it.name == name), None)
 
     def is_same_program(self, other: "Object") -> bool:
-        """Whether two objects put the same bytes, and export and assert the same. What else is imported, the order of sections,
-        and whether a segment has a section of no bytes, makes no difference."""
+        """Returns whether two objects have the same content, exports and assertions. Unused imports, the order of sections, and
+        sections without bytes make no difference."""
         mine, others = ({it.name: it for it in one.sections if it.size} for one in (self, other))
         return (mine, self.exports, self.asserts) == (others, other.exports, other.asserts)
 
@@ -83,8 +83,8 @@ WIDTHS = (1, 2, 2, 4, 1)
 HEAD, SECTION, PLACE, NUMBER, INDEX = map(struct.Struct, ("<BH", "<IB", "<Iq", "<q", "<I"))
 
 
-class Reader:
-    """Reads the records of an object of version 2 that bin65 has just written."""
+class ObjectReader:
+    """Reads the records of an object of version 2."""
 
     def __init__(self, data: bytes) -> None:
         self.data, self.object = data, Object()
@@ -92,7 +92,7 @@ class Reader:
         self.current = 0
 
     def read(self) -> Object:
-        """The object."""
+        """Reads the object."""
         data = self.data
         if data[:5] != b"R65o\x02":
             raise Problem("an object isn't of version 2: another bin65 is needed")
@@ -110,7 +110,7 @@ class Reader:
         return self.object
 
     def record(self, kind: int, at: int, length: int) -> None:
-        """Takes a record that is no content of a section, or room."""
+        """Reads a record that isn't bytes or a value."""
         body = self.data[at : at + length]
         if kind == 4:
             count = int.from_bytes(body, "little")
@@ -128,7 +128,7 @@ class Reader:
             self.object.asserts.append((body[0], body[10 : 10 + size], self.form(at + 10 + size)[0]))
 
     def fragment(self, fragment: Fragment, size: int) -> None:
-        """Puts a fragment into the first section that isn't full."""
+        """Adds a fragment to the first section that isn't full."""
         sections = self.object.sections
         while self.filled >= sections[self.current].size:
             self.current, self.filled = self.current + 1, 0
@@ -136,7 +136,7 @@ class Reader:
         self.filled += size
 
     def form(self, at: int) -> Tuple[Form, int]:
-        """The form at a place of the object, and where it ends."""
+        """Reads a form. Returns it and the offset after it."""
         code = self.data[at]
         if code == 1:
             section, offset = PLACE.unpack_from(self.data, at + 1)
@@ -154,5 +154,5 @@ class Reader:
 
 
 def read_object(data: bytes) -> Object:
-    """The object of these bytes."""
-    return Reader(data).read()
+    """Reads an object. Raises a Problem if it is of another version."""
+    return ObjectReader(data).read()

@@ -1,4 +1,4 @@
-"""A picture of memory: an area each in a column, its segments where they lie."""
+"""A picture of memory in SVG: a column for each area, with its segments at their addresses."""
 from typing import List
 from xml.sax.saxutils import escape
 
@@ -10,23 +10,23 @@ TEXT = 'font-family="sans-serif" font-size="12"'
 
 
 def rectangle(x: float, y: float, height: float, colour: str, title: str) -> str:
-    """A rectangle of a column's width, with a text for who points at it."""
+    """Returns a rectangle of a column's width with a tooltip."""
     shape = f'<rect x="{x:g}" y="{y:.2f}" width="{WIDTH}" height="{height:.2f}" fill="{colour}" stroke="#333">'
     return f"{shape}<title>{escape(title)}</title></rect>"
 
 
 def text(x: float, y: float, said: str) -> str:
-    """A line of text."""
+    """Returns a line of text."""
     return f'<text x="{x:g}" y="{y:.2f}" {TEXT}>{escape(said)}</text>'
 
 
 def begin_in(area: AreaSize, segment: SegmentSize) -> int:
-    """Where a segment begins in an area, from the area's start."""
+    """Returns the offset of a segment in an area."""
     return (segment.run if segment.area == area.name else segment.load) - area.start
 
 
 def column(area: AreaSize, x: int) -> List[str]:
-    """The column of an area."""
+    """Returns the column of an area."""
     scale = HEIGHT / area.size if area.size else 0
     lines = [text(x, TOP - 34, area.name), text(x, TOP - 20, f"${area.start:04X}, {area.size} bytes"), text(x, TOP - 6, f"{area.free} free")]
     lines.append(rectangle(x, TOP, HEIGHT, "#ffffff", f"{area.name}: {area.used} used, {area.free} free"))
@@ -41,7 +41,7 @@ def column(area: AreaSize, x: int) -> List[str]:
 
 
 def svg(sizes: Sizes) -> str:
-    """The picture."""
+    """Returns the picture."""
     areas = [it for it in sizes.areas if it.size]
     width = GAP + len(areas) * (WIDTH + GAP)
     lines = [f'<svg xmlns="http://www.w3.org/2000/svg" width="{width}" height="{TOP + HEIGHT + GAP}">']

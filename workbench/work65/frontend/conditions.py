@@ -1,4 +1,4 @@
-"""Which lines conditions leave out, as far as names and numbers tell without an assembly."""
+"""Finds lines that conditions skip, as far as names and numbers decide it without an assembly."""
 from typing import AbstractSet, List, Optional
 
 from work65.frontend import words
@@ -7,7 +7,7 @@ from work65.frontend.tokens import Kind, value_of
 
 
 class Conditions:
-    """The conditions that are open: of each, whether its lines are assembled (None where it isn't known)."""
+    """The open conditions, and whether the lines of each are assembled (None if unknown)."""
 
     def __init__(self, names: AbstractSet[str]) -> None:
         self.names = names
@@ -16,11 +16,11 @@ class Conditions:
 
     @property
     def is_dead(self) -> bool:
-        """Whether the lines here are left out for sure."""
+        """Returns whether the current line is certainly skipped."""
         return False in self.open
 
     def step(self, statement: Statement, parameters: AbstractSet[str]) -> None:
-        """Goes past a line."""
+        """Follows a line."""
         head = statement.head
         if head in words.CONDITIONS:
             found = self._asked(statement, parameters)
@@ -36,7 +36,7 @@ class Conditions:
             self.after.pop()
 
     def _asked(self, statement: Statement, parameters: AbstractSet[str]) -> Optional[bool]:
-        """What a condition comes to."""
+        """Returns whether a condition holds, None if unknown."""
         head, rest = statement.head, statement.rest
         if head in (".ifdef", ".ifndef") and len(rest) == 1 and rest[0].kind is Kind.NAME:
             name = rest[0].text

@@ -1,4 +1,4 @@
-"""The value of an expression of numbers and known names."""
+"""Evaluates expressions of numbers and known names."""
 from typing import Callable, Dict, Optional, Sequence, Tuple
 
 from work65.frontend.grammar import NOTS, PREFIXES
@@ -17,11 +17,11 @@ SAME = {
 
 
 class Unknown(Exception):
-    """The expression has no value that is known."""
+    """An expression whose value isn't known."""
 
 
 def value(tokens: Sequence[Token], lookup: Lookup) -> Optional[int]:
-    """The value of an expression, by what names stand for; None where it isn't known or the tokens are no expression."""
+    """Returns the value of an expression. None if it isn't known or the tokens are no expression."""
     reader = _Reader(tokens, lookup)
     try:
         found = reader.whole()
@@ -31,7 +31,7 @@ def value(tokens: Sequence[Token], lookup: Lookup) -> Optional[int]:
 
 
 def nothing_known(name: str) -> Optional[int]:
-    """The lookup of an expression without names."""
+    """Returns None for every name."""
     return None
 
 
@@ -46,14 +46,14 @@ class _Reader:
         return self.tokens[self.at].lower if self.at < len(self.tokens) else ""
 
     def whole(self) -> int:
-        """An expression, with `!` before it."""
+        """Reads an expression that may begin with `!`."""
         if self.now in NOTS:
             self.at += 1
             return int(not self.whole())
         return self.level(0)
 
     def level(self, level: int) -> int:
-        """Operands between operators of one level."""
+        """Reads operands with operators of one level between them."""
         if level == 5:
             return self.term()
         found = self.level(level + 1)
@@ -64,7 +64,7 @@ class _Reader:
         return found
 
     def term(self) -> int:
-        """An operand with what stands before it."""
+        """Reads an operand with its prefix operators."""
         if self.now in PREFIXES:
             sign = SAME.get(self.now, self.now)
             self.at += 1
@@ -79,7 +79,7 @@ class _Reader:
         return self.operand()
 
     def operand(self) -> int:
-        """A number, a character or a name."""
+        """Reads a number, a character or a name."""
         if self.at >= len(self.tokens):
             raise Unknown
         one = self.tokens[self.at]
@@ -99,7 +99,7 @@ class _Reader:
 
 
 def scoped_name(tokens: Sequence[Token], at: int) -> Tuple[str, int]:
-    """The name with its scopes that stands here, and what follows it; no name where none does."""
+    """Reads a name with its scopes. Returns it, empty if there is none, and the index after it."""
     begin, name = at, ""
     if at < len(tokens) and tokens[at].text == "::":
         name, at = "::", at + 1

@@ -20,7 +20,7 @@ class Text:
 
     @property
     def is_script(self) -> bool:
-        """Whether the file is a linker script."""
+        """Returns whether the file is a linker script."""
         return self.path.lower().endswith(SCRIPTS)
 
 
@@ -77,7 +77,7 @@ def walked(paths: Sequence[str], unread: Callable[[str], None] = complain) -> It
 
 
 def _in_folder(path: str, unread: Callable[[str], None]) -> Iterator[str]:
-    """Yields the sources and scripts in a folder and its subfolders; only regular files."""
+    """Yields the sources and scripts in a folder and its subfolders that are regular files."""
     for folder, folders, names in os.walk(path, onerror=lambda it: unread(f"{it.filename}: {it.strerror}")):
         folders.sort()
         for name in sorted(names):

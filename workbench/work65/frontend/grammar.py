@@ -1,4 +1,4 @@
-"""Whether bin65 understands a line: the grammar of its statements, over the shapes of tokens.
+"""The grammar of bin65's statements, over the shapes of tokens.
 
 A shape is 'n' for a name, '@' for a cheap name, '0' for a number or a character, '"' for a string, 'bad' for what is no token of
 bin65, and else the token's text in small letters."""
@@ -20,7 +20,7 @@ ALONE = words.BARE | words.MACRO_ENDS | words.REPEAT_ENDS | {".exitmacro", ".exi
 
 
 def shape_of(token: Token) -> str:
-    """The shape of a token."""
+    """Returns the shape of a token."""
     kind, lower = token.kind, token.lower
     if kind is Kind.NAME:
         return lower if lower in words.MNEMONICS or lower in words.REGISTERS else "n"
@@ -45,17 +45,17 @@ def _is_number(text: str) -> bool:
 
 @lru_cache(maxsize=1 << 15)
 def wrong(shapes: Shapes) -> Optional[int]:
-    """Where a line without a call of a macro stops being one of bin65's; None where it is one."""
+    """Returns the index of the first token that bin65 rejects in a line without a macro call, None if it accepts the line."""
     if "bad" in shapes:
         return shapes.index("bad")
-    return _Reader(shapes).line()
+    return _GrammarReader(shapes).line()
 
 
 class _Stop(Exception):
-    """The place of a shape that can't stand there."""
+    """A shape that bin65 doesn't accept at this index."""
 
 
-class _Reader:
+class _GrammarReader:
     """Reads shapes from the left."""
 
     def __init__(self, shapes: Sequence[str]) -> None:
@@ -77,14 +77,14 @@ class _Reader:
         return self.shapes[self.at]
 
     def take(self, *wanted: str) -> bool:
-        """Takes the shape if it is one of these."""
+        """Skips the shape if it is one of these. Returns whether it was."""
         if self.now not in wanted or self.now == "end":
             return False
         self.at += 1
         return True
 
     def want(self, *wanted: str) -> None:
-        """Takes a shape that has to be one of these; the end isn't passed."""
+        """Skips a shape, which must be one of these. The end isn't skipped."""
         if self.now == "end" and "end" in wanted:
             return
         if not self.take(*wanted):
@@ -98,7 +98,7 @@ class _Reader:
             self.at += 2
 
     def statement(self) -> None:
-        """Reads a statement; the end is none."""
+        """Reads a statement, if there is one."""
         head = self.now
         if head == "end":
             return
@@ -117,7 +117,7 @@ class _Reader:
             self.directive(head)
 
     def directive(self, head: str) -> None:
-        """Reads what follows a directive."""
+        """Reads the operands of a directive."""
         if head in words.DATA:
             self.elements(head in (".byte", ".byt"))
         elif head in (".res", ".align"):
@@ -136,7 +136,7 @@ class _Reader:
             self.other(head)
 
     def other(self, head: str) -> None:
-        """Reads what follows the directives that have forms of their own."""
+        """Reads the operands of a directive that has a form of its own."""
         if head in (".ifdef", ".ifndef"):
             self.scoped()
         elif head in words.MACRO_BEGINS:
@@ -174,7 +174,7 @@ class _Reader:
                 return
 
     def expressions(self, most: int) -> None:
-        """Reads up to so many expressions."""
+        """Reads a list of at most `most` expressions."""
         self.expression()
         if most > 1 and self.take(","):
             self.expressions(most - 1)
@@ -210,7 +210,7 @@ class _Reader:
             self.want("n")
 
     def expression(self) -> None:
-        """Reads an expression: `!` at its start alone, and operators between operands."""
+        """Reads an expression: `!` only at its start, and operators between operands."""
         while self.now in NOTS:
             self.at += 1
         self.term()
@@ -219,7 +219,7 @@ class _Reader:
             self.term()
 
     def term(self) -> None:
-        """Reads an operand with the signs before it."""
+        """Reads an operand with its prefix operators."""
         while self.now in PREFIXES:
             self.at += 1
         if self.take("0", "*", "@", ":+", ".paramcount"):

@@ -25,7 +25,7 @@ def number_of(text: str) -> int:
 
 def evaluated(value: Sequence[Word], names: Mapping[str, Optional[int]]) -> int:
     """Returns the value of a sum. Raises UnknownName for a name without a value, and else a ValueError if it is no sum."""
-    reader = _Reader(value, names)
+    reader = _SumReader(value, names)
     try:
         found = reader.sum()
     except (IndexError, ZeroDivisionError):
@@ -43,7 +43,7 @@ def value_of(value: Sequence[Word], names: Mapping[str, Optional[int]]) -> Optio
         return None
 
 
-class _Reader:
+class _SumReader:
     """Reads a sum from the left."""
 
     def __init__(self, value: Sequence[Word], names: Mapping[str, Optional[int]]) -> None:

@@ -1,4 +1,4 @@
-"""What a set of files has in common: their macros, their defines, their features, and what they include."""
+"""Surveys a set of files: their macros, defines and features, and the files that they include."""
 import os
 from dataclasses import dataclass, field
 from typing import Dict, Iterable, List, Optional, Set, Tuple
@@ -13,7 +13,7 @@ ASMINC = ("/usr/share/cc65/asminc", "/usr/local/share/cc65/asminc")
 
 @dataclass
 class Tree:
-    """What was seen in all files: each macro's name with where its lines stand, names of defines, features, packages."""
+    """The macros of all files, each with its definitions as file and line, and the names of defines, features and structures."""
 
     macros: Dict[str, List[Tuple[str, int]]] = field(default_factory=dict)
     defines: Set[str] = field(default_factory=set)
@@ -24,12 +24,12 @@ class Tree:
     is_whole: bool = True
 
     def is_macro(self, name: str) -> bool:
-        """Whether a name is that of a macro or a define."""
+        """Returns whether a name is that of a macro or a define."""
         return name in self.macros or name in self.defines
 
 
 def surveyed(texts: Iterable[Text], folders: Iterable[str] = (), names: Iterable[str] = ()) -> Tree:
-    """Reads all files, and those of cc65's own that they include. The names are those that -D gives."""
+    """Surveys files, and the files of cc65's asminc that they include. `names` are those of -D."""
     tree = Tree(names=set(names))
     texts = list(texts)
     known = {os.path.basename(it.path) for it in texts}
@@ -53,7 +53,7 @@ def surveyed(texts: Iterable[Text], folders: Iterable[str] = (), names: Iterable
 
 
 def asminc_file(name: str, folders: Iterable[str] = ()) -> Optional[Text]:
-    """A file of cc65's own include files, where cc65 is installed; or one of these folders."""
+    """Reads a file of these folders or of cc65's asminc, None if it can't be read."""
     places = [*folders, os.environ.get("CA65_INC", ""), *ASMINC]
     for folder in places:
         path = os.path.join(folder, name)
@@ -66,7 +66,7 @@ def asminc_file(name: str, folders: Iterable[str] = ()) -> Optional[Text]:
 
 
 def _look(text: Text, tree: Tree) -> List[str]:
-    """Notes what a file defines, and answers what it includes."""
+    """Notes the definitions of a file. Returns the names of the files that it includes."""
     included = []
     for number, line in enumerate(text.lines, 1):
         tokens = line_of(line).tokens
@@ -82,7 +82,7 @@ def _look(text: Text, tree: Tree) -> List[str]:
 
 
 def _note(word: str, rest: Tuple[Token, ...], path: str, number: int, tree: Tree) -> List[str]:
-    """Notes what one directive says; answers the file that it includes."""
+    """Notes a directive. Returns the name of the file that it includes, if any."""
     if not rest:
         return []
     name = rest[0].text

@@ -30,7 +30,7 @@ class Token(NamedTuple):
     end: int
 
 
-class Line(NamedTuple):
+class LexedLine(NamedTuple):
     """The tokens of a line, and the column of its comment (the line's length if it has none)."""
 
     tokens: Tuple[Token, ...]
@@ -53,7 +53,7 @@ _KINDS = {
 
 
 @lru_cache(maxsize=1 << 16)
-def line_of(text: str, has_escapes: bool = False, is_expanded: bool = False) -> Line:
+def line_of(text: str, has_escapes: bool = False, is_expanded: bool = False) -> LexedLine:
     """Splits a line into tokens. With escapes, a backslash in a string takes the next character with it. In an expanded line, the
     names of .local have the numbers that bin65 gives them."""
     found = []
@@ -67,7 +67,7 @@ def line_of(text: str, has_escapes: bool = False, is_expanded: bool = False) -> 
             break
         word = match[0]
         found.append(Token(_KINDS[group], word, word.lower(), match.start(), match.end()))
-    return Line(tuple(_with_prefixes(found)), comment)
+    return LexedLine(tuple(_with_prefixes(found)), comment)
 
 
 def _with_prefixes(tokens: List[Token]) -> List[Token]:

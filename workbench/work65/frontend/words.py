@@ -1,4 +1,4 @@
-"""The words of the language: what bin65 takes, and what cc65's ca65 takes beside it."""
+"""The table of mnemonics and directives: those of bin65, and others of ca65."""
 from typing import FrozenSet, Optional
 
 MNEMONICS = frozenset(
@@ -29,7 +29,7 @@ SUPERSETS = {
 
 
 def defined_by(target: Optional[str]) -> FrozenSet[str]:
-    """The names that `-t` defines."""
+    """Returns the names that `-t` defines."""
     if target is None or not TARGETS[target]:
         return frozenset()
     commodore = ("__CBM__",) if target in COMMODORE else ()

@@ -8,7 +8,7 @@ from work65.frontend.files import Text, place_of
 from work65.frontend.includes import find_file, word_of
 from work65.frontend.statements import Statement, statement_of
 from work65.frontend.survey import Tree
-from work65.frontend.tokens import Kind, Line, Token, line_of
+from work65.frontend.tokens import Kind, LexedLine, Token, line_of
 from work65.habits import cheap, marks
 from work65.habits.files import Files
 from work65.habits.habit import Finding, Habit
@@ -88,19 +88,19 @@ class Reader:
             if self.is_over(line):
                 return
 
-    def is_over(self, line: Line) -> bool:
+    def is_over(self, line: LexedLine) -> bool:
         """Whether a line is an .end that bin65 comes to for sure: it reads no more."""
         if self.places.macro is not None or not all(self.conditions.open):
             return False
         return any(it.lower == ".end" for it in line.tokens) and statement_of(line.tokens, self.tree.is_macro).head == ".end"
 
-    def note_calls(self, line: Line, number: int) -> None:
+    def note_calls(self, line: LexedLine, number: int) -> None:
         """Notes the call of a macro."""
         statement = statement_of(line.tokens, self.tree.is_macro)
         if statement.body and statement.body[0].kind is Kind.NAME and statement.body[0].text in self.tree.macros:
             self.calls.append((self.places.macro, statement.body[0].text, number))
 
-    def line(self, line: Line, text: str) -> Iterator[Tuple[str, Habit, str]]:
+    def line(self, line: LexedLine, text: str) -> Iterator[Tuple[str, Habit, str]]:
         """What is found in a line: the word, the habit, and a cure of its own."""
         places = self.places
         if places.is_comment or "/*" in text:
@@ -121,7 +121,7 @@ class Reader:
         if not found and not places.structures and head not in CLOSERS and not was_continued:
             yield from self.form(line, statement)
 
-    def comment(self, line: Line, text: str) -> Iterator[Tuple[str, Habit, str]]:
+    def comment(self, line: LexedLine, text: str) -> Iterator[Tuple[str, Habit, str]]:
         """A comment of C: its begin is found, the lines up to its end are nothing."""
         if not self.places.is_comment and any(it.text == "/" and line.tokens[at + 1 : at + 2] and line.tokens[at + 1].text == "*"
                                               and line.tokens[at + 1].start == it.end for at, it in enumerate(line.tokens)):
@@ -130,7 +130,7 @@ class Reader:
         if self.places.is_comment and "*/" in text:
             self.places.is_comment = False
 
-    def marked(self, line: Line, statement: Statement, was_continued: bool) -> Iterator[Tuple[str, Habit, str]]:
+    def marked(self, line: LexedLine, statement: Statement, was_continued: bool) -> Iterator[Tuple[str, Habit, str]]:
         """What words and marks of a line tell."""
         if self.places.structures and statement.head not in CLOSERS:
             for it in line.tokens:
@@ -205,7 +205,7 @@ class Reader:
         elif head in CLOSERS and places.structures:
             places.structures.pop()
 
-    def form(self, line: Line, statement: Statement) -> Iterator[Tuple[str, Habit, str]]:
+    def form(self, line: LexedLine, statement: Statement) -> Iterator[Tuple[str, Habit, str]]:
         """A line that is no statement of bin65, though nothing told it."""
         body = statement.body
         if not body or any(it.text in self.places.parameters for it in line.tokens):
@@ -226,7 +226,7 @@ class Reader:
         yield word, BY_NAME["form"], ""
 
 
-def _is_continued(line: Line, text: str) -> bool:
+def _is_continued(line: LexedLine, text: str) -> bool:
     """Whether the next line goes on with this one."""
     return bool(line.tokens) and line.tokens[-1].text == "\\"
 

@@ -1,4 +1,4 @@
-"""A build by bin65 in a folder that goes away: objects, a link with its map and its files, and copies that say where lines are."""
+"""Builds a program with bin65 in a temporary folder: objects, a link with its map and files, and instrumented copies."""
 import argparse
 import gc
 import os
@@ -24,7 +24,7 @@ from work65.progress import Progress
 
 @dataclass(frozen=True)
 class Wanted:
-    """What is to be built: the words of the line."""
+    """The arguments of a build."""
 
     script: str
     sources: List[str]
@@ -37,7 +37,7 @@ class Wanted:
 
 @dataclass
 class Unit:
-    """A source and its object, and, once it is linked, its module in the map."""
+    """A source, its object, and after the link its module in the map and its located lines."""
 
     source: str
     object: str
@@ -49,7 +49,7 @@ class Unit:
 
 @dataclass
 class Build:
-    """What was built."""
+    """The result of a build."""
 
     wanted: Wanted
     units: List[Unit]
@@ -58,7 +58,7 @@ class Build:
 
 
 def add_arguments(parser: argparse.ArgumentParser) -> None:
-    """What the line of a build takes."""
+    """Adds the arguments of a build."""
     parser.add_argument("-C", dest="script", metavar="SCRIPT", required=True, help="the linker script")
     add_assembler_arguments(parser)
     add = parser.add_argument
@@ -69,7 +69,7 @@ def add_arguments(parser: argparse.ArgumentParser) -> None:
 
 
 def add_assembler_arguments(parser: argparse.ArgumentParser) -> None:
-    """What the line of an assembler run takes."""
+    """Adds the arguments of an assembler run."""
     add = parser.add_argument
     add("-I", dest="folders", action="append", default=[], metavar="DIR", help="a folder in which included files are searched for")
     add("-D", dest="defines", action="append", default=[], metavar="NAME[=NUMBER]", help="a constant that is defined beforehand")
@@ -77,19 +77,19 @@ def add_assembler_arguments(parser: argparse.ArgumentParser) -> None:
 
 
 def wanted_of(arguments: argparse.Namespace) -> Wanted:
-    """What a line asks for."""
+    """Returns the arguments of a build from a command line."""
     image = "a.out" if arguments.image is None else arguments.image
     words = (arguments.script, arguments.sources, arguments.folders, arguments.defines, arguments.libraries)
     return Wanted(*words, image, arguments.image is not None)
 
 
 def is_linked_as_it_is(name: str) -> bool:
-    """Whether a word names an object or a library."""
+    """Returns whether a file is an object or a library."""
     return read_bytes(name, 4) in (b"R65o", b"R65l")
 
 
 def in_library(module: str) -> str:
-    """A module's name without the folder in which its library was made."""
+    """Returns a module's name without the folder in which its library was built."""
     return module.partition("/")[2] if module.startswith("library") and "/" in module else module
 
 
@@ -105,7 +105,7 @@ class Builder:
         self.libraries = [(it, sources_of(it, program)) for it in wanted.libraries]
 
     def run(self, words: List[str], folder: Optional[str] = None, known: Optional[Dict[str, str]] = None) -> None:
-        """Runs bin65; what it says of a fault is said here, with the names that the user knows."""
+        """Runs bin65. Raises a Problem with its message if it fails, with the user's file names."""
         ran = self.program.run(words, folder)
         if ran.status:
             said = ran.err.decode("utf-8", "surrogateescape").strip() or f"{self.program.path} ended with status {ran.status}"
@@ -114,11 +114,11 @@ class Builder:
             raise Problem(said)
 
     def path(self, name: str) -> str:
-        """A file of the folder."""
+        """Returns the path of a file in the folder."""
         return os.path.join(self.folder, name)
 
     def assemble(self, source: str, object_name: str, module: str) -> Unit:
-        """Assembles a source. It is read before, so that bin65 waits for no pipe."""
+        """Assembles a source. Reads it first, so that bin65 never reads from a pipe."""
         if source not in self.closures:
             self.closures[source] = Closure(source, self.wanted.folders)
         unit = Unit(source, object_name, module)
@@ -127,7 +127,7 @@ class Builder:
         return unit
 
     def free(self, folder: str, source: str) -> str:
-        """A name for the object of a source that no other has."""
+        """Returns a free name for the object of a source."""
         stem = os.path.splitext(os.path.basename(source))[0].lstrip("-") or "source"
         name, number = f"{folder}{stem}.o", 2
         while os.path.exists(self.path(name)):
@@ -135,7 +135,7 @@ class Builder:
         return name
 
     def library(self, word: str, sources: List[str], number: int, progress: Progress) -> str:
-        """Makes a library of sources, and answers its name in the folder of the build."""
+        """Builds a library from sources. Returns its name in the folder."""
         place, members = f"library{number}/", []
         os.makedirs(self.path(place))
         made = place + os.path.basename(word.partition("=")[0])
@@ -148,7 +148,7 @@ class Builder:
         return made
 
     def build(self) -> Build:
-        """Assembles, links, and has copies say where lines are."""
+        """Assembles, links, and locates the lines of each source by a copy."""
         members = sum(len(sources) for _, sources in self.libraries)
         progress = Progress("sources", 2 * (len(self.wanted.sources) + members))
         try:
@@ -163,7 +163,7 @@ class Builder:
         return built
 
     def inputs(self, progress: Progress) -> List[str]:
-        """What is linked: the sources' objects, what is linked as it is, and libraries."""
+        """Assembles the sources. Returns the inputs of the link: their objects, the given objects and libraries, and built libraries."""
         found = []
         for source in self.wanted.sources:
             progress.step()
@@ -176,7 +176,7 @@ class Builder:
         return found + [self.library(*it, number, progress) for number, it in enumerate(self.libraries, 1)]
 
     def link(self, inputs: List[str]) -> Build:
-        """Links; the files of areas come into the folder, whatever the script names them."""
+        """Links. The files of areas are written into the folder under plain names."""
         text, names = with_files(read_text(self.wanted.script), self.wanted.image)
         with open(self.path("script"), "w", encoding="latin-1", newline="") as it:
             it.write(text)
@@ -202,7 +202,7 @@ class Builder:
         return Build(self.wanted, units, layout_of(script, links, self.wanted.script), files)
 
     def compare(self, files: Dict[str, bytes]) -> None:
-        """Refuses an image of the user's that isn't the one that was linked."""
+        """Raises a Problem if the user's image isn't the linked one."""
         name = self.wanted.image
         if not self.wanted.is_compared or OUTPUT not in files or not os.path.lexists(name):
             return
@@ -213,13 +213,13 @@ class Builder:
             raise Problem(said + "; are the library's members in another order?" * bool(self.libraries))
 
     def tell(self, unit: Unit, closure: Closure, tree: LinkedTree) -> None:
-        """Has a copy of a source say where its lines are."""
+        """Locates the lines of a source."""
         marks, sizes = self.marks(unit, closure, tree)
         unit.closure = closure
         unit.located = replay(closure, marks, sizes)
 
     def marks(self, unit: Unit, closure: Closure, tree: LinkedTree) -> Tuple[List[ReachedMark], Dict[str, int]]:
-        """The marks that a copy of a source writes, and the sizes of the source's own sections."""
+        """Returns the marks that a copy of a source reaches, and the sizes of the source's sections."""
         try:
             copies = self.copy(unit, closure, tree, self.constants)
         except Problem:
@@ -232,7 +232,7 @@ class Builder:
         return copies.marks.reached(copy, copies.names.segment, closure.main.name), {it.name: it.size for it in plain.sections}
 
     def copy(self, unit: Unit, closure: Closure, tree: LinkedTree, constants: Constants) -> Copies:
-        """Assembles a copy of a source."""
+        """Assembles the copy of a source."""
         copies = Copies(closure, constants, tree.root)
         for source, text in list(copies.texts()):
             tree.put(source.name, text)
@@ -248,11 +248,11 @@ class Builder:
         return copies
 
     def read(self, name: str) -> Object:
-        """An object that was just made."""
+        """Reads an object of this build."""
         return read_object(read_bytes(name))
 
 
 def build(program: Program, wanted: Wanted, folder: str, constants: Constants) -> Build:
-    """Builds in a folder. Nothing that it makes is thrown away before the end, so nothing is searched for it."""
+    """Builds in a folder. Turns off garbage collection, since nothing is discarded before the end."""
     gc.disable()
     return Builder(program, wanted, folder, constants).build()

@@ -1,6 +1,6 @@
 """The files, calls and repeats that are open at a mark, and the text of a line in them with its names replaced."""
 from dataclasses import dataclass, field
-from typing import Dict, List, Optional, Tuple
+from typing import Dict, Optional, Tuple
 
 from work65.frontend.includes import word_of
 from work65.frontend.macros import arguments_of, given_by, substituted

@@ -1,4 +1,4 @@
-"""Where the rows of a script lie: in which area, and in which file. Of a script and the map of a link."""
+"""Locates the segments of a linked program in memory areas and files, from its script and its map."""
 from dataclasses import dataclass, field
 from typing import Dict, List, Optional, Sequence
 
@@ -13,7 +13,7 @@ UNWRITTEN = ("bss", "zp")
 
 @dataclass
 class Room:
-    """An area, as it came out: its addresses, the rows that run or load in it, and where its bytes lie in its file."""
+    """A memory area after the link: its addresses, the segments that run or load in it, and the offset of its bytes in its file."""
 
     area: Area
     start: int
@@ -22,20 +22,20 @@ class Room:
     offset: int = 0
 
     def address(self, placed: Placed, segment: Segment) -> int:
-        """Where a row stands in this area."""
+        """Returns the address of a segment in this area."""
         return placed.run if segment.run == self.area.name else placed.load
 
 
 @dataclass
 class Layout:
-    """All areas and rows."""
+    """All areas and segments."""
 
     script: Script
     map: Map
     rooms: Dict[str, Room] = field(default_factory=dict)
 
     def place_in_file(self, segment: str) -> Optional[int]:
-        """Where the bytes of a segment begin in its file, if it is written to one."""
+        """Returns the offset of a segment in its file, None if it isn't written to one."""
         row = self.script.segment(segment)
         if row is None or row.kind in UNWRITTEN or not self.rooms[row.load].area.file:
             return None
@@ -43,25 +43,25 @@ class Layout:
         return room.offset + self.map.row(segment).load - room.start
 
     def runs_where_it_lies(self, segment: str) -> bool:
-        """Whether a segment runs where it is loaded."""
+        """Returns whether a segment runs where it is loaded."""
         row = self.map.row(segment)
         return row.run == row.load
 
     def file_of(self, segment: str) -> str:
-        """The file of a segment's load area, as the script names it."""
+        """Returns the file of a segment's load area, as the script names it."""
         row = self.script.segment(segment)
         return self.rooms[row.load].area.file if row else ""
 
     def used(self, room: Room) -> int:
-        """How many bytes of an area its rows take."""
+        """Returns the number of bytes in an area that segments use."""
         return sum(it.size for it in room.rows)
 
     def free(self, room: Room) -> int:
-        """How many bytes no row takes."""
+        """Returns the number of bytes in an area that no segment uses."""
         return room.size - self.used(room)
 
 
-class Builder:
+class AreaPlacer:
     """Computes the areas in the order of MEMORY, as the linker does."""
 
     def __init__(self, script: Script, links: Map, name: str) -> None:
@@ -81,7 +81,7 @@ class Builder:
             raise Problem(f"{self.name} is no script: see what bin65 ld65 says of it") from None
 
     def build(self) -> Layout:
-        """The layout."""
+        """Returns the layout."""
         script = self.layout.script
         ends: Dict[str, int] = {}
         for area in script.areas:
@@ -93,7 +93,7 @@ class Builder:
         return self.layout
 
     def fill(self, room: Room) -> None:
-        """Puts its rows into an area, and gives the names that it defines."""
+        """Adds the segments of an area, and the symbols that it defines."""
         name, last = room.area.name, room.start
         for row in self.layout.script.segments:
             if name in (row.load, row.run):
@@ -105,7 +105,7 @@ class Builder:
         self.names.update({f"__{name}_START__": room.start, f"__{name}_SIZE__": room.size, f"__{name}_LAST__": last})
 
     def length(self, room: Room) -> int:
-        """How many bytes an area has in its file."""
+        """Returns the number of bytes that an area writes to its file."""
         if room.area.is_filled:
             return room.size
         written = {it.name for it in self.layout.script.segments if it.load == room.area.name and it.kind not in UNWRITTEN}
@@ -114,5 +114,5 @@ class Builder:
 
 
 def layout_of(script: Script, links: Map, name: str) -> Layout:
-    """The layout of a script and the map of a link by it."""
-    return Builder(script, links, name).build()
+    """Returns the layout of a program from its script and its map."""
+    return AreaPlacer(script, links, name).build()

@@ -1,4 +1,4 @@
-"""Addresses and bytes of what stands in a module, after the link."""
+"""Addresses, bytes and values of a module after the link."""
 from typing import Callable, Dict, List, Optional
 
 from work65.formats.objects import Form, Import, Operation, Place
@@ -32,12 +32,12 @@ BINARY: Dict[int, Callable[[int, int], int]] = {
 
 
 def wrapped(value: int) -> int:
-    """A value as one of 64 bits with a sign."""
+    """Wraps a value to 64 bits with a sign."""
     return (value + (1 << 63)) % (1 << 64) - (1 << 63)
 
 
 def divided(code: int, a: int, b: int) -> Optional[int]:
-    """A division, a remainder or a shift, where it has a value."""
+    """Returns the value of a division, a remainder or a shift, None if it has none."""
     if code in (0x21, 0x22):
         if b == 0:
             return None
@@ -49,7 +49,7 @@ def divided(code: int, a: int, b: int) -> Optional[int]:
 
 
 class Resolver:
-    """Answers for one module."""
+    """Resolves places and values of one module."""
 
     def __init__(self, build: Build, unit: Unit) -> None:
         self.build, self.layout = build, build.layout
@@ -60,21 +60,21 @@ class Resolver:
         self.data = {it.segment: build.files.get(self.layout.file_of(it.segment), b"") for it in parts}
 
     def address(self, place: Place) -> int:
-        """Where a place runs."""
+        """Returns the address at which a place runs."""
         return self.runs[place.section] + place.offset
 
     def in_file(self, place: Place) -> Optional[int]:
-        """Where in its file a place is, if it is in one."""
+        """Returns the offset of a place in its file, None if it isn't in one."""
         begun = self.files[place.section]
         return None if begun is None else begun + self.offsets[place.section] + place.offset
 
     def bytes_at(self, place: Place, size: int) -> bytes:
-        """What stands there in the image; nothing where it is in no file."""
+        """Returns the bytes at a place, empty if it isn't in a file."""
         at = self.in_file(place)
         return b"" if at is None else self.data[place.section][at : at + size]
 
     def value(self, form: Form) -> Optional[int]:
-        """What a form comes to, if that is known."""
+        """Returns the value of a form, None if it has none."""
         if isinstance(form, Place):
             return self.address(form)
         if isinstance(form, Import):
@@ -86,7 +86,7 @@ class Resolver:
         return form
 
     def operation(self, code: int, parts: List[int], wanted: int) -> Optional[int]:
-        """What an operation comes to."""
+        """Returns the value of an operation, None if it has none."""
         if len(parts) != wanted:
             return None
         if code in UNARY:

@@ -1,4 +1,4 @@
-"""How many bytes of a link are where: by area, segment, module and procedure."""
+"""Sizes in a linked program: by area, segment, module and procedure."""
 from dataclasses import asdict, dataclass, field
 from typing import Dict, List, Sequence
 
@@ -10,7 +10,7 @@ from work65.instrumenting.names import scope_name
 
 @dataclass(frozen=True)
 class SegmentSize:
-    """A segment: where it runs and is loaded, its size, and its areas."""
+    """A segment: its run and load addresses, its size, and its areas."""
 
     name: str
     run: int
@@ -22,7 +22,7 @@ class SegmentSize:
 
 @dataclass(frozen=True)
 class AreaSize:
-    """An area: its addresses, what is used and free, and its segments."""
+    """An area: its addresses, its used and free bytes, and its segments."""
 
     name: str
     start: int
@@ -34,7 +34,7 @@ class AreaSize:
 
 @dataclass(frozen=True)
 class ModuleSize:
-    """A module: its size, and that of each of its sections."""
+    """A module: its size, and the size of each of its sections."""
 
     name: str
     size: int
@@ -43,7 +43,7 @@ class ModuleSize:
 
 @dataclass(frozen=True)
 class ProcedureSize:
-    """A procedure: its whole name, its module, and its size with all that stands in it."""
+    """A procedure: its full name, its module, and its size with all nested scopes."""
 
     name: str
     module: str
@@ -52,7 +52,7 @@ class ProcedureSize:
 
 @dataclass
 class Sizes:
-    """All of them."""
+    """All sizes."""
 
     areas: List[AreaSize]
     segments: List[SegmentSize]
@@ -60,24 +60,24 @@ class Sizes:
     procedures: List[ProcedureSize] = field(default_factory=list)
 
     def as_values(self) -> Dict[str, object]:
-        """The same as plain values."""
+        """Returns the sizes as plain values."""
         return asdict(self)
 
 
 def segment_of(layout: Layout, placed: Placed) -> SegmentSize:
-    """A segment's size."""
+    """Returns the size of a segment."""
     entry = layout.script.segment(placed.name)
     return SegmentSize(placed.name, placed.run, placed.load, placed.size, entry.run if entry else "", entry.load if entry else "")
 
 
 def area_of(layout: Layout, room: Room) -> AreaSize:
-    """An area's size."""
+    """Returns the size of an area."""
     segments = [segment_of(layout, it) for it in room.rows]
     return AreaSize(room.area.name, room.start, room.size, layout.used(room), layout.free(room), segments)
 
 
 def procedures_of(unit: Unit) -> List[ProcedureSize]:
-    """The procedures of a module."""
+    """Returns the procedures of a module."""
     module = unit.located
     if module is None:
         return []
@@ -90,7 +90,7 @@ def procedures_of(unit: Unit) -> List[ProcedureSize]:
 
 
 def sizes_of(layout: Layout, units: Sequence[Unit]) -> Sizes:
-    """The sizes of a link."""
+    """Returns the sizes of a link, procedures by size."""
     areas = [area_of(layout, it) for it in layout.rooms.values()]
     segments = [segment_of(layout, it) for it in layout.map.rows]
     modules = []

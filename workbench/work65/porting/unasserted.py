@@ -1,5 +1,4 @@
 """A source and its copy without their assertions, for sources that no placement satisfies. Lines keep their numbers."""
-import os
 import re
 from typing import Iterable
 

@@ -12,9 +12,9 @@ from work65.diagnosing import causes, leaving_out
 from work65.diagnosing.message import Message, message_of
 from work65.frontend import words
 from work65.frontend.files import Text, text_of
-from work65.frontend.statements import parts_of, statement_of
+from work65.frontend.statements import parts_of, statement_in
 from work65.frontend.survey import surveyed
-from work65.frontend.tokens import Kind, line_of
+from work65.frontend.tokens import Kind
 from work65.habits import sources
 from work65.habits.table import BY_WORD
 from work65.problem import Problem
@@ -112,7 +112,7 @@ def _causes(message: Message, entry: Optional[pages.PageEntry], text: Optional[T
 
 def _called(lines: Sequence[str], at: int) -> str:
     """Returns the name of the file's macro that a line calls, empty if it calls none."""
-    body = statement_of(line_of(lines[at]).tokens, lambda _: False).body
+    body = statement_in(lines[at]).body
     return body[0].text if body and body[0].text in causes.macros_in(lines, lambda it: it < at) else ""
 
 
@@ -125,10 +125,10 @@ def _counts(lines: Sequence[str], at: int, name: str) -> Tuple[int, int]:
     """Returns the number of a macro's parameters, and of the arguments of a call."""
     parameters = 0
     for line in lines[:at]:
-        statement = statement_of(line_of(line).tokens, lambda _: False)
+        statement = statement_in(line)
         if statement.head in words.MACRO_BEGINS and statement.rest and statement.rest[0].text == name:
             parameters = sum(it.kind is Kind.NAME for it in statement.rest[1:])
-    return parameters, len(parts_of(statement_of(line_of(lines[at]).tokens, lambda _: False).rest))
+    return parameters, len(parts_of(statement_in(lines[at]).rest, has_parentheses=False))
 
 
 def rows_for(lines: Sequence[str], at: int, entry: Optional[pages.PageEntry]) -> List[str]:
@@ -158,5 +158,5 @@ def row_cause(source: str) -> Optional[causes.Cause]:
 
 def _is_refused(line: str) -> bool:
     """Returns whether a line is rejected by its form."""
-    body = statement_of(line_of(line).tokens, lambda _: False).body
+    body = statement_in(line).body
     return bool(body) and not sources.is_plain(line, False) and body[0].lower not in sources.LOOKED_AT

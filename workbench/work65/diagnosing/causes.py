@@ -6,7 +6,7 @@ import enum
 from typing import AbstractSet, Callable, List, Optional, Sequence
 
 from work65.frontend import grammar, words
-from work65.frontend.statements import Statement, is_instruction, parts_of, statement_of
+from work65.frontend.statements import Statement, is_instruction, parts_of, statement_in
 from work65.frontend.tokens import Kind, Token, line_of
 
 
@@ -50,7 +50,7 @@ def cause_of(lines: Sequence[str], at: int, known: AbstractSet[str], later: Abst
         return None
     if any(it.text == "/" and other.text in ("/", "*") and it.end == other.start for it, other in zip(tokens, tokens[1:])):
         return Cause.SLASHES
-    statement = statement_of(tokens, lambda _: False)
+    statement = statement_in(lines[at])
     found = _of_label(tokens, statement)
     if found is None and statement.body:
         found = _of_head(statement, known, later, scopes) or _of_operand(statement)
@@ -141,7 +141,7 @@ def _of_indirect(texts: List[str]) -> Cause:
 
 def scopes_before(lines: Sequence[str], at: int) -> int:
     """Returns the number of scopes that are open before a line."""
-    heads = [statement_of(line_of(it).tokens, lambda _: False).head for it in lines[:at]]
+    heads = [statement_in(it).head for it in lines[:at]]
     return sum(it in (".scope", ".proc") for it in heads) - sum(it in (".endscope", ".endproc") for it in heads)
 
 
@@ -149,7 +149,7 @@ def macros_in(lines: Sequence[str], chosen: Callable[[int], bool]) -> AbstractSe
     """Returns the names of the macros that the chosen lines define."""
     found = set()
     for at, it in enumerate(lines):
-        statement = statement_of(line_of(it).tokens, lambda _: False)
+        statement = statement_in(it)
         if chosen(at) and statement.head in words.MACRO_BEGINS and statement.rest:
             found.add(statement.rest[0].text)
     return found

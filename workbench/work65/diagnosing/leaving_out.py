@@ -1,9 +1,9 @@
 """Removes a rejected line from a copy, so that the lines after it can be checked."""
-from typing import Iterable, List, Set, Tuple
+from typing import AbstractSet, List, Set, Tuple
 
 from work65.frontend import words
-from work65.frontend.statements import Statement, statement_of
-from work65.frontend.tokens import Kind, line_of
+from work65.frontend.statements import Statement, block_length, statement_in
+from work65.frontend.tokens import Kind
 
 BLOCKS = {".struct": ".endstruct", ".union": ".endunion", ".enum": ".endenum"}
 CLOSING = {
@@ -11,55 +11,38 @@ CLOSING = {
     **{it: ".endif" for it in words.CONDITIONS},
 }
 SHORT = {".endmac": ".endmacro", ".endrep": ".endrepeat"}
-ENDS_OF_REPEATS = words.REPEAT_ENDS
 INSIDE = "macro inside macro"
 TWICE = ("defined twice", "scope defined twice", "macro defined twice")
-
-
-def statement_in(line: str) -> Statement:
-    """Returns the statement of a line."""
-    return statement_of(line_of(line).tokens, lambda _: False)
 
 
 def span_of(lines: List[str], line: int, said: str = "") -> Tuple[int, int]:
     """Returns the indices of the first and last line to remove with a rejected one: a whole structure, repeat or macro."""
     head = statement_in(lines[line]).head
     if head in BLOCKS:
-        return line, _end_of(lines, line, BLOCKS, BLOCKS.values())
+        return line, line + _distance(lines[line + 1 :], BLOCKS.keys(), frozenset(BLOCKS.values()))
     if head in words.MACRO_BEGINS and said != INSIDE:
-        return line, _end_of(lines, line, words.MACRO_BEGINS, words.MACRO_ENDS)
-    if head in ENDS_OF_REPEATS:
-        return _begin_of(lines, line), line
+        return line, line + _distance(lines[line + 1 :], words.MACRO_BEGINS, words.MACRO_ENDS)
+    if head in words.REPEAT_ENDS:
+        return line - _distance(lines[:line][::-1], words.REPEAT_ENDS, words.REPEAT_BEGINS), line
     return line, line
 
 
-def _end_of(lines: List[str], line: int, begins: Iterable[str], ends: Iterable[str]) -> int:
-    """Returns the index of the line that ends a block, or the line itself if none does."""
-    depth = 0
-    for at in range(line, len(lines)):
-        word = statement_in(lines[at]).head if "." in lines[at] else ""
-        depth += (word in begins) - (word in ends)
-        if depth == 0:
-            return at
-    return line
+def _distance(lines: List[str], begins: AbstractSet[str], ends: AbstractSet[str]) -> int:
+    """Returns the number of the line that ends a block, counted from its first line, 0 if none does."""
+    length = block_length((head_of(it) for it in lines), begins, ends)
+    return 0 if length is None else length + 1
 
 
-def _begin_of(lines: List[str], line: int) -> int:
-    """Returns the index of the .repeat that a line ends, or the line itself if there is none."""
-    depth = 0
-    for at in range(line, -1, -1):
-        word = statement_in(lines[at]).head if "." in lines[at] else ""
-        depth += (word in ENDS_OF_REPEATS) - (word in words.REPEAT_BEGINS)
-        if depth == 0:
-            return at
-    return line
+def head_of(line: str) -> str:
+    """Returns the directive of a line, empty if it has none."""
+    return statement_in(line).head if "." in line else ""
 
 
 def closers_of(lines: List[str], is_scope: bool) -> List[str]:
     """Returns the lines that close the open scopes, or all other open blocks, at the end of a file, the innermost first."""
     found: List[str] = []
     for it in lines:
-        head = statement_in(it).head if "." in it else ""
+        head = head_of(it)
         if head in CLOSING and (head in (".proc", ".scope")) == is_scope:
             found.append(CLOSING[head])
         elif found and (head == found[-1] or head in SHORT and SHORT[head] == found[-1]):
@@ -129,11 +112,6 @@ def defined_by(statement: Statement) -> Set[str]:
 
 def _in_branches(lines: List[str], line: int) -> Set[str]:
     """Returns the names that lines define between a condition and its .endif. Without the condition, one of its branches is missing."""
-    depth, found = 1, set()
-    for at in range(line + 1, len(lines)):
-        statement = statement_in(lines[at])
-        depth += (statement.head in words.CONDITIONS) - (statement.head == ".endif")
-        if depth == 0:
-            break
-        found |= defined_by(statement)
-    return found
+    following = [statement_in(it) for it in lines[line + 1 :]]
+    length = block_length((it.head for it in following), words.CONDITIONS, frozenset((".endif",)))
+    return set().union(*map(defined_by, following[:length]))

@@ -12,6 +12,7 @@ from work65.frontend import words
 from work65.frontend.files import text_of
 from work65.frontend.includes import followed
 from work65.frontend.linked_tree import LinkedTree
+from work65.frontend.statements import statement_in
 from work65.frontend.survey import Tree, surveyed
 from work65.frontend.tokens import Kind, line_of
 from work65.problem import Problem
@@ -136,7 +137,7 @@ class Search:
 
     def names_of_call(self, line: str) -> Set[str]:
         """Returns the names that a macro call would have defined: its arguments, and names that the macro's lines define."""
-        statement = leaving_out.statement_in(line)
+        statement = statement_in(line)
         if not statement.body or statement.body[0].kind is not Kind.NAME or statement.body[0].lower in words.MNEMONICS:
             return set()
         if self.tree is None:
@@ -239,7 +240,7 @@ class Search:
         kind = message.text.split(":")[0]
         if kind in FOLLOWING and kind != "undefined name":
             wanted |= {it.text for it in line_of(fault.line).tokens if it.kind in (Kind.NAME, Kind.CHEAP)}
-            wanted -= leaving_out.defined_by(leaving_out.statement_in(fault.line))
+            wanted -= leaving_out.defined_by(statement_in(fault.line))
         if kind.endswith(" twice"):
             return ""
         line = message.line or 0

@@ -3,8 +3,8 @@ import os
 from typing import Dict, Iterable, Iterator, List, Optional, Sequence, Set
 
 from work65.frontend.files import Text, place_of, text_of, want_regular
-from work65.frontend.statements import Statement, statement_of
-from work65.frontend.tokens import Kind, is_closed, line_of
+from work65.frontend.statements import Statement, statement_in
+from work65.frontend.tokens import Kind, is_closed
 from work65.problem import Problem
 
 
@@ -57,7 +57,7 @@ def names_in(text: Text) -> Iterator[str]:
     """Yields the names after .include in a file."""
     for line in text.lines:
         if ".inc" in line.lower():
-            statement = statement_of(line_of(line).tokens, lambda _: False)
+            statement = statement_in(line)
             word = word_of(statement) if statement.head == ".include" else None
             if word is not None:
                 yield word

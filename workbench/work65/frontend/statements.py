@@ -1,6 +1,6 @@
 """The statement reader: splits the tokens of a line into a label and a statement."""
 from functools import lru_cache
-from typing import Callable, List, NamedTuple, Optional, Sequence, Tuple
+from typing import AbstractSet, Callable, Iterable, List, NamedTuple, Optional, Sequence, Tuple
 
 from work65.frontend import words
 from work65.frontend.tokens import Kind, Token, line_of
@@ -68,9 +68,25 @@ def _is_bare_label(tokens: Sequence[Token], is_macro: Callable[[str], bool]) -> 
 
 
 @lru_cache(maxsize=1 << 16)
+def statement_in(text: str, has_escapes: bool = False) -> Statement:
+    """Reads a line without knowing any macro."""
+    return statement_of(line_of(text, has_escapes).tokens, lambda _: False)
+
+
 def accepted_statement(text: str, is_expanded: bool = False) -> Statement:
     """Reads a line of a program that bin65 accepts, which may be one of a call with its names replaced."""
     return statement_of(line_of(text, is_expanded=is_expanded).tokens, None)
+
+
+def block_length(heads: Iterable[str], begins: AbstractSet[str], ends: AbstractSet[str]) -> Optional[int]:
+    """Returns the number of lines between the first line of a block and its last, given the heads of the lines after the first. Blocks
+    nest. None if the block isn't closed."""
+    depth = 1
+    for at, head in enumerate(heads):
+        depth += (head in begins) - (head in ends)
+        if depth == 0:
+            return at
+    return None
 
 
 def parts_of(tokens: Sequence[Token], has_parentheses: bool = True) -> List[List[Token]]:

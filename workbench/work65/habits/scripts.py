@@ -14,7 +14,6 @@ ATTRIBUTES = {
 }
 SWITCHES = {"FILL", "DEFINE", "OPTIONAL"}
 NUMBERS = {"ALIGN", "ALIGN_LOAD", "START", "OFFSET", "FILLVAL", "VALUE", "SIZE"}
-GIVEN = re.compile(r"__(\w+)_(START|SIZE|LAST|RUN|LOAD)__")
 Found = Tuple[Word, str, str]
 
 

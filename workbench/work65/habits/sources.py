@@ -6,9 +6,10 @@ from work65.frontend import grammar, words
 from work65.frontend.conditions import Conditions
 from work65.frontend.files import Text, place_of
 from work65.frontend.includes import find_file, word_of
-from work65.frontend.statements import Statement, statement_of
+from work65.frontend.reach import reached
+from work65.frontend.statements import Statement, statement_in, statement_of
 from work65.frontend.survey import Tree
-from work65.frontend.tokens import Kind, LexedLine, Token, line_of
+from work65.frontend.tokens import Kind, LexedLine, line_of
 from work65.habits import cheap, marks
 from work65.habits.files import Files
 from work65.habits.habit import Finding, Habit
@@ -52,7 +53,7 @@ def is_plain(text: str, has_escapes: bool) -> bool:
     shapes = tuple(map(grammar.shape_of, tokens))
     if len(text) > LONGEST or has_escapes and "\\" in text or not LOOKED_AT.isdisjoint(shapes) or grammar.wrong(shapes) is not None:
         return False
-    return not ({"#", "(", "a", "x", "nop", "inc", "dec"} & set(shapes) and marks.is_newer(statement_of(tokens, lambda _: False)))
+    return not ({"#", "(", "a", "x", "nop", "inc", "dec"} & set(shapes) and marks.is_newer(statement_in(text, has_escapes)))
 
 
 class Reader:
@@ -245,19 +246,12 @@ def found_in(texts: List[Text], tree: Tree, files: Optional[Files] = None, inclu
         found += [(None, Finding(text.path, number, name, BY_NAME["cheap-twice"])) for number, name in cheap.twice(text)]
         calls += [(*it, text.path) for it in reader.calls]
         waiting += [left.pop(it) for it in sorted(reader.includes) if it in left]
-    called = _reached({(caller, name) for caller, name, _, _ in calls})
+    by_caller: Dict[Optional[str], List[str]] = {}
+    for caller, name, _, _ in calls:
+        by_caller.setdefault(caller, []).append(name)
+    called = {it for it in reached([None], lambda it: by_caller.get(it, ())) if it is not None}
     kept = [it for macro, it in found if macro is None or macro in called or it.habit.name in TOLD]
     return sorted(kept + _refused_calls(found, calls, called), key=lambda it: (it.path, it.line))
-
-
-def _reached(calls: Set[Tuple[Optional[str], str]]) -> Set[str]:
-    """The macros that are called, from outside of all macros or from one that is called."""
-    reached = {name for caller, name in calls if caller is None}
-    while True:
-        more = {name for caller, name in calls if caller in reached} - reached
-        if not more:
-            return reached
-        reached |= more
 
 
 def _refused_calls(found: List[Tuple[Optional[str], Finding]], calls: List[Tuple[Optional[str], str, int, str]],

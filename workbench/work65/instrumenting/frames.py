@@ -2,9 +2,10 @@
 from dataclasses import dataclass, field
 from typing import Dict, Optional, Tuple
 
+from work65.frontend import words
 from work65.frontend.includes import word_of
 from work65.frontend.macros import arguments_of, given_by, substituted
-from work65.frontend.statements import parts_of
+from work65.frontend.statements import block_length, parts_of
 from work65.frontend.tokens import Kind
 from work65.instrumenting.located import FileReading
 from work65.instrumenting.marks import Mark, Sign
@@ -101,13 +102,9 @@ class Frames:
 
     def repeat(self, mark: Mark, count: int) -> None:
         """Opens a repeat. Its lines are listed below its .endrepeat."""
-        depth, last = 0, mark.line
-        for number in range(mark.line, len(mark.source.lines) + 1):
-            role = mark.source.line(number).role
-            depth += (role is Role.REPEAT) - (role is Role.END_REPEAT)
-            if depth == 0:
-                last = number
-                break
+        heads = (it.statement.head for it in mark.source.lines[mark.line :])
+        length = block_length(heads, words.REPEAT_BEGINS, words.REPEAT_ENDS)
+        last = mark.line if length is None else mark.line + length + 1
         parts = parts_of(self.line(mark).statement.rest)
         self.push(Sign.REPEAT, mark, {parts[1][0].text: ""} if len(parts) > 1 and parts[1] else {}, count, last)
 

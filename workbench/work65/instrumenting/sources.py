@@ -6,6 +6,7 @@ from typing import Callable, Dict, Iterable, Iterator, List, NamedTuple, Optiona
 
 from work65.frontend.files import place_of, text_of
 from work65.frontend.includes import find_readable, word_of
+from work65.frontend.reach import reached
 from work65.frontend.statements import Statement, accepted_statement
 from work65.frontend.tokens import Kind
 from work65.instrumenting.roles import Role, role_of
@@ -55,18 +56,14 @@ def macro_lines(source: Source) -> Iterator[Tuple[str, SourceLine]]:
 def including_macros(sources: Iterable[Source]) -> Set[str]:
     """Returns the macros that include a file named by an argument, directly or by another macro."""
     found: Set[str] = set()
-    calls: List[Tuple[str, str]] = []
+    callers: Dict[str, List[str]] = {}
     for source in sources:
         for name, line in macro_lines(source):
             if line.role is Role.INCLUDE and word_of(line.statement) is None:
                 found.add(name)
             elif line.role is Role.CALL:
-                calls.append((name, line.statement.body[0].text))
-    while True:
-        more = {name for name, called in calls if called in found} - found
-        if not more:
-            return found
-        found |= more
+                callers.setdefault(line.statement.body[0].text, []).append(name)
+    return reached(found, lambda it: callers.get(it, ()))
 
 
 class Closure:

@@ -21,7 +21,7 @@ class ShowVersion(argparse.Action):
 
 
 def parser_of(words: Sequence[str]) -> argparse.ArgumentParser:
-    """The parser of a line. Only the modules of the command are read that stands first, where one does."""
+    """Returns the parser of a command line. If the first word is a command, only that command's module is imported."""
     parser = argparse.ArgumentParser(prog="work65", description="What a programmer does around a build with bin65.")
     parser.add_argument("--version", action=ShowVersion, nargs=0, help="print the version and exit")
     parts = parser.add_subparsers(dest="command", metavar="COMMAND", required=True)

@@ -1,1 +1,1 @@
-"""What cc65's tools take and bin65 refuses: one table, and what finds its entries in sources and scripts."""
+"""Habits of cc65's users that bin65 rejects: one table, and the finders of its entries in sources and scripts."""

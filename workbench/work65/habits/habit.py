@@ -1,11 +1,11 @@
-"""What an entry of the table is, and what is found by one."""
+"""Entries of the table, and findings."""
 from dataclasses import dataclass
 from typing import Tuple
 
 
 @dataclass(frozen=True)
 class Habit:
-    """A habit of cc65's users that bin65 refuses.
+    """A habit of cc65's users that bin65 rejects.
 
     `shown` is how the page's list has it, `heading` the page's heading, `words` the directives and functions that tell it,
     `search` the patterns of the page's search for what no word tells, and `exact` those for which capitals count."""
@@ -21,8 +21,7 @@ class Habit:
 
 @dataclass(frozen=True)
 class Finding:
-    """A place that bin65 refuses: the word there, and the habit. The note stands in place of the habit's cure, and `under` in place
-    of its heading."""
+    """A location that bin65 rejects: its word and its habit. `note` replaces the habit's cure, and `under` its heading."""
 
     path: str
     line: int
@@ -33,10 +32,10 @@ class Finding:
 
     @property
     def cure(self) -> str:
-        """What to do."""
+        """The replacement to write."""
         return self.note or self.habit.cure
 
     @property
     def heading(self) -> str:
-        """The page's heading that says more."""
+        """The heading of the page with more."""
         return self.under or self.habit.heading

@@ -1,4 +1,4 @@
-"""What tells a habit: a token of its own, a label, or the form of a statement."""
+"""Recognizes habits by a token, a label, or the form of a statement."""
 from typing import AbstractSet, Iterator, Tuple
 
 from work65.frontend import words
@@ -16,13 +16,13 @@ SIZES = frozenset(("zeropage", "absolute"))
 
 
 def label(statement: Statement, tree: Tree) -> Iterator[Found]:
-    """A label without its colon."""
+    """Yields the habit of a label without its colon."""
     if statement.label is not None and not statement.has_colon:
         yield statement.label.text, BY_NAME["colon"], ""
 
 
 def token(one: Token) -> Iterator[Tuple[str, str]]:
-    """What one token tells, with a cure of its own."""
+    """Yields the habits of a token, each with its cure."""
     kind, text = one.kind, one.text
     if kind is Kind.CHEAP and len(text) > 1 and text[1].isdigit():
         yield "digit", f"a cheap label begins with a letter or _: @_{text[1:]}"
@@ -41,7 +41,7 @@ def token(one: Token) -> Iterator[Tuple[str, str]]:
 
 
 def habit_of(one: Token, statement: Statement) -> Habit:
-    """The habit that a word tells, by what stands behind it."""
+    """Returns the habit of a word, by the tokens after it."""
     rest = statement.rest if statement.head == one.lower else ()
     if one.lower == ".define":
         return BY_NAME[_define(rest)]
@@ -53,7 +53,7 @@ def habit_of(one: Token, statement: Statement) -> Habit:
 
 
 def _define(rest: Tuple[Token, ...]) -> str:
-    """Which kind of `.define` it is."""
+    """Returns the kind of a `.define`."""
     if len(rest) < 2:
         return "define-empty"
     if rest[1].text == "(" and rest[1].start == rest[0].end:
@@ -63,7 +63,7 @@ def _define(rest: Tuple[Token, ...]) -> str:
 
 
 def statement(one: Statement, scopes: int, parameters: AbstractSet[str], tree: Tree) -> Iterator[Tuple[str, str]]:
-    """What the form of a statement tells."""
+    """Yields the habits of a statement's form."""
     if not one.body:
         return
     head, first = one.head, one.body[0]
@@ -87,7 +87,7 @@ def statement(one: Statement, scopes: int, parameters: AbstractSet[str], tree: T
 
 
 def _instruction(one: Statement, tree: Tree) -> Iterator[Tuple[str, str]]:
-    """An instruction that isn't of the documented 6502."""
+    """Yields the habit of an instruction that isn't of the documented 6502."""
     first = one.body[0]
     if tree.is_macro(first.text) or (one.rest and one.rest[0].text in ("=", ":=")):
         return
@@ -98,7 +98,7 @@ def _instruction(one: Statement, tree: Tree) -> Iterator[Tuple[str, str]]:
 
 
 def _operand(one: Statement) -> Iterator[Tuple[str, str]]:
-    """What an operand tells."""
+    """Yields the habits of an operand."""
     if one.head == "brk":
         yield "brk", "brk"
     elif is_newer(one):
@@ -116,7 +116,7 @@ def _operand(one: Statement) -> Iterator[Tuple[str, str]]:
 
 
 def is_newer(one: Statement) -> bool:
-    """Whether an instruction of the 6502 has a form that it has elsewhere alone."""
+    """Returns whether an instruction of the 6502 has a form that only other processors have."""
     head, texts = one.head, [it.lower for it in one.rest]
     if not texts:
         return head in ("inc", "dec")
@@ -132,7 +132,7 @@ def is_newer(one: Statement) -> bool:
 
 
 def _list(one: Statement, scopes: int) -> Iterator[Tuple[str, str]]:
-    """A list of imports or exports."""
+    """Yields the habits of a list of imports or exports."""
     for part in parts_of(one.rest):
         texts = {it.text for it in part}
         if texts & {"=", ":="}:
@@ -144,7 +144,7 @@ def _list(one: Statement, scopes: int) -> Iterator[Tuple[str, str]]:
 
 
 def _directive(one: Statement) -> Iterator[Tuple[str, str]]:
-    """A directive that bin65 has, in a form that it hasn't."""
+    """Yields the habits of a directive that bin65 accepts in other forms."""
     head, rest = one.head, one.rest
     if head == ".asciiz" and len(parts_of(rest)) > 1:
         yield ".asciiz", "asciiz"
@@ -169,7 +169,7 @@ def _directive(one: Statement) -> Iterator[Tuple[str, str]]:
 
 
 def _assert(one: Statement) -> Iterator[Tuple[str, str]]:
-    """The action of an assertion."""
+    """Yields the habit of an assertion's action."""
     parts = parts_of(one.rest)
     if len(parts) > 1 and len(parts[1]) == 1:
         action = parts[1][0]
@@ -180,7 +180,7 @@ def _assert(one: Statement) -> Iterator[Tuple[str, str]]:
 
 
 def _processor(one: Statement) -> Iterator[Tuple[str, str]]:
-    """A processor that bin65 doesn't know."""
+    """Yields the habit of another processor."""
     if one.head == ".p02x":
         yield ".p02x", "undocumented"
     elif one.rest and one.rest[0].kind is Kind.STRING and one.rest[0].lower != '"6502"':

@@ -1,4 +1,4 @@
-"""The parts of the page MIGRATING that are made of the table: its contents, its search and its list.
+"""The parts of the page MIGRATING that are generated from the table: its contents, its search and its list.
 
 `python3 -m work65.habits.page PAGE` puts them into the page."""
 import re
@@ -12,12 +12,12 @@ BEGIN, END = "<!-- made of the table of work65: {} -->", "<!-- end of {} -->"
 
 
 def anchor(heading: str) -> str:
-    """A heading's name as it stands in a link."""
+    """Returns the anchor of a heading."""
     return re.sub(r"[^\w\- ]", "", heading.lower()).replace(" ", "-")
 
 
 def search() -> str:
-    """The search, for who hasn't work65 at hand."""
+    """Returns the search, for users without work65."""
     words = sorted({word[1:] for it in HABITS for word in it.words})
     groups = [words[at : at + 16] for at in range(0, len(words), 16)]
     patterns = [f"^[^;]*\\.({'|'.join(it)})([^a-z0-9_]|$)" for it in groups]
@@ -27,13 +27,13 @@ def search() -> str:
 
 
 def _grep(options: str, patterns: List[str]) -> str:
-    """One command of the search."""
+    """Returns one command of the search."""
     quoted = [f"'{it}'" for it in patterns]
     return "\n".join([f"grep {options} {FILES} \\", *(f"  -e {it} \\" for it in quoted), "  ."])
 
 
 def listing() -> str:
-    """What work65 check finds, with what stands in its place and the heading that has more."""
+    """Returns the list of findings, each with its replacement and its heading."""
     rows = ["| What | In its place | Under |", "|---|---|---|"]
     for it in HABITS:
         if it.name in ("form", "macro-call"):
@@ -44,12 +44,12 @@ def listing() -> str:
 
 
 def _short(heading: str) -> str:
-    """A heading without what stands behind its first colon or comma, where it is long."""
+    """Returns a heading, without the text after its first colon or comma if it is long."""
     return heading if len(heading) <= 44 else re.split(r"[:,] ", heading)[0]
 
 
 def contents(page: str) -> str:
-    """The page's headings as links."""
+    """Returns the headings of the page as links."""
     found = []
     for rank, heading in re.findall(r"^(##|###) (.*)$", re.sub(r"^```.*?^```$", "", page, flags=re.M | re.S), re.M):
         if heading != "Contents":
@@ -58,7 +58,7 @@ def contents(page: str) -> str:
 
 
 def made(page: str) -> str:
-    """The page with its parts made anew."""
+    """Returns the page with its parts generated anew."""
     for name, part in (("contents", contents(page)), ("search", search()), ("list", listing())):
         begin, end = BEGIN.format(name), END.format(name)
         before, found, rest = page.partition(begin + "\n")

@@ -1,4 +1,4 @@
-"""Finds in linker scripts what bin65 refuses."""
+"""Finds constructs in linker scripts that bin65 rejects."""
 import re
 from typing import Iterator, List, Set, Tuple
 
@@ -18,7 +18,7 @@ Found = Tuple[Word, str, str]
 
 
 def found_in(text: Text) -> List[Finding]:
-    """What is found in a script."""
+    """Returns the findings in a script."""
     blocks = blocks_of(words_of("\n".join(text.lines)))
     found = [Finding(text.path, word.line, word.text, BY_NAME[name], note) for word, name, note in _all(blocks)]
     return sorted(found, key=lambda it: it.line)
@@ -39,7 +39,7 @@ def _all(blocks: List[Block]) -> Iterator[Found]:
 
 
 def _given(blocks: List[Block]) -> Set[str]:
-    """The names that a sum may have: exports, and those of areas and rows."""
+    """Returns the names that a sum may have: exports, and those of areas and segments."""
     found = {name for name, (_, kind) in symbols_of(blocks).items() if kind == "export"}
     for block in blocks:
         ends = {"MEMORY": ("START", "SIZE", "LAST"), "SEGMENTS": ("RUN", "LOAD", "SIZE")}.get(block.word.upper, ())
@@ -48,7 +48,7 @@ def _given(blocks: List[Block]) -> Set[str]:
 
 
 def _entry(kind: str, entry: Entry, names: Set[str], weak: Set[str]) -> Iterator[Found]:
-    """What an entry has that bin65 doesn't take."""
+    """Yields the findings in an entry."""
     if kind == "SEGMENTS" and _kind_of(entry) in ("bss", "zp") and entry.get("RUN") and entry.get("LOAD"):
         if entry.get("RUN")[0].text != entry.get("LOAD")[0].text:
             yield entry.name, "script-areas", ""
@@ -68,7 +68,7 @@ def _kind_of(entry: Entry) -> str:
 
 
 def _value(kind: str, it: Attribute, names: Set[str], weak: Set[str]) -> Iterator[Found]:
-    """What a value has that bin65 doesn't take."""
+    """Yields the findings in a value."""
     name, value = it.name.upper, it.value
     for word in value:
         yield from _word(word)
@@ -89,7 +89,7 @@ def _value(kind: str, it: Attribute, names: Set[str], weak: Set[str]) -> Iterato
 
 
 def _word(word: Word) -> Iterator[Found]:
-    """What one word of a value tells."""
+    """Yields the findings in one token of a value."""
     if word.kind == "output" and word.upper == "%S":
         yield word, "script-start", ""
     elif word.kind == "number" and not re.fullmatch(r"[0-9]+|\$[0-9A-Fa-f]+", word.text):

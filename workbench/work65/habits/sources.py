@@ -1,4 +1,4 @@
-"""Finds in sources what bin65 refuses."""
+"""Finds constructs in sources that bin65 rejects."""
 from functools import lru_cache
 from typing import Dict, Iterator, List, Optional, Sequence, Set, Tuple
 
@@ -28,7 +28,7 @@ CLOSERS = {".endstruct": "struct", ".endunion": "union", ".endenum": "enum"}
 
 
 class Places:
-    """What is open where the reader stands: a macro with its parameters, scopes, structures, a comment of C."""
+    """The open macro with its parameters, and open scopes, structures and comments of C."""
 
     def __init__(self) -> None:
         self.macro: Optional[str] = None
@@ -42,13 +42,13 @@ class Places:
 
     @property
     def is_plain(self) -> bool:
-        """Whether a line that is one of bin65's wherever it stands needs no look."""
+        """Returns whether a plain line needs no look here."""
         return not (self.is_comment or self.structures or self.is_continued)
 
 
 @lru_cache(maxsize=1 << 16)
 def is_plain(text: str, has_escapes: bool) -> bool:
-    """Whether a line is one of bin65's, opens and closes nothing, and calls no macro."""
+    """Returns whether bin65 accepts a line anywhere: it opens and closes nothing, and calls no macro."""
     tokens = line_of(text, has_escapes).tokens
     shapes = tuple(map(grammar.shape_of, tokens))
     if len(text) > LONGEST or has_escapes and "\\" in text or not LOOKED_AT.isdisjoint(shapes) or grammar.wrong(shapes) is not None:
@@ -70,7 +70,7 @@ class Reader:
         self.own: Optional[Set[str]] = None
 
     def findings(self) -> Iterator[Tuple[Optional[str], Finding]]:
-        """What is found, each with the macro in whose lines it stands."""
+        """Returns the findings, each with the macro around its line."""
         has_escapes = "string_escapes" in self.tree.features
         for number, text in enumerate(self.text.lines, 1):
             if is_plain(text, has_escapes) and self.places.is_plain:
@@ -90,7 +90,7 @@ class Reader:
                 return
 
     def is_over(self, line: LexedLine) -> bool:
-        """Whether a line is an .end that bin65 comes to for sure: it reads no more."""
+        """Returns whether a line is an .end that bin65 certainly reaches, so that it reads no more."""
         if self.places.macro is not None or not all(self.conditions.open):
             return False
         return any(it.lower == ".end" for it in line.tokens) and statement_of(line.tokens, self.tree.is_macro).head == ".end"
@@ -102,7 +102,7 @@ class Reader:
             self.calls.append((self.places.macro, statement.body[0].text, number))
 
     def line(self, line: LexedLine, text: str) -> Iterator[Tuple[str, Habit, str]]:
-        """What is found in a line: the word, the habit, and a cure of its own."""
+        """Yields the findings in a line: the word, the habit, and a cure of its own."""
         places = self.places
         if places.is_comment or "/*" in text:
             yield from self.comment(line, text)
@@ -123,7 +123,7 @@ class Reader:
             yield from self.form(line, statement)
 
     def comment(self, line: LexedLine, text: str) -> Iterator[Tuple[str, Habit, str]]:
-        """A comment of C: its begin is found, the lines up to its end are nothing."""
+        """Yields the beginning of a comment of C. The lines up to its end have no findings."""
         if not self.places.is_comment and any(it.text == "/" and line.tokens[at + 1 : at + 2] and line.tokens[at + 1].text == "*"
                                               and line.tokens[at + 1].start == it.end for at, it in enumerate(line.tokens)):
             self.places.is_comment = True
@@ -132,7 +132,7 @@ class Reader:
             self.places.is_comment = False
 
     def marked(self, line: LexedLine, statement: Statement, was_continued: bool) -> Iterator[Tuple[str, Habit, str]]:
-        """What words and marks of a line tell."""
+        """Yields the findings of a line's words and form."""
         if self.places.structures and statement.head not in CLOSERS:
             for it in line.tokens:
                 if it.lower in (".tag", ".struct", ".union"):
@@ -164,7 +164,7 @@ class Reader:
                 yield word, BY_NAME["zero-page-import"], ""
 
     def named(self, statement: Statement, files: Files) -> Iterator[Tuple[str, Habit, str]]:
-        """The file that a line names, if bin65 doesn't find it; an included one that it finds is noted."""
+        """Yields the file that a line names if bin65 doesn't find it. Notes an included one that it finds."""
         word = word_of(statement)
         name = find_file(word, self.text.path, files.folders) if word is not None and statement.head == ".include" else None
         if name is not None:
@@ -174,21 +174,21 @@ class Reader:
             yield wrong[0], BY_NAME[wrong[1]], wrong[2]
 
     def own_names(self) -> Set[str]:
-        """The names that the file defines; those of all files if it isn't a source of its own."""
+        """Returns the names that the file defines, or those of all files if it isn't a source of its own."""
         if self.own is None:
             is_source = self.text.path.lower().endswith((".s", ".asm", ".a65", ".s65"))
             self.own = self.defined() if is_source else self.tree.names
         return self.own
 
     def defined(self) -> Set[str]:
-        """The names that the lines of the file define."""
+        """Returns the names that the lines of the file define."""
         statements = [statement_of(line_of(it).tokens, self.tree.is_macro) for it in self.text.lines]
         found = {it.label.text for it in statements if it.label is not None}
         found |= {it.body[0].text for it in statements if it.rest and it.rest[0].text in ("=", ":=")}
         return found | {it.rest[0].text for it in statements if it.head == ".proc" and it.rest}
 
     def step(self, head: str, statement: Statement) -> None:
-        """Goes past a line: what it opens and closes."""
+        """Follows what a line opens and closes."""
         places = self.places
         if places.macro is None:
             places.segments.step(statement)
@@ -207,7 +207,7 @@ class Reader:
             places.structures.pop()
 
     def form(self, line: LexedLine, statement: Statement) -> Iterator[Tuple[str, Habit, str]]:
-        """A line that is no statement of bin65, though nothing told it."""
+        """Yields a line that is no statement of bin65 and has no other finding."""
         body = statement.body
         if not body or any(it.text in self.places.parameters for it in line.tokens):
             return
@@ -228,7 +228,7 @@ class Reader:
 
 
 def _is_continued(line: LexedLine, text: str) -> bool:
-    """Whether the next line goes on with this one."""
+    """Returns whether a line is continued by the next one."""
     return bool(line.tokens) and line.tokens[-1].text == "\\"
 
 
@@ -256,7 +256,7 @@ def found_in(texts: List[Text], tree: Tree, files: Optional[Files] = None, inclu
 
 def _refused_calls(found: List[Tuple[Optional[str], Finding]], calls: List[Tuple[Optional[str], str, int, str]],
                    called: Set[str]) -> List[Finding]:
-    """The first call in each file of each macro whose lines are refused."""
+    """Returns the first call in each file of each macro whose lines have a finding."""
     first: Dict[str, Finding] = {}
     for macro, it in found:
         if macro is not None and macro in called:

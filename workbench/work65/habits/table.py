@@ -1,4 +1,4 @@
-"""The table of habits. docs/MIGRATING.md has its list and its search from here."""
+"""The table of habits, from which MIGRATING's list and search are generated."""
 from typing import Dict, Tuple
 
 from work65.habits.habit import Habit

@@ -176,7 +176,7 @@ class CopyWriter:
         self.written.append(".endscope")
 
     def flush(self) -> None:
-        """Writes the marks that wait."""
+        """Writes the pending marks."""
         if self.waiting:
             segment = self.copies.names.segment
             self.written += [".pushseg", f'.segment "{segment}"', ".dword " + ",".join(self.waiting), ".popseg"]

@@ -1,7 +1,7 @@
 """Completion for bash, with nothing but bash's own commands."""
 from typing import Dict, Iterator, List, Tuple
 
-from work65.completing.tables import Option, Program, Takes, Word
+from work65.completing.tables import Argument, CommandLine, Option, Takes
 
 SCRIPT = """\
 # Completes @NAME@ in bash. Made by `work65 completion bash @NAME@`.
@@ -65,7 +65,7 @@ complete -F _@NAME@ @NAME@
 """
 
 
-def script(program: Program) -> str:
+def script(program: CommandLine) -> str:
     """Returns the text that bash reads."""
     words: Dict[str, List[str]] = {}
     repeated: Dict[str, List[str]] = {}
@@ -85,12 +85,12 @@ def script(program: Program) -> str:
     return text.replace("@NAME@", program.name)
 
 
-def _takes(word: Word) -> str:
+def _takes(word: Argument) -> str:
     """Returns what a word may be, as the script has it: `=` and the choices, or the kind."""
-    return f"={' '.join(word.choices)}" if word.takes is Takes.CHOICE else word.takes.value
+    return f"={' '.join(word.choices)}" if word.takes is Takes.CHOICE else str(word.takes.value)
 
 
-def _values(program: Program) -> Dict[str, List[str]]:
+def _values(program: CommandLine) -> Dict[str, List[str]]:
     """Returns the patterns of the options that have values, by what these may be."""
     found: Dict[str, List[str]] = {}
     for command in program.commands:

@@ -1,7 +1,7 @@
 """Completion for fish, a line for each word."""
 from typing import Iterator
 
-from work65.completing.tables import Command, Option, Program, Takes
+from work65.completing.tables import Command, CommandLine, Option, Takes
 
 FILES, FOLDERS = "-r -F", "-x -a '(__fish_complete_directories)'"
 VALUES = {
@@ -10,12 +10,12 @@ VALUES = {
 }
 
 
-def script(program: Program) -> str:
+def script(program: CommandLine) -> str:
     """Returns the text that fish reads."""
     return "\n".join([f"# Completes {program.name} in fish. Made by `work65 completion fish {program.name}`.", "", *_lines(program)]) + "\n"
 
 
-def _lines(program: Program) -> Iterator[str]:
+def _lines(program: CommandLine) -> Iterator[str]:
     """Yields the lines. Files are completed only where a line says so."""
     begin, none = f"complete -c {program.name}", "-n __fish_use_subcommand"
     yield f"{begin} -f"

@@ -2,14 +2,14 @@
 from typing import Dict
 
 from work65.completing import bash, fish, zsh
-from work65.completing.tables import Program, bin65, program_of
+from work65.completing.tables import CommandLine, bin65, program_of
 
 PROGRAMS = ("work65", "bin65")
 SHELLS = {"bash": bash.script, "zsh": zsh.script, "fish": fish.script}
 PLACES = {"bash": "bash-completion/completions/{}", "zsh": "zsh/site-functions/_{}", "fish": "fish/vendor_completions.d/{}.fish"}
 
 
-def program(name: str) -> Program:
+def program(name: str) -> CommandLine:
     """Returns what the command lines of a program may have."""
     from work65.main import parser_of  # the parser itself reads the commands, of which one is that of these scripts
 

@@ -16,7 +16,7 @@ class Takes(Enum):
     CHOICE = "choice"
 
 
-class Word(NamedTuple):
+class Argument(NamedTuple):
     """A word without an option before it, or the value of an option: its name in the usage, and what it may be."""
 
     name: str
@@ -29,7 +29,7 @@ class Option(NamedTuple):
     """An option by all its names, with its value. An option without one takes nothing."""
 
     names: Tuple[str, ...]
-    value: Word
+    value: Argument
     help: str
 
 
@@ -39,10 +39,10 @@ class Command(NamedTuple):
     name: str
     help: str
     options: Tuple[Option, ...]
-    words: Tuple[Word, ...]
+    words: Tuple[Argument, ...]
 
 
-class Program(NamedTuple):
+class CommandLine(NamedTuple):
     """A program: the options before a subcommand, and the subcommands."""
 
     name: str
@@ -59,12 +59,12 @@ BY_NAME = {
 }
 
 
-def program_of(parser: argparse.ArgumentParser) -> Program:
+def program_of(parser: argparse.ArgumentParser) -> CommandLine:
     """Returns what a parser with subcommands accepts."""
     parts = next(it for it in parser._actions if isinstance(it, argparse._SubParsersAction))
     helps = {it.dest: it.help or "" for it in parts._choices_actions}
     commands = [_command(name, helps[name], it) for name, it in parts.choices.items()]
-    return Program(parser.prog, tuple(_options(parser)), tuple(commands))
+    return CommandLine(parser.prog, tuple(_options(parser)), tuple(commands))
 
 
 def _command(name: str, about: str, parser: argparse.ArgumentParser) -> Command:
@@ -79,15 +79,15 @@ def _options(parser: argparse.ArgumentParser) -> Iterator[Option]:
             yield Option(tuple(it.option_strings), _word(it), it.help or "")
 
 
-def _word(action: argparse.Action) -> Word:
+def _word(action: argparse.Action) -> Argument:
     """Returns the value of an option, or a word that stands alone."""
     name = str(action.metavar or action.dest)
     is_repeated = isinstance(action, argparse._AppendAction) or action.nargs in ("+", "*")
     if action.nargs == 0:
-        return Word(name, Takes.NOTHING)
+        return Argument(name, Takes.NOTHING)
     if action.choices is not None:
-        return Word(name, Takes.CHOICE, tuple(map(str, action.choices)), is_repeated)
-    return Word(name, BY_NAME[name], (), is_repeated)
+        return Argument(name, Takes.CHOICE, tuple(map(str, action.choices)), is_repeated)
+    return Argument(name, BY_NAME[name], (), is_repeated)
 
 
 def bin65() -> argparse.ArgumentParser:

@@ -1,7 +1,7 @@
 """Completion for zsh, by its function _arguments."""
 from typing import Iterator
 
-from work65.completing.tables import Option, Program, Takes, Word
+from work65.completing.tables import Argument, CommandLine, Option, Takes
 
 SCRIPT = """\
 #compdef @NAME@
@@ -36,7 +36,7 @@ ACTIONS = {
 _JOINED = " \\\n                "
 
 
-def script(program: Program) -> str:
+def script(program: CommandLine) -> str:
     """Returns the text that zsh reads."""
     commands = [f"        {_quoted(f'{it.name}:{_escaped(it.help)}')}" for it in program.commands]
     options = [f"        {spec} \\\n" for option in program.options for spec in _specs(option)]
@@ -61,7 +61,7 @@ def _escaped(text: str) -> str:
     return "".join(f"\\{it}" if it in "\\:[]" else it for it in text)
 
 
-def _action(word: Word) -> str:
+def _action(word: Argument) -> str:
     return f"({' '.join(word.choices)})" if word.takes is Takes.CHOICE else ACTIONS[word.takes]
 
 
@@ -77,7 +77,7 @@ def _specs(option: Option) -> Iterator[str]:
         yield _quoted(("*" if value.is_repeated else others) + name + told)
 
 
-def _word(word: Word, at: int) -> str:
+def _word(word: Argument, at: int) -> str:
     """Returns the specification of a word that stands alone. What follows the word of a command is that command's."""
     place = "*:" if word.takes is Takes.COMMAND else "*" if word.is_repeated else str(at)
     return _quoted(f"{place}:{word.name}:{_action(word)}")

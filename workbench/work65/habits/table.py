@@ -1,6 +1,7 @@
 """The table of habits, from which MIGRATING's list and search are generated."""
 from typing import Dict, Tuple
 
+from work65.frontend import words
 from work65.habits.habit import Habit
 
 LOOKS = "What is refused though it looks the same"
@@ -10,12 +11,8 @@ LOW = "`.loword`, `.hiword`, `.faraddr`, `.bankbytes`, `.min`, `.max`, `.union`,
 TOKENS = "`.match` and `.xmatch`"
 SPELLING = "Features that are spelling alone"
 OTHERS = "Other processors: 65C02, 65816 and the like"
-TARGET = "`-t c64` and other targets"
 SCRIPTS = "Scripts"
-INSTRUCTION = (
-    "(adc|and|asl|b(cc|cs|eq|it|mi|ne|pl|rk|vc|vs)|cl[cdiv]|cmp|cp[xy]|de[cxy]|eor|in[cxy]|jmp|jsr|ld[axy]|lsr|nop|ora"
-    "|p[hl][ap]|ro[lr]|rt[is]|sbc|se[cdi]|st[axy]|t(ax|ay|sx|xa|xs|ya))"
-)
+INSTRUCTION = f"({'|'.join(sorted(words.MNEMONICS))})"
 NAME = "[a-z_][a-z0-9_]*"
 
 HABITS: Tuple[Habit, ...] = (

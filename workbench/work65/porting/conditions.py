@@ -5,8 +5,8 @@ from typing import Dict, List, Optional, Sequence
 
 from work65.frontend import words
 from work65.frontend.edits import text_of_tokens
-from work65.frontend.statements import Statement, statement_of
-from work65.frontend.tokens import Kind, Token, line_of
+from work65.frontend.statements import Statement, statement_in
+from work65.frontend.tokens import Kind, Token
 from work65.porting.context import Block, Context
 from work65.porting.line import Unportable, replaced
 from work65.porting.logical import Logical
@@ -36,7 +36,7 @@ def alternatives(lines: Sequence[Logical]) -> Dict[int, List[str]]:
     for place, (_, text) in enumerate(lines):
         if "." not in text:
             continue
-        head = statement_of(line_of(text).tokens, lambda _: False).head
+        head = statement_in(text).head
         if head in words.CONDITIONS:
             opened.append(place)
             found[place] = []

@@ -5,7 +5,7 @@ from typing import Dict, List, Optional, Protocol, Sequence
 
 from work65.frontend import words
 from work65.frontend.macros import arguments_of, given_by, substituted
-from work65.frontend.statements import Statement, parts_of, statement_of
+from work65.frontend.statements import Statement, parts_of, statement_in, statement_of
 from work65.frontend.tokens import Kind, Token, line_of
 from work65.porting.expansion import HARD, Macro, end_of_repeat
 from work65.porting.line import Unportable
@@ -123,7 +123,7 @@ class Expander:
 
     def statement(self, text: str) -> Statement:
         """A line's statement."""
-        return statement_of(line_of(text, self.host.has_escapes).tokens, lambda _: False)
+        return statement_in(text, self.host.has_escapes)
 
     def line(self, frame: Frame, text: str) -> None:
         """Reads a line."""

@@ -3,7 +3,7 @@ from dataclasses import dataclass, field
 from typing import Dict, FrozenSet, List, Optional, Sequence, Set
 
 from work65.frontend import words
-from work65.frontend.statements import statement_of
+from work65.frontend.statements import block_length, statement_in, statement_of
 from work65.frontend.tokens import Kind, Token, line_of
 from work65.porting.characters import has_text
 from work65.porting.logical import Logical
@@ -110,7 +110,7 @@ def _is_difference(text: str) -> bool:
     """Whether a line takes the difference of two places as an address, or names it."""
     if "-" not in text:
         return False
-    statement = statement_of(line_of(text).tokens, lambda _: False)
+    statement = statement_in(text)
     rest = statement.rest
     if not rest or rest[0].text in ("#", "("):
         return False
@@ -121,12 +121,5 @@ def _is_difference(text: str) -> bool:
 
 def end_of_repeat(lines: Sequence[Logical], at: int) -> int:
     """The line that ends a repeat whose lines begin here."""
-    depth = 0
-    for place in range(at, len(lines)):
-        head = statement_of(line_of(lines[place].text).tokens, lambda _: False).head
-        if head in words.REPEAT_ENDS:
-            if depth == 0:
-                return place
-            depth -= 1
-        depth += head in words.REPEAT_BEGINS
-    return len(lines)
+    length = block_length((statement_in(it.text).head for it in lines[at:]), words.REPEAT_BEGINS, words.REPEAT_ENDS)
+    return len(lines) if length is None else at + length

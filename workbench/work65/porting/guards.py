@@ -1,8 +1,7 @@
 """Guards of included files: the name that a file asks for and defines, so that it counts once. No -D gives such a name."""
 from typing import List, Optional
 
-from work65.frontend.statements import Statement, statement_of
-from work65.frontend.tokens import line_of
+from work65.frontend.statements import Statement, statement_in
 
 
 def guard_of(lines: List[str]) -> Optional[str]:
@@ -27,4 +26,4 @@ def asked(statement: Statement) -> Optional[str]:
 
 
 def _statement(text: str) -> Statement:
-    return statement_of(line_of(text).tokens, lambda _: False)
+    return statement_in(text)

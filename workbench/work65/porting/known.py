@@ -4,8 +4,8 @@ from typing import Dict, FrozenSet, List, Optional, Sequence, Tuple
 
 from work65.frontend import words
 from work65.frontend.expression import value
-from work65.frontend.statements import Statement, parts_of, statement_of
-from work65.frontend.tokens import Kind, Token, line_of
+from work65.frontend.statements import Statement, parts_of, statement_in
+from work65.frontend.tokens import Kind, Token
 from work65.porting import defines, forms
 from work65.porting.characters import of_target
 from work65.porting.context import Context, Row
@@ -216,7 +216,7 @@ class Known:
         context = self.context
         if context.macro is None or context.macro not in context.macros:
             return
-        if statement_of(line_of(text, self.has_escapes).tokens, lambda _: False).head in words.MACRO_ENDS:
+        if statement_in(text, self.has_escapes).head in words.MACRO_ENDS:
             return
         if not context.defines.keys().isdisjoint(facts_of(text, self.has_escapes).names):
             try:

@@ -3,7 +3,7 @@ from typing import List, Optional, Sequence
 
 from work65.frontend import words
 from work65.frontend.expression import value
-from work65.frontend.statements import Statement, parts_of, statement_of
+from work65.frontend.statements import Statement, parts_of, statement_in
 from work65.frontend.tokens import Kind, Token, line_of
 from work65.porting.context import Context
 from work65.porting.line import Unportable, commented_out
@@ -20,7 +20,7 @@ def opened(text: str, statement: Statement, context: Context, following: Sequenc
     if number is None or context.macro is not None or context.repeats or any(it.is_live is not True for it in context.blocks):
         raise Unportable(".org", "org")
     for line in following:
-        one = statement_of(line_of(line.text).tokens, lambda _: False)
+        one = statement_in(line.text)
         if one.head in ENDS:
             break
         if _size(one, context) is None:

@@ -1,7 +1,7 @@
 """Macros and repeats: arguments, what stands for parameters, and the lines that come of a call, by docs/LANGUAGE.md."""
 import rows
 from work65.frontend.expression import value
-from work65.frontend.macros import arguments_of, substituted
+from work65.frontend.macros import arguments_of, given_by, substituted
 from work65.porting.expander import Expander
 from work65.porting.expansion import Macro, end_of_repeat, hard_macros
 from work65.porting.logical import Logical
@@ -20,6 +20,16 @@ ARGUMENTS = {
     "m (1,x), 2": ["(1", "x)", "2"],
     'm "a,b"': ['"a,b"'],
     "m <(a1+1) , y": ["<(a1+1)", "y"],
+    "m {1}{2}": ["{1}{2}"],
+    "m {1},{2,3}": ["1", "2,3"],
+    "m 1 {2,3} 4": ["1 {2,3} 4"],
+}
+# The arguments of a call of a macro with the parameters a1, b1 and c1, and what is given for each name.
+PARAMETERS = {
+    (): {"a1": "", "b1": "", "c1": "", ".paramcount": "0"},
+    ("1",): {"a1": "1", "b1": "", "c1": "", ".paramcount": "1"},
+    ("", "x,y"): {"a1": "", "b1": "x,y", "c1": "", ".paramcount": "2"},
+    ("1", "2", "3"): {"a1": "1", "b1": "2", "c1": "3", ".paramcount": "3"},
 }
 GIVEN = {"n": "5", "v": "a1, b1", "empty": "", ".paramcount": "2"}
 SUBSTITUTED = {
@@ -34,7 +44,12 @@ SUBSTITUTED = {
     "empty: nop": ": nop",
     " lda #'n'": " lda #'n'",
     "N = 1": "N = 1",
+    " .if .PARAMCOUNT = n": " .if 2 = 5",
+    " .byte n;n": " .byte 5;n",
+    " lda z:n": " lda z:5",
 }
+# Lines of a call, in which a local name has the number of the call.
+EXPANDED = {" bne l?3": " bne far", " bne l?31": " bne l?31", " bne l": " bne l", "l?3: nop": "far: nop"}
 REPEATS = {"nop|.endrepeat|nop": 1, ".repeat 2|nop|.endrep|.endrepeat": 3, "nop": 1, "l: .repeat 2|.endrepeat|.endrepeat": 2}
 MACROS = {
     "plain": ("value", "lda #value|sta $10"),
@@ -144,6 +159,12 @@ class Expansion(rows.Rows):
 
     def test_substituted(self):
         self.rows(SUBSTITUTED, lambda text: substituted(text, GIVEN, False))
+
+    def test_parameters(self):
+        self.rows(PARAMETERS, lambda given: given_by(["a1", "b1", "c1"], given))
+
+    def test_expanded(self):
+        self.rows(EXPANDED, lambda text: substituted(text, {"l?3": "far"}, is_expanded=True))
 
     def test_repeats(self):
         self.rows(REPEATS, lambda text: end_of_repeat([Logical(0, it) for it in text.split("|")], 0))

@@ -1,6 +1,9 @@
 """Linker scripts: their tokens, and their blocks, entries and attributes, as docs/SCRIPTS.md and cc65's ld65 have them."""
 import rows
+from work65.frontend.link_script import read_script, with_files
+from work65.frontend.script_sums import accepted_number, number_of, value_of
 from work65.frontend.scripts import blocks_of, symbols_of, words_of
+from work65.problem import Problem
 
 WORDS = {
     "": "",
@@ -40,6 +43,44 @@ SYMBOLS = {
     "symbols { a: type = import; } MEMORY { M: type = ro; }": {"a": "import"},
     "MEMORY { M: type = ro; }": {},
 }
+# Sums, and their values where B is 10 and U has none: a `-` subtracts only what follows it; cc65 has products and parentheses, too.
+SUMS = {
+    "5": 5, "$10 + 1": 17, "9 - 3 + 1": 7, "2 - 3 + 1": 0, "B + 2": 12, "B - B": 0, "2 + 3 * 4": 14, "(2 + 3) * 4": 20, "9 / 2": 4,
+    "-1 + 2": 1, "%101": 5, "0x10": 16, "4k": 4096, "1K + 1": 1025, "U": None, "U + 1": None, "5 +": None, "": None, "1 2": None,
+    "(1": None, "1 / 0": None, '"a"': None,
+}  # fmt: skip
+NUMBERS = {"10": "10", "$1F": "$1F", "0x1F": "$1F", "0XFF": "$FF", "%101": "$05", "%10101010": "$AA", "2k": "$0800", "64K": "$10000", "%102": "%102",
+           "k": "k", "B": "B"}
+# A script that bin65 accepts: its areas as (name, start, size, file, filled), its segments, and its exports.
+WHOLE = """MEMORY { ZP: start = 0, size = $100, file = ""; ROM: start = B, size = $8000 - B, fill = YES, file = "x.bin"; }
+SEGMENTS { CODE: load = ROM, type = RO; DATA: load = ROM, run = ZP, type = rw; BSS: load = ZP; }
+SYMBOLS { B: type = export, value = $10; W: type = import; }"""
+AREAS = [("ZP", "0", "$100", "", False), ("ROM", "B", "$8000 - B", "x.bin", True)]
+SEGMENTS = [("CODE", "ROM", "ROM", "ro"), ("DATA", "ROM", "ZP", "rw"), ("BSS", "ZP", "ZP", "rw")]
+NO_SCRIPTS = ("MEMORY { A: start = 1; }", "SEGMENTS { C: type = ro; }", "MEMORY { A: start = 1, size = 1;", "SYMBOLS { a: value = b; }")
+# The names of files are replaced by plain ones, and `out` by that of the output.
+FILES = {
+    "MEMORY { }": ("MEMORY { }", {}),
+    'file = "x";': ('file = "area0";', {"area0": "x"}),
+    'file = "x y", file = "z", file = "x y"': ('file = "area0", file = "area1", file = "area0"', {"area0": "x y", "area1": "z"}),
+    'file = "out"; # "x"': ('file = %O; # "x"', {}),
+    'file = ""; file = %O;': ('file = ""; file = %O;', {}),
+}
+
+
+def renamed(text):
+    """Returns a text with plain names for files, and the name for each of them."""
+    new, names = with_files(text, "out")
+    return new, {plain.strip('"'): name for plain, name in names.items()}
+
+
+def refused(text):
+    """Returns whether a text is no script."""
+    try:
+        read_script(text, "a.cfg")
+    except Problem as problem:
+        return str(problem) == "a.cfg is no script: see what bin65 ld65 says of it"
+    return False
 
 
 def shown(text):
@@ -72,3 +113,24 @@ class Scripts(rows.Rows):
 
     def test_symbols(self):
         self.rows(SYMBOLS, lambda text: {name: kind for name, (_, kind) in symbols_of(blocks_of(words_of(text))).items()})
+
+    def test_sums(self):
+        self.rows(SUMS, lambda text: value_of(words_of(text), {"B": 10, "U": None}))
+
+    def test_numbers(self):
+        self.rows(NUMBERS, accepted_number)
+        self.rows({"10": 10, "$1f": 31, "0x1f": 31, "4k": 4096, "%11": 3}, number_of)
+
+    def test_whole(self):
+        found = read_script(WHOLE, "a.cfg")
+        areas = [(it.name, rows.plain(it.start), rows.plain(it.size), it.file, it.is_filled) for it in found.areas]
+        segments = [(it.name, it.load, it.run, it.kind) for it in found.segments]
+        self.rows({"areas": AREAS, "segments": SEGMENTS, "exports": {"B": 16}},
+                  {"areas": areas, "segments": segments, "exports": found.exports}.get)
+        self.rows({"CODE": "ROM", "DATA": "ZP", "NONE": None}, lambda name: getattr(found.segment(name), "run", None))
+
+    def test_no_scripts(self):
+        self.rows(dict.fromkeys(NO_SCRIPTS, True), refused)
+
+    def test_files(self):
+        self.rows(FILES, renamed)

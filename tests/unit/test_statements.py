@@ -1,6 +1,6 @@
 """A line as a label and a statement, and a list as its parts."""
 import rows
-from work65.frontend.statements import is_instruction, parts_of
+from work65.frontend.statements import accepted_statement, block_length, is_instruction, parts_of
 
 # The label with its colon, if it has one; and the statement.
 LINES = {
@@ -54,12 +54,17 @@ PARTS = {
     '"a,b",c': ['"a,b"', "c"],
     "{1,{2,3}},4": ["{ 1 , { 2 , 3 } }", "4"],
 }
+# The same where parentheses have no meaning, as in the call of a macro.
+CALLS = {"(1,2),3": ["( 1", "2 )", "3"], "{1,2},3": ["{ 1 , 2 }", "3"], "a[1,2]": ["a [ 1", "2 ]"]}
+# In a program that bin65 accepts each label has its colon.
+ACCEPTED = {"loop lda #1": ("", "loop lda # 1"), "loop: m": ("loop:", "m"), "@l: rts": ("@l:", "rts"), "l?3: nop": ("l?3:", "nop")}
+# The heads of the lines after the one that opens a block, and how many lines the block has.
+BLOCKS = {".endrep": 0, "nop .endrepeat nop": 1, "nop .repeat .endrep nop .endrep .endrep": 4, "nop": None, "": None, ".repeat .endrep": None}
 INSTRUCTIONS = {"lda": True, "brk": True, "stz": True, "lax": True, "rmb0": True, "bbs7": True, "loop": False, "a": False, "ldaa": False}
 
 
-def shown(text):
-    """The label and the statement of a line, where `m` is a macro."""
-    found = rows.statement(text, "m")
+def shown(found):
+    """The label and the statement of a line."""
     label = found.label.text if found.label is not None else ""
     colon = ":" * (found.label is not None and found.has_colon and label != ":")
     return label + colon, rows.plain(found.body)
@@ -69,7 +74,17 @@ class Statements(rows.Rows):
     """Statements of lines."""
 
     def test_lines(self):
-        self.rows({**LINES, **BARE}, shown)
+        self.rows({**LINES, **BARE}, lambda text: shown(rows.statement(text, "m")))
+
+    def test_accepted(self):
+        self.rows(ACCEPTED, lambda text: shown(accepted_statement(text, is_expanded=True)))
+
+    def test_constants(self):
+        self.rows({"n = 5": True, "n := 5": True, "n: lda #5": False, "l: n = 5": True, "lda x": False, "": False, "n": False},
+                  lambda text: rows.statement(text).is_constant)
+
+    def test_blocks(self):
+        self.rows(BLOCKS, lambda heads: block_length(heads.split(), {".repeat"}, {".endrep", ".endrepeat"}))
 
     def test_heads(self):
         self.rows(HEADS, lambda text: rows.statement(text).head)
@@ -79,6 +94,9 @@ class Statements(rows.Rows):
 
     def test_parts(self):
         self.rows(PARTS, lambda text: [rows.plain(it) for it in parts_of(rows.tokens_of(text))])
+
+    def test_arguments(self):
+        self.rows(CALLS, lambda text: [rows.plain(it) for it in parts_of(rows.tokens_of(text), has_parentheses=False)])
 
     def test_instructions(self):
         self.rows(INSTRUCTIONS, is_instruction)

@@ -8,24 +8,25 @@ from work65.frontend.tokens import Kind, Token, line_of
 from work65.porting import ranges, shifts, spelling
 from work65.porting.expansion import Macro
 from work65.porting.facts import star_in
-from work65.porting.rewriter import Rewriter
+from work65.porting.known import ModuleState
 
 ASKING = frozenset((".ifdef", ".ifndef", ".defined", ".def"))
 BYTES = frozenset((".byte", ".byt"))
 BLANKS = frozenset((".ifblank", ".ifnblank"))
 
 
-class Calls(Rewriter):
+class Calls:
     """What is known of calls."""
 
-    here = 0
+    def __init__(self, state: ModuleState) -> None:
+        self.state, self.context, self.project = state, state.context, state.project
 
     def is_written_out(self, statement: Statement) -> bool:
         """Whether a statement is the call of a macro that is written out."""
         first = statement.body[0] if statement.body else None
         if first is None or first.kind is not Kind.NAME or first.text not in self.context.macros:
             return False
-        return first.text in self.hard or self.has_to_be_written(first.text, statement)
+        return first.text in self.state.hard or self.has_to_be_written(first.text, statement)
 
     def has_to_be_written(self, name: str, statement: Statement) -> bool:
         """Whether a call can't stay: for what changed since the macro was read, for its arguments, or for where it stands."""
@@ -41,7 +42,7 @@ class Calls(Rewriter):
             return True
         if any(self.has_codes(it) for it in rest if it.kind is Kind.STRING) and not self.takes_lists(name, rest):
             return True
-        if any(it.text in self.sized_names for it in rest) and any(it.directives & words.SCOPE_BEGINS for it in reached):
+        if any(it.text in self.state.sized_names for it in rest) and any(it.directives & words.SCOPE_BEGINS for it in reached):
             return True
         return self.is_hidden_there(reached, rest) or any(self.has_other_regions(it) for it in reached)
 
@@ -74,19 +75,19 @@ class Calls(Rewriter):
     def has_other_regions(self, macro: Macro) -> bool:
         """Whether a macro with cheap names of its own would end the region of those around its call."""
         own = {it for it in macro.locals if it[0] == "@"}
-        return bool(own) and (bool(macro.cheap - own) or bool(self.expanding) or self.is_spanned())
+        return bool(own) and (bool(macro.cheap - own) or bool(self.state.expanding) or self.is_spanned())
 
     def is_spanned(self) -> bool:
         """Whether cheap names stand on both sides of a line, in the region around it."""
-        own = self.cheap_names(range(self.here, self.here + 1))
-        before, after = self.cheap_names(range(self.here - 1, -1, -1)), self.cheap_names(range(self.here + 1, len(self.lines)))
+        own = self.cheap_names(range(self.state.here, self.state.here + 1))
+        before, after = self.cheap_names(range(self.state.here - 1, -1, -1)), self.cheap_names(range(self.state.here + 1, len(self.state.lines)))
         return bool(before | own) and bool(after | own) and bool(before | after)
 
     def cheap_names(self, places: range) -> Set[str]:
         """The cheap names of lines up to one with a label."""
         found: Set[str] = set()
         for at in places:
-            tokens = line_of(self.lines[at].text, self.has_escapes).tokens
+            tokens = line_of(self.state.lines[at].text, self.state.has_escapes).tokens
             found |= {it.text for it in tokens if it.kind is Kind.CHEAP}
             label = statement_of(tokens, self.project.is_macro).label
             if label is not None and label.kind is Kind.NAME or any(it.lower == ".proc" for it in tokens[:1]):
@@ -107,7 +108,7 @@ class Calls(Rewriter):
         """Whether a parameter is an element of lists of bytes wherever it stands."""
         macro = self.context.macros[name]
         for text in macro.lines:
-            tokens = line_of(text, self.has_escapes).tokens
+            tokens = line_of(text, self.state.has_escapes).tokens
             if not any(it.text == parameter for it in tokens):
                 continue
             statement = statement_of(tokens, self.project.is_macro)

@@ -22,7 +22,7 @@ PLACING = words.MNEMONICS | words.PLACING | words.UNDOCUMENTED | {".proc"}
 ASKING = frozenset((".ifdef", ".ifndef", ".ifblank", ".ifnblank"))
 
 
-class Known:
+class ModuleState:
     """A module, with what was seen of it so far."""
 
     def __init__(self, project: Project, module: str) -> None:
@@ -40,7 +40,7 @@ class Known:
         self.others: Optional[Tuple[List[Logical], Dict[int, List[str]]]] = None
         self.screen = ""
         self.given: Dict[int, int] = {}
-        self.expanding = self.number = 0
+        self.expanding = self.number = self.here = 0
         self.hard_key: Tuple[int, int, str, int] = (0, 0, "", 0)
         self.hard_names: FrozenSet[str] = frozenset()
         self.deferred: List[Tuple[str, str, int, Unportable]] = []

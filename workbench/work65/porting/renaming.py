@@ -3,11 +3,11 @@ from typing import Iterator, List, Optional, Sequence, Tuple
 
 from work65.frontend.edits import edited
 from work65.frontend.expression import value
-from work65.frontend.statements import Statement
+from work65.frontend.statements import Statement, parts_of, statement_of
 from work65.frontend.tokens import Kind, Token, line_of
-from work65.porting import conditions, guards, shifts, spelling
+from work65.porting import conditions, defines, guards, shifts, spelling
 from work65.porting.facts import facts_of
-from work65.porting.known import Known
+from work65.porting.known import ModuleState
 from work65.porting.line import Unportable
 
 Edit = Tuple[int, int, str]
@@ -15,14 +15,17 @@ ASKED = frozenset((".ifdef", ".ifndef"))
 MOST_ROUNDS = 20
 
 
-class Renaming(Known):
+class Renaming:
     """What is known of a module, and its names in the copy."""
+
+    def __init__(self, state: ModuleState) -> None:
+        self.state, self.context, self.project = state, state.context, state.project
 
     def settled(self, text: str, is_asked: bool) -> str:
         """A line with its names as they are in the copy and with its functions replaced, also names that functions spell."""
         for _ in range(MOST_ROUNDS):
             found = spelling.with_codes(self.renamed(text), self.context)
-            found = self.folder.folded(found, facts_of(found, self.has_escapes).directives, is_asked)
+            found = self.state.folder.folded(found, facts_of(found, self.state.has_escapes).directives, is_asked)
             if found == text:
                 break
             text = found
@@ -31,7 +34,7 @@ class Renaming(Known):
     def number_of(self, tokens: Sequence[Token]) -> Optional[int]:
         """The value of an expression, where it is the same in every assembly."""
         text = self.settled(" ".join(it.text for it in tokens), is_asked=False)
-        found = line_of(text, self.has_escapes).tokens
+        found = line_of(text, self.state.has_escapes).tokens
         shifts.refuse(found, self.context)
         return value(found, self.context.certain)
 
@@ -47,7 +50,7 @@ class Renaming(Known):
             return conditions.PROCESSORS[head] == 1
         name = guards.asked(statement) if head in (".ifdef", ".ifndef") else None
         if name is not None and (len(rest) == 1 or name in self.project.guards and not self.context.scopes):
-            known = self.is_defined(name)
+            known = self.state.is_defined(name)
             return None if known is None else known == (head == ".ifdef")
         return self.truth(rest) if head == ".if" else None
 
@@ -56,7 +59,7 @@ class Renaming(Known):
         context = self.context
         if not (context.locals or context.variables or context.cheap_constants or context.part or context.hoisted):
             return text
-        tokens = line_of(text, self.has_escapes).tokens
+        tokens = line_of(text, self.state.has_escapes).tokens
         edits: List[Edit] = []
         for at, it in enumerate(tokens):
             if it.text in context.locals:
@@ -140,9 +143,9 @@ class Renaming(Known):
         if key not in context.variables and name.text in context.seen:
             raise Unportable(name.text, "set", "it is used before its first line: cc65 takes its last value there")
         sure, found = value(rest, context.certain), value(rest, context.value)
-        self.end_part()
+        self.state.end_part()
         context.changing.add(name.text)
-        if self.expanding and sure is not None and sure >= 0:
+        if self.state.expanding and sure is not None and sure >= 0:
             context.variables[key] = str(sure)
             return []
         new = self.numbered(name.text)
@@ -174,7 +177,7 @@ class Renaming(Known):
         context.cheap_constants[name.text] = new
         key = context.path + (new,)
         context.constants[key] = value(statement.rest[1:], context.value)
-        if self.is_uncertain(new) or value(statement.rest[1:], context.certain) is None:
+        if self.state.is_uncertain(new) or value(statement.rest[1:], context.certain) is None:
             context.uncertain.add(key)
         return [edited(text, [(name.start, name.end, new)])]
 
@@ -186,6 +189,24 @@ class Renaming(Known):
             found = f"{name}_{number}"
         self.project.words.add(found)
         return found
+
+    def parsed(self, text: str) -> Statement:
+        """A line's statement."""
+        return statement_of(line_of(text, self.state.has_escapes).tokens, self.project.is_macro)
+
+    def prepared(self, text: str) -> str:
+        """A line with all its defines replaced."""
+        return spelling.respelled(defines.expanded(text, self.context, self.state.has_escapes, is_whole=True), self.context)
+
+    def decided(self, text: str) -> Optional[bool]:
+        """What a condition comes to, where it is known."""
+        statement = self.parsed(self.prepared(text))
+        return self.truth(statement.rest) if statement.head == ".elseif" else self.answer(statement)
+
+    def counted(self, text: str) -> Optional[int]:
+        """The count of a repeat, where it is known."""
+        parts = parts_of(self.parsed(self.prepared(text)).rest)
+        return self.number_of(parts[0]) if parts else None
 
 
 def _is_followed(tokens: Sequence[Token], at: int, *texts: str) -> bool:

@@ -12,9 +12,9 @@ from work65.porting.characters import as_elements
 from work65.porting.context import Scope
 from work65.porting.expansion import Macro
 from work65.porting.facts import facts_of
+from work65.porting.known import ModuleState
 from work65.porting.leaves import Line
 from work65.porting.line import Unportable, commented_out, replaced
-from work65.porting.project import Project
 from work65.porting.renaming import Renaming, global_definition
 
 # Directives of bin65 before which no label stands.
@@ -22,11 +22,12 @@ UNLABELLED = frozenset((".else", ".elseif", ".endif", ".local", ".exitmacro", ".
 Handler = Callable[[int, str, Statement], List[str]]
 
 
-class Rewriter(Renaming):
+class Rewriter:
     """What each statement becomes."""
 
-    def __init__(self, project: Project, module: str) -> None:
-        super().__init__(project, module)
+    def __init__(self, state: ModuleState, names: Renaming) -> None:
+        self.state, self.context, self.project = state, state.context, state.project
+        self.names = names
         self.handlers = self.all_handlers()
         self.original = ""
         self.has_lists = False
@@ -44,13 +45,13 @@ class Rewriter(Renaming):
             found = statements.STATEMENTS[head](text, statement, context)
             if head in (".proc", ".scope"):
                 return self.scope(found, statement)
-            self.note(statement)
+            self.state.note(statement)
             return self.with_size(found, statement)
         if statement.rest and statement.rest[0].lower == ".set":
-            return self.set(text, statement)
+            return self.names.set(text, statement)
         first = statement.body[0] if statement.body else None
         if first is not None and first.kind is Kind.CHEAP and statement.rest and statement.rest[0].text in ("=", ":="):
-            return self.cheap_constant(text, statement)
+            return self.names.cheap_constant(text, statement)
         if first is not None and first.kind is Kind.NAME:
             named = self.named(at, text, statement)
             if named is not None:
@@ -62,19 +63,19 @@ class Rewriter(Renaming):
         shifts.refuse(statement.body, context)
         if "force_range" in context.features:
             text = ranges.cut(text, statement, context)
-            statement = statement_of(line_of(text, self.has_escapes).tokens, self.project.is_macro)
+            statement = statement_of(line_of(text, self.state.has_escapes).tokens, self.project.is_macro)
         if head in words.DATA:
             found = statements.split_stars(text, statement, context)
             if len(found) > 1:
-                self.note(statement)
+                self.state.note(statement)
                 return self.with_size(found, statement)
-        self.note(statement)
+        self.state.note(statement)
         return self.with_size([text], statement)
 
     def guess(self, at: int, text: str, statement: Statement) -> None:
         """Notes a line that takes the absolute form by the rules: they count where the line isn't assembled, so isn't measured."""
-        if self.lines is self.project.logical(self.path) and forms.absolute(text, statement, self.context) != text:
-            self.project.guessed.add(Line(self.path, self.lines[at].number))
+        if self.state.lines is self.project.logical(self.state.path) and forms.absolute(text, statement, self.context) != text:
+            self.project.guessed.add(Line(self.state.path, self.state.lines[at].number))
 
     def named(self, at: int, text: str, statement: Statement) -> Optional[List[str]]:
         """The lines in place of a long branch, an undocumented instruction or a call of scrcode; None for anything else."""
@@ -83,22 +84,22 @@ class Rewriter(Renaming):
             return self.long_branch(text, statement)
         is_undocumented = head in words.UNDOCUMENTED or head == "nop" and bool(statement.rest)
         if is_undocumented and not self.project.is_macro(first.text) and context.processor == "6502x":
-            self.note(statement)
-            size = self.project.spread.sizes.get(Line(self.path, self.lines[at].number))
+            self.state.note(statement)
+            size = self.project.spread.sizes.get(Line(self.state.path, self.state.lines[at].number))
             return self.with_size(statements.as_data(text, statement, context, size), statement)
-        return self.screen_codes(text, statement) if first.text == "scrcode" and self.screen else None
+        return self.screen_codes(text, statement) if first.text == "scrcode" and self.state.screen else None
 
     def all_handlers(self) -> Dict[str, Callable[[int, str, Statement], List[str]]]:
         """What is done for a directive."""
         context = self.context
         found: Dict[str, Callable[[int, str, Statement], List[str]]] = {
-            ".define": lambda at, text, it: defines.defined(text, it, context, self.project.is_single(it, self.path)),
+            ".define": lambda at, text, it: defines.defined(text, it, context, self.project.is_single(it, self.state.path)),
             ".undefine": lambda at, text, it: self.undefined(text, it), ".undef": lambda at, text, it: self.undefined(text, it),
             ".macpack": lambda at, text, it: self.package(text, it),
             ".elseif": lambda at, text, it: self.other_question(at, text, it),
             ".endif": lambda at, text, it: conditions.closed(text, it, context), ".else": lambda at, text, it: self.other(text, it),
             ".endproc": lambda at, text, it: self.end_of_scope(text, it), ".endscope": lambda at, text, it: self.end_of_scope(text, it),
-            ".local": lambda at, text, it: self.local(text, it), "::": lambda at, text, it: self.global_constant(at, text, it),
+            ".local": lambda at, text, it: self.names.local(text, it), "::": lambda at, text, it: self.global_constant(at, text, it),
             ".org": self.org, ".reloc": lambda at, text, it: registers.closed(text, context),
             ".charmap": lambda at, text, it: self.charmap(text, it),
             ".pushcharmap": lambda at, text, it: self.charmap(text, it), ".popcharmap": lambda at, text, it: self.charmap(text, it),
@@ -136,14 +137,14 @@ class Rewriter(Renaming):
 
     def condition(self, at: int, text: str, statement: Statement) -> List[str]:
         """The line of a condition."""
-        if self.others is None or self.others[0] is not self.lines:
-            self.others = self.lines, conditions.alternatives(self.lines)
-        others = self.others[1].get(at, [])
+        if self.state.others is None or self.state.others[0] is not self.state.lines:
+            self.state.others = self.state.lines, conditions.alternatives(self.state.lines)
+        others = self.state.others[1].get(at, [])
         self.refuse_hidden(statement)
         shifts.refuse(statement.rest, self.context)
-        self.note(statement)
-        is_live = self.answer(statement) if self.context.macro is None else None
-        found = conditions.opened(text, statement, self.context, others, self.unique(at))
+        self.state.note(statement)
+        is_live = self.names.answer(statement) if self.context.macro is None else None
+        found = conditions.opened(text, statement, self.context, others, self.state.unique(at))
         self.context.blocks[-1].is_live = is_live
         self.context.blocks[-1].is_else_live = None if is_live is None else not is_live
         if statement.head == ".ifndef":
@@ -181,10 +182,10 @@ class Rewriter(Renaming):
     def other_question(self, at: int, text: str, statement: Statement) -> List[str]:
         """The line of an .elseif."""
         self.refuse_hidden(statement)
-        found = conditions.otherwise(text, statement, self.context, self.unique(at))
+        found = conditions.otherwise(text, statement, self.context, self.state.unique(at))
         if self.context.blocks:
             block = self.context.blocks[-1]
-            asked = self.truth(statement.rest) if block.is_else_live else None
+            asked = self.names.truth(statement.rest) if block.is_else_live else None
             if block.is_else_live is not False:
                 block.is_live = asked
                 block.is_else_live = None if asked is None else not asked
@@ -224,29 +225,29 @@ class Rewriter(Renaming):
         """A line behind an .org that labels and room alone follow."""
         found = registers.line(text, statement, self.context)
         for it in found:
-            self.note(statement_of(line_of(it).tokens, self.project.is_macro))
+            self.state.note(statement_of(line_of(it).tokens, self.project.is_macro))
         return found
 
     def org(self, at: int, text: str, statement: Statement) -> List[str]:
         """The line of an .org."""
         if "string_escapes" in self.context.features:
             raise Unportable(".org", "org")
-        return registers.opened(text, statement, self.context, self.lines[at + 1 :], self.depth == 1 and not self.expanding)
+        return registers.opened(text, statement, self.context, self.state.lines[at + 1 :], self.state.depth == 1 and not self.state.expanding)
 
     def global_constant(self, at: int, text: str, statement: Statement) -> List[str]:
         """A definition of a global name: without its `::`, and before all scopes."""
         context = self.context
         if len(statement.body) > 2 and statement.body[2].lower == ".set":
-            return self.set(text, statement)
+            return self.names.set(text, statement)
         plain = global_definition(text, statement)
         if plain is None or context.macro is not None or context.repeats:
             raise Unportable("::", "global-constant")
         name, rest = statement.body[1].text, statement.body[3:]
         if not context.scopes:
-            self.note_constant(name, rest)
+            self.state.note_constant(name, rest)
             return [plain]
         number = value(rest, context.value)
-        if number is None or context.scopes[0].path != self.path or name in context.seen:
+        if number is None or context.scopes[0].path != self.state.path or name in context.seen:
             raise Unportable(name, "global-constant", "it stands within a scope: move it out")
         context.scopes[0].row.before.append(plain.strip())
         context.constants[(name,)] = number
@@ -258,15 +259,15 @@ class Rewriter(Renaming):
         """What a line of data became, with its size behind it where something asks for that. Of a label alone, or before a call,
         it is 0."""
         label = statement.label
-        if label is None or label.text not in self.sized_names or self.context.macro is not None:
+        if label is None or label.text not in self.state.sized_names or self.context.macro is not None:
             return lines
         if label.kind is not Kind.NAME:
             return lines
         if not statement.body or statement.body[0].text in self.context.macros:
-            self.sizes[self.context.path + (label.text,)] = "0"
+            self.state.sizes[self.context.path + (label.text,)] = "0"
             return lines
-        name = self.free(f"sizeof_{label.text}")
-        self.sizes[self.context.path + (label.text,)] = name
+        name = self.names.free(f"sizeof_{label.text}")
+        self.state.sizes[self.context.path + (label.text,)] = name
         return [*lines, f"{name} = * - {label.text}"]
 
     def scope(self, lines: List[str], statement: Statement) -> List[str]:
@@ -276,11 +277,11 @@ class Rewriter(Renaming):
             return lines
         name = statement.rest[0].text if statement.rest and statement.rest[0].kind is Kind.NAME else ""
         if statement.head == ".proc" and name:
-            self.note_label(name)
-        scope = Scope(name, statement.head, self.rows[-1], self.path, context.segment)
-        if name and name in self.sized_names:
-            size = self.free(f"sizeof_{name}")
-            begin = name if statement.head == ".proc" else self.free(f"begin_of_{name}")
+            self.state.note_label(name)
+        scope = Scope(name, statement.head, self.state.rows[-1], self.state.path, context.segment)
+        if name and name in self.state.sized_names:
+            size = self.names.free(f"sizeof_{name}")
+            begin = name if statement.head == ".proc" else self.names.free(f"begin_of_{name}")
             scope.size = size
             if statement.head != ".proc":
                 lines = [f"{begin} = *", *lines]
@@ -295,18 +296,18 @@ class Rewriter(Renaming):
             return [text]
         scope = context.scopes.pop()
         context.cheap = set()
-        if scope.name in self.sized_names and scope.name and context.segment == scope.segment:
-            self.sizes[context.path + (scope.name,)] = scope.size
+        if scope.name in self.state.sized_names and scope.name and context.segment == scope.segment:
+            self.state.sizes[context.path + (scope.name,)] = scope.size
         return [text, *scope.behind]
 
     def listed(self, text: str, statement: Statement) -> List[str]:
         """A list of imports or exports."""
         context = self.context
         if not context.scopes or context.macro is not None:
-            return lists.listed(text, statement, context, self.project.global_names(self.module))
-        found = lists.hoisted(text, statement, context, self.project.global_names(self.module))
+            return lists.listed(text, statement, context, self.project.global_names(self.state.module))
+        found = lists.hoisted(text, statement, context, self.project.global_names(self.state.module))
         outer = context.scopes[0]
-        if outer.path != self.path:
+        if outer.path != self.state.path:
             raise Unportable(statement.head, "in-scope", "the scope is opened in another file")
         outer.row.before += [it for it in found.before if it not in outer.row.before]
         outer.behind += found.behind
@@ -321,29 +322,29 @@ class Rewriter(Renaming):
         number, name, priority = condes.entry_of(statement, context)
         if context.repeats or any(it.is_live is not True for it in context.blocks):
             why = Unportable(statement.head, "condes", "within a repeat or condition it can't be followed")
-            self.project.doubtful.append((self.path, self.lines[at].number, why))
+            self.project.doubtful.append((self.state.path, self.state.lines[at].number, why))
         else:
             self.project.entries[number, name] = priority
         first, last = statement.body[0], statement.body[-1]
         text = edited(text, [(first.start, last.end, f".export {name}")])
-        return self.listed(text, statement_of(line_of(text, self.has_escapes).tokens, self.project.is_macro))
+        return self.listed(text, statement_of(line_of(text, self.state.has_escapes).tokens, self.project.is_macro))
 
     def package(self, text: str, statement: Statement) -> List[str]:
         """A .macpack: a file of macros, or nothing where they are written out."""
         name = statement.rest[0].lower if statement.rest else ""
         if name in packages.SCREEN:
-            self.screen = name
+            self.state.screen = name
             return [commented_out(text)]
         if name not in packages.TEXTS:
             raise Unportable(name or ".macpack", "package", "there is no such package")
         if name == "cpu":
             self.context.constants.update({(it,): number for it, number in packages.processors().items()})
-        return replaced(text, statement, [f'.include "{self.project.package(self.path, name)}"'])
+        return replaced(text, statement, [f'.include "{self.project.package(self.state.path, name)}"'])
 
     def long_branch(self, text: str, statement: Statement) -> List[str]:
         """A long branch: to a label of the same scope further up it may be short."""
         context, target = self.context, statement.rest
-        self.note(statement)
+        self.state.note(statement)
         if self.project.is_own_macro(statement.body[0].text):
             return [text]
         if self.project.is_measured and context.macro is not None:
@@ -372,8 +373,8 @@ class Rewriter(Renaming):
 
     def screen_codes(self, text: str, statement: Statement) -> List[str]:
         """A call of scrcode as data."""
-        self.note(statement)
-        codes = [packages.screen_code(self.screen, it) for it in spelling.codes_of(text, statement, self.context)]
+        self.state.note(statement)
+        codes = [packages.screen_code(self.state.screen, it) for it in spelling.codes_of(text, statement, self.context)]
         elements = [f"${it:02X}" for it in codes] if self.context.charmap.codes else as_elements(codes)
         found = replaced(text, statement, [f".byte {', '.join(elements)}"]) if elements else replaced(text, statement, [])
         return [spelling.with_comment(found[0], [it.text for it in statement.rest if it.kind is Kind.STRING]), *found[1:]]

@@ -4,7 +4,7 @@ from typing import List, Optional, Sequence
 
 from work65.frontend import words
 from work65.frontend.edits import edited
-from work65.frontend.statements import Statement, parts_of, statement_of
+from work65.frontend.statements import Statement, statement_of
 from work65.frontend.tokens import Kind, line_of
 from work65.porting import conditions, defines, forms, spelling, structures
 from work65.porting.calls import Calls
@@ -13,13 +13,15 @@ from work65.porting.expander import Expander
 from work65.porting.expansion import HARD, OF_TOKENS, end_of_repeat
 from work65.porting.facts import Facts, facts_of
 from work65.porting.functions import FUNCTIONS
+from work65.porting.known import ModuleState
 from work65.porting.leaves import Line
 from work65.porting.line import Unportable, commented_out
 from work65.porting.logical import Logical
 from work65.porting.long_lines import MOST_BYTES, split
 from work65.porting.merging import merged
 from work65.porting.project import Project
-from work65.porting.rewriter import UNLABELLED
+from work65.porting.renaming import Renaming
+from work65.porting.rewriter import UNLABELLED, Rewriter
 
 # How deep files are included: bin65 takes 256.
 DEEPEST = 256
@@ -29,35 +31,39 @@ ASKED = frozenset((".if", ".elseif"))
 ALL_LINES = frozenset(("bracket_as_indirect", "force_range"))
 
 
-class Walk(Calls):
+class Walk:
     """One module: a source and what it includes."""
 
     def __init__(self, project: Project, module: str) -> None:
-        super().__init__(project, module)
-        self.handlers[".include"] = lambda at, text, it: self.include(text, it)
+        self.state = state = ModuleState(project, module)
+        self.context, self.project = state.context, project
+        self.names = Renaming(state)
+        self.rewriter = Rewriter(state, self.names)
+        self.calls = Calls(state)
+        self.rewriter.handlers[".include"] = lambda at, text, it: self.include(text, it)
 
     def file(self, path: str) -> str:
         """Walks a file, and answers by which name it is written."""
-        if self.depth > DEEPEST:
+        if self.state.depth > DEEPEST:
             return path
-        saved, others = (self.path, self.lines, self.rows, self.given), self.others
-        self.path, self.lines, self.rows, self.given = path, self.project.logical(path), [], {}
-        self.depth += 1
+        saved, others = (self.state.path, self.state.lines, self.state.rows, self.state.given), self.state.others
+        self.state.path, self.state.lines, self.state.rows, self.state.given = path, self.project.logical(path), [], {}
+        self.state.depth += 1
         at = 0
-        while at < len(self.lines):
+        while at < len(self.state.lines):
             at = self.line(at)
-        self.depth -= 1
-        written = self.project.keep(path, self.rows, self.module)
-        self.path, self.lines, self.rows, self.given = saved
-        self.others = others
+        self.state.depth -= 1
+        written = self.project.keep(path, self.state.rows, self.state.module)
+        self.state.path, self.state.lines, self.state.rows, self.state.given = saved
+        self.state.others = others
         return written
 
     def line(self, at: int) -> int:
         """Rewrites a line, and answers which is the next one."""
-        number, text = self.lines[at]
+        number, text = self.state.lines[at]
         row = Row(number, [text])
-        self.rows.append(row)
-        self.here, self.original = at, text
+        self.state.rows.append(row)
+        self.state.here, self.rewriter.original = at, text
         if self.context.is_dead and not self.goes_on(text):
             self.pass_by(row, text)
             return at + 1
@@ -67,12 +73,12 @@ class Walk(Calls):
                 return following
             row.lines = self.rewritten(at, text)
             if len(text) > MOST_BYTES or max(map(len, row.lines), default=0) > MOST_BYTES:
-                row.lines = [it for one in row.lines for it in split(one, self.has_escapes)]
+                row.lines = [it for one in row.lines for it in split(one, self.state.has_escapes)]
             self.note_names(text)
         except Unportable as it:
             row.lines = [text]
             row.is_dead = False
-            self.cannot(number, it)
+            self.state.cannot(number, it)
             self.recover(text)
         return at + 1
 
@@ -80,106 +86,88 @@ class Walk(Calls):
         """Notes which names a line has."""
         context = self.context
         if context.macro is None:
-            names = facts_of(text, self.has_escapes).names
+            names = facts_of(text, self.state.has_escapes).names
             context.seen |= names
             context.cheap_used |= {it for it in names if it[0] == "@"}
 
     def whole(self) -> None:
         """Walks the module from its first line to its last."""
-        self.file(self.module)
-        for name, path, number, why in self.deferred:
-            if name not in self.hard:
+        self.file(self.state.module)
+        for name, path, number, why in self.state.deferred:
+            if name not in self.state.hard:
                 self.project.cannot(path, number, why)
 
     def block(self, at: int, row: Row) -> Optional[int]:
         """Rewrites a repeat or a call that has to be written out; None where a line stands for itself."""
-        context, text = self.context, self.lines[at].text
+        context, text = self.context, self.state.lines[at].text
         if context.macro is not None or context.structures:
             return None
         has_repeat = "rep" in text.lower()
-        names = facts_of(text, self.has_escapes).names
+        names = facts_of(text, self.state.has_escapes).names
         if not has_repeat and (not context.macros or names.isdisjoint(context.macros) and names.isdisjoint(context.defines)):
             return None
-        statement = self.parsed(text)
+        statement = self.names.parsed(text)
         if has_repeat and statement.head in words.REPEAT_BEGINS:
             return self.repeat(at, row, statement)
         if any(it.text in context.defines for it in statement.body):
-            text = defines.expanded(text, context, self.has_escapes)
-            statement = self.parsed(text)
-        if not self.is_written_out(statement):
+            text = defines.expanded(text, context, self.state.has_escapes)
+            statement = self.names.parsed(text)
+        if not self.calls.is_written_out(statement):
             return None
         label = text[: statement.body[0].start].rstrip() if statement.label is not None else ""
-        prepared = self.prepared(text)
-        expander = Expander(self, context.macros, self.unique(at))
-        expander.call(prepared, self.parsed(prepared))
+        prepared = self.names.prepared(text)
+        expander = Expander(self, context.macros, self.state.unique(at))
+        expander.call(prepared, self.names.parsed(prepared))
         self.write_out(at, row, expander, label)
         return at + 1
 
     def repeat(self, at: int, row: Row, statement: Statement) -> Optional[int]:
         """Writes a repeat out that has to be; None where it may stay."""
-        end = end_of_repeat(self.lines, at + 1)
-        texts = [it.text for it in self.lines[at + 1 : end]]
-        is_spread = Line(self.path, self.lines[at].number) in self.project.spread.repeats
+        end = end_of_repeat(self.state.lines, at + 1)
+        texts = [it.text for it in self.state.lines[at + 1 : end]]
+        is_spread = Line(self.state.path, self.state.lines[at].number) in self.project.spread.repeats
         if not is_spread and not any(self.has_to_go(here, it) for here, it in enumerate(texts, at + 1)):
             return None
-        expander = Expander(self, self.context.macros, self.unique(at))
-        expander.repeat(texts, self.lines[at].text, {})
-        label = self.lines[at].text[: statement.body[0].start].rstrip() if statement.label is not None else ""
+        expander = Expander(self, self.context.macros, self.state.unique(at))
+        expander.repeat(texts, self.state.lines[at].text, {})
+        label = self.state.lines[at].text[: statement.body[0].start].rstrip() if statement.label is not None else ""
         self.write_out(at, row, expander, label)
         return end + 1
 
     def has_to_go(self, at: int, text: str) -> bool:
         """Whether a line has its repeat written out."""
-        self.here = at
-        tokens = line_of(text, self.has_escapes).tokens
-        return any(it.lower in HARD or it.text in self.hard for it in tokens) or self.is_written_out(self.parsed(text))
+        self.state.here = at
+        tokens = line_of(text, self.state.has_escapes).tokens
+        return any(it.lower in HARD or it.text in self.state.hard for it in tokens) or self.calls.is_written_out(self.names.parsed(text))
 
     def write_out(self, at: int, row: Row, expander: Expander, label: str) -> None:
         """Has a call or a repeat written out; the outermost one stays as a comment."""
-        context, text = self.context, self.lines[at].text
-        saved, depths = (self.lines, self.rows, self.others), (len(context.blocks), len(context.scopes))
-        self.number, self.rows = self.lines[at].number, []
-        self.expanding += 1
+        context, text = self.context, self.state.lines[at].text
+        saved, depths = (self.state.lines, self.state.rows, self.state.others), (len(context.blocks), len(context.scopes))
+        self.state.number, self.state.rows = self.state.lines[at].number, []
+        self.state.expanding += 1
         try:
             if label:
                 self.emit(label, ())
             expander.run()
-            lines = [line for it in self.rows for line in (*it.before, *it.lines)]
+            lines = [line for it in self.state.rows for line in (*it.before, *it.lines)]
         except Unportable:
             del context.blocks[depths[0] :], context.scopes[depths[1] :]
             raise
         finally:
-            self.expanding -= 1
-            self.lines, self.rows, self.others = saved
-        row.lines = lines if self.expanding else [commented_out(text), *merged(lines)]
+            self.state.expanding -= 1
+            self.state.lines, self.state.rows, self.state.others = saved
+        row.lines = lines if self.state.expanding else [commented_out(text), *merged(lines)]
 
     def emit(self, text: str, following: Sequence[str]) -> None:
         """Rewrites a line of a call that is written out."""
-        self.lines = [Logical(self.number, it) for it in (text, *following)]
+        self.state.lines = [Logical(self.state.number, it) for it in (text, *following)]
         self.line(0)
 
     @property
     def is_in_macro(self) -> bool:
         """Whether the lines of a macro are being read."""
         return self.context.macro is not None
-
-    def parsed(self, text: str) -> Statement:
-        """A line's statement."""
-        return statement_of(line_of(text, self.has_escapes).tokens, self.project.is_macro)
-
-    def prepared(self, text: str) -> str:
-        """A line with all its defines replaced."""
-        return spelling.respelled(defines.expanded(text, self.context, self.has_escapes, is_whole=True), self.context)
-
-    def decided(self, text: str) -> Optional[bool]:
-        """What a condition comes to, where it is known."""
-        statement = self.parsed(self.prepared(text))
-        return self.truth(statement.rest) if statement.head == ".elseif" else self.answer(statement)
-
-    def counted(self, text: str) -> Optional[int]:
-        """The count of a repeat, where it is known."""
-        parts = parts_of(self.parsed(self.prepared(text)).rest)
-        return self.number_of(parts[0]) if parts else None
 
     def goes_on(self, text: str) -> bool:
         """Whether a line ends the lines that are left out, or begins others."""
@@ -207,14 +195,14 @@ class Walk(Calls):
 
     def rewritten(self, at: int, text: str) -> List[str]:
         """The lines that stand in place of one."""
-        context, has_escapes = self.context, self.has_escapes
+        context, has_escapes = self.context, self.state.has_escapes
         facts = facts_of(text, has_escapes)
-        self.keep_line(text)
+        self.state.keep_line(text)
         if self.is_left(facts, has_escapes):
             if self.project.is_measured and forms.may_differ(facts.tokens, facts.names, context, False):
                 plain = statement_of(facts.tokens, self.project.is_macro)
                 if plain.head in words.MNEMONICS:
-                    self.guess(at, text, plain)
+                    self.rewriter.guess(at, text, plain)
             self.note_plain(facts)
             return [text]
         if not facts.tokens:
@@ -224,20 +212,20 @@ class Walk(Calls):
         text = spelling.respelled(text, context)
         if ".define" not in facts.directives:
             asked = BANK.findall(text) if ".bank" in facts.directives else ()
-            text = self.settled(text, is_asked=bool(facts.directives & ASKED))
+            text = self.names.settled(text, is_asked=bool(facts.directives & ASKED))
             text = spelling.with_comment(text, asked) if asked and not BANK.search(text) else text
         tokens = line_of(text, has_escapes).tokens
         statement = statement_of(tokens, self.project.is_macro)
-        self.has_lists = False
+        self.rewriter.has_lists = False
         if statement.body and statement.body[0].text in context.macros and facts_of(text, has_escapes).has_text:
-            self.has_lists = self.takes_lists(statement.body[0].text, statement.rest)
-            if self.has_lists:
-                text = self.with_lists(text, statement)
-                statement = self.parsed(text)
+            self.rewriter.has_lists = self.calls.takes_lists(statement.body[0].text, statement.rest)
+            if self.rewriter.has_lists:
+                text = self.calls.with_lists(text, statement)
+                statement = self.names.parsed(text)
         if context.structures and statement.head not in structures.CLOSERS and statement.head not in structures.OPENERS:
-            return self.finished(structures.member(text, statement, context), has_escapes, statement)
-        found = self.statement(at, text, statement)
-        return self.finished(found, has_escapes, statement)
+            return self.rewriter.finished(structures.member(text, statement, context), has_escapes, statement)
+        found = self.rewriter.statement(at, text, statement)
+        return self.rewriter.finished(found, has_escapes, statement)
 
     def is_left(self, facts: Facts, has_escapes: bool) -> bool:
         """Whether a line stays as it is."""
@@ -253,7 +241,7 @@ class Walk(Calls):
         names = facts.names
         if forms.may_differ(facts.tokens, names, context, self.project.is_measured):
             return False
-        if not self.sized_names.isdisjoint(names) or self.label_splits(facts):
+        if not self.state.sized_names.isdisjoint(names) or self.label_splits(facts):
             return False
         return context.defines.keys().isdisjoint(names) and not self.has_renamed(facts)
 
@@ -277,7 +265,7 @@ class Walk(Calls):
         if not tokens:
             return
         statement = statement_of(tokens, self.project.is_macro)
-        self.note(statement)
+        self.state.note(statement)
 
     def include(self, text: str, statement: Statement) -> List[str]:
         """A file that is included: it is walked here."""
@@ -285,9 +273,30 @@ class Walk(Calls):
             return [text]
         token = statement.rest[0]
         name = token.text.strip('"')
-        path, spelled = self.project.include(self.path, name)
+        path, spelled = self.project.include(self.state.path, name)
         if path is not None and self.context.macro is None:
             written = self.file(path)
             if written != path:
-                spelled = self.project.relative(written, self.path)
+                spelled = self.project.relative(written, self.state.path)
         return [text] if spelled == name else [edited(text, [(token.start, token.end, f'"{spelled}"')])]
+
+    @property
+    def has_escapes(self) -> bool:
+        """Whether a backslash in a string takes the next character with it."""
+        return self.state.has_escapes
+
+    def prepared(self, text: str) -> str:
+        """Returns a line with all its defines replaced."""
+        return self.names.prepared(text)
+
+    def is_written_out(self, statement: Statement) -> bool:
+        """Returns whether a statement is the call of a macro that is expanded in the copy."""
+        return self.calls.is_written_out(statement)
+
+    def decided(self, text: str) -> Optional[bool]:
+        """Returns whether a condition holds, None if that is unknown."""
+        return self.names.decided(text)
+
+    def counted(self, text: str) -> Optional[int]:
+        """Returns the count of a repeat, None if it is unknown."""
+        return self.names.counted(text)

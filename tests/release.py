@@ -143,7 +143,7 @@ def installed(checks, here, top):
     checks["the version of what is installed"] = run(top, f"{to}/bin/work65", "--version").stdout == f"work65 {VERSION}\n"
     for shell, place in zip(("bash", "zsh", "fish"), COMPLETIONS):
         own = open(f"{to}/share/{place.format('work65')}", encoding="utf-8").read()
-        checks[f"the completion for {shell}"] = run(top, f"{to}/bin/work65", "completion", shell).stdout == own and "--target" in own
+        checks[f"the completion for {shell}"] = run(top, f"{to}/bin/work65", "completion", shell).stdout == own and "target" in own
     checks["work65 runs"] = all("usage" in run(top, it, "--help").stdout for it in (f"{to}/bin/work65", f"{top}/work65")) and files(to) == want
     for page in ("bin65", "bin65-ca65", "bin65-ld65", "bin65-ar65"):
         text = open(f"{to}/share/man/man1/{page}.1", encoding="utf-8").read().partition(".SH SEE ALSO")[2]

@@ -5,7 +5,7 @@ import os
 from work65.commands.port import add_options, options_of
 from work65.frontend.files import read_bytes
 from work65.instrumenting.library import sources_of
-from work65.porting.program import NOT_COMPARED, Comparison, Line
+from work65.porting.program import NOT_COMPARED, Comparison, SecondOptions
 from work65.porting.tools import missing
 from work65.porting.verify import Library
 from work65.problem import Problem
@@ -48,7 +48,7 @@ def compared(arguments: argparse.Namespace) -> int:
             raise Problem(f"{it}: no such file")
         if read_bytes(it)[:4] in MADE_BY_CC65:
             raise Problem(f"{it}: is an object or a library of cc65's: give its sources, of a library by --library")
-    line = Line(arguments.script, arguments.sources, libraries, options_of(arguments), arguments.image)
+    line = SecondOptions(arguments.script, arguments.sources, libraries, options_of(arguments), arguments.image)
     with folder_for_a_while() as room:
         answer = Comparison(program, line, room, lacking is None).answer()
     for said in answer.lines:

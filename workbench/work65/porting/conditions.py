@@ -7,7 +7,7 @@ from work65.frontend import words
 from work65.frontend.edits import text_of_tokens
 from work65.frontend.statements import Statement, statement_in
 from work65.frontend.tokens import Kind, Token
-from work65.porting.context import Block, Context
+from work65.porting.context import Context, OpenCondition
 from work65.porting.line import Unportable, replaced
 from work65.porting.logical import Logical
 
@@ -51,16 +51,16 @@ def opened(text: str, statement: Statement, context: Context, others: Sequence[s
     """The line of a condition."""
     head = statement.head
     if head in PROCESSORS:
-        context.blocks.append(Block())
+        context.blocks.append(OpenCondition())
         return replaced(text, statement, [f".if {PROCESSORS[head]}"])
     if head != ".if" or not asks(statement.rest):
-        context.blocks.append(Block())
+        context.blocks.append(OpenCondition())
         return [text]
     parts = conjunction(text, statement.rest)
     if parts is not None and (len(parts) == 1 or not others):
-        context.blocks.append(Block(len(parts)))
+        context.blocks.append(OpenCondition(len(parts)))
         return replaced(text, statement, [it.asked for it in parts])
-    context.blocks.append(Block())
+    context.blocks.append(OpenCondition())
     lines, asked = counted(text, statement.rest, context, unique)
     return replaced(text, statement, [*lines, asked])
 

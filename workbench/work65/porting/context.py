@@ -8,7 +8,7 @@ from work65.porting.expansion import Macro
 
 
 @dataclass
-class Row:
+class RewrittenLine:
     """A line of a file, by its number, the lines in its place, and those that go before them."""
 
     number: int
@@ -29,13 +29,13 @@ class Define:
 
 
 @dataclass
-class Scope:
+class OpenScope:
     """An open scope: its name, its first line, the names used in it, and what is put
     behind its end; and the constant that has its size."""
 
     name: str
     word: str
-    row: Row
+    row: RewrittenLine
     path: str
     segment: str
     size: str = ""
@@ -62,7 +62,7 @@ class Structure:
 
 
 @dataclass
-class Block:
+class OpenCondition:
     """An open condition: how many .endif of bin65 end it, whether its lines are assembled, and whether those of an .else are
     (None where it isn't known); of an .ifndef, the name that it asks for."""
 
@@ -81,9 +81,9 @@ class Context:
     size_name: str = "size"
     saved_charmaps: List[Charmap] = field(default_factory=list)
     defines: Dict[str, Define] = field(default_factory=dict)
-    scopes: List[Scope] = field(default_factory=list)
+    scopes: List[OpenScope] = field(default_factory=list)
     structures: List[Structure] = field(default_factory=list)
-    blocks: List[Block] = field(default_factory=list)
+    blocks: List[OpenCondition] = field(default_factory=list)
     constants: Dict[Tuple[str, ...], Optional[int]] = field(default_factory=dict)
     sizes: Dict[str, Optional[int]] = field(default_factory=dict)
     labels: Dict[Tuple[str, ...], str] = field(default_factory=dict)

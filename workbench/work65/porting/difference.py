@@ -11,7 +11,7 @@ from work65.porting.tools import Linked, other_exports
 
 
 @dataclass(frozen=True)
-class Module:
+class LinkedModule:
     """A module as bin65 linked it: its source in the copy, and which lines put its bytes."""
 
     source: str
@@ -30,7 +30,7 @@ def first_file(cc65: Linked, bin65: Linked) -> Optional[Tuple[str, int]]:
 class Finder:
     """Finds the line of a byte."""
 
-    def __init__(self, ported: Ported, script: str, bin65: Linked, modules: Dict[str, Module]) -> None:
+    def __init__(self, ported: Ported, script: str, bin65: Linked, modules: Dict[str, LinkedModule]) -> None:
         self.ported, self.bin65, self.modules = ported, bin65, modules
         text, self.names = with_files(script, "image")
         self.layout: Optional[Layout] = None

@@ -44,7 +44,7 @@ class Host(Protocol):
 
 
 @dataclass
-class Condition:
+class ExpandedCondition:
     """An open condition: whether it was decided here, whether its lines count, and whether one of its parts did."""
 
     is_decided: bool
@@ -53,7 +53,7 @@ class Condition:
 
 
 @dataclass
-class Frame:
+class ExpansionFrame:
     """The lines of a call or of a repeat that is written out, and how far they were read."""
 
     lines: Sequence[str]
@@ -63,7 +63,7 @@ class Frame:
     is_repeat: bool = False
     at: int = 0
     turn: int = 0
-    conditions: List[Condition] = field(default_factory=list)
+    conditions: List[ExpandedCondition] = field(default_factory=list)
 
     @property
     def is_live(self) -> bool:
@@ -83,7 +83,7 @@ class Expander:
         self.host, self.macros = host, macros
         self.unique = re.sub(r"[^0-9A-Za-z]", "_", unique)
         self.calls = self.written = self.size = 0
-        self.frames: List[Frame] = []
+        self.frames: List[ExpansionFrame] = []
 
     def call(self, text: str, statement: Statement) -> None:
         """Begins a call."""
@@ -95,7 +95,7 @@ class Expander:
             raise Unportable(name, "macro-call", "it has too many arguments, or calls itself without an end")
         if macro.is_ambiguous:
             raise Unportable(name, "macro-call", "the macro has other lines where a condition holds: write the call out")
-        self.frames.append(Frame(macro.lines, given_by(macro.parameters, values)))
+        self.frames.append(ExpansionFrame(macro.lines, given_by(macro.parameters, values)))
 
     def repeat(self, lines: Sequence[str], text: str, given: Dict[str, str]) -> None:
         """Begins a repeat."""
@@ -105,7 +105,7 @@ class Expander:
             raise Unportable(".repeat", "match", "how often isn't known here: write the call out")
         counter = parts[1][0].text if len(parts) > 1 and parts[1] else ""
         if count > 0:
-            self.frames.append(Frame(lines, {**given, counter: "0"} if counter else dict(given), counter, count, True))
+            self.frames.append(ExpansionFrame(lines, {**given, counter: "0"} if counter else dict(given), counter, count, True))
 
     def run(self) -> None:
         """Reads the lines of all frames, the innermost first."""
@@ -125,7 +125,7 @@ class Expander:
         """A line's statement."""
         return statement_in(text, self.host.has_escapes)
 
-    def line(self, frame: Frame, text: str) -> None:
+    def line(self, frame: ExpansionFrame, text: str) -> None:
         """Reads a line."""
         self.size += len(text)
         if self.size > MOST_TEXT or len(text) > LONGEST:
@@ -166,7 +166,7 @@ class Expander:
                 frame.at = len(frame.lines)
                 return
 
-    def nested_repeat(self, frame: Frame, text: str, statement: Statement) -> None:
+    def nested_repeat(self, frame: ExpansionFrame, text: str, statement: Statement) -> None:
         """Writes a repeat within a call out, or leaves it as it is where its lines may stay."""
         end = end_of_repeat([Logical(0, it) for it in frame.lines], frame.at)
         body, frame.at = frame.lines[frame.at : end], end + 1
@@ -178,7 +178,7 @@ class Expander:
         for it in (text, *(substituted(it, frame.given, self.host.has_escapes) for it in body), ".endrepeat"):
             self.emit(it)
 
-    def has_to_go(self, text: str, frame: Frame) -> bool:
+    def has_to_go(self, text: str, frame: ExpansionFrame) -> bool:
         """Whether a line has its repeat written out."""
         tokens = line_of(substituted(text, frame.given, self.host.has_escapes), self.host.has_escapes).tokens
         statement = statement_of(tokens, lambda _: False)
@@ -186,7 +186,7 @@ class Expander:
             return True
         return self.host.is_written_out(statement)
 
-    def asks(self, frame: Frame, text: str, statement: Statement) -> bool:
+    def asks(self, frame: ExpansionFrame, text: str, statement: Statement) -> bool:
         """Goes past the line of a condition; False where it is none."""
         head, conditions = statement.head, frame.conditions
         if head in words.CONDITIONS:
@@ -197,14 +197,14 @@ class Expander:
             is_dead = not frame.is_live
             if known is None:
                 self.emit(text, [substituted(it, frame.given, self.host.has_escapes) for it in frame.lines[frame.at :]])
-            conditions.append(Condition(known is not None, known is not False, is_dead or known is not False))
+            conditions.append(ExpandedCondition(known is not None, known is not False, is_dead or known is not False))
         elif head in (".elseif", ".else", ".endif") and conditions:
             self.goes_on(conditions, text, head)
         else:
             return False
         return True
 
-    def goes_on(self, conditions: List[Condition], text: str, head: str) -> None:
+    def goes_on(self, conditions: List[ExpandedCondition], text: str, head: str) -> None:
         """Goes past what follows a condition."""
         one = conditions[-1]
         if not one.is_decided:

@@ -8,7 +8,7 @@ from work65.frontend.statements import Statement, parts_of, statement_in
 from work65.frontend.tokens import Kind, Token
 from work65.porting import defines, forms
 from work65.porting.characters import of_target
-from work65.porting.context import Context, Row
+from work65.porting.context import Context, RewrittenLine
 from work65.porting.expansion import HARD, Macro, hard_macros
 from work65.porting.facts import facts_of
 from work65.porting.functions import Folder
@@ -34,7 +34,7 @@ class ModuleState:
         self.folder = Folder(self.context, self.sized, self.is_defined, self.bank)
         self.sizes: Dict[Tuple[str, ...], str] = {}
         self.depth = 0
-        self.rows: List[Row] = []
+        self.rows: List[RewrittenLine] = []
         self.path = module
         self.lines: List[Logical] = []
         self.others: Optional[Tuple[List[Logical], Dict[int, List[str]]]] = None

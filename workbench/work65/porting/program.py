@@ -24,7 +24,7 @@ SHORT_TO_FAR, MOST = 8, 200
 
 
 @dataclass(frozen=True)
-class Line:
+class SecondOptions:
     """What a line of second asks for. `image` is the image to compare with in place of the one that cc65's tools make."""
 
     script: str
@@ -50,7 +50,7 @@ def with_lines(text: Text, lines: List[str]) -> str:
 class Comparison:
     """Compares one program."""
 
-    def __init__(self, program: Program, line: Line, room: str, has_cc65: bool) -> None:
+    def __init__(self, program: Program, line: SecondOptions, room: str, has_cc65: bool) -> None:
         self.line, self.has_cc65 = line, has_cc65
         self.script = text_of(line.script)
         paths = [*line.sources, *(it for library in line.libraries for it in library.members)]

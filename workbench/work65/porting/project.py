@@ -13,7 +13,7 @@ from work65.frontend.tokens import Kind, line_of
 from work65.habits.habit import Finding
 from work65.habits.table import BY_NAME
 from work65.output import words as words_of_path
-from work65.porting.context import Row
+from work65.porting.context import RewrittenLine
 from work65.porting.guards import guard_of
 from work65.porting.leaves import Line
 from work65.porting.line import Unportable
@@ -54,7 +54,7 @@ class Project:
     target: Optional[str]
     names: FrozenSet[str] = frozenset()
     tree: Tree = field(default_factory=Tree)
-    outputs: Dict[str, List[Row]] = field(default_factory=dict)
+    outputs: Dict[str, List[RewrittenLine]] = field(default_factory=dict)
     findings: Dict[Tuple[str, int, str], Finding] = field(default_factory=dict)
     sized_in: Dict[str, Set[str]] = field(default_factory=dict)
     size_name: str = "size"
@@ -259,7 +259,7 @@ class Project:
         self.packages.add(name)
         return os.path.relpath(os.path.join(OWN, f"{name}.mac"), os.path.dirname(path) or ".")
 
-    def keep(self, path: str, rows: List[Row], module: str) -> str:
+    def keep(self, path: str, rows: List[RewrittenLine], module: str) -> str:
         """Keeps what a file became, and answers its name. What means other things in another module is one more file."""
         for name in self.variants.setdefault(path, []):
             if self._joined(self.outputs[name], rows):
@@ -271,7 +271,7 @@ class Project:
             self.texts[name] = self.texts[path]
         return name
 
-    def _joined(self, before: List[Row], rows: List[Row]) -> bool:
+    def _joined(self, before: List[RewrittenLine], rows: List[RewrittenLine]) -> bool:
         """Joins two readings of a file where they agree in all lines that either of them assembles."""
         living = [(one, other) for one, other in zip(before, rows) if not one.is_dead and not other.is_dead]
         if any((one.lines, one.before) != (other.lines, other.before) for one, other in living):

@@ -9,7 +9,7 @@ from work65.frontend.tokens import Kind, Token, line_of
 from work65.porting import condes, conditions, defines, forms, guards, lists, packages, ranges, registers, shifts, spelling
 from work65.porting import statements, structures
 from work65.porting.characters import as_elements
-from work65.porting.context import Scope
+from work65.porting.context import OpenScope
 from work65.porting.expansion import Macro
 from work65.porting.facts import facts_of
 from work65.porting.known import ModuleState
@@ -278,7 +278,7 @@ class Rewriter:
         name = statement.rest[0].text if statement.rest and statement.rest[0].kind is Kind.NAME else ""
         if statement.head == ".proc" and name:
             self.state.note_label(name)
-        scope = Scope(name, statement.head, self.state.rows[-1], self.state.path, context.segment)
+        scope = OpenScope(name, statement.head, self.state.rows[-1], self.state.path, context.segment)
         if name and name in self.state.sized_names:
             size = self.names.free(f"sizeof_{name}")
             begin = name if statement.head == ".proc" else self.names.free(f"begin_of_{name}")

@@ -6,7 +6,7 @@ from typing import List, Optional
 from work65.diagnosing.message import message_of
 from work65.frontend.link_script import OUTPUT
 from work65.porting import filling, known_differences
-from work65.porting.difference import Finder, Module, difference
+from work65.porting.difference import Finder, LinkedModule, difference
 from work65.porting.port import Ported
 from work65.porting.tools import Linked, Options, Refused
 from work65.porting.verify import Outcome, Port, Verifier, Whole, is_same
@@ -145,7 +145,7 @@ class Judge:
             return ""
         script, cc65, bin65 = it.sides
         leaves = self.verifier.leaves(module) or []
-        return f"{path}: {difference(cc65, bin65, Finder(ported, script, bin65, {'ours.o': Module(module, leaves)}))}"
+        return f"{path}: {difference(cc65, bin65, Finder(ported, script, bin65, {'ours.o': LinkedModule(module, leaves)}))}"
 
     def refused(self, module: str, said: str) -> str:
         """What bin65 says of a copy, by the line of the original; nothing where a place of the source was said."""

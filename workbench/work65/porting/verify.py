@@ -12,7 +12,7 @@ from work65.instrumenting.build import Builder, Wanted
 from work65.instrumenting.copies import Constants
 from work65.instrumenting.sources import Closure
 from work65.porting import alone, copying, unasserted
-from work65.porting.difference import Finder, Module
+from work65.porting.difference import Finder, LinkedModule
 from work65.porting.forms import prefixed
 from work65.porting.leaves import Leaf, Line, of_debug_file, of_marks
 from work65.porting.measuring import Measure, Pair
@@ -42,15 +42,6 @@ class Outcome:
     debug: str = ""
     refusal: str = ""
     sides: Optional[Tuple[str, Linked, Linked]] = None
-
-
-@dataclass
-class Verdict:
-    """The copy, what differs or is refused, and what was compared."""
-
-    ported: Ported
-    lines: List[str] = field(default_factory=list)
-    last: str = ""
 
 
 @dataclass(frozen=True)
@@ -159,9 +150,9 @@ class Verifier:
 
     def finder(self, whole: Whole, bin65: Linked) -> Finder:
         """What finds the lines of bytes of the program."""
-        modules: Dict[str, Module] = {}
+        modules: Dict[str, LinkedModule] = {}
         for number, it in enumerate(whole.modules()):
-            modules[f"{number}.o"] = Module(it, self.leaves(it) or [])
+            modules[f"{number}.o"] = LinkedModule(it, self.leaves(it) or [])
         return Finder(self.ported, whole.ours, bin65, modules)
 
     # Sources alone.

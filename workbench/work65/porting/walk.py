@@ -8,7 +8,7 @@ from work65.frontend.statements import Statement, statement_of
 from work65.frontend.tokens import Kind, line_of
 from work65.porting import conditions, defines, forms, spelling, structures
 from work65.porting.calls import Calls
-from work65.porting.context import Block, Row
+from work65.porting.context import OpenCondition, RewrittenLine
 from work65.porting.expander import Expander
 from work65.porting.expansion import HARD, OF_TOKENS, end_of_repeat
 from work65.porting.facts import Facts, facts_of
@@ -61,7 +61,7 @@ class Walk:
     def line(self, at: int) -> int:
         """Rewrites a line, and answers which is the next one."""
         number, text = self.state.lines[at]
-        row = Row(number, [text])
+        row = RewrittenLine(number, [text])
         self.state.rows.append(row)
         self.state.here, self.rewriter.original = at, text
         if self.context.is_dead and not self.goes_on(text):
@@ -97,7 +97,7 @@ class Walk:
             if name not in self.state.hard:
                 self.project.cannot(path, number, why)
 
-    def block(self, at: int, row: Row) -> Optional[int]:
+    def block(self, at: int, row: RewrittenLine) -> Optional[int]:
         """Rewrites a repeat or a call that has to be written out; None where a line stands for itself."""
         context, text = self.context, self.state.lines[at].text
         if context.macro is not None or context.structures:
@@ -121,7 +121,7 @@ class Walk:
         self.write_out(at, row, expander, label)
         return at + 1
 
-    def repeat(self, at: int, row: Row, statement: Statement) -> Optional[int]:
+    def repeat(self, at: int, row: RewrittenLine, statement: Statement) -> Optional[int]:
         """Writes a repeat out that has to be; None where it may stay."""
         end = end_of_repeat(self.state.lines, at + 1)
         texts = [it.text for it in self.state.lines[at + 1 : end]]
@@ -140,7 +140,7 @@ class Walk:
         tokens = line_of(text, self.state.has_escapes).tokens
         return any(it.lower in HARD or it.text in self.state.hard for it in tokens) or self.calls.is_written_out(self.names.parsed(text))
 
-    def write_out(self, at: int, row: Row, expander: Expander, label: str) -> None:
+    def write_out(self, at: int, row: RewrittenLine, expander: Expander, label: str) -> None:
         """Has a call or a repeat written out; the outermost one stays as a comment."""
         context, text = self.context, self.state.lines[at].text
         saved, depths = (self.state.lines, self.state.rows, self.state.others), (len(context.blocks), len(context.scopes))
@@ -175,13 +175,13 @@ class Walk:
             return False
         return statement_of(line_of(text).tokens, self.project.is_macro).head in (".else", ".elseif", ".endif")
 
-    def pass_by(self, row: Row, text: str) -> None:
+    def pass_by(self, row: RewrittenLine, text: str) -> None:
         """Goes past a line that is left out: conditions alone count."""
         row.is_dead = True
         row.lines = [spelling.respelled(text, self.context)]
         head = statement_of(line_of(text).tokens, self.project.is_macro).head
         if head in words.CONDITIONS:
-            self.context.blocks.append(Block(1, False, False))
+            self.context.blocks.append(OpenCondition(1, False, False))
         elif head == ".endif":
             self.context.blocks.pop()
 
@@ -189,7 +189,7 @@ class Walk:
         """Goes past what a line that stays as it is opens and closes."""
         statement = statement_of(line_of(text).tokens, self.project.is_macro)
         if statement.head in words.CONDITIONS:
-            self.context.blocks.append(Block())
+            self.context.blocks.append(OpenCondition())
         elif statement.head in structures.CLOSERS and self.context.structures:
             self.context.structures.pop()
 

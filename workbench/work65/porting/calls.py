@@ -1,4 +1,4 @@
-"""Which calls have to be written out, and how those that stay are written."""
+"""Decides which calls are expanded in the copy, and rewrites the others."""
 from typing import List, Sequence, Set
 
 from work65.frontend import words
@@ -16,7 +16,7 @@ BLANKS = frozenset((".ifblank", ".ifnblank"))
 
 
 class Calls:
-    """What is known of calls."""
+    """The calls of a module."""
 
     def __init__(self, state: ModuleState) -> None:
         self.state, self.context, self.project = state, state.context, state.project
@@ -29,7 +29,7 @@ class Calls:
         return first.text in self.state.hard or self.has_to_be_written(first.text, statement)
 
     def has_to_be_written(self, name: str, statement: Statement) -> bool:
-        """Whether a call can't stay: for what changed since the macro was read, for its arguments, or for where it stands."""
+        """Returns whether a call must be expanded: for changes since the macro was read, for its arguments, or for its location."""
         context, rest = self.context, statement.rest
         reached = self.reached(name)
         if any(self.is_changed(it) for it in reached):
@@ -78,7 +78,7 @@ class Calls:
         return bool(own) and (bool(macro.cheap - own) or bool(self.state.expanding) or self.is_spanned())
 
     def is_spanned(self) -> bool:
-        """Whether cheap names stand on both sides of a line, in the region around it."""
+        """Returns whether cheap names are used before and after a line, in the region around it."""
         own = self.cheap_names(range(self.state.here, self.state.here + 1))
         before, after = self.cheap_names(range(self.state.here - 1, -1, -1)), self.cheap_names(range(self.state.here + 1, len(self.state.lines)))
         return bool(before | own) and bool(after | own) and bool(before | after)
@@ -105,7 +105,7 @@ class Calls:
         return all(self.is_element(name, it, 0) for it in given) and all(_is_list(it) for it in parts)
 
     def is_element(self, name: str, parameter: str, depth: int) -> bool:
-        """Whether a parameter is an element of lists of bytes wherever it stands."""
+        """Returns whether a parameter is only used as an element of lists of bytes."""
         macro = self.context.macros[name]
         for text in macro.lines:
             tokens = line_of(text, self.state.has_escapes).tokens

@@ -140,7 +140,7 @@ def _closing(tokens: Sequence[Token], at: int) -> int:
 
 
 def _split(tokens: Sequence[Token], signs: "frozenset[str]") -> List[Sequence[Token]]:
-    """The parts between signs that stand in no parentheses."""
+    """Returns the parts between operators outside parentheses."""
     found: List[Sequence[Token]] = []
     begin = depth = 0
     for at, it in enumerate(tokens):

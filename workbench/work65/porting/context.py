@@ -1,4 +1,4 @@
-"""What is known at a line of a module while its files are walked."""
+"""The open blocks, and the symbols known, at a line of a module."""
 from dataclasses import dataclass, field
 from typing import Dict, List, Optional, Set, Tuple
 
@@ -9,7 +9,7 @@ from work65.porting.expansion import Macro
 
 @dataclass
 class RewrittenLine:
-    """A line of a file, by its number, the lines in its place, and those that go before them."""
+    """A line of a file by its number, its replacement, and lines to insert before that."""
 
     number: int
     lines: List[str]
@@ -30,8 +30,8 @@ class Define:
 
 @dataclass
 class OpenScope:
-    """An open scope: its name, its first line, the names used in it, and what is put
-    behind its end; and the constant that has its size."""
+    """An open scope: its name, its first line, the constant with its size, the names used in it, and lines to insert after
+    its end."""
 
     name: str
     word: str
@@ -74,7 +74,7 @@ class OpenCondition:
 
 @dataclass
 class Context:
-    """All that is open and known."""
+    """All open blocks and known symbols."""
 
     charmap: Charmap
     features: Set[str] = field(default_factory=set)

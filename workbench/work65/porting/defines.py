@@ -1,4 +1,4 @@
-"""`.define`: numbers become constants, all else stands where it is used."""
+"""Converts `.define`: numbers become constants, other texts replace their uses."""
 from typing import List, Optional, Sequence, Tuple
 
 from work65.frontend import words
@@ -85,7 +85,7 @@ def _replaced(text: str, tokens: Sequence[Token], at: int, define: Define) -> st
 
 
 def _apart(text: str, start: int, body: str) -> str:
-    """A define's text; behind a sign with which its first one would be another sign, with a blank."""
+    """Returns a define's text, after a blank if it would join an operator before it."""
     return f" {body}" if text[start - 1 : start] in SIGNS and body[:1] in SIGNS and start > 0 and body else body
 
 

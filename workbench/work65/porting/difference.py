@@ -56,7 +56,7 @@ class Finder:
         return None
 
     def leaf(self, file: str, at: int) -> Optional[Tuple[Leaf, int]]:
-        """What one line put at a byte of a file, and which of its bytes that is."""
+        """Returns the leaf with a byte of a file, and the offset of the byte in it."""
         found = self.segment(file, at)
         part = None if found is None else self.module(*found)
         module = None if part is None else self.modules.get(part[0])
@@ -115,7 +115,7 @@ def difference(cc65: Linked, bin65: Linked, finder: Finder) -> str:
 
 
 def _unwritten(cc65: Linked, bin65: Linked) -> str:
-    """What differs where the files are the same: a segment's size, or the value of an export."""
+    """Returns the difference between two links with the same files: a segment's size, or an export's value."""
     for name in sorted({*cc65.sizes, *bin65.sizes}):
         if cc65.sizes.get(name, 0) != bin65.sizes.get(name, 0):
             return f"segment {name} has {cc65.sizes.get(name, 0)} bytes with cc65, {bin65.sizes.get(name, 0)} with bin65"

@@ -1,4 +1,4 @@
-"""Writes calls and repeats out, a line after the other, so that each line sees what the lines before it changed."""
+"""Expands calls and repeats, line by line, so that each line sees the changes of the lines before it."""
 import re
 from dataclasses import dataclass, field
 from typing import Dict, List, Optional, Protocol, Sequence
@@ -17,7 +17,7 @@ MOST_LINES, MOST_TEXT, LONGEST = 20000, 1000000, 4096
 
 
 class Host(Protocol):
-    """What walks the lines that are written out."""
+    """The walk that receives expanded lines."""
 
     @property
     def has_escapes(self) -> bool:
@@ -34,7 +34,7 @@ class Host(Protocol):
         """Whether a statement is the call of a macro that is written out."""
 
     def decided(self, text: str) -> Optional[bool]:
-        """What a condition comes to, where it is known."""
+        """Returns whether a condition holds, None if that is unknown."""
 
     def counted(self, text: str) -> Optional[int]:
         """The count of a repeat, where it is known."""
@@ -221,12 +221,12 @@ class Expander:
             conditions.pop()
 
     def answer(self, text: str, statement: Statement) -> Optional[bool]:
-        """What a condition comes to, where it is known."""
+        """Returns whether a condition holds, None if that is unknown."""
         if statement.head in (".ifblank", ".ifnblank"):
             return _is_blank(statement.rest) == (statement.head == ".ifblank")
         return self.host.decided(text)
 
 
 def _is_blank(tokens: Sequence[Token]) -> bool:
-    """Whether nothing but braces stands here."""
+    """Returns whether there are no tokens but braces."""
     return all(it.kind is Kind.SIGN and it.text in "{}" for it in tokens)

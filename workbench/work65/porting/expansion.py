@@ -1,4 +1,4 @@
-"""Macros that bin65 can't expand: what tells them, and what is known of each."""
+"""Macros, and which of them bin65 can't expand."""
 from dataclasses import dataclass, field
 from typing import Dict, FrozenSet, List, Optional, Sequence, Set
 
@@ -21,7 +21,7 @@ SCOPES = words.SCOPE_BEGINS | words.SCOPE_ENDS
 
 @dataclass
 class Macro:
-    """A macro of the tree: its parameters, its lines as they stand in the source, and what they have."""
+    """A macro of the tree: its parameters, its lines, and their directives, names and labels."""
 
     parameters: List[str]
     lines: List[str] = field(default_factory=list)

@@ -1,4 +1,4 @@
-"""What is known of a line by its text alone; lines that many files share are looked at once."""
+"""Properties of a line that follow from its text. Lines that files share are examined once."""
 from functools import lru_cache
 from typing import FrozenSet, NamedTuple, Sequence, Tuple
 

@@ -1,4 +1,4 @@
-"""Functions whose value is known where they stand: of strings, of numbers, of structures."""
+"""Replaces functions whose value is known at a line: of strings, numbers and structures."""
 import re
 from typing import Callable, Dict, List, Optional, Sequence, Tuple
 
@@ -282,7 +282,7 @@ def _quoted(text: str) -> Optional[str]:
 
 
 def _called(tokens: Sequence[Token], at: int) -> "tuple[Optional[int], List[Part]]":
-    """Where the call of a function ends, and its arguments; without parentheses the one token behind it."""
+    """Returns the index after the call of a function, and its arguments. Without parentheses it has one token."""
     if tokens[at + 1].text != "(":
         return None, []
     depth = braces = 0

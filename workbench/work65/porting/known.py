@@ -1,4 +1,4 @@
-"""What is known of a module while it is walked, and how it is asked."""
+"""The state of a module while it is walked: its files, its symbols, and queries."""
 import os
 from typing import Dict, FrozenSet, List, Optional, Sequence, Tuple
 
@@ -23,7 +23,7 @@ ASKING = frozenset((".ifdef", ".ifndef", ".ifblank", ".ifnblank"))
 
 
 class ModuleState:
-    """A module, with what was seen of it so far."""
+    """A module, with the symbols seen so far."""
 
     def __init__(self, project: Project, module: str) -> None:
         self.project = project

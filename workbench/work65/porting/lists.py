@@ -16,14 +16,14 @@ ZERO_PAGE = {".import": ".importzp", ".global": ".globalzp", ".export": ".export
 
 @dataclass
 class Names:
-    """What a list comes to: definitions, and names by directive."""
+    """The result of a list: definitions, and names by directive."""
 
     definitions: List[str] = field(default_factory=list)
     by_word: Dict[str, List[str]] = field(default_factory=dict)
 
 
 def listed(text: str, statement: Statement, context: Context, own: Sequence[str]) -> List[str]:
-    """A list that stands outside of all scopes."""
+    """Rewrites a list outside all scopes."""
     names = read(text, statement, context, own)
     if not names.definitions and list(names.by_word) == [statement.head]:
         if all(len(it) == 1 for it in parts_of(statement.rest)):
@@ -53,7 +53,7 @@ def read(text: str, statement: Statement, context: Context, own: Sequence[str]) 
 
 
 def _word(text: str, head: str, part: Sequence[Token], found: Names) -> str:
-    """The directive for one name, by the size behind it; a definition is noted."""
+    """Returns the directive for one name, by the size after it. Notes a definition."""
     rest, word = list(part[1:]), head
     if len(rest) > 1 and rest[0].text == ":":
         size, rest = rest[1], rest[2:]
@@ -70,7 +70,7 @@ def _word(text: str, head: str, part: Sequence[Token], found: Names) -> str:
 
 @dataclass
 class Hoisted:
-    """What a list within a scope comes to: lines before the outermost scope, and behind it."""
+    """The result of a list within a scope: lines before the outermost scope, and after it."""
 
     before: List[str] = field(default_factory=list)
     behind: List[str] = field(default_factory=list)
@@ -79,7 +79,7 @@ class Hoisted:
 
 
 def hoisted(text: str, statement: Statement, context: Context, is_global: Sequence[str]) -> Hoisted:
-    """A list within scopes: imports go before them, exports of names of the scope behind."""
+    """Rewrites a list within scopes: imports go before them, exports of names of the scope after them."""
     names = read(text, statement, context, is_global)
     found = Hoisted(inside=list(names.definitions))
     if not all(it.name for it in context.scopes):
@@ -100,7 +100,7 @@ def hoisted(text: str, statement: Statement, context: Context, is_global: Sequen
 
 
 def _exported(word: str, name: str, context: Context, is_global: Sequence[str]) -> List[str]:
-    """The lines behind the outermost scope that export a name of an inner one."""
+    """Returns the lines after the outermost scope that export a name of an inner one."""
     if name in is_global:
         raise Unportable(name, "in-scope", "the name is another one outside of the scope")
     return [f"{name} = {'::'.join([*context.path, name])}", f"{word} {name}"]

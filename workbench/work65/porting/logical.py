@@ -13,7 +13,7 @@ class Logical(NamedTuple):
 
 
 def logical_lines(lines: List[str], is_c: bool, is_continued: bool) -> List[Logical]:
-    """The lines of a file; with both features off they are as they stand."""
+    """Returns the lines of a file. With both features off they are unchanged."""
     found = [Logical(number, it) for number, it in enumerate(lines, 1)]
     if is_c and any("/*" in it for it in lines):
         found = _without_comments(found)
@@ -23,7 +23,7 @@ def logical_lines(lines: List[str], is_c: bool, is_continued: bool) -> List[Logi
 
 
 def _without_comments(lines: List[Logical]) -> List[Logical]:
-    """Comments between `/*` and `*/` as comments behind `;`."""
+    """Replaces comments between `/*` and `*/` by comments after `;`."""
     found, is_open = [], False
     for it in lines:
         code, comment, at, text = "", "", 0, it.text
@@ -68,7 +68,7 @@ def _with_comment(code: str, comment: str) -> str:
 
 
 def _joined(lines: List[Logical]) -> List[Logical]:
-    """Lines that go on behind a `\\` as one; a list of data goes on with its directive."""
+    """Joins lines that are continued by a `\\`. A list of data is continued by its directive."""
     found: List[Logical] = []
     at = 0
     while at < len(lines):

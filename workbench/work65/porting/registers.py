@@ -41,7 +41,7 @@ def closed(text: str, context: Context) -> List[str]:
 
 
 def line(text: str, statement: Statement, context: Context) -> List[str]:
-    """A line behind an .org: its label is a constant, what it places stays."""
+    """Rewrites a line after an .org: its label becomes a constant, and its data stays."""
     size, place, label = _size(statement, context), context.place, statement.label
     if size is None or place is None:
         raise Unportable(statement.head, "org")

@@ -16,7 +16,7 @@ MOST_ROUNDS = 20
 
 
 class Renaming:
-    """What is known of a module, and its names in the copy."""
+    """The names of a module in the copy."""
 
     def __init__(self, state: ModuleState) -> None:
         self.state, self.context, self.project = state, state.context, state.project
@@ -44,7 +44,7 @@ class Renaming:
         return None if found is None else found != 0
 
     def answer(self, statement: Statement) -> Optional[bool]:
-        """What a condition comes to, where that is the same in every assembly."""
+        """Returns whether a condition holds, if that is the same in every assembly."""
         head, rest = statement.head, statement.rest
         if head in conditions.PROCESSORS and self.context.processor == "6502":
             return conditions.PROCESSORS[head] == 1
@@ -129,7 +129,7 @@ class Renaming:
         return [edited(text, [(it.start, it.end, self.plain(it.text)) for it in cheap])]
 
     def set(self, text: str, statement: Statement) -> List[str]:
-        """A .set: a constant with a name of its own; in what is written out the value stands where the name is used."""
+        """Rewrites a .set to a constant with a name of its own. In expanded lines its value replaces the name."""
         context = self.context
         if context.macro is not None:
             return [text]

@@ -38,7 +38,7 @@ def _left_of(tokens: Sequence[Token], at: int) -> Sequence[Token]:
 
 
 def _is_end(tokens: Sequence[Token], at: int) -> bool:
-    """Whether an operator of a looser level, or what is no part of an expression, stands here."""
+    """Returns whether the next token is an operator of a lower precedence, or no part of an expression."""
     it = tokens[at]
     if it.text in ",#{}=" or it.text in ("<>", "<=", ">=", "&&", "||", "|", ":=", ":") or it.lower in words.MNEMONICS:
         return True

@@ -1,4 +1,4 @@
-"""What features allow that is spelling alone, and the characters of strings."""
+"""Rewrites spellings that features allow, and the characters of strings."""
 from typing import List, Optional, Sequence, Tuple
 
 from work65.frontend import words
@@ -151,7 +151,7 @@ def _data(text: str, statement: Statement, context: Context, has_escapes: bool) 
 
 
 def _moved(part: Sequence[Token]) -> List[Token]:
-    """Tokens as they stand in a text of their own."""
+    """Returns tokens with their positions in a text of their own."""
     start = part[0].start
     return [it._replace(start=it.start - start, end=it.end - start) for it in part]
 

@@ -69,6 +69,13 @@ PREFIXES = {
     " lda a:+1": "n lda  p a:  s +  0 1",
     " lda a:--1": "n lda  p a:  s -  s -  0 1",
     " lda b:c": "n lda  n b  s :  n c",
+    " lda z:<<9": "n lda  p z:  s <<  0 9",
+    " lda a:<=1": "n lda  p a:  s <=  0 1",
+    " lda z:>b": "n lda  p z:  s >  n b",
+    "z:+1": "n z  : :+  0 1",
+    "\tF: nop": "n F  s :  n nop",
+    "a::b": "n a  s ::  n b",
+    "a:=5": "n a  s :=  0 5",
     " lda az:c": "n lda  n az  s :  n c",
 }
 SIGNS = {

@@ -40,15 +40,17 @@ class LexedLine(NamedTuple):
 _COMMON = r"""(?P<space>[ \t]+)|(?P<comment>;.*)
 |(?P<string>"[^"]*"?)|(?P<character>'[^']'|'''|'[^']*'?)
 |(?P<number>\$[0-9A-Za-z_]*|%[0-9A-Za-z_]+|[0-9][0-9A-Za-z_]*)
-|(?P<directive>\.[A-Za-z_][0-9A-Za-z_]*)|(?P<cheap>@[0-9A-Za-z_]*)|(?P<name>[A-Za-z_][0-9A-Za-z_]*)
+|(?P<directive>\.[A-Za-z_][0-9A-Za-z_]*)|(?P<cheap>@[0-9A-Za-z_]*)|(?P<prefix>[AaZzFf]:(?![:=]))|(?P<name>[A-Za-z_][0-9A-Za-z_]*)
 |(?P<sign>::|:=|<>|<=|>=|<<|>>|&&|\|\|)|(?P<unnamed>:(?:\++|-+|<+|>+))|(?P<one>[-:+*/&|^~<>=!()\#,{}\[\]])|(?P<bad>.)"""
 _PLAIN = re.compile(_COMMON, re.X | re.S)
 _ESCAPED = re.compile(_COMMON.replace(r'"[^"]*"?', r'"(?:\\.|[^"\\])*"?'), re.X | re.S)
 # A name of .local in a line of a call: the name, `?` and the number of the call.
 _EXPANDED = re.compile(_COMMON.replace("(?P<name>", r"(?P<name>[A-Za-z_][0-9A-Za-z_]*\?[0-9]+|"), re.X | re.S)
+# At the beginning of a line, a letter that is a size prefix elsewhere is a label.
+_LABEL = re.compile(r"[ \t]*([AaZzFf])(?=:)")
 _KINDS = {
     "string": Kind.STRING, "character": Kind.CHARACTER, "number": Kind.NUMBER, "directive": Kind.DIRECTIVE,
-    "cheap": Kind.CHEAP, "name": Kind.NAME, "sign": Kind.SIGN, "unnamed": Kind.UNNAMED, "one": Kind.SIGN, "bad": Kind.BAD,
+    "cheap": Kind.CHEAP, "prefix": Kind.PREFIX, "name": Kind.NAME, "sign": Kind.SIGN, "unnamed": Kind.UNNAMED, "one": Kind.SIGN, "bad": Kind.BAD,
 }
 
 
@@ -56,9 +58,13 @@ _KINDS = {
 def line_of(text: str, has_escapes: bool = False, is_expanded: bool = False) -> LexedLine:
     """Splits a line into tokens. With escapes, a backslash in a string takes the next character with it. In an expanded line, the
     names of .local have the numbers that bin65 gives them."""
-    found = []
+    found: List[Token] = []
     comment = len(text)
-    for match in (_ESCAPED if has_escapes else _EXPANDED if is_expanded else _PLAIN).finditer(text):
+    label = _LABEL.match(text)
+    if label:
+        found.append(Token(Kind.NAME, label[1], label[1].lower(), label.start(1), label.end(1)))
+    pattern = _ESCAPED if has_escapes else _EXPANDED if is_expanded else _PLAIN
+    for match in pattern.finditer(text, label.end(1) if label else 0):
         group = match.lastgroup or "bad"
         if group == "space":
             continue
@@ -67,26 +73,7 @@ def line_of(text: str, has_escapes: bool = False, is_expanded: bool = False) -> 
             break
         word = match[0]
         found.append(Token(_KINDS[group], word, word.lower(), match.start(), match.end()))
-    return LexedLine(tuple(_with_prefixes(found)), comment)
-
-
-def _with_prefixes(tokens: List[Token]) -> List[Token]:
-    """Joins `a`, `z` or `f` and a colon right after it to a size prefix."""
-    found: List[Token] = []
-    at = 0
-    while at < len(tokens):
-        one = tokens[at]
-        if at > 0 and one.lower in ("a", "z", "f") and at + 1 < len(tokens) and tokens[at + 1].start == one.end:
-            colon = tokens[at + 1]
-            if colon.text == ":" or colon.kind is Kind.UNNAMED:
-                found.append(Token(Kind.PREFIX, one.text + ":", one.lower + ":", one.start, one.end + 1))
-                signs = enumerate(colon.text[1:], one.end + 1)
-                found += [Token(Kind.SIGN, it, it, place, place + 1) for place, it in signs]
-                at += 2
-                continue
-        found.append(one)
-        at += 1
-    return found
+    return LexedLine(tuple(found), comment)
 
 
 _NUMBER = re.compile(r"\$[0-9A-Fa-f]+|%[01]+|[0-9]+|[0-9][0-9A-Fa-f]*h", re.A)

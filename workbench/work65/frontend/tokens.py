@@ -37,10 +37,10 @@ class LexedLine(NamedTuple):
     comment: int
 
 
-_COMMON = r"""(?P<space>[ \t]+)|(?P<comment>;.*)
+_COMMON = r"""(?P<space>[ \t]+)|(?P<prefix>[AaZzFf]:(?![:=]))|(?P<name>[A-Za-z_][0-9A-Za-z_]*)|(?P<comment>;.*)
 |(?P<string>"[^"]*"?)|(?P<character>'[^']'|'''|'[^']*'?)
 |(?P<number>\$[0-9A-Za-z_]*|%[0-9A-Za-z_]+|[0-9][0-9A-Za-z_]*)
-|(?P<directive>\.[A-Za-z_][0-9A-Za-z_]*)|(?P<cheap>@[0-9A-Za-z_]*)|(?P<prefix>[AaZzFf]:(?![:=]))|(?P<name>[A-Za-z_][0-9A-Za-z_]*)
+|(?P<directive>\.[A-Za-z_][0-9A-Za-z_]*)|(?P<cheap>@[0-9A-Za-z_]*)
 |(?P<sign>::|:=|<>|<=|>=|<<|>>|&&|\|\|)|(?P<unnamed>:(?:\++|-+|<+|>+))|(?P<one>[-:+*/&|^~<>=!()\#,{}\[\]])|(?P<bad>.)"""
 _PLAIN = re.compile(_COMMON, re.X | re.S)
 _ESCAPED = re.compile(_COMMON.replace(r'"[^"]*"?', r'"(?:\\.|[^"\\])*"?'), re.X | re.S)
@@ -54,10 +54,15 @@ _KINDS = {
 }
 
 
-@lru_cache(maxsize=1 << 16)
 def line_of(text: str, has_escapes: bool = False, is_expanded: bool = False) -> LexedLine:
     """Splits a line into tokens. With escapes, a backslash in a string takes the next character with it. In an expanded line, the
     names of .local have the numbers that bin65 gives them."""
+    return _lexed(text, has_escapes, is_expanded)
+
+
+@lru_cache(maxsize=1 << 16)
+def _lexed(text: str, has_escapes: bool, is_expanded: bool) -> LexedLine:
+    """Splits a line into tokens. Many lines of a program are the same."""
     found: List[Token] = []
     comment = len(text)
     label = _LABEL.match(text)

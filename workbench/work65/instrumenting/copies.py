@@ -9,7 +9,7 @@ from enum import Enum
 from typing import Iterator, List, Optional, Set, Tuple
 
 from work65.frontend.includes import word_of
-from work65.frontend.tokens import Kind, line_of
+from work65.frontend.tokens import Kind
 from work65.instrumenting.marks import Marks, Sign
 from work65.instrumenting.roles import LOCATED, Role
 from work65.instrumenting.sources import Closure, Source, SourceLine
@@ -55,7 +55,8 @@ class CopyNames:
 
 def free_names(closure: Closure) -> CopyNames:
     """Returns names that no file contains."""
-    used = {it.text.strip('"') for source in closure.sources.values() for line in source.lines for it in line_of(line.text).tokens}
+    lines = (it.statement for source in closure.sources.values() for it in source.lines)
+    used = {it.text.strip('"') for statement in lines for it in (statement.label, *statement.body) if it is not None}
     number = 65
     while any(it.startswith((f"W{number}_", f"w{number}_")) for it in used):
         number += 1

@@ -14,7 +14,7 @@ class Part(NamedTuple):
     size: int
 
 
-class Placed(NamedTuple):
+class PlacedSegment(NamedTuple):
     """A segment: its run and load addresses, and its size."""
 
     name: str
@@ -36,10 +36,10 @@ class Map:
     """A map."""
 
     modules: List[Module] = field(default_factory=list)
-    rows: List[Placed] = field(default_factory=list)
+    rows: List[PlacedSegment] = field(default_factory=list)
     symbols: Dict[str, int] = field(default_factory=dict)
 
-    def row(self, name: str) -> Placed:
+    def row(self, name: str) -> PlacedSegment:
         """Returns the row of a segment."""
         return next(it for it in self.rows if it.name == name)
 
@@ -60,7 +60,7 @@ def read_map(data: bytes, name: str) -> Map:
                 found.modules.append(Module(line))
         for line in lines[first + 1 : second]:
             segment, run, load, size = line.split()
-            found.rows.append(Placed(segment, int(run, 16), int(load, 16), int(size, 16)))
+            found.rows.append(PlacedSegment(segment, int(run, 16), int(load, 16), int(size, 16)))
         for line in lines[second + 1 : -1]:
             symbol, value = line.split()
             found.symbols[symbol] = int(value, 16)

@@ -23,7 +23,7 @@ from work65.progress import Progress
 
 
 @dataclass(frozen=True)
-class Wanted:
+class BuildOptions:
     """The arguments of a build."""
 
     script: str
@@ -51,7 +51,7 @@ class Unit:
 class Build:
     """The result of a build."""
 
-    wanted: Wanted
+    wanted: BuildOptions
     units: List[Unit]
     layout: Layout
     files: Dict[str, bytes] = field(default_factory=dict)
@@ -76,11 +76,11 @@ def add_assembler_arguments(parser: argparse.ArgumentParser) -> None:
     add("-g", action="store_true", help="accepted, as ca65 does; without effect")
 
 
-def wanted_of(arguments: argparse.Namespace) -> Wanted:
+def wanted_of(arguments: argparse.Namespace) -> BuildOptions:
     """Returns the arguments of a build from a command line."""
     image = "a.out" if arguments.image is None else arguments.image
     words = (arguments.script, arguments.sources, arguments.folders, arguments.defines, arguments.libraries)
-    return Wanted(*words, image, arguments.image is not None)
+    return BuildOptions(*words, image, arguments.image is not None)
 
 
 def is_linked_as_it_is(name: str) -> bool:
@@ -96,7 +96,7 @@ def in_library(module: str) -> str:
 class Builder:
     """Runs the steps of a build."""
 
-    def __init__(self, program: Program, wanted: Wanted, folder: str, constants: Constants) -> None:
+    def __init__(self, program: Program, wanted: BuildOptions, folder: str, constants: Constants) -> None:
         self.program, self.wanted, self.folder, self.constants = program, wanted, folder, constants
         self.options = [f"-I{it}" for it in wanted.folders] + [f"-D{it}" for it in wanted.defines]
         self.units: List[Unit] = []
@@ -252,7 +252,7 @@ class Builder:
         return read_object(read_bytes(name))
 
 
-def build(program: Program, wanted: Wanted, folder: str, constants: Constants) -> Build:
+def build(program: Program, wanted: BuildOptions, folder: str, constants: Constants) -> Build:
     """Builds in a folder. Turns off garbage collection, since nothing is discarded before the end."""
     gc.disable()
     return Builder(program, wanted, folder, constants).build()

@@ -2,7 +2,7 @@
 from dataclasses import dataclass, field
 from typing import Dict, List, Optional, Sequence
 
-from work65.formats.maps import Map, Placed
+from work65.formats.maps import Map, PlacedSegment
 from work65.frontend.link_script import Area, Script, Segment
 from work65.frontend.script_sums import UnknownName, evaluated
 from work65.frontend.scripts import Word
@@ -12,16 +12,16 @@ UNWRITTEN = ("bss", "zp")
 
 
 @dataclass
-class Room:
+class PlacedArea:
     """A memory area after the link: its addresses, the segments that run or load in it, and the offset of its bytes in its file."""
 
     area: Area
     start: int
     size: int
-    rows: List[Placed] = field(default_factory=list)
+    rows: List[PlacedSegment] = field(default_factory=list)
     offset: int = 0
 
-    def address(self, placed: Placed, segment: Segment) -> int:
+    def address(self, placed: PlacedSegment, segment: Segment) -> int:
         """Returns the address of a segment in this area."""
         return placed.run if segment.run == self.area.name else placed.load
 
@@ -32,7 +32,7 @@ class Layout:
 
     script: Script
     map: Map
-    rooms: Dict[str, Room] = field(default_factory=dict)
+    rooms: Dict[str, PlacedArea] = field(default_factory=dict)
 
     def place_in_file(self, segment: str) -> Optional[int]:
         """Returns the offset of a segment in its file, None if it isn't written to one."""
@@ -52,11 +52,11 @@ class Layout:
         row = self.script.segment(segment)
         return self.rooms[row.load].area.file if row else ""
 
-    def used(self, room: Room) -> int:
+    def used(self, room: PlacedArea) -> int:
         """Returns the number of bytes in an area that segments use."""
         return sum(it.size for it in room.rows)
 
-    def free(self, room: Room) -> int:
+    def free(self, room: PlacedArea) -> int:
         """Returns the number of bytes in an area that no segment uses."""
         return room.size - self.used(room)
 
@@ -85,14 +85,14 @@ class AreaPlacer:
         script = self.layout.script
         ends: Dict[str, int] = {}
         for area in script.areas:
-            room = Room(area, self.sum(area.start), self.sum(area.size))
+            room = PlacedArea(area, self.sum(area.start), self.sum(area.size))
             self.layout.rooms[area.name] = room
             self.fill(room)
             room.offset = ends.get(area.file, 0)
             ends[area.file] = room.offset + self.length(room)
         return self.layout
 
-    def fill(self, room: Room) -> None:
+    def fill(self, room: PlacedArea) -> None:
         """Adds the segments of an area, and the symbols that it defines."""
         name, last = room.area.name, room.start
         for row in self.layout.script.segments:
@@ -104,7 +104,7 @@ class AreaPlacer:
                 last = room.address(placed, row) + placed.size
         self.names.update({f"__{name}_START__": room.start, f"__{name}_SIZE__": room.size, f"__{name}_LAST__": last})
 
-    def length(self, room: Room) -> int:
+    def length(self, room: PlacedArea) -> int:
         """Returns the number of bytes that an area writes to its file."""
         if room.area.is_filled:
             return room.size

@@ -2,9 +2,9 @@
 from dataclasses import asdict, dataclass, field
 from typing import Dict, List, Sequence
 
-from work65.formats.maps import Placed
+from work65.formats.maps import PlacedSegment
 from work65.instrumenting.build import Unit
-from work65.instrumenting.layout import Layout, Room
+from work65.instrumenting.layout import Layout, PlacedArea
 from work65.instrumenting.names import scope_name
 
 
@@ -64,13 +64,13 @@ class Sizes:
         return asdict(self)
 
 
-def segment_of(layout: Layout, placed: Placed) -> SegmentSize:
+def segment_of(layout: Layout, placed: PlacedSegment) -> SegmentSize:
     """Returns the size of a segment."""
     entry = layout.script.segment(placed.name)
     return SegmentSize(placed.name, placed.run, placed.load, placed.size, entry.run if entry else "", entry.load if entry else "")
 
 
-def area_of(layout: Layout, room: Room) -> AreaSize:
+def area_of(layout: Layout, room: PlacedArea) -> AreaSize:
     """Returns the size of an area."""
     segments = [segment_of(layout, it) for it in room.rows]
     return AreaSize(room.area.name, room.start, room.size, layout.used(room), layout.free(room), segments)

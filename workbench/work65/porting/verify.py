@@ -8,7 +8,7 @@ from typing import Callable, Dict, Iterable, List, Optional, Sequence, Set, Tupl
 from work65.diagnosing.message import message_of
 from work65.frontend import words
 from work65.frontend.linked_tree import LinkedTree
-from work65.instrumenting.build import Builder, Wanted
+from work65.instrumenting.build import Builder, BuildOptions
 from work65.instrumenting.copies import Constants
 from work65.instrumenting.sources import Closure
 from work65.porting import alone, copying, unasserted
@@ -324,7 +324,7 @@ class Verifier:
         """Which lines of the copy put which bytes, where bin65 takes it."""
         ours, folder = self.ours(), tempfile.mkdtemp(dir=self.room)
         source = os.path.join(self.copy, module)
-        wanted = Wanted("", [source], [os.path.join(self.copy, it) for it in ours.include], ours.define, [], "")
+        wanted = BuildOptions("", [source], [os.path.join(self.copy, it) for it in ours.include], ours.define, [], "")
         builder = Builder(self.program, wanted, folder, Constants.NONE)
         try:
             unit = builder.assemble(source, "object", "object")

@@ -7,7 +7,7 @@ from work65.problem import Problem
 
 
 def words(name: str) -> str:
-    """A file's name as a text of bytes, as the texts of sources are."""
+    """Returns a file's name as a text of bytes, as the texts of sources are."""
     return os.fsencode(name).decode("latin-1")
 
 

@@ -10,7 +10,7 @@ ROW = re.compile(r"^\| ([^|]+) \| (`[^|]+`) \| (?:`[^|]+`) \|$", re.M)
 
 
 def found(name: str) -> Optional[str]:
-    """A page in the folders above the package: in the tree, or where it is installed."""
+    """Returns a page in the folders above the package: in the tree, or where it is installed."""
     folder = os.path.dirname(os.path.realpath(__file__))
     while True:
         for place in PLACES:
@@ -51,7 +51,7 @@ class PageEntry:
 
 
 def entries() -> List[PageEntry]:
-    """The entries of the page; none where it isn't there."""
+    """Returns the entries of the page; none where it isn't there."""
     path = found("MESSAGES.md")
     if path is None:
         return []
@@ -80,10 +80,10 @@ def _items(block: str) -> Iterator[str]:
 
 
 def plain(text: str) -> str:
-    """A text of a page without its marks."""
+    """Returns a text of a page without its marks."""
     return re.sub(r"\*([^*\n]+)\*", r"\1", re.sub(r"\[([^\]]+)\]\([^)]*\)", r"\1", text)).replace("``", "`").replace("`", "")
 
 
 def entry_for(text: str, all_entries: List[PageEntry]) -> Optional[PageEntry]:
-    """The entry of a message's text."""
+    """Returns the entry of a message's text."""
     return next((it for it in all_entries if it.pattern.fullmatch(text)), None)

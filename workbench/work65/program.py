@@ -25,7 +25,7 @@ class Program:
 
     @staticmethod
     def find(named: Optional[str]) -> "Program":
-        """The program that --bin65, the variable BIN65 or the path names."""
+        """Returns the program that --bin65, the variable BIN65 or the path names."""
         wanted = named or os.environ.get("BIN65") or "bin65"
         found = shutil.which(wanted)
         if found is None:

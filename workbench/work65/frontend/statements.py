@@ -25,7 +25,7 @@ class Statement(NamedTuple):
 
     @property
     def is_constant(self) -> bool:
-        """Whether the statement has the form of a definition with `=` or `:=`."""
+        """Returns whether the statement has the form of a definition with `=` or `:=`."""
         return len(self.body) > 1 and self.body[1].text in ("=", ":=")
 
 

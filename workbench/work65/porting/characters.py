@@ -14,11 +14,11 @@ class Charmap:
         self.codes = codes
 
     def of(self, text: str) -> List[int]:
-        """The codes of a text whose signs are single bytes."""
+        """Returns the codes of a text whose signs are single bytes."""
         return [self.codes.get(ord(it), ord(it)) for it in text]
 
     def copied(self) -> "Charmap":
-        """A map of its own with the same codes."""
+        """Returns a map of its own with the same codes."""
         return Charmap(dict(self.codes))
 
 
@@ -34,7 +34,7 @@ def _pairs(text: str) -> Dict[int, int]:
 
 
 def of_target(target: Optional[str]) -> Charmap:
-    """The map that -t gives."""
+    """Returns the map that -t gives."""
     if target in words.COMMODORE:
         codes = _pairs(_COMMODORE)
         codes.update({it: it + 0x80 for it in range(0x41, 0x5B)})
@@ -47,7 +47,7 @@ def of_target(target: Optional[str]) -> Charmap:
 
 
 def content(token: Token, has_escapes: bool) -> Optional[str]:
-    """The characters of a string; None where an escape isn't one of ca65's."""
+    """Returns the characters of a string; None where an escape isn't one of ca65's."""
     inner = token.text[1:-1] if is_closed(token) else token.text[1:]
     if not has_escapes or "\\" not in inner:
         return inner
@@ -88,5 +88,5 @@ def as_elements(codes: Sequence[int]) -> List[str]:
 
 
 def has_text(tokens: Sequence[Token]) -> bool:
-    """Whether a line has a string or a character."""
+    """Returns whether a line has a string or a character."""
     return any(it.kind in (Kind.STRING, Kind.CHARACTER) for it in tokens)

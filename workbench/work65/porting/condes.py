@@ -31,7 +31,7 @@ class Table:
 
 
 def entry_of(statement: Statement, context: Context) -> Tuple[int, str, int]:
-    """The table, the name and the priority that a line gives."""
+    """Returns the table, the name and the priority that a line gives."""
     parts = parts_of(statement.rest)
     if not parts or len(parts[0]) != 1 or parts[0][0].kind is not Kind.NAME:
         raise Unportable(statement.head, "condes", "no name stands here")
@@ -48,7 +48,7 @@ def entry_of(statement: Statement, context: Context) -> Tuple[int, str, int]:
 
 
 def tables_of(script: Text) -> Iterator[Table]:
-    """The tables that a script asks for."""
+    """Yields the tables that a script asks for."""
     for entry in entries_in("\n".join(script.lines), "FEATURES"):
         table = _table(entry) if entry.name.upper == "CONDES" else None
         if table is not None:
@@ -67,7 +67,7 @@ def _table(entry: Entry) -> Optional[Table]:
 
 
 def source(tables: Iterable[Table], entries: Entries, texts: Iterable[Text]) -> List[str]:
-    """The lines of the source with the tables that something asks for; none where nothing does."""
+    """Returns the lines of the source with the tables that something asks for; none where nothing does."""
     used = _used(texts)
     found: List[str] = []
     for it in dict.fromkeys(tables):
@@ -77,7 +77,7 @@ def source(tables: Iterable[Table], entries: Entries, texts: Iterable[Text]) -> 
 
 
 def _lines(table: Table, entries: Entries) -> Iterator[str]:
-    """A table: by priority, and by name where that is the same."""
+    """Yields a table: by priority, and by name where that is the same."""
     ordered = sorted((priority, name) for (number, name), priority in entries.items() if number == table.number)
     names = [name for _, name in (reversed(ordered) if table.is_falling else ordered)]
     yield f'.segment "{table.segment}"'
@@ -92,7 +92,7 @@ def _lines(table: Table, entries: Entries) -> Iterator[str]:
 
 
 def _used(texts: Iterable[Text]) -> "set[str]":
-    """The names that sources use, not only import."""
+    """Returns the names that sources use, not only import."""
     found = set()
     for text in texts:
         for line in text.lines:

@@ -25,12 +25,12 @@ class Question:
 
 
 def asks(tokens: Sequence[Token]) -> bool:
-    """Whether a condition has a function that bin65 asks by a directive."""
+    """Returns whether a condition has a function that bin65 asks by a directive."""
     return any(it.lower in ASKING for it in tokens)
 
 
 def alternatives(lines: Sequence[Logical]) -> Dict[int, List[str]]:
-    """The .elseif and .else of each condition, by the line that opens it."""
+    """Returns the .elseif and .else of each condition, by the line that opens it."""
     found: Dict[int, List[str]] = {}
     opened: List[int] = []
     for place, (_, text) in enumerate(lines):
@@ -48,7 +48,7 @@ def alternatives(lines: Sequence[Logical]) -> Dict[int, List[str]]:
 
 
 def opened(text: str, statement: Statement, context: Context, others: Sequence[str], unique: str) -> List[str]:
-    """The line of a condition."""
+    """Returns the line of a condition."""
     head = statement.head
     if head in PROCESSORS:
         context.blocks.append(OpenCondition())
@@ -66,7 +66,7 @@ def opened(text: str, statement: Statement, context: Context, others: Sequence[s
 
 
 def otherwise(text: str, statement: Statement, context: Context, unique: str) -> List[str]:
-    """The line of an .elseif."""
+    """Returns the line of an .elseif."""
     if not asks(statement.rest):
         return [text]
     if not context.blocks:
@@ -80,13 +80,13 @@ def otherwise(text: str, statement: Statement, context: Context, unique: str) ->
 
 
 def closed(text: str, statement: Statement, context: Context) -> List[str]:
-    """The line of an .endif."""
+    """Returns the line of an .endif."""
     ends = context.blocks.pop().ends if context.blocks else 1
     return [text] if ends == 1 else replaced(text, statement, [".endif"] * ends)
 
 
 def conjunction(text: str, tokens: Sequence[Token]) -> Optional[List[Question]]:
-    """The parts of a condition that all have to hold; None where it has another form."""
+    """Returns the parts of a condition that all have to hold; None where it has another form."""
     tokens = _bare(tokens)
     parts = _split(tokens, ANDS)
     if len(parts) > 1 and not any(len(_split(it, ORS)) > 1 for it in parts):
@@ -130,7 +130,7 @@ def _bare(tokens: Sequence[Token]) -> Sequence[Token]:
 
 
 def _closing(tokens: Sequence[Token], at: int) -> int:
-    """Where the parenthesis is closed that opens here."""
+    """Returns where the parenthesis is closed that opens here."""
     depth = 0
     for place in range(at, len(tokens)):
         depth += (tokens[place].text == "(") - (tokens[place].text == ")")
@@ -152,7 +152,7 @@ def _split(tokens: Sequence[Token], signs: "frozenset[str]") -> List[Sequence[To
 
 
 def _atom(text: str, tokens: Sequence[Token]) -> Optional[str]:
-    """A call of one function as the directive that asks it; None where it is something else."""
+    """Returns a call of one function as the directive that asks it; None where it is something else."""
     if len(tokens) < 3 or tokens[0].lower not in ASKING or tokens[1].text != "(" or _closing(tokens, 1) != len(tokens) - 1:
         return None
     inner = tokens[2:-1]
@@ -164,7 +164,7 @@ def _atom(text: str, tokens: Sequence[Token]) -> Optional[str]:
 
 
 def counted(text: str, tokens: Sequence[Token], context: Context, unique: str) -> "tuple[List[str], str]":
-    """A condition with a constant for each function: lines that define them, and the condition."""
+    """Returns a condition with a constant for each function: lines that define them, and the condition."""
     if context.repeats or (context.macro is None and context.scopes and not context.path[-1]):
         raise Unportable(tokens[0].text, "defined", "within a .repeat: write it out")
     lines: List[str] = []

@@ -20,7 +20,7 @@ Files = Dict[str, bytes]
 
 
 def files_of(ported: Ported, folders: Sequence[str]) -> Files:
-    """All files of a copy. `folders` are those in which data is looked for."""
+    """Returns all files of a copy. `folders` are those in which data is looked for."""
     found: Files = {}
     moved: Dict[str, str] = {}
     for path, text in ported.texts.items():
@@ -30,7 +30,7 @@ def files_of(ported: Ported, folders: Sequence[str]) -> Files:
 
 
 def _with_data(ported: Ported, path: str, folders: Sequence[str], moved: Dict[str, str], found: Files) -> Iterator[str]:
-    """The lines of a file. The data that .incbin takes in is put where bin65 looks for it; what lies outside of the copy gets a
+    """Yields the lines of a file. The data that .incbin takes in is put where bin65 looks for it; what lies outside of the copy gets a
     place within it."""
     original = ported.project.texts.get(ported.names.get(path, path))
     for line in ported.texts[path].lines:
@@ -53,7 +53,7 @@ def _with_data(ported: Ported, path: str, folders: Sequence[str], moved: Dict[st
 
 
 def _moved(here: str, moved: Dict[str, str]) -> str:
-    """The place within the copy of a file that lies outside of it."""
+    """Returns the place within the copy of a file that lies outside of it."""
     if here not in moved:
         there = os.path.join(OWN, "data", os.path.basename(here))
         while there in moved.values():
@@ -63,7 +63,7 @@ def _moved(here: str, moved: Dict[str, str]) -> str:
 
 
 def _incbin(line: str) -> Optional[Token]:
-    """The name of the file that a line takes in as data."""
+    """Returns the name of the file that a line takes in as data."""
     if ".incbin" not in line.lower():
         return None
     tokens = line_of(line).tokens
@@ -72,7 +72,7 @@ def _incbin(line: str) -> Optional[Token]:
 
 
 def _first(name: str, folders: Sequence[str]) -> Optional[str]:
-    """The first file of a name in some folders."""
+    """Returns the first file of a name in some folders."""
     return next((it for it in (os.path.join(folder, name) for folder in folders) if os.path.isfile(it)), None)
 
 
@@ -113,7 +113,7 @@ def write(files: Files, folder: str, originals: Sequence[str], is_forced: bool) 
 
 
 def _changed(files: Files, places: Dict[str, str], folder: str) -> Iterator[str]:
-    """The files that are there, would become others, and aren't as port wrote them."""
+    """Yields the files that are there, would become others, and aren't as port wrote them."""
     written = dict(sums_of(folder))
     for path, place in places.items():
         if os.path.isfile(place):
@@ -123,7 +123,7 @@ def _changed(files: Files, places: Dict[str, str], folder: str) -> Iterator[str]
 
 
 def is_in_copy(path: str, folders: Sequence[str]) -> bool:
-    """Whether a file lies in an earlier copy within one of these folders."""
+    """Returns whether a file lies in an earlier copy within one of these folders."""
     tops = {os.path.realpath(it) for it in folders}
     above = os.path.dirname(os.path.realpath(path))
     while above not in tops and above != os.path.dirname(above):
@@ -134,7 +134,7 @@ def is_in_copy(path: str, folders: Sequence[str]) -> bool:
 
 
 def sums_of(folder: str) -> Iterator[Tuple[str, str]]:
-    """The files that port wrote into a folder, and their sums."""
+    """Yields the files that port wrote into a folder, and their sums."""
     place = os.path.join(folder, SUMS)
     lines: List[str] = os.fsdecode(read_bytes(place)).split("\n") if os.path.isfile(place) else []
     for line in lines:

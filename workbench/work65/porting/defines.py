@@ -17,7 +17,7 @@ MOST, LONGEST = 200, 10000
 
 
 def expanded(text: str, context: Context, has_escapes: bool, is_whole: bool = False) -> str:
-    """A line with the defines in it replaced, as often as one comes out; as a whole, also those that are constants."""
+    """Returns a line with the defines in it replaced, as often as one comes out; as a whole, also those that are constants."""
     for _ in range(MOST):
         tokens = line_of(text, has_escapes).tokens
         skip = 2 if tokens and tokens[0].lower in UNEXPANDED else 0
@@ -31,7 +31,7 @@ def expanded(text: str, context: Context, has_escapes: bool, is_whole: bool = Fa
 
 
 def _is_use(tokens: Sequence[Token], at: int, context: Context, is_whole: bool) -> bool:
-    """Whether a token stands for a define that has to be replaced."""
+    """Returns whether a token stands for a define that has to be replaced."""
     one = tokens[at]
     if one.kind is not Kind.NAME or one.text not in context.defines:
         return False
@@ -48,7 +48,7 @@ def _is_use(tokens: Sequence[Token], at: int, context: Context, is_whole: bool) 
 
 
 def _is_closed(tokens: Sequence[Token]) -> bool:
-    """Whether a value is in parentheses as a whole."""
+    """Returns whether a value is in parentheses as a whole."""
     if tokens[0].text != "(" or tokens[-1].text != ")":
         return False
     depth = 0
@@ -60,7 +60,7 @@ def _is_closed(tokens: Sequence[Token]) -> bool:
 
 
 def _stands_alone(tokens: Sequence[Token], at: int) -> bool:
-    """Whether a use is an expression of its own, so that a constant means the same."""
+    """Returns whether a use is an expression of its own, so that a constant means the same."""
     before = tokens[at - 1] if at else None
     after = tokens[at + 1] if at + 1 < len(tokens) else None
     is_first = before is None or before.text in BEFORE or before.kind is Kind.DIRECTIVE or before.lower in words.MNEMONICS
@@ -70,7 +70,7 @@ def _stands_alone(tokens: Sequence[Token], at: int) -> bool:
 
 
 def _replaced(text: str, tokens: Sequence[Token], at: int, define: Define) -> str:
-    """A line with one use replaced."""
+    """Returns a line with one use replaced."""
     if define.parameters is None:
         return edited(text, [(tokens[at].start, tokens[at].end, _apart(text, tokens[at].start, define.text))])
     values, end = _arguments(text, tokens, at, len(define.parameters))
@@ -90,7 +90,7 @@ def _apart(text: str, start: int, body: str) -> str:
 
 
 def _arguments(text: str, tokens: Sequence[Token], at: int, count: int) -> Tuple[List[str], int]:
-    """The arguments of a define's use, and where they end: up to a comma each, the last up to a comma or the line's end."""
+    """Returns the arguments of a define's use, and where they end: up to a comma each, the last up to a comma or the line's end."""
     found, end = [], tokens[at].end
     at += 1
     for number in range(count):
@@ -110,7 +110,7 @@ def _arguments(text: str, tokens: Sequence[Token], at: int, count: int) -> Tuple
 
 
 def defined(text: str, statement: Statement, context: Context, is_single: bool) -> List[str]:
-    """The line of a `.define`."""
+    """Returns the line of a `.define`."""
     if not statement.rest or statement.rest[0].kind is not Kind.NAME:
         raise Unportable(".define", "define")
     name, rest = statement.rest[0], statement.rest[1:]
@@ -137,5 +137,5 @@ def defined(text: str, statement: Statement, context: Context, is_single: bool) 
 
 
 def _number(tokens: Sequence[Token], context: Context) -> Optional[int]:
-    """The value of a define that is a number."""
+    """Returns the value of a define that is a number."""
     return value(tokens, context.value)

@@ -19,7 +19,7 @@ class LinkedModule:
 
 
 def first_file(cc65: Linked, bin65: Linked) -> Optional[Tuple[str, int]]:
-    """The first file that differs, and from which byte on."""
+    """Returns the first file that differs, and from which byte on."""
     for name in sorted({*cc65.files, *bin65.files}):
         a, b = cc65.files.get(name, b""), bin65.files.get(name, b"")
         if a != b:
@@ -38,7 +38,7 @@ class Finder:
             self.layout = layout_of(read_script(text, "the script"), bin65.map, "the script")
 
     def segment(self, file: str, at: int) -> Optional[Tuple[str, int]]:
-        """The segment that has a byte of a file, and where in it."""
+        """Returns the segment that has a byte of a file, and where in it."""
         if self.layout is None:
             return None
         for row in self.layout.map.rows:
@@ -48,7 +48,7 @@ class Finder:
         return None
 
     def module(self, segment: str, at: int) -> Optional[Tuple[str, int]]:
-        """The module that has a byte of a segment, and where in its part."""
+        """Returns the module that has a byte of a segment, and where in its part."""
         for it in self.bin65.map.modules if self.bin65.map is not None else ():
             for part in it.parts:
                 if part.segment == segment and part.offset <= at < part.offset + part.size:
@@ -68,13 +68,13 @@ class Finder:
         return None
 
     def line(self, file: str, at: int) -> str:
-        """The line of the original that put a byte of a file."""
+        """Returns the line of the original that put a byte of a file."""
         found = self.leaf(file, at)
         lines = [] if found is None else [one for one in map(self.ported.origin, found[0].lines) if one is not None]
         return " in ".join(f"{self.ported.project.texts[one.path].path}:{one.number}" for one in reversed(lines))
 
     def told(self, file: str, at: int) -> str:
-        """Where a byte of a file lies, in words, and the line of the original before them where it is known."""
+        """Returns where a byte of a file lies, in words, and the line of the original before them where it is known."""
         found = self.segment(file, at)
         if found is None or self.layout is None:
             return "in no segment"
@@ -88,7 +88,7 @@ class Finder:
 
 
     def told_of_cc65(self, cc65: Linked, file: str, at: int) -> str:
-        """The same of a byte that cc65's image alone has."""
+        """Returns the same of a byte that cc65's image alone has."""
         for it in records(cc65.debug, "seg"):
             if self.names.get(it.get("oname", ""), OUTPUT) == file and "ooffs" in it:
                 offset = at - int(it["ooffs"])

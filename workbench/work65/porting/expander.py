@@ -21,23 +21,23 @@ class Host(Protocol):
 
     @property
     def has_escapes(self) -> bool:
-        """Whether a backslash in a string takes the next character with it."""
+        """Returns whether a backslash in a string takes the next character with it."""
 
     @property
     def is_in_macro(self) -> bool:
-        """Whether the lines of a macro are being read."""
+        """Returns whether the lines of a macro are being read."""
 
     def prepared(self, text: str) -> str:
-        """A line with its defines replaced."""
+        """Returns a line with its defines replaced."""
 
     def is_written_out(self, statement: Statement) -> bool:
-        """Whether a statement is the call of a macro that is written out."""
+        """Returns whether a statement is the call of a macro that is written out."""
 
     def decided(self, text: str) -> Optional[bool]:
         """Returns whether a condition holds, None if that is unknown."""
 
     def counted(self, text: str) -> Optional[int]:
-        """The count of a repeat, where it is known."""
+        """Returns the count of a repeat, where it is known."""
 
     def emit(self, text: str, following: Sequence[str]) -> None:
         """Rewrites a line."""
@@ -67,12 +67,12 @@ class ExpansionFrame:
 
     @property
     def is_live(self) -> bool:
-        """Whether the lines here count."""
+        """Returns whether the lines here count."""
         return all(it.is_live for it in self.conditions)
 
     @property
     def is_decided(self) -> bool:
-        """Whether all open conditions were decided here."""
+        """Returns whether all open conditions were decided here."""
         return all(it.is_decided for it in self.conditions)
 
 
@@ -122,7 +122,7 @@ class Expander:
                 self.frames.pop()
 
     def statement(self, text: str) -> Statement:
-        """A line's statement."""
+        """Returns a line's statement."""
         return statement_in(text, self.host.has_escapes)
 
     def line(self, frame: ExpansionFrame, text: str) -> None:
@@ -179,7 +179,7 @@ class Expander:
             self.emit(it)
 
     def has_to_go(self, text: str, frame: ExpansionFrame) -> bool:
-        """Whether a line has its repeat written out."""
+        """Returns whether a line has its repeat written out."""
         tokens = line_of(substituted(text, frame.given, self.host.has_escapes), self.host.has_escapes).tokens
         statement = statement_of(tokens, lambda _: False)
         if statement.head in words.MACRO_EXITS or any(it.lower in HARD for it in tokens):

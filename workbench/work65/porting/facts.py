@@ -32,13 +32,13 @@ def facts_of(text: str, has_escapes: bool) -> Facts:
 
 
 def _has_star(tokens: Tuple[Token, ...]) -> bool:
-    """Whether a list of data has `*` as an operand in a later element."""
+    """Returns whether a list of data has `*` as an operand in a later element."""
     at = next((at for at, it in enumerate(tokens) if it.lower in words.DATA), None)
     return at is not None and any(star_in(part) for part in parts_of(tokens[at + 1 :])[1:])
 
 
 def star_in(part: Sequence[Token]) -> bool:
-    """Whether `*` is an operand of an expression."""
+    """Returns whether `*` is an operand of an expression."""
     last = ""
     for it in part:
         if it.text == "*" and (last in ("", "(", ",") or last in "+-*/|&^<>=~!" or last in words.INFIX_WORDS):

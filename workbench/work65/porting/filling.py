@@ -13,7 +13,7 @@ ALWAYS = frozenset(("CODE", "RODATA", "DATA"))
 
 
 def filled(text: str, cc65: Linked, bin65: Linked) -> Optional[Tuple[str, List[str]]]:
-    """The text of a script with these areas filled, and the rows up to which they are; None where there is none. The sizes are
+    """Returns the text of a script with these areas filled, and the rows up to which they are; None where there is none. The sizes are
     those of this link."""
     if bin65.map is None:
         return None
@@ -32,7 +32,7 @@ def filled(text: str, cc65: Linked, bin65: Linked) -> Optional[Tuple[str, List[s
 
 
 def _aligned(text: str, layout: Layout) -> Dict[str, int]:
-    """Where rows without bytes begin that each object of cc65's has, by their alignment."""
+    """Returns where rows without bytes begin that each object of cc65's has, by their alignment."""
     found = {}
     for entry in entries_in(text, "SEGMENTS"):
         align, row = entry.get("ALIGN"), layout.script.segment(entry.name.text)
@@ -44,7 +44,7 @@ def _aligned(text: str, layout: Layout) -> Dict[str, int]:
 
 
 def _unused(script: Script, area: str, bin65: Linked, starts: Dict[str, int]) -> Optional[str]:
-    """The last of the rows at the end of an area that nobody uses, and that cc65's linker places all the same."""
+    """Returns the last of the rows at the end of an area that nobody uses, and that cc65's linker places all the same."""
     found = None
     for row in reversed([it for it in script.segments if it.load == area and it.kind not in UNWRITTEN]):
         if bin65.sizes.get(row.name):
@@ -55,7 +55,7 @@ def _unused(script: Script, area: str, bin65: Linked, starts: Dict[str, int]) ->
 
 
 def _written(text: str, lengths: Dict[str, int]) -> str:
-    """The script with areas of these lengths, filled."""
+    """Returns the script with areas of these lengths, filled."""
     edits: List[Tuple[int, int, str]] = []
     for entry in entries_in(text, "MEMORY"):
         if entry.name.text in lengths:
@@ -64,7 +64,7 @@ def _written(text: str, lengths: Dict[str, int]) -> str:
 
 
 def _edits(entry: Entry, length: int) -> List[Tuple[int, int, str]]:
-    """The edits of an area: its size, and that it is filled."""
+    """Returns the edits of an area: its size, and that it is filled."""
     found = []
     for it in entry.attributes:
         if it.name.upper == "SIZE" and it.value:

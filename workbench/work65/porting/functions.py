@@ -37,7 +37,7 @@ class Folder:
         self.name = ""
 
     def folded(self, text: str, directives: "frozenset[str]", is_asked: bool) -> str:
-        """A line with its functions replaced, as far as their values are known; a condition asks what is defined itself."""
+        """Returns a line with its functions replaced, as far as their values are known; a condition asks what is defined itself."""
         self.is_asked = is_asked
         if ".version" in directives or ".cpu" in directives:
             text = self.constants(text)
@@ -65,7 +65,7 @@ class Folder:
         return "string_escapes" in self.context.features
 
     def one(self, text: str) -> Optional[str]:
-        """A line with the last function replaced that can be."""
+        """Returns a line with the last function replaced that can be."""
         tokens = line_of(text, self.has_escapes).tokens
         for at in range(len(tokens) - 1, -1, -1):
             call = self.calls.get(tokens[at].lower)
@@ -85,17 +85,17 @@ class Folder:
         return None
 
     def text(self, part: Part) -> Optional[str]:
-        """The characters of a part that is a string."""
+        """Returns the characters of a part that is a string."""
         if len(part) == 1 and part[0].kind is Kind.STRING and is_closed(part[0]):
             return content(part[0], self.has_escapes)
         return None
 
     def number(self, part: Part) -> Optional[int]:
-        """The value of a part."""
+        """Returns the value of a part."""
         return value(part, self.context.value)
 
     def sizeof(self, text: str, parts: List[Part]) -> Optional[str]:
-        """The size of a structure, or the constant that has a label's."""
+        """Returns the size of a structure, or the constant that has a label's."""
         if len(parts) != 1 or not parts[0]:
             return None
         name, at = scoped_name(parts[0], 0)
@@ -108,12 +108,12 @@ class Folder:
         return whole if self.context.value(whole) == size else str(size)
 
     def strlen(self, text: str, parts: List[Part]) -> Optional[str]:
-        """How many characters a string has."""
+        """Returns how many characters a string has."""
         found = self.text(parts[0]) if len(parts) == 1 else None
         return None if found is None else str(len(found))
 
     def strat(self, text: str, parts: List[Part]) -> Optional[str]:
-        """The code of one character of a string."""
+        """Returns the code of one character of a string."""
         found = self.text(parts[0]) if len(parts) == 2 else None
         at = self.number(parts[1]) if len(parts) == 2 else None
         if found is None or at is None or not 0 <= at < len(found):
@@ -126,7 +126,7 @@ class Folder:
         return None if None in found else _quoted("".join(it for it in found if it is not None))
 
     def string(self, text: str, parts: List[Part]) -> Optional[str]:
-        """A name or a number as a string."""
+        """Returns a name or a number as a string."""
         if len(parts) != 1 or not parts[0]:
             return None
         name, at = scoped_name(parts[0], 0)
@@ -136,7 +136,7 @@ class Folder:
         return None if number is None else _quoted(str(number))
 
     def sprintf(self, text: str, parts: List[Part]) -> Optional[str]:
-        """A string with values put in."""
+        """Returns a string with values put in."""
         form = self.text(parts[0]) if parts else None
         if form is None:
             return None
@@ -155,25 +155,25 @@ class Folder:
             return None
 
     def ident(self, text: str, parts: List[Part]) -> Optional[str]:
-        """The name that a string spells."""
+        """Returns the name that a string spells."""
         found = self.text(parts[0]) if len(parts) == 1 else None
         return found if found and re.fullmatch(r"@?[A-Za-z_]\w*(::[A-Za-z_]\w*)*", found, re.A) else None
 
     def least(self, text: str, parts: List[Part]) -> Optional[str]:
-        """The less or the greater of two numbers."""
+        """Returns the less or the greater of two numbers."""
         found = [self.number(it) for it in parts]
         if len(found) != 2 or found[0] is None or found[1] is None:
             return None
         return str(min(found[0], found[1]) if self.name == ".min" else max(found[0], found[1]))
 
     def defined(self, text: str, parts: List[Part]) -> Optional[str]:
-        """Whether a name that targets define is there."""
+        """Returns whether a name that targets define is there."""
         is_name = len(parts) == 1 and len(parts[0]) == 1 and not self.is_asked
         known = self.is_defined(parts[0][0].text) if is_name else None
         return None if known is None else str(int(known))
 
     def const(self, text: str, parts: List[Part]) -> Optional[str]:
-        """Whether an expression is constant, where that is sure: numbers and constants are, and a label of this scope alone isn't."""
+        """Returns whether an expression is constant, where that is sure: numbers and constants are, and a label of this scope alone isn't."""
         if len(parts) != 1 or self.has_open(parts):
             return None
         if value(parts[0], self.context.certain) is not None:
@@ -182,14 +182,14 @@ class Folder:
         return "0" if self.context.labels.get(key) and key not in self.context.constants else None
 
     def match(self, text: str, parts: List[Part]) -> Optional[str]:
-        """Whether two lists of tokens have the same kinds."""
+        """Returns whether two lists of tokens have the same kinds."""
         if len(parts) != 2 or any(it.text in self.context.parameters or it.kind is Kind.DIRECTIVE for part in parts for it in part):
             return None
         one, other = ([_kind_of(it, self.name == ".xmatch") for it in part if it.text not in "{}"] for part in parts)
         return str(int(one == other))
 
     def bank_of(self, text: str, parts: List[Part]) -> Optional[str]:
-        """The bank of the area in which an address lies."""
+        """Returns the bank of the area in which an address lies."""
         part = parts[0] if len(parts) == 1 else ()
         names = [at for at, it in enumerate(part) if it.kind is Kind.NAME or it.text == "*"]
         if not names or self.has_open(parts):
@@ -203,7 +203,7 @@ class Folder:
         return None if found is None else str(found)
 
     def has_open(self, parts: List[Part]) -> bool:
-        """Whether tokens aren't yet what they will be."""
+        """Returns whether tokens aren't yet what they will be."""
         return any(it.text in self.context.parameters or it.lower in FUNCTIONS for part in parts for it in part)
 
     def some(self, text: str, parts: List[Part]) -> Optional[str]:
@@ -229,19 +229,19 @@ class Folder:
         return found if is_whole or self.is_in_braces else "{" + found + "}"
 
     def blank(self, text: str, parts: List[Part]) -> Optional[str]:
-        """Whether a list has no tokens."""
+        """Returns whether a list has no tokens."""
         if self.is_asked or self.has_open(parts):
             return None
         return str(int(not any(parts)))
 
     def count(self, text: str, parts: List[Part]) -> Optional[str]:
-        """How many tokens a list has."""
+        """Returns how many tokens a list has."""
         if any(it.text in self.context.parameters or it.kind is Kind.DIRECTIVE for part in parts for it in part):
             return None
         return str(sum(map(len, parts)) + max(0, len(parts) - 1))
 
     def word(self, text: str, parts: List[Part]) -> Optional[str]:
-        """The lower or upper sixteen bits. An operand doesn't begin with a parenthesis, which would make it an indirect one."""
+        """Returns the lower or upper sixteen bits. An operand doesn't begin with a parenthesis, which would make it an indirect one."""
         if len(parts) != 1 or not parts[0]:
             return None
         inner = in_parentheses(text, parts[0])
@@ -272,7 +272,7 @@ def _kind_of(it: Token, is_exact: bool) -> Tuple[str, str]:
 
 
 def _unsigned(form: str, values: List[object]) -> List[object]:
-    """The values for a form, with those of 64 bits that it shows without a sign."""
+    """Returns the values for a form, with those of 64 bits that it shows without a sign."""
     kinds = [it[-1] for it in re.findall(r"%[0-9.-]*[a-zA-Z]", form.replace("%%", ""))]
     return [it & (1 << 64) - 1 if isinstance(it, int) and kind in "xXou" else it for it, kind in zip(values, kinds)]
 
@@ -297,7 +297,7 @@ def _called(tokens: Sequence[Token], at: int) -> "tuple[Optional[int], List[Part
 
 
 def _is_in_first_list(before: Sequence[Token]) -> bool:
-    """Whether tokens end in the first list of .match or .xmatch, within no other call."""
+    """Returns whether tokens end in the first list of .match or .xmatch, within no other call."""
     depth = 0
     for at in range(len(before) - 1, -1, -1):
         depth += (before[at].text in (")", "}")) - (before[at].text in ("(", "{"))

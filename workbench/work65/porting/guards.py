@@ -5,7 +5,7 @@ from work65.frontend.statements import Statement, statement_in
 
 
 def guard_of(lines: List[str]) -> Optional[str]:
-    """The guard of a file: its first line asks whether the name is missing, its second one defines it, and its last one ends that."""
+    """Returns the guard of a file: its first line asks whether the name is missing, its second one defines it, and its last one ends that."""
     code = [it for it in lines if it.split(";")[0].strip()]
     if len(code) < 3 or _statement(code[-1]).head != ".endif":
         return None
@@ -20,7 +20,7 @@ def guard_of(lines: List[str]) -> Optional[str]:
 
 
 def asked(statement: Statement) -> Optional[str]:
-    """The name that an .ifdef or .ifndef asks for, without the `::` before it; None where it has scopes."""
+    """Returns the name that an .ifdef or .ifndef asks for, without the `::` before it; None where it has scopes."""
     names = statement.rest[1:] if statement.rest and statement.rest[0].text == "::" else statement.rest
     return names[0].text if len(names) == 1 else None
 

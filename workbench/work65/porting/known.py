@@ -59,7 +59,7 @@ class ModuleState:
 
     @property
     def has_escapes(self) -> bool:
-        """Whether a backslash in a string takes the next character with it."""
+        """Returns whether a backslash in a string takes the next character with it."""
         return "string_escapes" in self.context.features
 
     def cannot(self, number: int, why: Unportable) -> None:
@@ -70,7 +70,7 @@ class ModuleState:
             self.deferred.append((self.context.macro, self.path, number, why))
 
     def bank(self, name: str) -> Optional[int]:
-        """The bank that the script gives to the area in which a label lies."""
+        """Returns the bank that the script gives to the area in which a label lies."""
         places, path = self.project.label_segments.get(self.module, {}), self.context.path
         parts = tuple(it for it in name.split("::") if it)
         segment = self.context.segment if name == "*" else None
@@ -82,14 +82,14 @@ class ModuleState:
         return None if segment is None else self.project.banks.get(segment)
 
     def unique(self, at: int) -> str:
-        """A name that no other line has, nor this one a second time."""
+        """Returns a name that no other line has, nor this one a second time."""
         number = self.lines[at].number
         self.given[number] = self.given.get(number, 0) + 1
         again = f"_{self.given[number]}" if self.given[number] > 1 else ""
         return f"{os.path.basename(self.path)}_{number}{again}"
 
     def is_defined(self, name: str) -> Optional[bool]:
-        """Whether a name is defined here, where that is so in every assembly; a scope that has used the name hides it, as in cc65."""
+        """Returns whether a name is defined here, where that is so in every assembly; a scope that has used the name hides it, as in cc65."""
         known = self.project.is_target_name(name)
         if known is not None:
             return known
@@ -165,7 +165,7 @@ class ModuleState:
                 self.note_label(name)
 
     def is_uncertain(self, name: str) -> bool:
-        """Whether what is defined here may not be, or be another thing, in another assembly. In its own .ifndef a name is sure."""
+        """Returns whether what is defined here may not be, or be another thing, in another assembly. In its own .ifndef a name is sure."""
         open_blocks = [it for it in self.context.blocks if it.is_live is None]
         return name in self.project.names or any(it.guarded != name for it in open_blocks)
 
@@ -226,7 +226,7 @@ class ModuleState:
         context.macros[context.macro].add(text, self.has_escapes)
 
     def sized(self, name: str) -> Optional[str]:
-        """The constant that has the size of a label or scope."""
+        """Returns the constant that has the size of a label or scope."""
         parts = tuple(it for it in name.split("::") if it)
         path = self.context.path
         for depth in range(0 if name.startswith("::") else len(path), -1, -1):
@@ -239,5 +239,5 @@ class ModuleState:
 
 
 def _is_asked(tokens: Sequence[Token], at: int) -> bool:
-    """Whether a name is only asked for."""
+    """Returns whether a name is only asked for."""
     return at > 1 and tokens[at - 1].text == "(" and tokens[at - 2].lower in (".defined", ".def")

@@ -35,14 +35,14 @@ class Span(NamedTuple):
 
 
 def records(text: str, kind: str) -> Iterator[Dict[str, str]]:
-    """The records of a kind in a debug file."""
+    """Yields the records of a kind in a debug file."""
     for it in RECORD.finditer(text):
         if it[1] == kind:
             yield {name: value.strip('"') for name, value in ATTRIBUTE.findall(it[2])}
 
 
 def of_debug_file(text: str, key: Callable[[str], str]) -> List[Leaf]:
-    """The leaves of a program that cc65's linker linked. `key` names a file by its path in the debug file."""
+    """Returns the leaves of a program that cc65's linker linked. `key` names a file by its path in the debug file."""
     files = {it["id"]: key(it["name"]) for it in records(text, "file")}
     owners: Dict[str, List[Tuple[int, int, Line]]] = {}
     for it in records(text, "line"):
@@ -59,7 +59,7 @@ def of_debug_file(text: str, key: Callable[[str], str]) -> List[Leaf]:
 
 
 def _nested(segment: str, spans: List[Span]) -> Iterator[Leaf]:
-    """The smallest spans, each with the lines of those around it."""
+    """Yields the smallest spans, each with the lines of those around it."""
     opened: List[Tuple[int, Tuple[Line, ...]]] = []
     at = 0
 
@@ -92,7 +92,7 @@ PAIRS = {Sign.BACK: Sign.CALL, Sign.OVER: Sign.REPEAT, Sign.INCLUDED: Sign.INCLU
 
 
 def of_marks(marks: Iterable[ReachedMark], sizes: Dict[str, int], key: Callable[[str], str]) -> List[Leaf]:
-    """The leaves of a module that bin65 assembled, by the marks of its copy. `key` names a file by its place."""
+    """Returns the leaves of a module that bin65 assembled, by the marks of its copy. `key` names a file by its place."""
     opened: List[_Opened] = [_Opened(Sign.INCLUDE, 0, ())]
     begun: Dict[str, List[Tuple[int, Tuple[Line, ...]]]] = {}
     for met in marks:
@@ -109,7 +109,7 @@ def of_marks(marks: Iterable[ReachedMark], sizes: Dict[str, int], key: Callable[
 
 
 def _cut(segment: str, begun: Sequence[Tuple[int, Tuple[Line, ...]]], end: int) -> Iterator[Leaf]:
-    """The leaves of a segment: each ends where the next one begins."""
+    """Yields the leaves of a segment: each ends where the next one begins."""
     following: List[int] = [it[0] for it in begun[1:]] + [end]
     for (offset, lines), stop in zip(begun, following):
         if stop > offset:

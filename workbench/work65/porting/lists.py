@@ -36,7 +36,7 @@ def _directives(names: Names) -> List[str]:
 
 
 def read(text: str, statement: Statement, context: Context, own: Sequence[str]) -> Names:
-    """The names of a list with what stands behind each. While a segment of the zero page is open, an import is short where nothing
+    """Returns the names of a list with what stands behind each. While a segment of the zero page is open, an import is short where nothing
     else is said; a name of the module's own isn't."""
     found = Names()
     is_short = context.segment in context.short_segments and context.macro is None

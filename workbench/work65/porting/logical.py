@@ -43,7 +43,7 @@ def _without_comments(lines: List[Logical]) -> List[Logical]:
 
 
 def _begin(text: str, at: int) -> int:
-    """Where a comment of C begins outside of strings and other comments; -1 where none does."""
+    """Returns where a comment of C begins outside of strings and other comments; -1 where none does."""
     quote = ""
     for place in range(at, len(text) - 1):
         sign = text[place]
@@ -97,6 +97,6 @@ def _goes_on(text: str) -> bool:
 
 
 def _cut(text: str) -> "tuple[str, str]":
-    """A line without its `\\`, and its comment."""
+    """Returns a line without its `\\`, and its comment."""
     line = line_of(text)
     return text[: line.tokens[-1].start], text[line.comment :]

@@ -10,7 +10,7 @@ MOST_BYTES, LONGEST = 4096, 100
 
 
 def split(text: str, has_escapes: bool) -> List[str]:
-    """A line as lines that are short enough: a list of data an equal one for every few elements, a comment in parts."""
+    """Returns a line as lines that are short enough: a list of data an equal one for every few elements, a comment in parts."""
     if len(text) <= MOST_BYTES:
         return [text]
     line = line_of(text, has_escapes)

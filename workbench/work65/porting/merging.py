@@ -11,7 +11,7 @@ MOST_ELEMENTS, LONGEST = 16, 100
 
 
 def merged(lines: List[str]) -> List[str]:
-    """The lines, with lists of one directive that follow each other as one list."""
+    """Returns the lines, with lists of one directive that follow each other as one list."""
     found: List[str] = []
     open_word, shown, count, first = "", "", 0, 0
     for it in lines:
@@ -34,7 +34,7 @@ def merged(lines: List[str]) -> List[str]:
 
 
 def _data(text: str) -> Optional[Tuple[str, str, int]]:
-    """The directive of a list of data, its elements and how many they are; None where a line is anything else."""
+    """Returns the directive of a list of data, its elements and how many they are; None where a line is anything else."""
     line = line_of(text)
     statement = statement_of(line.tokens, lambda _: False)
     if statement.label is not None or statement.head not in words.DATA or line.comment < len(text) or not statement.rest:
@@ -46,7 +46,7 @@ def _data(text: str) -> Optional[Tuple[str, str, int]]:
 
 
 def _shown(text: str, part: Sequence[Token]) -> str:
-    """An element: a number where it is a sum of numbers."""
+    """Returns an element: a number where it is a sum of numbers."""
     found = value(part, nothing_known) if len(part) > 1 else None
     whole = text[part[0].start : part[-1].end] if part else ""
     return whole if found is None or found < 0 else f"${found:02X}" if "$" in whole else str(found)

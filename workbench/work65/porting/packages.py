@@ -33,7 +33,7 @@ def _generic() -> List[str]:
 
 
 def processors() -> Dict[str, int]:
-    """The numbers of processors, by their names."""
+    """Returns the numbers of processors, by their names."""
     sets = {"NONE": 1, "6502": 2, "6502X": 4, "65SC02": 8, "65C02": 0x10, "65816": 0x20, "SWEET16": 0x40, "HUC6280": 0x80, "4510": 0x200}
     whole = {
         "NONE": 1, "6502": 2, "6502X": 6, "65SC02": 0xA, "65C02": 0x1A, "65816": 0x2A, "SWEET16": 0x40, "HUC6280": 0x9A, "4510": 0x21A,
@@ -58,12 +58,12 @@ SCREEN = frozenset(("cbm", "atari", "apple2"))
 
 
 def text_of(name: str) -> str:
-    """The file of a package."""
+    """Returns the file of a package."""
     return "\n".join(TEXTS[name]()) + "\n"
 
 
 def screen_code(package: str, code: int) -> int:
-    """The screen code of a character's code."""
+    """Returns the screen code of a character's code."""
     if package == "apple2":
         return code + 128 & 255
     if package == "atari":

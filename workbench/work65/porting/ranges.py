@@ -15,7 +15,7 @@ PLAIN = frozenset((Kind.NAME, Kind.CHEAP, Kind.UNNAMED))
 
 
 def cut(text: str, statement: Statement, context: Context) -> str:
-    """A line whose operands fit their bytes."""
+    """Returns a line whose operands fit their bytes."""
     if statement.head in words.MNEMONICS and statement.rest and statement.rest[0].text == "#":
         return edited(text, _cut(text, statement.rest[1:], 8, context))
     bits = BITS.get(statement.head)
@@ -29,7 +29,7 @@ def cut(text: str, statement: Statement, context: Context) -> str:
 
 
 def may_be_cut(arguments: Sequence[Token], context: Context) -> bool:
-    """Whether a value among arguments may not fit a byte."""
+    """Returns whether a value among arguments may not fit a byte."""
     for part in parts_of(arguments):
         known = value(part, context.value)
         if known is not None and not 0 <= known < 256 or known is None and any(it.text in "-~" for it in part):
@@ -48,7 +48,7 @@ def _cut(text: str, part: Sequence[Token], bits: int, context: Context) -> List[
 
 
 def _is_cut(part: Sequence[Token], bits: int) -> bool:
-    """Whether an expression fits as it is: a byte of something, or an address."""
+    """Returns whether an expression fits as it is: a byte of something, or an address."""
     if len(part) == 2 and part[0].lower in CUTTING:
         return True
     return bits > 8 and all(it.kind in PLAIN or it.text in ("::", "*") for it in part) and sum(it.text == "*" for it in part) <= 1

@@ -15,7 +15,7 @@ ENDS = frozenset((".reloc", ".org"))
 
 
 def opened(text: str, statement: Statement, context: Context, following: Sequence[Logical], is_last: bool) -> List[str]:
-    """The line of an .org: a comment, where labels, data and room alone follow up to the next .org, the .reloc or the module's end."""
+    """Returns the line of an .org: a comment, where labels, data and room alone follow up to the next .org, the .reloc or the module's end."""
     number = value(statement.rest, context.certain)
     if number is None or context.macro is not None or context.repeats or any(it.is_live is not True for it in context.blocks):
         raise Unportable(".org", "org")
@@ -33,7 +33,7 @@ def opened(text: str, statement: Statement, context: Context, following: Sequenc
 
 
 def closed(text: str, context: Context) -> List[str]:
-    """The line of a .reloc."""
+    """Returns the line of a .reloc."""
     if context.place is None:
         raise Unportable(".reloc", "org")
     context.place = None
@@ -55,7 +55,7 @@ def line(text: str, statement: Statement, context: Context) -> List[str]:
 
 
 def _size(statement: Statement, context: Context) -> Optional[int]:
-    """How many bytes a line places; None where that isn't known, or the line is another one."""
+    """Returns how many bytes a line places; None where that isn't known, or the line is another one."""
     head, rest = statement.head, statement.rest
     if statement.label is not None and statement.label.kind is not Kind.NAME:
         return None
@@ -71,5 +71,5 @@ def _size(statement: Statement, context: Context) -> Optional[int]:
 
 
 def _length(part: Sequence[Token]) -> int:
-    """The bytes of an element of a list of bytes."""
+    """Returns the bytes of an element of a list of bytes."""
     return len(part[0].text) - 2 if len(part) == 1 and part[0].kind is Kind.STRING else 1

@@ -22,7 +22,7 @@ class Renaming:
         self.state, self.context, self.project = state, state.context, state.project
 
     def settled(self, text: str, is_asked: bool) -> str:
-        """A line with its names as they are in the copy and with its functions replaced, also names that functions spell."""
+        """Returns a line with its names as they are in the copy and with its functions replaced, also names that functions spell."""
         for _ in range(MOST_ROUNDS):
             found = spelling.with_codes(self.renamed(text), self.context)
             found = self.state.folder.folded(found, facts_of(found, self.state.has_escapes).directives, is_asked)
@@ -32,14 +32,14 @@ class Renaming:
         return text
 
     def number_of(self, tokens: Sequence[Token]) -> Optional[int]:
-        """The value of an expression, where it is the same in every assembly."""
+        """Returns the value of an expression, where it is the same in every assembly."""
         text = self.settled(" ".join(it.text for it in tokens), is_asked=False)
         found = line_of(text, self.state.has_escapes).tokens
         shifts.refuse(found, self.context)
         return value(found, self.context.certain)
 
     def truth(self, tokens: Sequence[Token]) -> Optional[bool]:
-        """Whether an expression is true, where it is the same in every assembly."""
+        """Returns whether an expression is true, where it is the same in every assembly."""
         found = self.number_of(tokens)
         return None if found is None else found != 0
 
@@ -55,7 +55,7 @@ class Renaming:
         return self.truth(rest) if head == ".if" else None
 
     def renamed(self, text: str) -> str:
-        """A line with its names as they are in the copy."""
+        """Returns a line with its names as they are in the copy."""
         context = self.context
         if not (context.locals or context.variables or context.cheap_constants or context.part or context.hoisted):
             return text
@@ -84,7 +84,7 @@ class Renaming:
                 yield from self._hoisted(tokens, at)
 
     def _variable(self, tokens: Sequence[Token], at: int) -> Iterator[Edit]:
-        """A name that .set changes, as its value or as the constant that has it."""
+        """Yields a name that .set changes, as its value or as the constant that has it."""
         context, it = self.context, tokens[at]
         before = tokens[at - 1].text if at else ""
         is_quoted = before == "(" and at > 1 and tokens[at - 2].lower == ".string"
@@ -104,7 +104,7 @@ class Renaming:
                 return
 
     def _hoisted(self, tokens: Sequence[Token], at: int) -> Iterator[Edit]:
-        """An import of a scope, which is one of the whole module in the copy."""
+        """Yields an import of a scope, which is one of the whole module in the copy."""
         begin, parts = at, [tokens[at].text]
         while begin > 1 and tokens[begin - 1].text == "::" and tokens[begin - 2].kind is Kind.NAME:
             begin -= 2
@@ -119,11 +119,11 @@ class Renaming:
                 return
 
     def plain(self, name: str) -> str:
-        """The name that stands for a cheap one of a .local."""
+        """Returns the name that stands for a cheap one of a .local."""
         return f"local_{name.lstrip('@')}"
 
     def local(self, text: str, statement: Statement) -> List[str]:
-        """A .local with cheap names: they become names."""
+        """Returns a .local with cheap names: they become names."""
         cheap = [it for it in statement.rest if it.kind is Kind.CHEAP]
         self.context.locals |= {it.text for it in cheap}
         return [edited(text, [(it.start, it.end, self.plain(it.text)) for it in cheap])]
@@ -157,7 +157,7 @@ class Renaming:
         return [edited(text, [(statement.body[0].start, name.end, new), (word.start, word.end, "=")])]
 
     def numbered(self, name: str) -> str:
-        """The next name of those that stand for a name that .set changes."""
+        """Returns the next name of those that stand for a name that .set changes."""
         while True:
             number = self.context.versions[name] = self.context.versions.get(name, 0) + 1
             new = f"{name.lstrip('@')}_set{number}"
@@ -165,7 +165,7 @@ class Renaming:
                 return new
 
     def cheap_constant(self, text: str, statement: Statement) -> List[str]:
-        """A cheap name with a value: a constant with a name of its own, up to the next label."""
+        """Returns a cheap name with a value: a constant with a name of its own, up to the next label."""
         context, name = self.context, statement.body[0]
         if context.macro is not None:
             return [text]
@@ -182,7 +182,7 @@ class Renaming:
         return [edited(text, [(name.start, name.end, new)])]
 
     def free(self, name: str) -> str:
-        """A name that the tree doesn't have, made of this one."""
+        """Returns a name that the tree doesn't have, made of this one."""
         found, number = name, 1
         while found in self.project.words:
             number += 1
@@ -191,11 +191,11 @@ class Renaming:
         return found
 
     def parsed(self, text: str) -> Statement:
-        """A line's statement."""
+        """Returns a line's statement."""
         return statement_of(line_of(text, self.state.has_escapes).tokens, self.project.is_macro)
 
     def prepared(self, text: str) -> str:
-        """A line with all its defines replaced."""
+        """Returns a line with all its defines replaced."""
         return spelling.respelled(defines.expanded(text, self.context, self.state.has_escapes, is_whole=True), self.context)
 
     def decided(self, text: str) -> Optional[bool]:
@@ -204,18 +204,18 @@ class Renaming:
         return self.truth(statement.rest) if statement.head == ".elseif" else self.answer(statement)
 
     def counted(self, text: str) -> Optional[int]:
-        """The count of a repeat, where it is known."""
+        """Returns the count of a repeat, where it is known."""
         parts = parts_of(self.parsed(self.prepared(text)).rest)
         return self.number_of(parts[0]) if parts else None
 
 
 def _is_followed(tokens: Sequence[Token], at: int, *texts: str) -> bool:
-    """Whether one of these follows."""
+    """Returns whether one of these follows."""
     return at + 1 < len(tokens) and tokens[at + 1].lower in texts
 
 
 def global_definition(text: str, statement: Statement) -> Optional[str]:
-    """A definition of `::name` without its `::`; None where it is something else."""
+    """Returns a definition of `::name` without its `::`; None where it is something else."""
     body = statement.body
     if len(body) < 4 or body[1].kind is not Kind.NAME or body[2].text not in ("=", ":="):
         return None

@@ -21,12 +21,12 @@ def refuse(tokens: Sequence[Token], context: Context) -> None:
 
 
 def may_turn_negative(arguments: Sequence[Token], context: Context) -> bool:
-    """Whether arguments of a macro that shifts may be negative there."""
+    """Returns whether arguments of a macro that shifts may be negative there."""
     return any(it.text in LESS for it in arguments) or any(_is_below(it, context) for it in arguments)
 
 
 def _left_of(tokens: Sequence[Token], at: int) -> Sequence[Token]:
-    """The operands of one level before an operator."""
+    """Returns the operands of one level before an operator."""
     begin, depth = at, 0
     while begin > 0:
         it = tokens[begin - 1]
@@ -53,7 +53,7 @@ def _is_operand(it: Token) -> bool:
 
 
 def _may_be_negative(left: Sequence[Token], context: Context) -> bool:
-    """Whether an operand of a shift is below 0, or has a sign, a repeat's counter less something, or a constant below 0."""
+    """Returns whether an operand of a shift is below 0, or has a sign, a repeat's counter less something, or a constant below 0."""
     known = value(left, context.value)
     if known is not None:
         return known < 0

@@ -19,7 +19,7 @@ LONGEST = 400
 
 
 def respelled(text: str, context: Context) -> str:
-    """A line with the spelling of bin65: numbers, brackets, cheap names, characters."""
+    """Returns a line with the spelling of bin65: numbers, brackets, cheap names, characters."""
     tokens = line_of(text, "string_escapes" in context.features).tokens
     edits: List[Edit] = _plain_parentheses(tokens) if "bracket_as_indirect" in context.features else []
     for at, it in enumerate(tokens):
@@ -30,7 +30,7 @@ def respelled(text: str, context: Context) -> str:
 
 
 def _plain_parentheses(tokens: Sequence[Token]) -> List[Edit]:
-    """Where brackets are indirect, an operand that begins with a parenthesis is an address: a `+` says so."""
+    """Returns where brackets are indirect, an operand that begins with a parenthesis is an address: a `+` says so."""
     at = next((at for at, it in enumerate(tokens[:4]) if it.lower in words.MNEMONICS | words.UNDOCUMENTED), None)
     if at is None or at + 1 >= len(tokens) or tokens[at + 1].text != "(":
         return []
@@ -38,7 +38,7 @@ def _plain_parentheses(tokens: Sequence[Token]) -> List[Edit]:
 
 
 def _respelled(it: Token, tokens: Sequence[Token], at: int, context: Context) -> Optional[str]:
-    """A token in the spelling of bin65; None where it has it."""
+    """Returns a token in the spelling of bin65; None where it has it."""
     if it.kind is Kind.NUMBER:
         if it.text == "$":
             return "*"
@@ -61,7 +61,7 @@ def _respelled(it: Token, tokens: Sequence[Token], at: int, context: Context) ->
 
 
 def _quoted(it: Token, tokens: Sequence[Token], at: int) -> Optional[str]:
-    """A string or a character in the quotes of bin65."""
+    """Returns a string or a character in the quotes of bin65."""
     if it.text.endswith("'") and len(it.text) > 2 and '"' not in it.text:
         return f'"{it.text[1:-1]}"'
     if len(it.text) == 2 and it.text != "''":
@@ -70,7 +70,7 @@ def _quoted(it: Token, tokens: Sequence[Token], at: int) -> Optional[str]:
 
 
 def translated(text: str, statement: Statement, context: Context) -> List[str]:
-    """A line with the codes of its characters, where they aren't those of its bytes."""
+    """Returns a line with the codes of its characters, where they aren't those of its bytes."""
     has_escapes = "string_escapes" in context.features
     if statement.head in NAMING or statement.head in words.CONDITIONS and statement.head not in (".if", ".elseif"):
         if has_escapes and any("\\" in it.text for it in statement.body if it.kind is Kind.STRING):
@@ -85,13 +85,13 @@ def translated(text: str, statement: Statement, context: Context) -> List[str]:
 
 
 def needs_codes(it: Token, context: Context) -> bool:
-    """Whether a string has other codes than its bytes."""
+    """Returns whether a string has other codes than its bytes."""
     inner = content(it, "string_escapes" in context.features)
     return inner is None or inner != it.text[1:-1] or context.charmap.of(inner) != [ord(one) for one in inner]
 
 
 def elements_of(it: Token, context: Context) -> List[str]:
-    """The codes of a string as elements of a list of bytes."""
+    """Returns the codes of a string as elements of a list of bytes."""
     inner = content(it, "string_escapes" in context.features)
     if inner is None:
         raise Unportable(it.text, "escapes")
@@ -99,7 +99,7 @@ def elements_of(it: Token, context: Context) -> List[str]:
 
 
 def with_comment(text: str, strings: Sequence[str]) -> str:
-    """A line with the strings that became numbers as a comment, where it has none and they can be read."""
+    """Returns a line with the strings that became numbers as a comment, where it has none and they can be read."""
     line = line_of(text)
     is_shown = all(it.isprintable() for it in strings) and len(text) + sum(map(len, strings)) <= LONGEST
     if not strings or line.comment < len(text) or not is_shown:
@@ -108,7 +108,7 @@ def with_comment(text: str, strings: Sequence[str]) -> str:
 
 
 def _with_characters(text: str, statement: Statement, context: Context) -> str:
-    """A line with the codes of its characters."""
+    """Returns a line with the codes of its characters."""
     edits: List[Edit] = []
     for it in statement.body:
         if it.kind is Kind.CHARACTER and is_closed(it):
@@ -119,7 +119,7 @@ def _with_characters(text: str, statement: Statement, context: Context) -> str:
 
 
 def with_codes(text: str, context: Context) -> str:
-    """A line with the codes of its characters, where the machine has others."""
+    """Returns a line with the codes of its characters, where the machine has others."""
     if not context.charmap.codes or "'" not in text:
         return text
     tokens = line_of(text, "string_escapes" in context.features).tokens
@@ -127,7 +127,7 @@ def with_codes(text: str, context: Context) -> str:
 
 
 def _data(text: str, statement: Statement, context: Context, has_escapes: bool) -> List[str]:
-    """A line of data with strings."""
+    """Returns a line of data with strings."""
     parts = parts_of(statement.rest)
     strings = [it[0] for it in parts if len(it) == 1 and it[0].kind is Kind.STRING]
     is_list = statement.head == ".asciiz" and len(parts) > 1
@@ -157,7 +157,7 @@ def _moved(part: Sequence[Token]) -> List[Token]:
 
 
 def codes_of(text: str, statement: Statement, context: Context) -> List[int]:
-    """The codes of the arguments of a macro that takes strings, characters and numbers."""
+    """Returns the codes of the arguments of a macro that takes strings, characters and numbers."""
     found: List[int] = []
     for part in parts_of(statement.rest):
         if len(part) == 1 and part[0].kind is Kind.STRING:

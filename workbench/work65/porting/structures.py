@@ -16,7 +16,7 @@ CLOSERS = {".endstruct": ".struct", ".endunion": ".union", ".endenum": ".enum"}
 
 
 def opened(text: str, statement: Statement, context: Context) -> List[str]:
-    """The line that opens a structure or an enum: a scope where it has a name, and else a comment."""
+    """Returns the line that opens a structure or an enum: a scope where it has a name, and else a comment."""
     if statement.label is not None or context.repeats:
         raise Unportable(statement.body[0].text, statement.head[1:])
     name = statement.rest[0].text if statement.rest and statement.rest[0].kind is Kind.NAME else ""
@@ -37,12 +37,12 @@ def opened(text: str, statement: Statement, context: Context) -> List[str]:
 
 
 def _begin(it: Structure) -> Tuple[str, Optional[int]]:
-    """Where the next member of a structure lies."""
+    """Returns where the next member of a structure lies."""
     return (it.base, it.base_value) if it.word == ".union" else (it.offset, it.value)
 
 
 def closed(text: str, statement: Statement, context: Context) -> List[str]:
-    """The line that closes one: its size, and the end of its scope."""
+    """Returns the line that closes one: its size, and the end of its scope."""
     word = CLOSERS[statement.head]
     if not context.structures or context.structures[-1].word != word:
         raise Unportable(statement.head, word[1:])
@@ -75,7 +75,7 @@ def _size(it: Structure) -> Optional[int]:
 
 
 def _spelled(it: Structure) -> str:
-    """A structure's size as it is written."""
+    """Returns a structure's size as it is written."""
     size = _size(it)
     if size is not None:
         return str(size)
@@ -101,7 +101,7 @@ def _grow(it: Structure, spelled: str, size: Optional[int]) -> None:
 
 
 def member(text: str, statement: Statement, context: Context) -> List[str]:
-    """A line within a structure or an enum."""
+    """Returns a line within a structure or an enum."""
     it = context.structures[-1]
     tokens = line_of(text).tokens
     if not tokens:
@@ -131,7 +131,7 @@ def member(text: str, statement: Statement, context: Context) -> List[str]:
 
 
 def _moved(text: str, tokens: Sequence[Token], it: Structure, context: Context) -> List[str]:
-    """A .org in a structure: the next member lies there."""
+    """Returns a .org in a structure: the next member lies there."""
     found = value(tokens[1:], context.value)
     if found is None:
         raise Unportable(".org", "struct", "its value isn't known here: write the offsets out")
@@ -143,7 +143,7 @@ def _moved(text: str, tokens: Sequence[Token], it: Structure, context: Context) 
 
 
 def _named_part(text: str, name: Token, tokens: Sequence[Token], context: Context) -> List[str]:
-    """A member that is a structure itself: its offset, and the structure's first line."""
+    """Returns a member that is a structure itself: its offset, and the structure's first line."""
     above = context.structures[-1]
     offset = _begin(above)[0]
     _note(name.text, _number(offset), context)
@@ -166,7 +166,7 @@ def _note(name: str, found: Optional[int], context: Context) -> None:
 
 
 def _member_size(text: str, tokens: Sequence[Token], context: Context) -> Tuple[str, Optional[int]]:
-    """How many bytes a member has: as it is written, and its value."""
+    """Returns how many bytes a member has: as it is written, and its value."""
     head, rest = tokens[0], tokens[1:]
     if head.lower in UNITS:
         unit = UNITS[head.lower]
@@ -184,7 +184,7 @@ def _member_size(text: str, tokens: Sequence[Token], context: Context) -> Tuple[
 
 
 def size_named(name: str, context: Context) -> Optional[int]:
-    """The size of a structure or of its member, by its name from the innermost scope outward."""
+    """Returns the size of a structure or of its member, by its name from the innermost scope outward."""
     if name.startswith("::"):
         return context.sizes.get(name[2:])
     path = list(context.path)
@@ -196,7 +196,7 @@ def size_named(name: str, context: Context) -> Optional[int]:
 
 
 def _enumerated(text: str, tokens: Sequence[Token], it: Structure, context: Context) -> str:
-    """A member of an enum."""
+    """Returns a member of an enum."""
     name = tokens[0]
     if name.kind is not Kind.NAME or (len(tokens) > 1 and tokens[1].text not in ("=", ":=")):
         raise Unportable(name.text, "enum")

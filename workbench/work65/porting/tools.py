@@ -55,7 +55,7 @@ class Linked:
 
 
 def missing() -> Optional[str]:
-    """The first of cc65's tools that isn't on the path."""
+    """Returns the first of cc65's tools that isn't on the path."""
     return next((it for it in NAMES if shutil.which(it) is None), None)
 
 
@@ -87,13 +87,13 @@ def ran(words: Sequence[str], folder: str, is_limited: bool = False) -> None:
 
 
 def other_exports(cc65: Linked, bin65: Linked) -> List[str]:
-    """The exports that have another value with bin65, without names that ld65 lists of its own accord."""
+    """Returns the exports that have another value with bin65, without names that ld65 lists of its own accord."""
     names = [it for it in cc65.exports if it in bin65.exports or not it.startswith("__")]
     return sorted(it for it in names if bin65.exports.get(it) != cc65.exports[it])
 
 
 def _files(room: str, names: Dict[str, str]) -> Dict[str, bytes]:
-    """The files of a link that aren't empty, by the names that the script gives."""
+    """Returns the files of a link that aren't empty, by the names that the script gives."""
     found = {}
     for made, name in sorted(names.items(), key=lambda it: it[1] != OUTPUT):
         if os.path.isfile(os.path.join(room, made)):
@@ -187,5 +187,5 @@ def _in_decimal(define: str) -> str:
 
 
 def _text(room: str, name: str) -> str:
-    """A text that a tool wrote."""
+    """Returns a text that a tool wrote."""
     return read_bytes(os.path.join(room, name)).decode("latin-1")

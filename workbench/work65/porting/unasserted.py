@@ -11,12 +11,12 @@ ASSERTION = re.compile(rb"^([ \t]*(?:@?[A-Za-z_]\w*[ \t]*:|:)?[ \t]*)\.assert\b[
 
 
 def without(data: bytes) -> bytes:
-    """A text without its assertions."""
+    """Returns a text without its assertions."""
     return ASSERTION.sub(rb"\1", data)
 
 
 def has_assertions(ported: Ported, files: Iterable[str]) -> bool:
-    """Whether one of these files of the tree has an assertion."""
+    """Returns whether one of these files of the tree has an assertion."""
     return any(".assert" in line.lower() for it in files for line in ported.project.texts[it].lines)
 
 
@@ -32,7 +32,7 @@ def their_object(ported: Ported, theirs: Theirs, module: str, root: str, made: s
 
 
 def our_copy(files: "dict[str, bytes]", ours: Ours, copy: str) -> Ours:
-    """The copy without assertions, in a folder of its own."""
+    """Returns the copy without assertions, in a folder of its own."""
     put({path: without(data) for path, data in files.items()}, copy)
     return Ours(ours.program, copy, ours.include, ours.define)
 

@@ -13,7 +13,7 @@ from work65.frontend.files import text_of
 from work65.frontend.includes import followed
 from work65.frontend.linked_tree import LinkedTree
 from work65.frontend.statements import statement_in
-from work65.frontend.survey import Tree, surveyed
+from work65.frontend.survey import Survey, surveyed
 from work65.frontend.tokens import Kind, line_of
 from work65.problem import Problem
 from work65.program import Program, Ran
@@ -54,7 +54,7 @@ class Search:
     names: Dict[str, Set[Place]] = field(default_factory=dict)
     faults: List[Fault] = field(default_factory=list)
     suspects: Dict[str, Suspect] = field(default_factory=dict)
-    tree: Optional[Tree] = None
+    tree: Optional[Survey] = None
     has_more: bool = False
     was_looked: bool = False
 

@@ -9,7 +9,7 @@ from work65.frontend import grammar, words
 from work65.frontend.files import Text, text_of
 from work65.frontend.includes import followed
 from work65.frontend.statements import Statement, statement_of
-from work65.frontend.survey import Tree, surveyed
+from work65.frontend.survey import Survey, surveyed
 from work65.frontend.tokens import Kind, Token, line_of
 from work65.program import Program
 
@@ -51,7 +51,7 @@ class File(NamedTuple):
     plain: List[Plain]
 
 
-def outside(lines: Sequence[str], tree: Tree) -> Iterator[Plain]:
+def outside(lines: Sequence[str], tree: Survey) -> Iterator[Plain]:
     """Yields the lines outside macros, repeats and structures."""
     depth = 0
     for at, text in enumerate(lines):
@@ -86,7 +86,7 @@ def suspects_in(source: str, folders: Sequence[str], defines: Sequence[str], lin
     return sorted(found, key=lambda it: (order[it.file], it.at))
 
 
-def _is_call(statement: Statement, tree: Tree) -> bool:
+def _is_call(statement: Statement, tree: Survey) -> bool:
     return bool(statement.body) and tree.is_macro(statement.body[0].text)
 
 
@@ -111,7 +111,7 @@ def _form(statement: Statement) -> str:
     return f"{statement.head} " + " ".join("n" if named else it.text for named, it in zip(is_name, statement.rest))
 
 
-def _by_form(file: File, tree: Tree) -> Iterator[Suspect]:
+def _by_form(file: File, tree: Survey) -> Iterator[Suspect]:
     """Yields lines with a syntax error, lines without names, and instructions whose addressing form is to be checked."""
     path = file.text.path
     for at, statement, tokens in file.plain:
@@ -129,7 +129,7 @@ def _by_form(file: File, tree: Tree) -> Iterator[Suspect]:
                 yield Suspect(path, at, line, _form(statement), HEADS)
 
 
-def _defined(files: Sequence[File], tree: Tree, without: Set[Tuple[str, int]]) -> Set[str]:
+def _defined(files: Sequence[File], tree: Survey, without: Set[Tuple[str, int]]) -> Set[str]:
     """Returns all names that may be defined. In macros, repeats, structures and calls every name counts."""
     found: Set[str] = set()
     for text, plain_lines in files:
@@ -143,7 +143,7 @@ def _defined(files: Sequence[File], tree: Tree, without: Set[Tuple[str, int]]) -
     return found
 
 
-def _with_names(file: File, tree: Tree, known: Set[str], constants: Dict[str, str]) -> Iterator[Suspect]:
+def _with_names(file: File, tree: Survey, known: Set[str], constants: Dict[str, str]) -> Iterator[Suspect]:
     """Yields lines all of whose names are undefined, and data and immediate operands all of whose names are independent
     constants."""
     head = "\n".join(constants.values())

@@ -31,13 +31,12 @@ class Module:
     parts: List[Part] = field(default_factory=list)
 
 
-@dataclass
-class Map:
+class Map(NamedTuple):
     """A map."""
 
-    modules: List[Module] = field(default_factory=list)
-    rows: List[PlacedSegment] = field(default_factory=list)
-    symbols: Dict[str, int] = field(default_factory=dict)
+    modules: List[Module]
+    rows: List[PlacedSegment]
+    symbols: Dict[str, int]
 
     def row(self, name: str) -> PlacedSegment:
         """Returns the row of a segment."""
@@ -51,7 +50,7 @@ def read_map(data: bytes, name: str) -> Map:
         first, second = lines.index("SEGMENTS"), lines.index("SYMBOLS")
         if lines[0] != "MODULES" or second < first:
             raise ValueError
-        found = Map()
+        found = Map([], [], {})
         for line in lines[1:first]:
             if line.startswith("  "):
                 segment, offset, size = line.split()

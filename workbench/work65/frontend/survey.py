@@ -12,25 +12,25 @@ ASMINC = ("/usr/share/cc65/asminc", "/usr/local/share/cc65/asminc")
 
 
 @dataclass
-class Tree:
+class Survey:
     """The macros of all files, each with its definitions as file and line, and the names of defines, features and structures."""
 
     macros: Dict[str, List[Tuple[str, int]]] = field(default_factory=dict)
+    missing: List[str] = field(default_factory=list)
+    is_whole: bool = True
     defines: Set[str] = field(default_factory=set)
     features: Set[str] = field(default_factory=set)
     structures: Set[str] = field(default_factory=set)
     names: Set[str] = field(default_factory=set)
-    missing: List[str] = field(default_factory=list)
-    is_whole: bool = True
 
     def is_macro(self, name: str) -> bool:
         """Returns whether a name is that of a macro or a define."""
         return name in self.macros or name in self.defines
 
 
-def surveyed(texts: Iterable[Text], folders: Iterable[str] = (), names: Iterable[str] = ()) -> Tree:
+def surveyed(texts: Iterable[Text], folders: Iterable[str] = (), names: Iterable[str] = ()) -> Survey:
     """Surveys files, and the files of cc65's asminc that they include. `names` are those of -D."""
-    tree = Tree(names=set(names))
+    tree = Survey(names=set(names))
     texts = list(texts)
     known = {os.path.basename(it.path) for it in texts}
     wanted: List[str] = []
@@ -65,7 +65,7 @@ def asminc_file(name: str, folders: Iterable[str] = ()) -> Optional[Text]:
     return None
 
 
-def _look(text: Text, tree: Tree) -> List[str]:
+def _look(text: Text, tree: Survey) -> List[str]:
     """Notes the definitions of a file. Returns the names of the files that it includes."""
     included = []
     for number, line in enumerate(text.lines, 1):
@@ -81,7 +81,7 @@ def _look(text: Text, tree: Tree) -> List[str]:
     return included
 
 
-def _note(word: str, rest: Tuple[Token, ...], path: str, number: int, tree: Tree) -> List[str]:
+def _note(word: str, rest: Tuple[Token, ...], path: str, number: int, tree: Survey) -> List[str]:
     """Notes a directive. Returns the name of the file that it includes, if any."""
     if not rest:
         return []

@@ -3,7 +3,7 @@ from typing import AbstractSet, Iterator, Tuple
 
 from work65.frontend import words
 from work65.frontend.statements import Statement, is_instruction, parts_of
-from work65.frontend.survey import Tree
+from work65.frontend.survey import Survey
 from work65.frontend.tokens import Kind, Token, is_closed, value_of
 from work65.habits.habit import Habit
 from work65.habits.table import BY_NAME, BY_WORD
@@ -15,7 +15,7 @@ INDIRECT = frozenset("adc and cmp eor lda ora sbc sta".split())
 SIZES = frozenset(("zeropage", "absolute"))
 
 
-def label(statement: Statement, tree: Tree) -> Iterator[Found]:
+def label(statement: Statement, tree: Survey) -> Iterator[Found]:
     """Yields the habit of a label without its colon."""
     if statement.label is not None and not statement.has_colon:
         yield statement.label.text, BY_NAME["colon"], ""
@@ -62,7 +62,7 @@ def _define(rest: Tuple[Token, ...]) -> str:
     return "define-list" if is_list else "define"
 
 
-def statement(one: Statement, scopes: int, parameters: AbstractSet[str], tree: Tree) -> Iterator[Tuple[str, str]]:
+def statement(one: Statement, scopes: int, parameters: AbstractSet[str], tree: Survey) -> Iterator[Tuple[str, str]]:
     """Yields the habits of a statement's form."""
     if not one.body:
         return
@@ -86,7 +86,7 @@ def statement(one: Statement, scopes: int, parameters: AbstractSet[str], tree: T
         yield from _directive(one)
 
 
-def _instruction(one: Statement, tree: Tree) -> Iterator[Tuple[str, str]]:
+def _instruction(one: Statement, tree: Survey) -> Iterator[Tuple[str, str]]:
     """Yields the habit of an instruction that isn't of the documented 6502."""
     first = one.body[0]
     if tree.is_macro(first.text) or (one.rest and one.rest[0].text in ("=", ":=")):

@@ -8,7 +8,7 @@ from work65.frontend.files import Text, place_of
 from work65.frontend.includes import find_file, word_of
 from work65.frontend.reach import reached
 from work65.frontend.statements import Statement, statement_in, statement_of
-from work65.frontend.survey import Tree
+from work65.frontend.survey import Survey
 from work65.frontend.tokens import Kind, LexedLine, line_of
 from work65.habits import cheap, marks
 from work65.habits.files import Files
@@ -59,7 +59,7 @@ def is_plain(text: str, has_escapes: bool) -> bool:
 class Reader:
     """Reads the lines of one file. `files` is None if nobody looks for the files that lines name."""
 
-    def __init__(self, text: Text, tree: Tree, files: Optional[Files] = None) -> None:
+    def __init__(self, text: Text, tree: Survey, files: Optional[Files] = None) -> None:
         self.text = text
         self.tree = tree
         self.files = files
@@ -232,7 +232,7 @@ def _is_continued(line: LexedLine, text: str) -> bool:
     return bool(line.tokens) and line.tokens[-1].text == "\\"
 
 
-def found_in(texts: List[Text], tree: Tree, files: Optional[Files] = None, included: Sequence[Text] = ()) -> List[Finding]:
+def found_in(texts: List[Text], tree: Survey, files: Optional[Files] = None, included: Sequence[Text] = ()) -> List[Finding]:
     """What is found in the sources, and in files that lines of them include; in lines of a macro only where something calls it.
 
     With `files` it also finds the files that lines name and that bin65 doesn't find."""

@@ -6,7 +6,7 @@ from typing import Dict, Iterator, List, Optional, Sequence, Tuple
 
 from work65.frontend import words
 from work65.frontend.files import Text, text_of
-from work65.frontend.survey import Tree, surveyed
+from work65.frontend.survey import Survey, surveyed
 from work65.frontend.tokens import line_of
 from work65.habits import scripts as script_habits
 from work65.habits import sources as source_habits
@@ -181,7 +181,7 @@ def _left(project: Project, found: Dict[str, Text], origins: Dict[str, List[int]
         yield Finding(original, numbers[min(it.line, len(numbers)) - 1], it.word, it.habit, it.note)
 
 
-def _without_dead_calls(text: Text, numbers: List[int], tree: Tree) -> Text:
+def _without_dead_calls(text: Text, numbers: List[int], tree: Survey) -> Text:
     """A file without the calls that no assembly reaches, so that the lines of their macros don't count for them."""
     lines = list(text.lines)
     for at, number in enumerate(numbers):

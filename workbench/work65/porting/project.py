@@ -8,7 +8,7 @@ from work65.frontend import words
 from work65.frontend.files import Text, text_of
 from work65.frontend.includes import path_of_bytes
 from work65.frontend.statements import Statement, statement_of
-from work65.frontend.survey import Tree, asminc_file, surveyed
+from work65.frontend.survey import Survey, asminc_file, surveyed
 from work65.frontend.tokens import Kind, line_of
 from work65.habits.habit import Finding
 from work65.habits.table import BY_NAME
@@ -53,7 +53,7 @@ class Project:
     include_folders: Sequence[str]
     target: Optional[str]
     names: FrozenSet[str] = frozenset()
-    tree: Tree = field(default_factory=Tree)
+    tree: Survey = field(default_factory=Survey)
     outputs: Dict[str, List[RewrittenLine]] = field(default_factory=dict)
     findings: Dict[Tuple[str, int, str], Finding] = field(default_factory=dict)
     sized_in: Dict[str, Set[str]] = field(default_factory=dict)

@@ -12,6 +12,7 @@ SOURCES = {
         ".macro m p, q", ".local x", "x: lda #p", ".ifblank q", " inx ; p", ".else", " n q", ".endif", " .byte .paramcount", ".endmacro",
         ".macro n p", ".repeat 2, i", " .byte i+p, q", ".endrepeat", ".endmacro", " m 5", "k = 3", ".repeat k, i", ".repeat 2, j",
         " m i, {j, 1}", " .word i*j", ".endrepeat", ".endrepeat", '.include "part.inc"', " m (1,2)",
+        ".macro o p", ".repeat 2, i", " .byte p", ".endrepeat", ".endmacro", " o i+1",
     ],
     "part.inc": [" lda #p ; i", " m 7"],
 }  # fmt: skip
@@ -37,6 +38,7 @@ LINES = {
     f"{TWICE}|CALL 20|LOCAL 2|AT 7": " n 0, 1",
     f"{TWICE}|CALL 20|LOCAL 2|CALL 7|REPEAT 12|TURN 12|AT 13": " .byte 0+0, q",
     f"{TWICE}|CALL 20|LOCAL 2|CALL 7|REPEAT 12|TURN 12|TURN 12|AT 13": " .byte 1+0, q",
+    "DEFINED 30|CALL 31|REPEAT 27|TURN 27|TURN 27|AT 28": " .byte 1+1",
     f"{BOTH}|CALL 16|LOCAL 2|INCLUDE 24|AT 1 part.inc": " lda #p ; i",
     f"{TWICE}|INCLUDE 24|AT 1 part.inc": " lda #p ; i",
     f"{TWICE}|INCLUDE 24|CALL 2 part.inc|LOCAL 2|AT 3": "x?1: lda #7",

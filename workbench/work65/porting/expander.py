@@ -5,7 +5,7 @@ from typing import Dict, List, Optional, Protocol, Sequence
 
 from work65.frontend import words
 from work65.frontend.macros import arguments_of, given_by, substituted
-from work65.frontend.statements import Statement, parts_of, statement_in, statement_of
+from work65.frontend.statements import Statement, parts_of, statement_in
 from work65.frontend.tokens import Kind, Token, line_of
 from work65.porting.expansion import HARD, Macro, end_of_repeat
 from work65.porting.line import Unportable
@@ -167,21 +167,22 @@ class Expander:
                 return
 
     def nested_repeat(self, frame: ExpansionFrame, text: str, statement: Statement) -> None:
-        """Writes a repeat within a call out, or leaves it as it is where its lines may stay."""
+        """Expands a repeat within a call, or leaves it as it is if its lines may stay. Its counter is replaced in arguments, too."""
         end = end_of_repeat([Logical(0, it) for it in frame.lines], frame.at)
-        body, frame.at = frame.lines[frame.at : end], end + 1
-        if any(self.has_to_go(it, frame) for it in body):
+        body = [substituted(it, frame.given, self.host.has_escapes) for it in frame.lines[frame.at : end]]
+        frame.at = end + 1
+        if any(self.has_to_go(it) for it in body):
             if statement.label is not None:
                 self.emit(text[: statement.body[0].start].rstrip())
-            self.repeat(body, text, frame.given)
+            self.repeat(body, text, {})
             return
-        for it in (text, *(substituted(it, frame.given, self.host.has_escapes) for it in body), ".endrepeat"):
+        for it in (text, *body, ".endrepeat"):
             self.emit(it)
 
-    def has_to_go(self, text: str, frame: ExpansionFrame) -> bool:
-        """Returns whether a line has its repeat written out."""
-        tokens = line_of(substituted(text, frame.given, self.host.has_escapes), self.host.has_escapes).tokens
-        statement = statement_of(tokens, lambda _: False)
+    def has_to_go(self, text: str) -> bool:
+        """Returns whether a repeat with this line must be expanded."""
+        statement = statement_in(text, self.host.has_escapes)
+        tokens = line_of(text, self.host.has_escapes).tokens
         if statement.head in words.MACRO_EXITS or any(it.lower in HARD for it in tokens):
             return True
         return self.host.is_written_out(statement)

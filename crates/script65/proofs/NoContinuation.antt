@@ -16,7 +16,7 @@ use Rattle.script65.proofs.Written.{read_of}
 
 -- ---- A fault is at its token, or it is a number out of range.
 
-abbrev IsAt : ℕ → Move → Type 0
+abbrev pub IsAt : ℕ → Move → Type 0
 IsAt at (on es p) = ⊤
 IsAt at (done es) = ⊤
 IsAt at (stop fault place) = (place ≡ at) ⊎ (fault ≡ OutOfRange)
@@ -93,7 +93,7 @@ sign_or_end_at es b e a ps plus at = tt
 sign_or_end_at es b e a ps minus at = tt
 sign_or_end_at es b e a ps l at = sum_end_at es b e a ps (sum_of_parts ps) l at
 
-move_at : (es : Entries) (p : Place) (l : Lexeme) (at : ℕ) → IsAt at (move es p l at)
+pub move_at : (es : Entries) (p : Place) (l : Lexeme) (at : ℕ) → IsAt at (move es p l at)
 move_at es between_blocks l at = block_word_at es l at
 move_at es (behind_block_word b) l at = block_brace_at es b l at
 move_at es (between_entries b) l at = entry_name_at es b l at
@@ -107,7 +107,7 @@ move_at es (behind_value b e) l at = comma_or_next_at es b e l at
 
 -- ---- Other texts.
 
-behind_place : (bytes : List ℕ) (at : ℕ) → at ≤ (token bytes at).behind
+pub behind_place : (bytes : List ℕ) (at : ℕ) → at ≤ (token bytes at).behind
 unfolding token
 behind_place bytes at = omega arith
 

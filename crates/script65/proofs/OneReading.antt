@@ -40,7 +40,7 @@ one_reading bytes r q h k = h.2 ∙ ap (λ x. with_line bytes (x >>= script_from
 -- ---- At least one.
 
 -- a token has a byte at least, unless it is the end
-some_bytes : (b : ℕ) (bs : List ℕ) → 0 < (front (b ∷ bs)).1
+pub some_bytes : (b : ℕ) (bs : List ℕ) → 0 < (front (b ∷ bs)).1
 some_bytes b bs = by (is_letter b) (is_ascii_digit b) (b == 36) (b == 34) (b == 37)
   where
     hex : (ds : List ℕ) → 0 < (hex_behind ds).1
@@ -118,7 +118,7 @@ module _ (bytes : List ℕ) where
       by (stop f place) e = (Err (stop_at f place), stops es p at f place e)
       by (on fs q) e = on_to fs q e (further at)
 
-  reads_some : (n : ℕ) → Some_from n
+  pub reads_some : (n : ℕ) → Some_from n
   reads_some zero at es p enough = some_step zero at es p enough (λ lt. absurd (omega arith))
   reads_some (suc n) at es p enough = some_step (suc n) at es p enough (λ lt. (n, reads_some n, omega arith))
 

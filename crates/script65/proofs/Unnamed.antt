@@ -61,7 +61,7 @@ in_fixed s ts n h =
     ap (sum_unless s ts) (none_unknown s.k (is_some s.start) s.rows ts h.numbers)
     ∙ ap (number_or_fault s.own.name) (sum_fixed (places_there s) s.row_places ts n h)
 
-not_over : (x : ℕ) → x ≤ 2 ^ 32 → nat_lt (2 ^ 32) x ≡ false
+pub not_over : (x : ℕ) → x ≤ 2 ^ 32 → nat_lt (2 ^ 32) x ≡ false
 not_over x h = grind (arith, nat_tests)
 
 bounds_fixed : (s : Standing) (b : Bounds) → IsFixed s.own b → bounds_in s ≡ Ok b

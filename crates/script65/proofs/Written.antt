@@ -45,29 +45,33 @@ module _ (bytes : List ℕ) where
   follows _ _ _ _ (stops es p at f place e) = subst (λ m. Follows at m (Err (stop_at f place))) (sym e) refl
 
   -- where tokens do the same, they read the same
-  same_moves : (es fs : Entries) (p q : Place) (at : ℕ) (r : Result Entries Stop) → moves bytes es p at ≡ moves bytes fs q at → Reads bytes fs q at r → Reads bytes es p at r
+  pub same_moves : (es fs : Entries) (p q : Place) (at : ℕ) (r : Result Entries Stop) → moves bytes es p at ≡ moves bytes fs q at → Reads bytes fs q at r → Reads bytes es p at r
   same_moves es _ p _ _ _ e (next fs gs q s at r h k) = next es gs p s at r (e ∙ h) k
   same_moves es _ p _ _ _ e (ends fs gs q at h) = ends es gs p at (e ∙ h)
   same_moves es _ p _ _ _ e (stops fs q at f place h) = stops es p at f place (e ∙ h)
 
   -- a token that stands
-  steps : (es fs : Entries) (p q : Place) (l : Lexeme) (at to : ℕ) (r : Result Entries Stop) → Stands bytes l at to → move es p l (token bytes at).at ≡ on fs q → Reads bytes fs q to r → Reads bytes es p at r
+  pub steps : (es fs : Entries) (p q : Place) (l : Lexeme) (at to : ℕ) (r : Result Entries Stop) → Stands bytes l at to → move es p l (token bytes at).at ≡ on fs q → Reads bytes fs q to r → Reads bytes es p at r
   steps es fs p q l at to r s e k = next es fs p q at r (ap (λ l. move es p l (token bytes at).at) s.lexeme ∙ e) (subst (λ n. Reads bytes fs q n r) (sym s.behind) k)
 
   -- where one place stops, or does the same as another
   abbrev Either : Move → Move → ℕ → Type 0
   Either m n at = (n ≡ m) ⊎ (m ≡ stop SyntaxError at)
 
-  passes : (es gs : Entries) (p q : Place) (at : ℕ) → Either (moves bytes es p at) (moves bytes es q at) (token bytes at).at → Reads bytes es p at (Ok gs) → Reads bytes es q at (Ok gs)
-  passes es gs p q at (inl same) h = same_moves es es q p at (Ok gs) same h
-  passes es gs p q at (inr e) h = absurd (apart gs (stop_at SyntaxError (token bytes at).at) (subst (λ m. Follows at m (Ok gs)) e (follows es p at (Ok gs) h)))
+  -- no syntax error
+  abbrev pub IsFine : Result Entries Stop → Type 0
+  IsFine r = (at : ℕ) → r ≡ Err (stop_at SyntaxError at) → ⊥
+
+  pub passes : (es : Entries) (r : Result Entries Stop) (fine : IsFine r) (p q : Place) (at : ℕ) → Either (moves bytes es p at) (moves bytes es q at) (token bytes at).at → Reads bytes es p at r → Reads bytes es q at r
+  passes es r fine p q at (inl same) h = same_moves es es q p at r same h
+  passes es r fine p q at (inr e) h = absurd (fine (token bytes at).at (subst (λ m. Follows at m r) e (follows es p at r h)))
 
   module _ (es : Entries) (b : Block) (e : Entry) (a : List ℕ) where
-    sign_goes : (ps : List Part) (taken : Bool) (at : ℕ) → breaks.sign_or_end es b e a ps (sign taken) at ≡ on es (before_term b e a ps taken)
+    pub sign_goes : (ps : List Part) (taken : Bool) (at : ℕ) → breaks.sign_or_end es b e a ps (sign taken) at ≡ on es (before_term b e a ps taken)
     sign_goes ps false at = refl
     sign_goes ps true at = refl
 
-    terms_read : (ps qs : List Part) (taken : Bool) (p : Place) (at to : ℕ) (r : Result Entries Stop) → AreTerms bytes taken qs at to → moves bytes es p at ≡ breaks.add_part es b e a ps (token bytes at).at (part_of taken (token bytes at).at (token bytes at).lexeme) → Reads bytes es (behind_term b e a (ps ++ qs)) to r → Reads bytes es p at r
+    pub terms_read : (ps qs : List Part) (taken : Bool) (p : Place) (at to : ℕ) (r : Result Entries Stop) → AreTerms bytes taken qs at to → moves bytes es p at ≡ breaks.add_part es b e a ps (token bytes at).at (part_of taken (token bytes at).at (token bytes at).lexeme) → Reads bytes es (behind_term b e a (ps ++ qs)) to r → Reads bytes es p at r
     terms_read ps _ _ p _ _ r (one taken q at to t) same k =
         let made : part_of taken (token bytes at).at (token bytes at).lexeme ≡ Ok q = ap (part_of taken (token bytes at).at) t.stands.lexeme ∙ t.part in
         next es es p (behind_term b e a (ps ++ q ∷ [])) at r (same ∙ ap (breaks.add_part es b e a ps (token bytes at).at) made) (subst (λ n. Reads bytes es (behind_term b e a (ps ++ q ∷ [])) n r) (sym t.stands.behind) k)
@@ -89,70 +93,70 @@ module _ (bytes : List ℕ) where
     comma_passes comma at = inr refl
     comma_passes l at = inl refl
 
-    equals_passes : (takes : Takes) (l : Lexeme) (at : ℕ) → Either (breaks.attribute_value es b e a takes l at) (breaks.equals_or_value es b e (a, takes) l at) at
+    pub equals_passes : (takes : Takes) (l : Lexeme) (at : ℕ) → Either (breaks.attribute_value es b e a takes l at) (breaks.equals_or_value es b e (a, takes) l at) at
     equals_passes a_sum equals at = inr refl
     equals_passes takes equals at = inr refl
     equals_passes takes l at = inl refl
 
-  plain_value : (es : Entries) (b : Block) (e : Entry) (g : Given) (takes : Takes) (gs : Entries) (at to : ℕ) (l : Lexeme) → Stands bytes l at to → breaks.attribute_value es b e g.word takes l (token bytes at).at ≡ breaks.give es b e g.word (token bytes at).at (value_of takes l) → value_of takes l ≡ Ok g.value → g.parts ≡ [] → Reads bytes es (behind_value b (with_given g e)) to (Ok gs) → Reads bytes es (before_value b e (g.word, takes)) at (Ok gs)
-  plain_value es b e g takes gs at to l s same made empty k =
+  plain_value : (es : Entries) (b : Block) (e : Entry) (g : Given) (takes : Takes) (r : Result Entries Stop) (fine : IsFine r) (at to : ℕ) (l : Lexeme) → Stands bytes l at to → breaks.attribute_value es b e g.word takes l (token bytes at).at ≡ breaks.give es b e g.word (token bytes at).at (value_of takes l) → value_of takes l ≡ Ok g.value → g.parts ≡ [] → Reads bytes es (behind_value b (with_given g e)) to r → Reads bytes es (before_value b e (g.word, takes)) at r
+  plain_value es b e g takes r fine at to l s same made empty k =
       let whole : g ≡ record { word = g.word; value = g.value; parts = [] } = ap (λ (ps : List Part). let h : Given = record { word = g.word; value = g.value; parts = ps } in h) empty in
-      steps es es (before_value b e (g.word, takes)) (behind_value b (with_given (record { word = g.word; value = g.value; parts = [] }) e)) l at to (Ok gs) s
-      (same ∙ ap (breaks.give es b e g.word (token bytes at).at) made) (subst (λ g. Reads bytes es (behind_value b (with_given g e)) to (Ok gs)) whole k)
+      steps es es (before_value b e (g.word, takes)) (behind_value b (with_given (record { word = g.word; value = g.value; parts = [] }) e)) l at to r s
+      (same ∙ ap (breaks.give es b e g.word (token bytes at).at) made) (subst (λ g. Reads bytes es (behind_value b (with_given g e)) to r) whole k)
 
-  value_reads : (es : Entries) (b : Block) (e : Entry) (g : Given) (takes : Takes) (gs : Entries) (at to : ℕ) → IsValue bytes takes g at to → Reads bytes es (behind_value b (with_given g e)) to (Ok gs) → Reads bytes es (before_value b e (g.word, takes)) at (Ok gs)
-  value_reads es b e g a_sum gs at to v k =
-      terms_read es b e g.word [] g.parts false (before_value b e (g.word, a_sum)) at to (Ok gs) v.0 refl
-      (passes es gs (behind_value b (with_given g e)) (behind_term b e g.word g.parts) to (sum_passes es b e g.word g.parts g.value (token bytes to).lexeme (token bytes to).at v.1) k)
-  value_reads es b e g (number_from low high) gs at to v k = plain_value es b e g (number_from low high) gs at to v.0 v.1 refl v.2 v.3 k
-  value_reads es b e g a_byte gs at to v k = plain_value es b e g a_byte gs at to v.0 v.1 refl v.2 v.3 k
-  value_reads es b e g (one_of words) gs at to v k = plain_value es b e g (one_of words) gs at to v.0 v.1 refl v.2 v.3 k
-  value_reads es b e g an_area gs at to v k = plain_value es b e g an_area gs at to v.0 v.1 refl v.2 v.3 k
-  value_reads es b e g a_file gs at to v k = plain_value es b e g a_file gs at to v.0 v.1 refl v.2 v.3 k
+  value_reads : (es : Entries) (b : Block) (e : Entry) (g : Given) (takes : Takes) (r : Result Entries Stop) (fine : IsFine r) (at to : ℕ) → IsValue bytes takes g at to → Reads bytes es (behind_value b (with_given g e)) to r → Reads bytes es (before_value b e (g.word, takes)) at r
+  value_reads es b e g a_sum r fine at to v k =
+      terms_read es b e g.word [] g.parts false (before_value b e (g.word, a_sum)) at to r v.0 refl
+      (passes es r fine (behind_value b (with_given g e)) (behind_term b e g.word g.parts) to (sum_passes es b e g.word g.parts g.value (token bytes to).lexeme (token bytes to).at v.1) k)
+  value_reads es b e g (number_from low high) r fine at to v k = plain_value es b e g (number_from low high) r fine at to v.0 v.1 refl v.2 v.3 k
+  value_reads es b e g a_byte r fine at to v k = plain_value es b e g a_byte r fine at to v.0 v.1 refl v.2 v.3 k
+  value_reads es b e g (one_of words) r fine at to v k = plain_value es b e g (one_of words) r fine at to v.0 v.1 refl v.2 v.3 k
+  value_reads es b e g an_area r fine at to v k = plain_value es b e g an_area r fine at to v.0 v.1 refl v.2 v.3 k
+  value_reads es b e g a_file r fine at to v k = plain_value es b e g a_file r fine at to v.0 v.1 refl v.2 v.3 k
 
-  attribute_reads : (es : Entries) (b : Block) (e : Entry) (g : Given) (gs : Entries) (at to : ℕ) → IsAttribute bytes b e g at to → Reads bytes es (between_attributes b (with_given g e)) to (Ok gs) → Reads bytes es (between_attributes b e) at (Ok gs)
-  attribute_reads es b e g gs at to h k =
-      steps es es (between_attributes b e) (behind_word b e (g.word, h.takes)) (word h.written) at h.behind_word (Ok gs) h.stands
+  attribute_reads : (es : Entries) (b : Block) (e : Entry) (g : Given) (r : Result Entries Stop) (fine : IsFine r) (at to : ℕ) → IsAttribute bytes b e g at to → Reads bytes es (between_attributes b (with_given g e)) to r → Reads bytes es (between_attributes b e) at r
+  attribute_reads es b e g r fine at to h k =
+      steps es es (between_attributes b e) (behind_word b e (g.word, h.takes)) (word h.written) at h.behind_word r h.stands
       (ap (λ o. breaks.known_attribute es b e o (token bytes at).at) h.known ∙ ap (λ (x : Bool). if x then stop AttributeTwice (token bytes at).at else on es (behind_word b e (g.word, h.takes))) h.once)
-      (begins h.equals_sign (value_reads es b e g h.takes gs h.start h.end h.value (closes h.comma_behind)))
+      (begins h.equals_sign (value_reads es b e g h.takes r fine h.start h.end h.value (closes h.comma_behind)))
     where
-      closes : Perhaps bytes comma h.end to → Reads bytes es (behind_value b (with_given g e)) h.end (Ok gs)
-      closes (inl s) = steps es es (behind_value b (with_given g e)) (between_attributes b (with_given g e)) comma h.end to (Ok gs) s refl k
-      closes (inr same) = passes es gs (between_attributes b (with_given g e)) (behind_value b (with_given g e)) h.end (comma_passes es b (with_given g e) [] (token bytes h.end).lexeme (token bytes h.end).at) (subst (λ n. Reads bytes es (between_attributes b (with_given g e)) n (Ok gs)) (sym same) k)
+      closes : Perhaps bytes comma h.end to → Reads bytes es (behind_value b (with_given g e)) h.end r
+      closes (inl s) = steps es es (behind_value b (with_given g e)) (between_attributes b (with_given g e)) comma h.end to r s refl k
+      closes (inr same) = passes es r fine (between_attributes b (with_given g e)) (behind_value b (with_given g e)) h.end (comma_passes es b (with_given g e) [] (token bytes h.end).lexeme (token bytes h.end).at) (subst (λ n. Reads bytes es (between_attributes b (with_given g e)) n r) (sym same) k)
 
-      begins : Perhaps bytes equals h.behind_word h.start → Reads bytes es (before_value b e (g.word, h.takes)) h.start (Ok gs) → Reads bytes es (behind_word b e (g.word, h.takes)) h.behind_word (Ok gs)
-      begins (inl s) m = steps es es (behind_word b e (g.word, h.takes)) (before_value b e (g.word, h.takes)) equals h.behind_word h.start (Ok gs) s refl m
-      begins (inr same) m = passes es gs (before_value b e (g.word, h.takes)) (behind_word b e (g.word, h.takes)) h.behind_word (equals_passes es b e g.word h.takes (token bytes h.behind_word).lexeme (token bytes h.behind_word).at) (subst (λ n. Reads bytes es (before_value b e (g.word, h.takes)) n (Ok gs)) (sym same) m)
+      begins : Perhaps bytes equals h.behind_word h.start → Reads bytes es (before_value b e (g.word, h.takes)) h.start r → Reads bytes es (behind_word b e (g.word, h.takes)) h.behind_word r
+      begins (inl s) m = steps es es (behind_word b e (g.word, h.takes)) (before_value b e (g.word, h.takes)) equals h.behind_word h.start r s refl m
+      begins (inr same) m = passes es r fine (before_value b e (g.word, h.takes)) (behind_word b e (g.word, h.takes)) h.behind_word (equals_passes es b e g.word h.takes (token bytes h.behind_word).lexeme (token bytes h.behind_word).at) (subst (λ n. Reads bytes es (before_value b e (g.word, h.takes)) n r) (sym same) m)
 
-  attributes_read : (es : Entries) (b : Block) (e f : Entry) (gs : Entries) (at to : ℕ) → AreAttributes bytes b e f at to → Reads bytes es (between_attributes b f) to (Ok gs) → Reads bytes es (between_attributes b e) at (Ok gs)
-  attributes_read es b _ _ gs _ _ (no_attribute e at) k = k
-  attributes_read es b _ _ gs _ _ (attribute e f g at mid to h rest) k = attribute_reads es b e g gs at mid h (attributes_read es b (with_given g e) f gs mid to rest k)
+  pub attributes_read : (es : Entries) (b : Block) (e f : Entry) (r : Result Entries Stop) (fine : IsFine r) (at to : ℕ) → AreAttributes bytes b e f at to → Reads bytes es (between_attributes b f) to r → Reads bytes es (between_attributes b e) at r
+  attributes_read es b _ _ r fine _ _ (no_attribute e at) k = k
+  attributes_read es b _ _ r fine _ _ (attribute e f g at mid to h rest) k = attribute_reads es b e g r fine at mid h (attributes_read es b (with_given g e) f r fine mid to rest k)
 
-  entry_reads : (b : Block) (es : Entries) (e : Entry) (gs : Entries) (at to : ℕ) → IsEntry bytes b es e at to → Reads bytes (with_entry b e es) (between_entries b) to (Ok gs) → Reads bytes es (between_entries b) at (Ok gs)
-  entry_reads b es e gs at to h k =
-      steps es es (between_entries b) (behind_name b (opened e.name e.at)) (word e.name) at h.behind_name (Ok gs) h.name
+  entry_reads : (b : Block) (es : Entries) (e : Entry) (r : Result Entries Stop) (fine : IsFine r) (at to : ℕ) → IsEntry bytes b es e at to → Reads bytes (with_entry b e es) (between_entries b) to r → Reads bytes es (between_entries b) at r
+  entry_reads b es e r fine at to h k =
+      steps es es (between_entries b) (behind_name b (opened e.name e.at)) (word e.name) at h.behind_name r h.name
       (ap (λ (x : Bool). if x then stop NameTwice (token bytes at).at else on es (behind_name b (opened e.name (token bytes at).at))) h.fresh ∙ ap (λ n. on es (behind_name b (opened e.name n))) (sym h.place))
-      (steps es es (behind_name b (opened e.name e.at)) (between_attributes b (opened e.name e.at)) colon h.behind_name h.start (Ok gs) h.colon_behind refl
-      (attributes_read es b (opened e.name e.at) e gs h.start h.end h.gives
-      (steps es (with_entry b e es) (between_attributes b e) (between_entries b) semicolon h.end to (Ok gs) h.semicolon_behind (ap (λ o. breaks.entry_end es b e o (token bytes h.end).at) h.whole) k)))
+      (steps es es (behind_name b (opened e.name e.at)) (between_attributes b (opened e.name e.at)) colon h.behind_name h.start r h.colon_behind refl
+      (attributes_read es b (opened e.name e.at) e r fine h.start h.end h.gives
+      (steps es (with_entry b e es) (between_attributes b e) (between_entries b) semicolon h.end to r h.semicolon_behind (ap (λ o. breaks.entry_end es b e o (token bytes h.end).at) h.whole) k)))
 
-  entries_read : (b : Block) (es fs gs : Entries) (at to : ℕ) → AreEntries bytes b es fs at to → Reads bytes fs (between_entries b) to (Ok gs) → Reads bytes es (between_entries b) at (Ok gs)
-  entries_read b _ _ gs _ _ (no_entry es at) k = k
-  entries_read b _ _ gs _ _ (entry es fs e at mid to h rest) k = entry_reads b es e gs at mid h (entries_read b (with_entry b e es) fs gs mid to rest k)
+  pub entries_read : (b : Block) (es fs : Entries) (r : Result Entries Stop) (fine : IsFine r) (at to : ℕ) → AreEntries bytes b es fs at to → Reads bytes fs (between_entries b) to r → Reads bytes es (between_entries b) at r
+  entries_read b _ _ r fine _ _ (no_entry es at) k = k
+  entries_read b _ _ r fine _ _ (entry es fs e at mid to h rest) k = entry_reads b es e r fine at mid h (entries_read b (with_entry b e es) fs r fine mid to rest k)
 
-  block_reads : (es fs gs : Entries) (at to : ℕ) → IsBlock bytes es fs at to → Reads bytes fs between_blocks to (Ok gs) → Reads bytes es between_blocks at (Ok gs)
-  block_reads es fs gs at to h k =
-      steps es es between_blocks (behind_block_word h.block) (word h.written) at h.behind_word (Ok gs) h.stands (ap (λ o. option_map_or (λ b. on es (behind_block_word b)) o (stop SyntaxError (token bytes at).at)) h.known)
-      (steps es es (behind_block_word h.block) (between_entries h.block) brace h.behind_word h.start (Ok gs) h.opens refl
-      (entries_read h.block es fs gs h.start h.end h.has_entries
-      (steps fs fs (between_entries h.block) between_blocks end_brace h.end to (Ok gs) h.closes refl k)))
+  block_reads : (es fs : Entries) (r : Result Entries Stop) (fine : IsFine r) (at to : ℕ) → IsBlock bytes es fs at to → Reads bytes fs between_blocks to r → Reads bytes es between_blocks at r
+  block_reads es fs r fine at to h k =
+      steps es es between_blocks (behind_block_word h.block) (word h.written) at h.behind_word r h.stands (ap (λ o. option_map_or (λ b. on es (behind_block_word b)) o (stop SyntaxError (token bytes at).at)) h.known)
+      (steps es es (behind_block_word h.block) (between_entries h.block) brace h.behind_word h.start r h.opens refl
+      (entries_read h.block es fs r fine h.start h.end h.has_entries
+      (steps fs fs (between_entries h.block) between_blocks end_brace h.end to r h.closes refl k)))
 
-  blocks_read : (es fs gs : Entries) (at to : ℕ) → AreBlocks bytes es fs at to → Reads bytes fs between_blocks to (Ok gs) → Reads bytes es between_blocks at (Ok gs)
-  blocks_read _ _ gs _ _ (no_block es at) k = k
-  blocks_read _ _ gs _ _ (block es fs hs at mid to h rest) k = block_reads es fs gs at mid h (blocks_read fs hs gs mid to rest k)
+  pub blocks_read : (es fs : Entries) (r : Result Entries Stop) (fine : IsFine r) (at to : ℕ) → AreBlocks bytes es fs at to → Reads bytes fs between_blocks to r → Reads bytes es between_blocks at r
+  blocks_read _ _ r fine _ _ (no_block es at) k = k
+  blocks_read _ _ r fine _ _ (block es fs hs at mid to h rest) k = block_reads es fs r fine at mid h (blocks_read fs hs r fine mid to rest k)
 
-  written_reads : (es : Entries) → IsWritten bytes es → Reads bytes no_entries between_blocks 0 (Ok es)
-  written_reads es h = blocks_read no_entries es es 0 h.end h.blocks (ends es es between_blocks h.end (ap (λ l. move es between_blocks l (token bytes h.end).at) h.ends))
+  pub written_reads : (es : Entries) → IsWritten bytes es → Reads bytes no_entries between_blocks 0 (Ok es)
+  written_reads es h = blocks_read no_entries es (Ok es) (λ at e. apart es (stop_at SyntaxError at) e) 0 h.end h.blocks (ends es es between_blocks h.end (ap (λ l. move es between_blocks l (token bytes h.end).at) h.ends))
 
   -- ---- What is read is written.
 
@@ -408,7 +412,7 @@ module _ (bytes : List ℕ) where
   read_of (Ok es) h = written_reads es h
   read_of (Err f) h = breaks_reads no_entries between_blocks 0 f h
 
-  is_read : (r : Result Entries Stop) → Reads bytes no_entries between_blocks 0 r → IsRead bytes r
+  pub is_read : (r : Result Entries Stop) → Reads bytes no_entries between_blocks 0 r → IsRead bytes r
   is_read (Ok es) h = reads_written es h
   is_read (Err f) h = reads_breaks no_entries between_blocks 0 (Err f) h f refl
 

@@ -3,6 +3,7 @@ pub mod Attributes
 pub mod Breaks
 pub mod Entries
 pub mod Faults
+pub mod FirstFaults
 pub mod Grammar
 pub mod Inner
 pub mod Laws

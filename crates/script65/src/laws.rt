@@ -1,5 +1,6 @@
 //! What holds of every script and of every placement by one.
 
+ghost use Rattle.script65.specs.FirstFaults.{FirstFaults, NumberedFaults};
 ghost use Rattle.script65.specs.Laws.{AllThere, LongestTokens, NoContinuation, OneReading, SomeReadingLaw};
 ghost use Rattle.script65.specs.Places.{OnePlacement};
 ghost use Rattle.script65.specs.PlacingLaws.{AllPlaced, AllWithin, NoNamesFixed, NoOverlap, OnlyNumbers, RowsThere, SameNeeds, SomePlacement, SumsHold};
@@ -17,6 +18,18 @@ pub fn some_reading()
 /// Behind the tokens up to a first fault no text goes on as a script.
 pub fn no_continuation()
     ensures { NoContinuation }
+{}
+
+/// A first fault that is no syntax error is one of a token by what the grammar writes before it, and each such fault is the
+/// first one.
+pub fn numbered_faults()
+    ensures { NumberedFaults }
+{}
+
+/// A first fault is one of these, or else a syntax error at the least token with which no text goes on as a script; and each
+/// such fault is the first one.
+pub fn first_faults()
+    ensures { FirstFaults }
 {}
 
 /// The token at the front of a text is the longest text there that is a token.

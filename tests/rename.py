@@ -35,7 +35,8 @@ pub fn read_all(place: &Place) -> Result<u32, Fault>
     if place.line == 0 { Err(Fault::Gone) } else { place.moved(1) }
 }
 """,
-    "crates/low65/specs/Lib.antt": "pub mod More\npub mod Outcome\n",
+    "crates/low65/specs/Lib.antt": "pub mod Again\npub mod More\npub mod Outcome\n",
+    "crates/low65/specs/Again.antt": "pub use Rattle.low65.specs.Outcome.{Gives as Yields}\nabbrev pub again : Type 0\nagain = Yields\n",
     "crates/low65/specs/More.antt": "pub data Answer : Type 0 where\n  known : Answer\n\nabbrev pub is : Answer\nis = known\n",
     "crates/low65/specs/Outcome.antt": """use Rattle.low65.specs.declared.store.Place.{Place}
 use Rattle.low65.specs.declared.store.Fault.TheVariants.{Gone}
@@ -90,6 +91,7 @@ CASES = {
     "a definition": ([DEFINITION], [
         ("low65/src/store.rt", "{Gives, found}", "{Refines, found}"), ("low65/src/store.rt", "moved { Gives", "moved { Refines"),
         ("low65/src/store.rt", "read { Gives", "read { Refines"), ("low65/specs/Outcome.antt", "pub Gives", "pub Refines"),
+        ("low65/specs/Again.antt", "{Gives as", "{Refines as"),
         ("low65/specs/Outcome.antt", "\nGives p", "\nRefines p"), ("high65/specs/Failing.antt", "low.Gives", "low.Refines"),
         ("high65/proofs/all/Answers.antt", "{Gives}", "{Refines}"), ("high65/proofs/all/Answers.antt", "∙ Gives", "∙ Refines"),
         ("PROVED", "`read`; `Gives`", "`read`; `Refines`")]),
@@ -127,12 +129,18 @@ CASES = {
         ("low65/src/store.rt", "{ pub line:", "{ pub number:"), ("low65/src/store.rt", "let line", "let number"), ("low65/src/store.rt", "{ line,", "{ number,"),
         ("low65/src/store.rt", "place.line", "place.number"), ("low65/proofs/store/read_all/Answers.antt", "place.line", "place.number"),
         ("low65/wrong-bodies/no_line.edit", "place.line", "place.number")]),
+    "a word": (["low65 high65\tword\t-\tfound\tvalue"], [
+        *((f"low65/{file}", old, old.replace("found", "value")) for file, olds in {
+            "src/store.rt": ["{Gives, found}", "moved { Gives found", "read { Gives found", "    found("],
+            "specs/Outcome.antt": ["≡ found", "pub found : Place", "\nfound p", "p.found", "pub found : ℕ"]}.items() for old in olds),
+        ("high65/src/lib.rt", "{found as", "{value as"), ("high65/specs/Failing.antt", "low.found", "low.value"), ("PROVED", "`found`", "`value`")]),
     "a module of code": (["low65\tsource-module\t-\tstore\tdisk"], [
         ("low65/src/lib.rt", "mod store", "mod disk"), ("low65/src/lib.rt", "use store", "use disk"), ("low65/specs/Outcome.antt", "declared.store", "declared.disk"),
         ("low65/proofs/store/read_all/Answers.antt", "proofs.store", "proofs.disk"), ("low65/wrong-bodies/no_line.edit", "src/store.rt", "src/disk.rt"),
         ("low65/src/store.rt", None, "low65/src/disk.rt"), ("low65/proofs/store/", None, "low65/proofs/disk/")]),
     "a module of definitions": (["low65\tspec-module\t-\tOutcome\tResults"], [
-        ("low65/src/store.rt", "specs.Outcome", "specs.Results"), ("low65/specs/Lib.antt", "mod Outcome", "mod Results"), ("high65/src/lib.rt", "specs.Outcome", "specs.Results"),
+        ("low65/src/store.rt", "specs.Outcome", "specs.Results"), ("low65/specs/Lib.antt", "mod Outcome", "mod Results"),
+        ("low65/specs/Again.antt", "specs.Outcome", "specs.Results"), ("high65/src/lib.rt", "specs.Outcome", "specs.Results"),
         ("high65/specs/Failing.antt", "specs.Outcome", "specs.Results"), ("high65/proofs/all/Answers.antt", "specs.Outcome", "specs.Results"),
         ("low65/specs/Outcome.antt", None, "low65/specs/Results.antt")]),
 }
@@ -147,22 +155,23 @@ REFUSED = {
     "a name that is nowhere": (["low65\tdefinition\t-\tTakes\tStepsTo"], "is not declared there"),
     "a name with two meanings": (["low65\tdefinition\t-\tis\tis_known"], "is declared in More, Outcome: name the module"),
     "a field without its variable": ([LINE], "crates/low65/src/store.rt:10: a field and a variable in one word"),
+    "a word that another crate imports": (["low65\tword\t-\tfound\tvalue"], "crates/high65/src/lib.rt imports it: name its crate, too"),
     "a module that is there": (["low65\tsource-module\t-\tstore\tFault"], "crates/low65/src/lib.rt is or has Fault"),
 }
 
-# Rows of each kind for the real tree.
-REAL = """base65 definition Outcome Gives Refines|base65 definition Outcome Finds RefinesProp|base65 definition Relations Answers RefinesRel
-base65 definition Store Passes PropagatesIoError|base65 definition Store Blamed LastFailure|base65 type - Text PathString|base65 type - Sequence ListVec
-syntax65 type place Place SourceLocation|cli65 type - LinkLine LinkArgs|object65 definition Reading Leaves StoreFrame
-asm65 definition Inner.Running Leaves RefinesTransition|asm65 definition Inner.Holding Holds Represents|sources65 definition Machine Takes StepsTo
-script65 type reading.words Takes ValueKind|script65 type - Row SegmentRow|script65 type - Area MemoryArea|script65 type reading.grammar Place ParseState
-expand65 type - StandIn Replacement|expand65 method - stand_in replacement_for|semantics65 type - Settled EncodingChoice
-semantics65 variant laid.Settled Unsettled Undecided|semantics65 type - At LocationRef|semantics65 definition Module comes_behind piece_result
-semantics65 definition Symbols Laid LaidOutStatement|asm65 source-module - taking statement|asm65 source-module - concluding finish
-asm65 spec-module - Inner Internal|output65 function - perform commit_outcome|symbols65 variant resolving.attempt.State Hangs BlockedOn
-link65 type fault Site ModuleLocation|emit65 variant entries.Entry Told DeclarationEntry|script65 method reading.entries.Entry says_yes flag_for
-* label - asked fails_at_last_count|library65 function - HEAD MAGIC|library65 proof-module - Selections Choices
-expand65 field - front pending|expand65 variable - front pending"""
+# Rows of each kind for the real tree: the new name is the old one with an ending.
+REAL = """base65 definition Outcome Refines|base65 definition Outcome RefinesProp|base65 definition Relations RefinesRel
+base65 definition Store PropagatesIoError|base65 definition Store LastFailure|base65 type - PathString|base65 type - ListVec
+syntax65 type source_location SourceLocation|cli65 type - LinkArgs|object65 definition Reading StoreFrame
+asm65 definition Internal.RunState RefinesTransition|asm65 definition Internal.AssemblerState Represents|sources65 definition Machine StepsTo
+script65 type reading.words ValueKind|script65 type - SegmentRow|script65 type - MemoryArea|script65 type reading.grammar ParseState
+expand65 type - Replacement|expand65 method - replacement_for|semantics65 type - EncodingChoice
+semantics65 variant laid.EncodingChoice Undecided|semantics65 type - LocationRef|semantics65 definition Module piece_result
+semantics65 definition Symbols LaidOutStatement|asm65 source-module - statement|asm65 source-module - finish
+asm65 spec-module - Internal|output65 function - commit_outcome|symbols65 variant resolving.attempt.State BlockedOn
+link65 type fault ModuleLocation|emit65 variant entries.SectionEntry DeclarationEntry|script65 method reading.entries.ConfigEntry flag_for
+* label - at_last_count|library65 function - MAGIC|library65 proof-module - Selections|* word - is_system_error
+expand65 field - pending|expand65 variable - pending"""
 
 
 def renamed(top, rows, *words):
@@ -241,7 +250,7 @@ def real_checks(top):
     git = ["git", "-C", tree, "-c", "user.name=test", "-c", "user.email=test", "-c", "core.autocrlf=false"]
     for words in (["init", "-q"], ["add", "-Af"], ["commit", "-qm", "before"]):
         subprocess.run([*git, *words], check=True, stdout=subprocess.DEVNULL)
-    rows = ["\t".join(it.split()) for line in REAL.split("\n") for it in line.split("|")]
+    rows = ["\t".join([*it.split(), it.split()[-1] + ("Anew" if it.split()[-1][0].isupper() else "_anew")]) for line in REAL.split("\n") for it in line.split("|")]
     said = renamed(tree, rows)
     changed = subprocess.run([*git, "diff", "--name-only"], check=True, capture_output=True, text=True).stdout.split()
     yield f"{len(rows)} rows on the real tree", None if said[0] == 0 and len(changed) > 300 else said[1][-2000:]

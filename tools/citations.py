@@ -55,7 +55,11 @@ def cited(renaming, where, crate, match):
 
     def new_name(it):
         rows = [row for row in renaming.rows if row.old == it[0] and row.kind not in ("field", "variable")]
-        if own := [row for row in rows if crate in row.crates or "*" in row.crates]:
+        own = [row for row in rows if crate in row.crates or "*" in row.crates]
+        if own and own[0].kind in ("definition", "function", "method", "type") and renaming.tree.is_other(crate, it[0]):
+            renaming.notes.append(f"{where}: `{match[1]}`: a clause or a module has this name, too")
+            return it[0]
+        if own:
             return own[0].new
         if rows and rows[0].kind != "label" and len(renaming.tree.meanings(it[0])) == 1 and not renaming.tree.meanings(rows[0].new):
             return rows[0].new

@@ -323,6 +323,10 @@ class File:
         return any(tree.canonical(it[2]) == path for found in self.bindings.values() for it in found) or (
             self.crate == path.split(".")[0] and path.rpartition(".")[0] == self.front()[:-1])
 
+    def imported(self, tree):
+        """Returns the paths of the names that a file imports."""
+        return {tree.canonical(it) for it in self.at_use.values() if it}
+
     def uses_of(self, name, is_label):
         """Yields where a name is in use: as it is, or in other letters what is declared or imported; labels meet labels alone."""
         if name.lower() not in self.lower:
@@ -392,6 +396,11 @@ class Tree:
             else:
                 return path
         return path
+
+    def is_other(self, crate, name):
+        """Returns whether a crate has a clause or a module of definitions with this name."""
+        label = re.compile(rf"\b(?:ensures|requires) {re.escape(name)} \{{")
+        return any(it.crate == crate and (it.area == "specs" and it.module == name or it.area == "src" and label.search(it.code)) for it in self.files)
 
     def meanings(self, name):
         """Returns the modules that declare a name."""

@@ -15,6 +15,7 @@ Names with a module of their own are resolved by import, each row for the one cr
   spec-module, proof-module, source-module    old and new are the last segment of the path, the module is the path before it or '-'
 The others are found by their position, in all files of the row's crates, or in the modules (separated by spaces) alone:
   method, field, label (of a clause), variable (a parameter, a local, a loop)
+  word          all of these and definitions, functions and ghost members at once: for a word that means one thing in its crates
 Comments and strings stay: comments that mention an old name are listed, and so are patterns of gate/ and tests/. A new name that is in
 use is refused, and then nothing is changed."""
 import argparse
@@ -28,7 +29,7 @@ import citations
 import naming
 
 BY_IMPORT = ("definition", "lemma", "type", "function", "variant", "spec-module", "proof-module", "source-module")
-BY_POSITION = ("method", "field", "label", "variable")
+BY_POSITION = ("method", "field", "label", "variable", "word")
 PAGES = ("PROVED", "ARCHITECTURE", "THEOREM", "one-program")
 PRELUDE = "/opt/rattle/rattle/std/specs/Prelude.antt"
 MAKER = "docs/tables/make_instructions.py"
@@ -93,7 +94,8 @@ class Renaming:
         self.parts = defaultdict(dict)
         self.labelled = defaultdict(dict)
         self.edits = defaultdict(dict)
-        self.by_position = [it for it in rows if it.kind in BY_POSITION]
+        self.by_position = [it for it in rows if it.kind in BY_POSITION and it.kind != "word"]
+        self.words = {(crate, it.old): it for it in rows if it.kind == "word" for crate in it.crates}
         for row in rows:
             if row.kind in BY_IMPORT:
                 self.resolve(row)
@@ -138,12 +140,18 @@ class Renaming:
         }[kind]
 
     def row_of(self, path):
-        """Returns the row that renames the last segment of a path, and what it becomes. A type's folder may end in a trait's name."""
-        path = self.tree.canonical(path)
+        """Returns the row that renames the last segment of a path, and what it becomes. A type's folder may end in a trait's name.
+        What a re-export calls by another name (`as`) has that name alone."""
+        word, path = path.rpartition(".")[2], self.tree.canonical(path)
+        front, _, last = path.rpartition(".")
+        if word != last:
+            row = self.word_row(path.split(".")[0], word)
+            return row, row.new if row else word
         if path in self.names:
             row = self.names[path]
-            return row, ("+" if path.rsplit(".", 1)[-1].startswith("+") else "") + row.new
-        front, _, last = path.rpartition(".")
+            return row, ("+" if last.startswith("+") else "") + row.new
+        if row := self.word_row(path.split(".")[0], last.lstrip("+")):
+            return row, last.replace(row.old, row.new)
         if ".proofs." in path or ".contracts." in path:
             for row in self.rows:
                 rest = last[len(row.old):] if row.kind == "type" and last.startswith(row.old) else ""
@@ -157,6 +165,9 @@ class Renaming:
         return ".".join(self.row_of(".".join(parts[: at + 1]))[1] if at else it for at, it in enumerate(parts))
 
     # ---- Words.
+
+    def word_row(self, crate, word):
+        return self.words.get((crate, word), self.words.get(("*", word)))
 
     def applies(self, row, file):
         """Whether a row that goes by position counts in a file; a method's also where its type is in use."""
@@ -179,8 +190,12 @@ class Renaming:
         for match in self.word.finditer(file.code):
             at, word = match.start(), match[0]
             path = file.path_at(self.tree, at, word)
-            row, new = self.row_of(path) if path else (None, word)
-            if row:
+            # (what a file imports `as` another name has that name alone)
+            is_alias = path and path.rpartition(".")[2] != word
+            row, new = self.row_of(path) if path and not is_alias else (None, word)
+            if not row and (row := self.word_row(file.crate, word)) and self.applies(row, file):
+                self.change(file, at, word, row, row.new)
+            elif row:
                 self.change(file, at, word, row, new)
             elif not path or file.code[at - 2: at] == "::":
                 self.look_at_position(file, at, word)
@@ -206,10 +221,12 @@ class Renaming:
     def look_at_label(self, file, at, word):
         """Renames a clause's label: in the contract, and in proofs where it is a clause of a function that has it."""
         function = file.function_at(at)
-        row = self.labelled[word].get(function)
+        rows = self.labelled[word].get(function, [None])
+        near = [it for it in rows if it and self.applies(it, file)] or [it for it in rows if it and self.tree.needs[file.crate] & {*it.crates}]
+        row = (near or rows)[0]
         if not row and self.labelled[word] and file.area == "proofs" and function not in self.functions:
             # (a call whose result has a name is known by that name alone)
-            row = next(iter(self.labelled[word].values()))
+            row = next(iter(self.labelled[word].values()))[0]
             self.notes.append(f"{file.where(at)}: {word} became {row.new}: is it a clause of a function of row {row.line}?")
         if row and (file.area == "src" and self.applies(row, file) or file.area != "src"):
             self.change(file, at, word, row, row.new)
@@ -219,7 +236,7 @@ class Renaming:
             for file in self.tree.files if row.kind == "label" else ():
                 if file.area == "src" and self.applies(row, file):
                     for match in re.finditer(rf"\b(?:ensures|requires)\s+({re.escape(row.old)})\s*\{{", file.code):
-                        self.labelled[row.old][file.function_at(match.start(1))] = row
+                        self.labelled[row.old].setdefault(file.function_at(match.start(1)), []).append(row)
 
     # ---- Files.
 
@@ -268,8 +285,13 @@ class Renaming:
         if row.kind.endswith("-module"):
             self.check_new_module(row)
             return
-        scope = [it for it in self.tree.files if it.area != "edits" and (it in touched or (row.kind in BY_IMPORT and it.crate in row.crates)
-                 or (row.kind in BY_POSITION and self.applies(row, it)))]
+        crates = {it.crate for it in touched} if row.kind == "word" else {*row.crates} if row.kind in BY_IMPORT else set()
+        scope = [it for it in self.tree.files if it.area != "edits" and (it in touched or it.crate in crates
+                 or (row.kind in BY_POSITION and row.kind != "word" and self.applies(row, it)))]
+        for file in self.tree.files if row.kind == "word" and "*" not in row.crates else ():
+            if file.crate not in row.crates and any(it.split(".")[0] in row.crates and it.endswith(f".{row.old}") for it in file.imported(self.tree)):
+                self.refuse(row, f"{file.path} imports it: name its crate, too")
+                return
         for file in scope:
             for at in file.uses_of(row.new, row.kind == "label"):
                 if at not in self.edits[file]:

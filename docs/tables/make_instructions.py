@@ -96,14 +96,14 @@ def lookup_rt(names):
 
 ghost use Rattle.std.specs.Prelude.{{◌≡◌}};
 ghost use Rattle.syntax65.specs.Forms.{{IsFound}};
-ghost use Rattle.syntax65.specs.Mnemonics.{{Spells, mnemonic_of, name_of}};
+ghost use Rattle.syntax65.specs.Mnemonics.{{SpellsMnemonic, mnemonic_of, name_of}};
 
 use super::names::Mnemonic;
 
 /// The mnemonic that these bytes spell, in either case.
 pub fn mnemonic(bytes: &[u8]) -> Option<Mnemonic>
     ensures value {{ result ≡ mnemonic_of bytes.now }}
-    ensures spelled {{ IsFound (Spells bytes.now) result }}
+    ensures spelled {{ IsFound (SpellsMnemonic bytes.now) result }}
 {{
     match bytes {{
         [first, second, third] => of_letters([
@@ -141,8 +141,8 @@ use Rattle.syntax65.specs.declared.instructions.names.TheConstants.Mnemonic.{{AL
 abbrev pub name_of : Mnemonic → List ℕ
 {rows}
 -- the bytes are the name, in either case
-abbrev pub Spells : List ℕ → Mnemonic → Type 0
-Spells bytes m = map to_ascii_lowercase bytes ≡ name_of m
+abbrev pub SpellsMnemonic : List ℕ → Mnemonic → Type 0
+SpellsMnemonic bytes m = map to_ascii_lowercase bytes ≡ name_of m
 
 -- the mnemonic that the bytes spell
 unfoldable pub mnemonic_of : List ℕ → Option Mnemonic

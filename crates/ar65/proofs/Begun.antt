@@ -3,20 +3,20 @@ use Rattle.std.proofs.Common.{◌≡◌, ℕ, zero, suc, ◌+◌, ◌++◌, ◌&
 use Rattle.std.specs.Prelude.{IfSome}
 use Rattle.std.specs.FinMap.{get}
 use Rattle.std.specs.Str.{bytes_eq}
-use Rattle.base65.specs.Outcome.{◌>>=◌, Refuses}
+use Rattle.base65.specs.Outcome.{◌>>=◌, RefinesErr}
 use Rattle.base65.specs.Store.{Files, IsBytes}
 use Rattle.object65.specs.declared.fault.ObjectFault.{ObjectFault}
 use Rattle.object65.specs.declared.object.Object.{Object}
 use Rattle.object65.specs.Reading.{file_limit, object_at}
 use Rattle.library65.specs.declared.index.Entry.{Entry}
-use Rattle.library65.specs.declared.index.Listing.{Listing}
+use Rattle.library65.specs.declared.index.UnplacedEntry.{UnplacedEntry}
 use Rattle.library65.specs.declared.fault.LibraryFault.{LibraryFault}
 use Rattle.library65.specs.declared.fault.LibraryFault.TheVariants.{FileNotFound, BadIndex, BadMemberName, CutShort, IndexDisagrees, NotALibrary}
-use Rattle.library65.specs.Fault.{is_outside}
-use Rattle.library65.specs.Libraries.{agreed, agrees, as_member, checked, contents_in, joined, joined_all, library_at, object_in, piece_at}
+use Rattle.library65.specs.Fault.{is_system_error}
+use Rattle.library65.specs.Libraries.{indexed_contents, has_index_names, as_member, member_contents, contents_in, with_library_entry, joined_all, library_at, object_in, piece_at}
 use Rattle.library65.specs.Spelling.{is_among, is_member_name, is_name, Member, library_head}
-use Rattle.library65.specs.Reading.{count_at, counted_at, end_at, entry_at, field_at, head_at, in_file, index_at, list_at, listing_at, listings_at, member_name_at, name_at, number_at, placed, symbol_at, symbols_at}
-use Rattle.ar65.specs.Librarian.{begun}
+use Rattle.library65.specs.Reading.{count_at, counted_at, end_at, entry_at, field_at, head_at, in_file, index_at, list_at, listing_at, listings_at, member_name_at, name_at, number_at, members_with_offsets, symbol_at, symbols_at}
+use Rattle.ar65.specs.Librarian.{library_or_empty}
 
 abbrev is_missing : LibraryFault → Bool
 is_missing FileNotFound = true
@@ -78,12 +78,12 @@ listing_there names at bytes =
     then (counted_at (n.1 + 4) bytes) _ (counted_there (n.1 + 4) bytes) (λ e.
     then (counted_at e.1 bytes) _ (counted_there e.1 bytes) (λ i. refl))))
 
-listings_there : (n : ℕ) (before : List Listing) (at : ℕ) (bytes : List ℕ) → IsThere (listings_at n before at bytes)
+listings_there : (n : ℕ) (before : List UnplacedEntry) (at : ℕ) (bytes : List ℕ) → IsThere (listings_at n before at bytes)
 listings_there zero before at bytes = refl
 listings_there (suc n) before at bytes =
     then (listing_at (map (λ m. m.name) before) at bytes) _ (listing_there (map (λ m. m.name) before) at bytes) (λ m. listings_there n (before ++ m.0 ∷ []) m.1 bytes)
 
-placed_there : (before : List Entry) (at : ℕ) (ms : List Listing) → IsThere (placed before at ms)
+placed_there : (before : List Entry) (at : ℕ) (ms : List UnplacedEntry) → IsThere (members_with_offsets before at ms)
 placed_there before at [] = refl
 placed_there before at (m ∷ ms) = one_of (nat_lt file_limit (at + m.size)) (Err BadIndex) _ refl (placed_there (before ++ entry_at at m ∷ []) (at + m.size) ms)
 
@@ -102,7 +102,7 @@ index_there : (bytes : List ℕ) → IsThere (index_at bytes)
 unfolding index_at
 index_there bytes =
     then (list_at bytes) _ (list_there bytes) (λ l.
-    then (placed [] l.1 l.0) _ (placed_there [] l.1 l.0) (λ es.
+    then (members_with_offsets [] l.1 l.0) _ (placed_there [] l.1 l.0) (λ es.
     then (end_at es.1 bytes) _ (end_there es.1 bytes) (λ u. refl)))
 
 object_there : (bytes : List ℕ) → IsThere (object_in bytes)
@@ -111,24 +111,24 @@ object_there bytes = go (object_at 0 (length bytes) bytes) where
   go (Ok o) = refl
   go (Err e) = refl
 
-checked_there : (name bytes : List ℕ) → IsThere (checked name bytes)
-unfolding checked contents_in
+checked_there : (name bytes : List ℕ) → IsThere (member_contents name bytes)
+unfolding member_contents contents_in
 checked_there name bytes = one_of (is_member_name name) _ (Err BadMemberName) (then (object_in bytes) _ (object_there bytes) (λ o. refl)) refl
 
-agreed_there : (e : Entry) (bytes : List ℕ) → IsThere (agreed e bytes)
-unfolding agreed
-agreed_there e bytes = then (checked e.name bytes) _ (checked_there e.name bytes) (λ c. one_of (agrees e c) (Ok c) (Err IndexDisagrees) refl refl)
+agreed_there : (e : Entry) (bytes : List ℕ) → IsThere (indexed_contents e bytes)
+unfolding indexed_contents
+agreed_there e bytes = then (member_contents e.name bytes) _ (checked_there e.name bytes) (λ c. one_of (has_index_names e c) (Ok c) (Err IndexDisagrees) refl refl)
 
-joined_there : (before : List Member) (e : Entry) (bytes : List ℕ) → IsThere (joined before e bytes)
-unfolding joined
+joined_there : (before : List Member) (e : Entry) (bytes : List ℕ) → IsThere (with_library_entry before e bytes)
+unfolding with_library_entry
 joined_there before e bytes =
     let piece = take e.size (drop e.place bytes) in
     then (piece_at e.size e.place bytes) _ (one_of (nat_lt (length piece) e.size) (Err CutShort) (Ok piece) refl refl) (λ found.
-    then (agreed e found) _ (agreed_there e found) (λ c. refl))
+    then (indexed_contents e found) _ (agreed_there e found) (λ c. refl))
 
 all_there : (before : List Member) (es : List Entry) (bytes : List ℕ) → IsThere (joined_all before es bytes)
 all_there before [] bytes = refl
-all_there before (e ∷ es) bytes = then (joined before e bytes) _ (joined_there before e bytes) (λ ms. all_there ms es bytes)
+all_there before (e ∷ es) bytes = then (with_library_entry before e bytes) _ (joined_there before e bytes) (λ ms. all_there ms es bytes)
 
 library_there : (bytes : List ℕ) → IsThere (library_at bytes)
 unfolding library_at
@@ -138,11 +138,11 @@ no_such : (bytes : List ℕ) → library_at bytes ≡ Err FileNotFound → ⊥
 no_such bytes e = let bad : Speaks {A = List Member} (Err FileNotFound) ≡ false = rw e at (library_there bytes) in absurd cc
 
 -- there is no such file, so a library is begun
-pub begun_anew : (file : Option (List ℕ)) → in_file file library_at ≡ Err FileNotFound → begun file ≡ Ok []
+pub begun_anew : (file : Option (List ℕ)) → in_file file library_at ≡ Err FileNotFound → library_or_empty file ≡ Ok []
 begun_anew None e = refl
 begun_anew (Some bytes) e = absurd (no_such bytes e)
 
-pub begun_empty : (known : Option Files) (name : List ℕ) (new : List Member) (e : LibraryFault) → new ≡ [] → e ≡ FileNotFound → IfSome known (λ m. Refuses is_outside e (in_file (get m name) library_at)) → IfSome known (λ m. begun (get m name) ≡ Ok new)
+pub begun_empty : (known : Option Files) (name : List ℕ) (new : List Member) (e : LibraryFault) → new ≡ [] → e ≡ FileNotFound → IfSome known (λ m. RefinesErr is_system_error e (in_file (get m name) library_at)) → IfSome known (λ m. library_or_empty (get m name) ≡ Ok new)
 begun_empty None name new e none is h = tt
 begun_empty (Some m) name new e none is h = begun_anew (get m name) (rw is at h) ∙ ap (λ ms. Ok ms) (sym none)
 
@@ -151,6 +151,6 @@ missing None e = tt
 missing (Some bytes) e = absurd (no_such bytes e)
 
 -- a file that isn't there has no other bytes
-pub missing_bytes : (known : Option Files) (name : List ℕ) (e : LibraryFault) → e ≡ FileNotFound → IfSome known (λ m. Refuses is_outside e (in_file (get m name) library_at)) → IfSome known (λ m. IfSome (get m name) IsBytes)
+pub missing_bytes : (known : Option Files) (name : List ℕ) (e : LibraryFault) → e ≡ FileNotFound → IfSome known (λ m. RefinesErr is_system_error e (in_file (get m name) library_at)) → IfSome known (λ m. IfSome (get m name) IsBytes)
 missing_bytes None name e is h = tt
 missing_bytes (Some m) name e is h = missing (get m name) (rw is at h)

@@ -6,23 +6,23 @@ use Rattle.object65.specs.declared.fault.ObjectFault.{ObjectFault}
 use Rattle.object65.specs.declared.fault.ObjectFault.TheVariants.{BadSize, BytesAfterEnd}
 use Rattle.object65.specs.declared.object.Object.{Object}
 use Rattle.base65.specs.Outcome.{◌>>=◌}
-use Rattle.object65.specs.Reading.{end_at, file_limit, front_of, head_at, record_at, room, whole, object_at, records_at}
-use Rattle.object65.specs.Record.{Entry}
-use Rattle.object65.specs.Scanning.{State, after, finished, start}
+use Rattle.object65.specs.Reading.{end_at, file_limit, front_of, head_at, record_at, bytes_before, body_or_cut_short, object_at, records_at}
+use Rattle.object65.specs.Record.{RawRecord}
+use Rattle.object65.specs.Scanning.{State, after, object_of_state, start}
 use Rattle.object65.proofs.Trails.{bound, passes}
 use Rattle.library65.specs.declared.fault.LibraryFault.{LibraryFault}
 use Rattle.library65.specs.declared.fault.LibraryFault.TheVariants.{BadMemberName, NotAnObject}
-use Rattle.library65.specs.Libraries.{as_member, checked, contents_from, contents_in, object_in, replaced, with_member}
+use Rattle.library65.specs.Libraries.{as_member, member_contents, contents_from, contents_in, object_in, with_new_member, with_member}
 use Rattle.library65.specs.Spelling.{is_member_name, Member}
 
 -- a record ends within the limit
-record_ends : (v : ℕ) (bytes : List ℕ) (at limit : ℕ) (x : Entry × ℕ) → record_at v at limit bytes ≡ Ok x → x.1 ≤ file_limit
+record_ends : (v : ℕ) (bytes : List ℕ) (at limit : ℕ) (x : RawRecord × ℕ) → record_at v at limit bytes ≡ Ok x → x.1 ≤ file_limit
 unfolding record_at
 record_ends v bytes at limit x e =
-    let f = bound (front_of v (take 3 (room bytes at limit))) _ _ e in
-    let b = bound (whole f.0.1 (take f.0.1 (room bytes (at + 3) limit))) _ _ f.2 in
+    let f = bound (front_of v (take 3 (bytes_before bytes at limit))) _ _ e in
+    let b = bound (body_or_cut_short f.0.1 (take f.0.1 (bytes_before bytes (at + 3) limit))) _ _ f.2 in
     let last = passes (nat_lt file_limit (at + 3 + f.0.1)) BadSize _ _ b.2 in
-    let x_is : ◌≡◌ {A = Entry × ℕ} (record { kind = f.0.0; body = b.0 }, at + 3 + f.0.1) x = cc (last.1) in
+    let x_is : ◌≡◌ {A = RawRecord × ℕ} (record { kind = f.0.0; body = b.0 }, at + 3 + f.0.1) x = cc (last.1) in
     let end : at + 3 + f.0.1 ≡ x.1 = ap (λ p. p.1) x_is in
     let within : nat_lt file_limit (at + 3 + f.0.1) ≡ false = last.0 in
     let least : at + 3 + f.0.1 ≤ file_limit = grind (arith, nat_tests) in
@@ -36,16 +36,16 @@ records_end (suc left) s at limit bytes x e =
     let u = bound (after s r.0.0) _ _ r.2 in
     go u.0.ended r.0 u.0 (record_ends s.version bytes at limit r.0 r.1) (λ t next h. records_end left t next limit bytes x h) u.2
   where
-    go : (b : Bool) (r : Entry × ℕ) (t : State) → r.1 ≤ file_limit → ((t : State) (next : ℕ) → records_at left t next limit bytes ≡ Ok x → x.1 ≤ file_limit) → (if b then Ok (t, r.1) else records_at left t r.1 limit bytes) ≡ Ok x → x.1 ≤ file_limit
+    go : (b : Bool) (r : RawRecord × ℕ) (t : State) → r.1 ≤ file_limit → ((t : State) (next : ℕ) → records_at left t next limit bytes ≡ Ok x → x.1 ≤ file_limit) → (if b then Ok (t, r.1) else records_at left t r.1 limit bytes) ≡ Ok x → x.1 ≤ file_limit
     go true r t h further e = let same : ◌≡◌ {A = State × ℕ} (t, r.1) x = cc in let end : r.1 ≡ x.1 = ap (λ p. p.1) same in omega (arith, h, end)
     go false r t h further e = further t r.1 e
 
 -- where more follows, the object doesn't end there
-more_behind : (end : ℕ) (bytes : List ℕ) → end < length bytes → end_at end (length bytes) bytes ≡ Err BytesAfterEnd
-more_behind end bytes h =
-    let left : length (take 1 (room bytes end (length bytes))) ≡ min 1 (min (length bytes - end) (length bytes - end)) =
-    length-take 1 (room bytes end (length bytes)) ∙ ap (min 1) (length-take (length bytes - end) (drop end bytes) ∙ ap (min (length bytes - end)) (length-drop end bytes)) in
-    let some : nat_lt 0 (length (take 1 (room bytes end (length bytes)))) ≡ true = grind (arith, nat_tests) in
+more_after : (end : ℕ) (bytes : List ℕ) → end < length bytes → end_at end (length bytes) bytes ≡ Err BytesAfterEnd
+more_after end bytes h =
+    let left : length (take 1 (bytes_before bytes end (length bytes))) ≡ min 1 (min (length bytes - end) (length bytes - end)) =
+    length-take 1 (bytes_before bytes end (length bytes)) ∙ ap (min 1) (length-take (length bytes - end) (drop end bytes) ∙ ap (min (length bytes - end)) (length-drop end bytes)) in
+    let some : nat_lt 0 (length (take 1 (bytes_before bytes end (length bytes)))) ≡ true = grind (arith, nat_tests) in
     rw some refl
 
 pub long_file : (bytes : List ℕ) → file_limit < length bytes → object_in bytes ≡ Err NotAnObject
@@ -55,29 +55,29 @@ long_file bytes h = from_head (head_at 0 (length bytes) bytes)
     n : ℕ
     n = length bytes
 
-    from_end : (x : State × ℕ) → x.1 ≤ file_limit → as_member (end_at x.1 n bytes >>= (λ u. finished x.0)) ≡ Err NotAnObject
-    from_end x within = let more : end_at x.1 n bytes ≡ Err BytesAfterEnd = more_behind x.1 bytes (omega (arith, h, within)) in rw more refl
+    from_end : (x : State × ℕ) → x.1 ≤ file_limit → as_member (end_at x.1 n bytes >>= (λ u. object_of_state x.0)) ≡ Err NotAnObject
+    from_end x within = let more : end_at x.1 n bytes ≡ Err BytesAfterEnd = more_after x.1 bytes (omega (arith, h, within)) in rw more refl
 
-    from_records : (r : Result (State × ℕ) ObjectFault) → ((x : State × ℕ) → r ≡ Ok x → x.1 ≤ file_limit) → as_member (r >>= (λ x. end_at x.1 n bytes >>= (λ u. finished x.0))) ≡ Err NotAnObject
+    from_records : (r : Result (State × ℕ) ObjectFault) → ((x : State × ℕ) → r ≡ Ok x → x.1 ≤ file_limit) → as_member (r >>= (λ x. end_at x.1 n bytes >>= (λ u. object_of_state x.0))) ≡ Err NotAnObject
     from_records (Err e) ends = refl
     from_records (Ok x) ends = from_end x (ends x refl)
 
-    from_head : (r : Result (ℕ × ℕ) ObjectFault) → as_member (r >>= (λ first. records_at n (start first.0) first.1 n bytes >>= (λ x. end_at x.1 n bytes >>= (λ u. finished x.0)))) ≡ Err NotAnObject
+    from_head : (r : Result (ℕ × ℕ) ObjectFault) → as_member (r >>= (λ first. records_at n (start first.0) first.1 n bytes >>= (λ x. end_at x.1 n bytes >>= (λ u. object_of_state x.0)))) ≡ Err NotAnObject
     from_head (Err e) = refl
     from_head (Ok first) = from_records (records_at n (start first.0) first.1 n bytes) (λ x e. records_end n (start first.0) first.1 n bytes x e)
 
 -- what a file's object does to members is told by its front
-pub told_by_front : (ms : List Member) (name bytes : List ℕ) → replaced ms name (take (file_limit + 1) bytes) ≡ replaced ms name bytes
-unfolding replaced checked contents_in
+pub told_by_front : (ms : List Member) (name bytes : List ℕ) → with_new_member ms name (take (file_limit + 1) bytes) ≡ with_new_member ms name bytes
+unfolding with_new_member member_contents contents_in
 told_by_front ms name bytes = go (nat_lt file_limit (length bytes)) refl
   where
     front : List ℕ
     front = take (file_limit + 1) bytes
 
-    go : (b : Bool) → nat_lt file_limit (length bytes) ≡ b → replaced ms name front ≡ replaced ms name bytes
+    go : (b : Bool) → nat_lt file_limit (length bytes) ≡ b → with_new_member ms name front ≡ with_new_member ms name bytes
     go false e =
         let short : length bytes ≤ file_limit = grind (arith, nat_tests) in
-        ap (replaced ms name) (take_all (file_limit + 1) bytes (omega (arith, short)))
+        ap (with_new_member ms name) (take_all (file_limit + 1) bytes (omega (arith, short)))
     go true e =
         let long : file_limit < length bytes = grind (arith, nat_tests) in
         let len : length front ≡ min (file_limit + 1) (length bytes) = length-take (file_limit + 1) bytes in

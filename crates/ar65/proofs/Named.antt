@@ -1,19 +1,19 @@
 -- What a refusal names where the store failed.
 use Rattle.std.proofs.Common.{◌≡◌, ℕ, List, Some, slice_get, refl}
-use Rattle.base65.specs.Store.{IsBlamed, Blamed}
+use Rattle.base65.specs.Store.{FailedOn, LastFailure}
 use Rattle.library65.specs.declared.fault.LibraryFault.{LibraryFault}
 use Rattle.library65.specs.declared.fault.LibraryFault.TheVariants.{BadIndex, BadMemberName, CutShort, FileError, FileNotFound, IndexDisagrees, NoSuchMember, NotALibrary, NotAnObject, OutOfMemory}
-use Rattle.ar65.specs.declared.refusal.Refusal.TheVariants.{File}
+use Rattle.ar65.specs.declared.fault.ArchiveFault.TheVariants.{File}
 use Rattle.ar65.specs.Naming.{NamesFiles}
 
-pub of_file : (blamed : Blamed) (files : List (List ℕ)) (place : ℕ) (name : List ℕ) (f : LibraryFault) → slice_get files place ≡ Some name → (f ≡ FileError → IsBlamed blamed name) → NamesFiles blamed files (File place f)
-of_file blamed files place name FileError at asked h = (place, name, at, refl, asked refl)
-of_file blamed files place name OutOfMemory at asked h = absurd cc
-of_file blamed files place name NotALibrary at asked h = absurd cc
-of_file blamed files place name CutShort at asked h = absurd cc
-of_file blamed files place name BadIndex at asked h = absurd cc
-of_file blamed files place name (NoSuchMember n) at asked h = absurd cc
-of_file blamed files place name NotAnObject at asked h = absurd cc
-of_file blamed files place name IndexDisagrees at asked h = absurd cc
-of_file blamed files place name FileNotFound at asked h = absurd cc
-of_file blamed files place name BadMemberName at asked h = absurd cc
+pub of_file : (last_failure : LastFailure) (files : List (List ℕ)) (place : ℕ) (name : List ℕ) (f : LibraryFault) → slice_get files place ≡ Some name → (f ≡ FileError → FailedOn last_failure name) → NamesFiles last_failure files (File place f)
+of_file last_failure files place name FileError at asked h = (place, name, at, refl, asked refl)
+of_file last_failure files place name OutOfMemory at asked h = absurd cc
+of_file last_failure files place name NotALibrary at asked h = absurd cc
+of_file last_failure files place name CutShort at asked h = absurd cc
+of_file last_failure files place name BadIndex at asked h = absurd cc
+of_file last_failure files place name (NoSuchMember n) at asked h = absurd cc
+of_file last_failure files place name NotAnObject at asked h = absurd cc
+of_file last_failure files place name IndexDisagrees at asked h = absurd cc
+of_file last_failure files place name FileNotFound at asked h = absurd cc
+of_file last_failure files place name BadMemberName at asked h = absurd cc

@@ -13,7 +13,7 @@ use Rattle.std.specs.Path.{rfind_below, rsplit_once, slash}
 use Rattle.std.specs.Str.{NoCharPasses, bytes_eq, is_utf8}
 use Rattle.library65.specs.declared.contents.Contents.{Contents}
 use Rattle.library65.specs.declared.index.Entry.{Entry}
-use Rattle.library65.specs.Libraries.{agreed, checked, joined, joined_all, library_at, member_names, piece_at, with_member}
+use Rattle.library65.specs.Libraries.{indexed_contents, member_contents, with_library_entry, joined_all, library_at, member_names, piece_at, with_member}
 use Rattle.library65.specs.Spelling.{is_folder, is_member_name, is_plain, Member}
 use Rattle.library65.specs.Reading.{index_at}
 use Rattle.library65.proofs.Edits.{checked_good, left, right}
@@ -43,9 +43,9 @@ pub named_whole : (file : List ℕ) → NoCharPasses (λ d. d == slash) file →
 named_whole file none = whole_name file (λ i. NoCharPasses-char slash file i none (omega arith))
 
 -- at a place stands a `/`, and none behind it
-pub named_behind : (file name : List ℕ) (i j : ℕ) → RFindsChar slash file (Some (i, j)) → name ≡ drop j file → length name + j ≡ length file → name ≡ member_name file
+pub named_after : (file name : List ℕ) (i j : ℕ) → RFindsChar slash file (Some (i, j)) → name ≡ drop j file → length name + j ≡ length file → name ≡ member_name file
 unfolding rsplit_once
-named_behind file name i j found is len =
+named_after file name i j found is len =
     let next : j ≡ i + 1 = omega (arith, found.1.ends, len_utf8_ascii slash (omega arith)) in
     let later : (k : ℕ) → i < k → k < length file → get_or file k 0 ≡ slash → ⊥ = λ k a l e.
     let back : j + (k - j) ≡ k = omega arith in
@@ -62,7 +62,7 @@ text_name name good =
 
 -- a member that may be in a library
 abbrev pub IsChecked : Member → Type 0
-IsChecked m = (c : Contents) × (checked m.0 m.1 ≡ Ok c)
+IsChecked m = (c : Contents) × (member_contents m.0 m.1 ≡ Ok c)
 
 checked_with : (ms : List Member) (name bytes : List ℕ) → IsChecked (name, bytes) → AllByRecursion IsChecked ms → AllByRecursion IsChecked (with_member ms name bytes)
 checked_with [] name bytes good all = (good, tt)
@@ -72,22 +72,22 @@ checked_with (m ∷ ms) name bytes good all = step (bytes_eq name m.0) refl (che
     step true is h = (subst (λ n. IsChecked (n, bytes)) ((bytes_eq-Decides name m.0).0 is) good, all.1)
     step false is h = (all.0, h)
 
-agreed_checked : (e : Entry) (found : List ℕ) (c : Contents) → agreed e found ≡ Ok c → IsChecked (e.name, found)
-unfolding agreed
-agreed_checked e found c is = let b = bound (checked e.name found) _ _ is in (b.0, b.1)
+agreed_checked : (e : Entry) (found : List ℕ) (c : Contents) → indexed_contents e found ≡ Ok c → IsChecked (e.name, found)
+unfolding indexed_contents
+agreed_checked e found c is = let b = bound (member_contents e.name found) _ _ is in (b.0, b.1)
 
-checked_joined : (before ms : List Member) (e : Entry) (bytes : List ℕ) → joined before e bytes ≡ Ok ms → AllByRecursion IsChecked before → AllByRecursion IsChecked ms
-unfolding joined
+checked_joined : (before ms : List Member) (e : Entry) (bytes : List ℕ) → with_library_entry before e bytes ≡ Ok ms → AllByRecursion IsChecked before → AllByRecursion IsChecked ms
+unfolding with_library_entry
 checked_joined before ms e bytes is all =
     let piece = bound (piece_at e.size e.place bytes) _ _ is in
-    let own = bound (agreed e piece.0) _ _ piece.2 in
+    let own = bound (indexed_contents e piece.0) _ _ piece.2 in
     let made : with_member before e.name piece.0 ≡ ms = cc in
     subst (AllByRecursion IsChecked) made (checked_with before e.name piece.0 (agreed_checked e piece.0 own.0 own.1) all)
 
 checked_all : (before ms : List Member) (es : List Entry) (bytes : List ℕ) → joined_all before es bytes ≡ Ok ms → AllByRecursion IsChecked before → AllByRecursion IsChecked ms
 checked_all before ms [] bytes is all = let same : before ≡ ms = cc in subst (AllByRecursion IsChecked) same all
 checked_all before ms (e ∷ es) bytes is all =
-    let one = bound (joined before e bytes) _ _ is in
+    let one = bound (with_library_entry before e bytes) _ _ is in
     checked_all one.0 ms es bytes one.2 (checked_joined before one.0 e bytes one.1 all)
 
 pub members_checked : (bytes : List ℕ) (ms : List Member) → library_at bytes ≡ Ok ms → AllByRecursion IsChecked ms

@@ -2,52 +2,52 @@
 use Rattle.std.proofs.Common.{◌≡◌, ◌∙◌, ℕ, ◌+◌, Bool, true, false, List, [], ◌∷◌, length, drop, map, Option, Some, None, Result, Ok, Err, Bor, refl, sym, ap}
 use Rattle.std.specs.Prelude.{IfSome, ◌==◌}
 use Rattle.std.specs.FinMap.{get}
-use Rattle.base65.specs.Outcome.{◌>>=◌, Refuses, Unless}
+use Rattle.base65.specs.Outcome.{◌>>=◌, RefinesErr, Unless}
 use Rattle.base65.specs.Store.{Files}
 use Rattle.library65.specs.declared.fault.LibraryFault.{LibraryFault}
 use Rattle.library65.specs.declared.fault.LibraryFault.TheVariants as fault
 use Rattle.library65.specs.Fault.{is_memory as is_library_memory}
-use Rattle.library65.specs.Libraries.{deleted, library_at, member_names}
+use Rattle.library65.specs.Libraries.{without_named_member, library_at, member_names}
 use Rattle.library65.specs.Reading.{in_file}
 use Rattle.library65.specs.Spelling.{Member}
 use Rattle.cli65.specs.Line.{Archiving}
 use Rattle.ar65.specs.declared.archiving.Archived.TheVariants as archived
 use Rattle.ar65.specs.declared.members.MemberFile.{MemberFile}
-use Rattle.ar65.specs.declared.refusal.Refusal.TheVariants as refusal
-use Rattle.ar65.specs.Librarian.{AreTexts, extracted, extracted_by, file_of, files_of, member_name, without_files}
-use Rattle.ar65.specs.Refusals.{is_outside}
+use Rattle.ar65.specs.declared.fault.ArchiveFault.TheVariants as refusal
+use Rattle.ar65.specs.Librarian.{AreTexts, extracted_files, extracted_by, file_of, files_of, member_name, without_files}
+use Rattle.ar65.specs.Faults.{is_system_error}
 use Rattle.ar65.proofs.Names.{names_are_texts}
 use Rattle.ar65.proofs.Turns.{ahead, each_none, refused_so}
 
 -- ---- Taken out.
 
-pub deleted_more : (before ms ns : List Member) (names : List (List ℕ)) (k : ℕ) (name put : List ℕ) → drop k names ≡ name ∷ drop (k + 1) names → put ≡ member_name name → without_files ms (drop k names) ≡ without_files before names → deleted ms put ≡ Ok ns → without_files ns (drop (k + 1) names) ≡ without_files before names
+pub deleted_more : (before ms ns : List Member) (names : List (List ℕ)) (k : ℕ) (name put : List ℕ) → drop k names ≡ name ∷ drop (k + 1) names → put ≡ member_name name → without_files ms (drop k names) ≡ without_files before names → without_named_member ms put ≡ Ok ns → without_files ns (drop (k + 1) names) ≡ without_files before names
 deleted_more before ms ns names k name put at named left gone =
-    let here : deleted ms (member_name name) ≡ Ok ns = ap (deleted ms) (sym named) ∙ gone in
+    let here : without_named_member ms (member_name name) ≡ Ok ns = ap (without_named_member ms) (sym named) ∙ gone in
     sym (ap (λ r. r >>= (λ xs. without_files xs (drop (k + 1) names))) here) ∙ sym (ap (without_files ms) at) ∙ left
 
-pub not_deleted : (before ms : List Member) (names : List (List ℕ)) (k : ℕ) (name put : List ℕ) (e : LibraryFault) → drop k names ≡ name ∷ drop (k + 1) names → put ≡ member_name name → without_files ms (drop k names) ≡ without_files before names → Refuses is_library_memory e (deleted ms put) → Refuses is_library_memory e (without_files before names)
+pub not_deleted : (before ms : List Member) (names : List (List ℕ)) (k : ℕ) (name put : List ℕ) (e : LibraryFault) → drop k names ≡ name ∷ drop (k + 1) names → put ≡ member_name name → without_files ms (drop k names) ≡ without_files before names → RefinesErr is_library_memory e (without_named_member ms put) → RefinesErr is_library_memory e (without_files before names)
 not_deleted before ms names k name put e at named left gone =
-    refused_so is_library_memory e (deleted ms put) (without_files before names)
-    (λ h. sym left ∙ ap (without_files ms) at ∙ ap (λ r. r >>= (λ xs. without_files xs (drop (k + 1) names))) (ap (deleted ms) (sym named) ∙ h))
+    refused_so is_library_memory e (without_named_member ms put) (without_files before names)
+    (λ h. sym left ∙ ap (without_files ms) at ∙ ap (λ r. r >>= (λ xs. without_files xs (drop (k + 1) names))) (ap (without_named_member ms) (sym named) ∙ h))
     gone
 
 -- ---- As files.
 
-pub file_missing : (library : List Member) (found : List MemberFile) (left : List (List ℕ)) (name : List ℕ) (more : List (List ℕ)) (put : List ℕ) (e : LibraryFault) {whole : Result (List MemberFile) LibraryFault} → left ≡ name ∷ more → put ≡ name → ahead found (files_of library left) ≡ whole → Refuses is_library_memory e (file_of library put) → Refuses is_library_memory e whole
+pub file_missing : (library : List Member) (found : List MemberFile) (left : List (List ℕ)) (name : List ℕ) (more : List (List ℕ)) (put : List ℕ) (e : LibraryFault) {whole : Result (List MemberFile) LibraryFault} → left ≡ name ∷ more → put ≡ name → ahead found (files_of library left) ≡ whole → RefinesErr is_library_memory e (file_of library put) → RefinesErr is_library_memory e whole
 file_missing library found left name more put e {whole} at named inv none =
     refused_so is_library_memory e (file_of library put) whole
     (λ h. sym inv ∙ each_none (file_of library) found left name more e at (ap (file_of library) (sym named) ∙ h))
     none
 
 -- some FILE is named
-pub some_named : (ms : List Member) (files : List (Bor (List ℕ))) (b : Bool) → b ≡ false → b ≡ (length files == 0) → extracted ms (map (λ s. s.now) files) ≡ files_of ms (map member_name (map (λ s. s.now) files))
+pub some_named : (ms : List Member) (files : List (Bor (List ℕ))) (b : Bool) → b ≡ false → b ≡ (length files == 0) → extracted_files ms (map (λ s. s.now) files) ≡ files_of ms (map member_name (map (λ s. s.now) files))
 some_named ms [] b filled is = absurd (let bad : true ≡ false = sym is ∙ filled in cc)
 some_named ms (x ∷ xs) b filled is = refl
 
 -- ---- The operation.
 
-library_outside : (e : LibraryFault) (P : Type 0) → Unless (is_library_memory e) P → Unless (is_outside (refusal.Library e)) P
+library_outside : (e : LibraryFault) (P : Type 0) → Unless (is_library_memory e) P → Unless (is_system_error (refusal.Library e)) P
 library_outside fault.OutOfMemory P h = tt
 library_outside fault.FileError P h = tt
 library_outside e P h = h
@@ -56,19 +56,19 @@ texts_in : (file : Option (List ℕ)) (ms : List Member) → in_file file librar
 texts_in None ms e = absurd cc
 texts_in (Some bytes) ms e = names_are_texts bytes ms e
 
-pub extracts : (known : Option Files) (a : Archiving) (ms : List Member) (names : List (List ℕ)) (found : List MemberFile) → names ≡ a.files → IfSome known (λ m. in_file (get m a.library) library_at ≡ Ok ms) → (AreTexts (member_names ms) → extracted ms names ≡ Ok found) → IfSome known (λ m. extracted_by m a ≡ Ok (archived.Members found))
+pub extracts : (known : Option Files) (a : Archiving) (ms : List Member) (names : List (List ℕ)) (found : List MemberFile) → names ≡ a.files → IfSome known (λ m. in_file (get m a.library) library_at ≡ Ok ms) → (AreTexts (member_names ms) → extracted_files ms names ≡ Ok found) → IfSome known (λ m. extracted_by m a ≡ Ok (archived.Members found))
 unfolding extracted_by
 extracts None a ms names found same read gives = tt
 extracts (Some m) a ms names found same read gives =
-    let given : extracted ms a.files ≡ Ok found = ap (extracted ms) (sym same) ∙ gives (texts_in (get m a.library) ms read) in
+    let given : extracted_files ms a.files ≡ Ok found = ap (extracted_files ms) (sym same) ∙ gives (texts_in (get m a.library) ms read) in
     rw (read, given) refl
 
-pub not_extracted : (known : Option Files) (a : Archiving) (ms : List Member) (names : List (List ℕ)) (e : LibraryFault) → names ≡ a.files → IfSome known (λ m. in_file (get m a.library) library_at ≡ Ok ms) → (AreTexts (member_names ms) → Refuses is_library_memory e (extracted ms names)) → IfSome known (λ m. Refuses is_outside (refusal.Library e) (extracted_by m a))
+pub not_extracted : (known : Option Files) (a : Archiving) (ms : List Member) (names : List (List ℕ)) (e : LibraryFault) → names ≡ a.files → IfSome known (λ m. in_file (get m a.library) library_at ≡ Ok ms) → (AreTexts (member_names ms) → RefinesErr is_library_memory e (extracted_files ms names)) → IfSome known (λ m. RefinesErr is_system_error (refusal.Library e) (extracted_by m a))
 unfolding extracted_by
 not_extracted None a ms names e same read gives = tt
 not_extracted (Some m) a ms names e same read gives =
     library_outside e (extracted_by m a ≡ Err (refusal.Library e)) (go (is_library_memory e) (gives (texts_in (get m a.library) ms read)))
   where
-    go : (b : Bool) → Unless b (extracted ms names ≡ Err e) → Unless b (extracted_by m a ≡ Err (refusal.Library e))
+    go : (b : Bool) → Unless b (extracted_files ms names ≡ Err e) → Unless b (extracted_by m a ≡ Err (refusal.Library e))
     go true h = tt
-    go false h = let given : extracted ms a.files ≡ Err e = ap (extracted ms) (sym same) ∙ h in rw (read, given) refl
+    go false h = let given : extracted_files ms a.files ≡ Err e = ap (extracted_files ms) (sym same) ∙ h in rw (read, given) refl

@@ -1,7 +1,7 @@
 -- What is found or done one item behind the other.
 use Rattle.std.proofs.Common.{◌≡◌, ◌∙◌, ℕ, zero, suc, ◌+◌, ◌<◌, Bool, true, false, List, [], ◌∷◌, ◌++◌, length, get_or, slice_get, drop, map, Some, refl, sym, ap, add-one, append_assoc, arith, Result, Ok, Err}
 use Rattle.std.specs.Borrow.{Bor}
-use Rattle.base65.specs.Outcome.{◌>>=◌, Refuses, Unless, each}
+use Rattle.base65.specs.Outcome.{◌>>=◌, RefinesErr, Unless, try_map}
 use Rattle.ar65.specs.Librarian.{member_name}
 
 -- what was found, before what is found behind it
@@ -13,20 +13,20 @@ further found y (Ok ys) = ap Ok (append_assoc found (y ∷ []) ys)
 further found y (Err e) = refl
 
 -- one more is found
-pub each_one : {E A B : Type 0} (f : A → Result B E) (found : List B) (left : List A) (x : A) (more : List A) (y : B) → left ≡ x ∷ more → f x ≡ Ok y → ahead (found ++ y ∷ []) (each f more) ≡ ahead found (each f left)
+pub each_one : {E A B : Type 0} (f : A → Result B E) (found : List B) (left : List A) (x : A) (more : List A) (y : B) → left ≡ x ∷ more → f x ≡ Ok y → ahead (found ++ y ∷ []) (try_map f more) ≡ ahead found (try_map f left)
 each_one f found left x more y l e =
-    further found y (each f more)
-    ∙ sym (ap (λ r. ahead found (r >>= (λ z. each f more >>= (λ zs. Ok (z ∷ zs))))) e)
-    ∙ sym (ap (λ xs. ahead found (each f xs)) l)
+    further found y (try_map f more)
+    ∙ sym (ap (λ r. ahead found (r >>= (λ z. try_map f more >>= (λ zs. Ok (z ∷ zs))))) e)
+    ∙ sym (ap (λ xs. ahead found (try_map f xs)) l)
 
 -- one isn't found
-pub each_none : {E A B : Type 0} (f : A → Result B E) (found : List B) (left : List A) (x : A) (more : List A) (e : E) → left ≡ x ∷ more → f x ≡ Err e → ahead found (each f left) ≡ Err e
+pub each_none : {E A B : Type 0} (f : A → Result B E) (found : List B) (left : List A) (x : A) (more : List A) (e : E) → left ≡ x ∷ more → f x ≡ Err e → ahead found (try_map f left) ≡ Err e
 each_none f found left x more e l h =
-    ap (λ xs. ahead found (each f xs)) l
-    ∙ ap (λ r. ahead found (r >>= (λ z. each f more >>= (λ zs. Ok (z ∷ zs))))) h
+    ap (λ xs. ahead found (try_map f xs)) l
+    ∙ ap (λ r. ahead found (r >>= (λ z. try_map f more >>= (λ zs. Ok (z ∷ zs))))) h
 
 -- a refusal of a part is that of the whole
-pub refused_so : {E A B : Type 0} (is_out : E → Bool) (e : E) (part : Result A E) (whole : Result B E) → (part ≡ Err e → whole ≡ Err e) → Refuses is_out e part → Refuses is_out e whole
+pub refused_so : {E A B : Type 0} (is_out : E → Bool) (e : E) (part : Result A E) (whole : Result B E) → (part ≡ Err e → whole ≡ Err e) → RefinesErr is_out e part → RefinesErr is_out e whole
 refused_so is_out e part whole f h = go (is_out e) h
   where
     go : (b : Bool) → Unless b (part ≡ Err e) → Unless b (whole ≡ Err e)

@@ -2,10 +2,10 @@
 use Rattle.std.specs.Prelude.{◌≡◌, ℕ, List, [], ◌∷◌, codes, map, Some, IfSome, Ok}
 use Rattle.std.specs.FinMap.{get}
 use Rattle.std.specs.List.{AllByRecursion}
-use Rattle.base65.specs.Own.{IsOwn}
+use Rattle.base65.specs.SystemErrors.{IsNoSystemError}
 use Rattle.base65.specs.Store.{FailedCall, Files}
 use Rattle.object65.specs.Record.{IsBytes}
-use Rattle.library65.specs.Libraries.{written}
+use Rattle.library65.specs.Libraries.{bytes_within_limit}
 use Rattle.library65.specs.Spelling.{IsLibrary, Member}
 use Rattle.cli65.specs.Line.{Archiving}
 use Rattle.cli65.specs.Messages.{file_message}
@@ -13,10 +13,10 @@ use Rattle.cli65.specs.declared.line.Operation.{Operation}
 use Rattle.cli65.specs.declared.line.Operation.TheVariants as operation
 use Rattle.ar65.specs.declared.archiving.Archived.TheVariants as archived
 use Rattle.ar65.specs.declared.members.MemberFile.{MemberFile}
-use Rattle.ar65.specs.Librarian.{archived_of, extracted, with_files}
+use Rattle.ar65.specs.Librarian.{archived_of, extracted_files, with_files}
 use Rattle.ar65.specs.Naming.{IsOfLine}
-use Rattle.ar65.specs.Refusals.{is_outside, refusal_message}
-use Rattle.ar65.specs.declared.refusal.Refusal.{Refusal}
+use Rattle.ar65.specs.Faults.{is_system_error, error_message}
+use Rattle.ar65.specs.declared.fault.ArchiveFault.{ArchiveFault}
 
 -- the FILEs that an operation reads
 abbrev pub files_read : Operation → List (List ℕ) → List (List ℕ)
@@ -32,12 +32,12 @@ abbrev pub ReadsBytes : Files → Archiving → Type 0
 ReadsBytes m a = HaveBytes m (a.library ∷ files_read a.operation a.files)
 
 -- what a line comes to of any files is no fault from outside
-abbrev pub SomeArchiveLaw : Type 0
-SomeArchiveLaw = (m : Files) (a : Archiving) → IsOwn is_outside (archived_of m a)
+abbrev pub ArchiveExists : Type 0
+ArchiveExists = (m : Files) (a : Archiving) → IsNoSystemError is_system_error (archived_of m a)
 
 -- what `r` and `d` write is a library
-abbrev pub KeptLibraryLaw : Type 0
-KeptLibraryLaw =
+abbrev pub EditsPreserveLibrary : Type 0
+EditsPreserveLibrary =
     (m : Files) (a : Archiving) (bytes : List ℕ) → ReadsBytes m a
     → archived_of m a ≡ Ok (archived.Library bytes)
     → (ms : List Member) × IsLibrary bytes ms
@@ -47,14 +47,14 @@ abbrev pub AreWritten : Files → List MemberFile → Type 0
 AreWritten m files = AllByRecursion (λ f. get m f.name ≡ Some f.bytes) files
 
 -- Members that were all written as files, put into a library of no member in their order, are the same library.
-abbrev pub PutTogetherLaw : Type 0
-PutTogetherLaw =
+abbrev pub ExtractThenAddIsIdentity : Type 0
+ExtractThenAddIsIdentity =
     (bytes : List ℕ) (ms : List Member) (files : List MemberFile) (m : Files) → IsLibrary bytes ms
-    → extracted ms [] ≡ Ok files → AreWritten m files
-    → (with_files m [] 0 (map (λ f. f.name) files) ≡ Ok ms) × (written ms ≡ Ok bytes)
+    → extracted_files ms [] ≡ Ok files → AreWritten m files
+    → (with_files m [] 0 (map (λ f. f.name) files) ≡ Ok ms) × (bytes_within_limit ms ≡ Ok bytes)
 
 -- a call that failed while files were read has one message: the name that it asked for, and `file error`
-abbrev pub OneNamingLaw : Type 0
-OneNamingLaw =
-    (a : Archiving) (c : FailedCall) (e : Refusal) →
-    IsOfLine (Some c) a e → refusal_message a e ≡ file_message c.name (codes "file error")
+abbrev pub ArchiveNamingIsUnique : Type 0
+ArchiveNamingIsUnique =
+    (a : Archiving) (c : FailedCall) (e : ArchiveFault) →
+    IsOfLine (Some c) a e → error_message a e ≡ file_message c.name (codes "file error")

@@ -1,4 +1,4 @@
 pub mod Librarian
-pub mod Refusals
+pub mod Faults
 pub mod Naming
 pub mod Laws

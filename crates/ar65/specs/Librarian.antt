@@ -4,11 +4,11 @@ use Rattle.std.specs.FinMap.{get}
 use Rattle.std.specs.List.{flat_map, AllByRecursion}
 use Rattle.std.specs.Path.{rsplit_once, slash}
 use Rattle.std.specs.Str.{is_utf8}
-use Rattle.base65.specs.Outcome.{◌>>=◌, each}
+use Rattle.base65.specs.Outcome.{◌>>=◌, try_map}
 use Rattle.base65.specs.Store.{Files}
 use Rattle.library65.specs.declared.fault.LibraryFault.{LibraryFault}
 use Rattle.library65.specs.declared.fault.LibraryFault.TheVariants.{NoSuchMember}
-use Rattle.library65.specs.Libraries.{bytes_of, deleted, library_at, member_names, replaced, written}
+use Rattle.library65.specs.Libraries.{bytes_of, without_named_member, library_at, member_names, with_new_member, bytes_within_limit}
 use Rattle.library65.specs.Reading.{in_file}
 use Rattle.library65.specs.Spelling.{Member}
 use Rattle.cli65.specs.declared.line.Operation.{Operation}
@@ -17,15 +17,15 @@ use Rattle.cli65.specs.Line.{Archiving}
 use Rattle.ar65.specs.declared.archiving.Archived.{Archived}
 use Rattle.ar65.specs.declared.archiving.Archived.TheVariants as archived
 use Rattle.ar65.specs.declared.members.MemberFile.{MemberFile}
-use Rattle.ar65.specs.declared.refusal.Refusal.{Refusal}
-use Rattle.ar65.specs.declared.refusal.Refusal.TheVariants as refusal
+use Rattle.ar65.specs.declared.fault.ArchiveFault.{ArchiveFault}
+use Rattle.ar65.specs.declared.fault.ArchiveFault.TheVariants as refusal
 
 -- the faults of the parts as the command's; a FILE is named by its place in the line
-abbrev pub as_library : {A : Type 0} → Result A LibraryFault → Result A Refusal
+abbrev pub as_library : {A : Type 0} → Result A LibraryFault → Result A ArchiveFault
 as_library (Ok x) = Ok x
 as_library (Err e) = Err (refusal.Library e)
 
-abbrev pub as_file : {A : Type 0} → ℕ → Result A LibraryFault → Result A Refusal
+abbrev pub as_file : {A : Type 0} → ℕ → Result A LibraryFault → Result A ArchiveFault
 as_file k (Ok x) = Ok x
 as_file k (Err e) = Err (refusal.File k e)
 
@@ -45,45 +45,45 @@ abbrev pub members_in : Files → List ℕ → Result (List Member) LibraryFault
 members_in m library = in_file (get m library) library_at
 
 -- the same where a library that isn't there is begun, with no member
-abbrev pub begun : Option (List ℕ) → Result (List Member) LibraryFault
-begun None = Ok []
-begun (Some bytes) = library_at bytes
+abbrev pub library_or_empty : Option (List ℕ) → Result (List Member) LibraryFault
+library_or_empty None = Ok []
+library_or_empty (Some bytes) = library_at bytes
 
 -- ---- What is done with its members.
 
 -- the object of a FILE put in
 abbrev pub with_file : Files → List Member → List ℕ → Result (List Member) LibraryFault
-with_file m ms file = in_file (get m file) (replaced ms (member_name file))
+with_file m ms file = in_file (get m file) (with_new_member ms (member_name file))
 
 -- those of FILEs in order, the first of them at a place of the line
-abbrev pub with_files : Files → List Member → ℕ → List (List ℕ) → Result (List Member) Refusal
+abbrev pub with_files : Files → List Member → ℕ → List (List ℕ) → Result (List Member) ArchiveFault
 with_files m ms k [] = Ok ms
 with_files m ms k (file ∷ files) = as_file k (with_file m ms file) >>= (λ ns. with_files m ns (k + 1) files)
 
 -- members taken out, in order
 abbrev pub without_files : List Member → List (List ℕ) → Result (List Member) LibraryFault
 without_files ms [] = Ok ms
-without_files ms (file ∷ files) = deleted ms (member_name file) >>= (λ ns. without_files ns files)
+without_files ms (file ∷ files) = without_named_member ms (member_name file) >>= (λ ns. without_files ns files)
 
 -- names, one a line
 abbrev pub names_text : List (List ℕ) → List ℕ
 names_text names = flat_map (λ name. name ++ 10 ∷ []) names
 
-abbrev pub found : List ℕ → Option (List ℕ) → Result MemberFile LibraryFault
-found name None = Err (NoSuchMember name)
-found name (Some bytes) = Ok (record { name = name; bytes = bytes })
+abbrev pub member_or_error : List ℕ → Option (List ℕ) → Result MemberFile LibraryFault
+member_or_error name None = Err (NoSuchMember name)
+member_or_error name (Some bytes) = Ok (record { name = name; bytes = bytes })
 
 -- a member as a file of its name
 abbrev pub file_of : List Member → List ℕ → Result MemberFile LibraryFault
-file_of ms name = found name (bytes_of ms name)
+file_of ms name = member_or_error name (bytes_of ms name)
 
 abbrev pub files_of : List Member → List (List ℕ) → Result (List MemberFile) LibraryFault
-files_of ms names = each (file_of ms) names
+files_of ms names = try_map (file_of ms) names
 
 -- the members of FILEs' names, or all of them where no FILE is named
-abbrev pub extracted : List Member → List (List ℕ) → Result (List MemberFile) LibraryFault
-extracted ms [] = files_of ms (member_names ms)
-extracted ms (file ∷ files) = files_of ms (map member_name (file ∷ files))
+abbrev pub extracted_files : List Member → List (List ℕ) → Result (List MemberFile) LibraryFault
+extracted_files ms [] = files_of ms (member_names ms)
+extracted_files ms (file ∷ files) = files_of ms (map member_name (file ∷ files))
 
 -- names that can be a file's
 abbrev pub AreTexts : List (List ℕ) → Type 0
@@ -92,42 +92,42 @@ AreTexts names = AllByRecursion (λ name. is_utf8 name ≡ true) names
 -- ---- The operations.
 
 -- the library anew
-abbrev pub rewritten : List Member → Result Archived LibraryFault
-rewritten ms = written ms >>= (λ bytes. Ok (archived.Library bytes))
+abbrev pub rewritten_library : List Member → Result Archived LibraryFault
+rewritten_library ms = bytes_within_limit ms >>= (λ bytes. Ok (archived.Library bytes))
 
 -- `r`
-unfoldable pub replaced_by : Files → Archiving → Result Archived Refusal
+unfoldable pub replaced_by : Files → Archiving → Result Archived ArchiveFault
 replaced_by m a = do
-  ms ← as_library (begun (get m a.library))
+  ms ← as_library (library_or_empty (get m a.library))
   ns ← with_files m ms 0 a.files
-  as_library (rewritten ns)
+  as_library (rewritten_library ns)
 
 -- `d`
-unfoldable pub deleted_by : Files → Archiving → Result Archived Refusal
+unfoldable pub deleted_by : Files → Archiving → Result Archived ArchiveFault
 deleted_by m a = do
   ms ← as_library (members_in m a.library)
   ns ← as_library (without_files ms a.files)
-  as_library (rewritten ns)
+  as_library (rewritten_library ns)
 
 -- `t`, which looks at no FILE
-unfoldable pub listed_by : Files → Archiving → Result Archived Refusal
+unfoldable pub listed_by : Files → Archiving → Result Archived ArchiveFault
 listed_by m a = do
   ms ← as_library (members_in m a.library)
   Ok (archived.Names (names_text (member_names ms)))
 
 -- `x`
-unfoldable pub extracted_by : Files → Archiving → Result Archived Refusal
+unfoldable pub extracted_by : Files → Archiving → Result Archived ArchiveFault
 extracted_by m a = do
   ms ← as_library (members_in m a.library)
-  files ← as_library (extracted ms a.files)
+  files ← as_library (extracted_files ms a.files)
   Ok (archived.Members files)
 
-abbrev pub done : Operation → Files → Archiving → Result Archived Refusal
+abbrev pub done : Operation → Files → Archiving → Result Archived ArchiveFault
 done operation.Replace m a = replaced_by m a
 done operation.Delete m a = deleted_by m a
 done operation.List m a = listed_by m a
 done operation.Extract m a = extracted_by m a
 
 -- what a line comes to, or its first fault: first the library is read, then the FILEs are taken in order
-abbrev pub archived_of : Files → Archiving → Result Archived Refusal
+abbrev pub archived_of : Files → Archiving → Result Archived ArchiveFault
 archived_of m a = done a.operation m a

@@ -2,20 +2,20 @@
 
 ghost use Rattle.std.specs.Prelude.{◌≡◌, IfErr, IfSome, OnOk};
 ghost use Rattle.std.specs.FinMap as map;
-ghost use Rattle.base65.specs.Outcome.{Gives};
-ghost use Rattle.base65.specs.Store.{Asks, PassesBy};
+ghost use Rattle.base65.specs.Outcome.{Refines};
+ghost use Rattle.base65.specs.Store.{FailsAtLastCount, PropagatesIoErrors};
 ghost use Rattle.cli65.specs.Line.{archiving};
 ghost use Rattle.ar65.specs.Librarian.{archived_of};
 ghost use Rattle.ar65.specs.Laws.{ReadsBytes};
-ghost use Rattle.ar65.specs.Refusals.{is_failure, is_outside};
+ghost use Rattle.ar65.specs.Faults.{is_failure, is_system_error};
 ghost use Rattle.ar65.specs.Naming.{NamesOfLine};
 
+use crate::fault::ArchiveFault;
 use crate::members::{
     MemberFile, delete_files, extract_files, library_bytes, list_names, load_or_begin, put_files,
 };
-use crate::refusal::Refusal;
-use base65::{Sequence, Store};
-use cli65::{ArchiveLine, Operation};
+use base65::{ListVec, Store};
+use cli65::{ArchiveArgs, Operation};
 use library65::Library;
 use std::alloc::Global;
 
@@ -23,11 +23,11 @@ use std::alloc::Global;
 #[derive(Drop)]
 pub enum Archived {
     /// The library's new bytes.
-    Library(Sequence<u8>),
+    Library(ListVec<u8>),
     /// The names of the members, one a line.
-    Names(Sequence<u8>),
+    Names(ListVec<u8>),
     /// Members, each to be written to a file of its name.
-    Members(Sequence<MemberFile>),
+    Members(ListVec<MemberFile>),
 }
 
 /// What a line comes to: the library anew, the names of its members, or members as files. No file
@@ -37,15 +37,15 @@ pub enum Archived {
 pub fn archive<S: Store>(
     alloc: Global,
     store: &mut S,
-    line: &ArchiveLine<'_>,
-) -> Result<Archived, Refusal>
+    line: &ArchiveArgs<'_>,
+) -> Result<Archived, ArchiveFault>
     ensures archived { IfSome (S.files store.old) (λ m.
-        Gives is_outside (λ a. a) result (archived_of m (archiving line.now))) }
+        Refines is_system_error (λ a. a) result (archived_of m (archiving line.now))) }
     ensures bytes { IfSome (S.files store.old) (λ m. OnOk result (ReadsBytes m (archiving line.now))) }
     ensures files { S.files store.new ≡ S.files store.old }
-    ensures count { PassesBy is_failure (S.failures store.old) (S.failures store.new) result }
-    ensures named { IfErr result (NamesOfLine (S.blamed store.new) (archiving line.now)) }
-    ensures asked { Asks is_outside (S.failures store.old) result }
+    ensures count { PropagatesIoErrors is_failure (S.failures store.old) (S.failures store.new) result }
+    ensures named { IfErr result (NamesOfLine (S.last_failure store.new) (archiving line.now)) }
+    ensures at_last_count { FailsAtLastCount is_system_error (S.failures store.old) result }
 {
     match line.operation {
         Operation::Replace => {

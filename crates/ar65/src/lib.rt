@@ -2,10 +2,10 @@
 #![tactic(auto)]
 
 mod archiving;
+mod fault;
 pub mod laws;
 mod members;
-mod refusal;
 
 pub use archiving::{Archived, archive};
+pub use fault::{ArchiveFault, error_message};
 pub use members::MemberFile;
-pub use refusal::{Refusal, refusal_message};

@@ -3,19 +3,19 @@
 ghost use Rattle.std.specs.Prelude.{◌≡◌, IfErr, IfOk, IfSome, IsErrOf, OnOk, map, true};
 ghost use Rattle.std.specs.FinMap as map;
 ghost use Rattle.std.specs.Str.{is_utf8};
-ghost use Rattle.base65.specs.Outcome.{Gives};
-ghost use Rattle.base65.specs.Store.{Asks, HoldsBytes, PassesBy};
-ghost use Rattle.object65.specs.Reading.{Leaves};
+ghost use Rattle.base65.specs.Outcome.{Refines};
+ghost use Rattle.base65.specs.Store.{FailsAtLastCount, HoldsBytes, PropagatesIoErrors};
+ghost use Rattle.object65.specs.Reading.{StoreFrame};
 ghost use Rattle.library65.specs.declared.fault.LibraryFault.TheVariants.{FileError};
-ghost use Rattle.library65.specs.Fault.{is_memory, is_outside as is_library_outside};
-ghost use Rattle.library65.specs.Libraries.{member_names, written};
-ghost use Rattle.ar65.specs.Librarian.{AreTexts, begun, extracted, file_of, files_of, member_name, names_text, with_file, with_files, without_files};
+ghost use Rattle.library65.specs.Fault.{is_memory, is_system_error as is_library_system_error};
+ghost use Rattle.library65.specs.Libraries.{member_names, bytes_within_limit};
+ghost use Rattle.ar65.specs.Librarian.{AreTexts, library_or_empty, extracted_files, file_of, files_of, member_name, names_text, with_file, with_files, without_files};
 ghost use Rattle.ar65.specs.Laws.{HaveBytes};
 ghost use Rattle.ar65.specs.Naming.{NamesFiles};
-ghost use Rattle.ar65.specs.Refusals.{is_failure, is_outside};
+ghost use Rattle.ar65.specs.Faults.{is_failure, is_system_error};
 
-use crate::refusal::Refusal;
-use base65::{Sequence, Store, Text, read_front};
+use crate::fault::ArchiveFault;
+use base65::{ListVec, PathString, Store, read_front};
 use library65::{Library, LibraryFault};
 use object65::format::FILE_LIMIT;
 use std::alloc::{AllocError, Global};
@@ -37,10 +37,10 @@ pub fn load_or_begin<S: Store>(
     file: &str,
 ) -> Result<Library, LibraryFault>
     ensures read { IfSome (S.files store.old) (λ m.
-        Gives is_library_outside (λ l. l) result (begun (map.get m file.now))) }
+        Refines is_library_system_error (λ l. l) result (library_or_empty (map.get m file.now))) }
     ensures bytes { IfSome (S.files store.old) (λ m. HoldsBytes (map.get m file.now) result) }
-    ensures kept { Leaves S.files S.failures S.blamed FileError file.now store.old store.new result }
-    ensures asked { Asks is_library_outside (S.failures store.old) result }
+    ensures frame { StoreFrame S.files S.failures S.last_failure FileError file.now store.old store.new result }
+    ensures at_last_count { FailsAtLastCount is_library_system_error (S.failures store.old) result }
 {
     match Library::load(alloc, store, file) {
         Err(LibraryFault::FileNotFound) => Ok(Library::seeded(alloc, store.seed())),
@@ -57,9 +57,9 @@ fn put_file<S: Store>(
     file: &str,
 ) -> Result<(), LibraryFault>
     ensures put { IfSome (S.files store.old) (λ m.
-        Gives is_library_outside (λ _. library.new) result (with_file m library.old file.now)) }
+        Refines is_library_system_error (λ _. library.new) result (with_file m library.old file.now)) }
     ensures bytes { IfSome (S.files store.old) (λ m. HoldsBytes (map.get m file.now) result) }
-    ensures kept { Leaves S.files S.failures S.blamed FileError file.now store.old store.new result }
+    ensures frame { StoreFrame S.files S.failures S.last_failure FileError file.now store.old store.new result }
 {
     let bytes = read_front(alloc, store, file, FILE_LIMIT as usize + 1)?;
     library.replace(member_name(file).as_bytes(), &bytes)
@@ -71,19 +71,19 @@ pub fn put_files<S: Store>(
     store: &mut S,
     library: &mut Library,
     files: &[&str],
-) -> Result<(), Refusal>
+) -> Result<(), ArchiveFault>
     ensures put { IfSome (S.files store.old) (λ m.
-        Gives is_outside (λ _. library.new) result (with_files m library.old 0 (map (λ s. s.now) files.now))) }
+        Refines is_system_error (λ _. library.new) result (with_files m library.old 0 (map (λ s. s.now) files.now))) }
     ensures bytes { IfSome (S.files store.old) (λ m.
         OnOk result (HaveBytes m (map (λ s. s.now) files.now))) }
     ensures files { S.files store.new ≡ S.files store.old }
-    ensures count { PassesBy is_failure (S.failures store.old) (S.failures store.new) result }
-    ensures named { IfErr result (NamesFiles (S.blamed store.new) (map (λ s. s.now) files.now)) }
+    ensures count { PropagatesIoErrors is_failure (S.failures store.old) (S.failures store.new) result }
+    ensures named { IfErr result (NamesFiles (S.last_failure store.new) (map (λ s. s.now) files.now)) }
 {
     for (place, file) in files.iter().enumerate() {
         match put_file(alloc, store, library, file) {
             Ok(()) => {}
-            Err(fault) => return Err(Refusal::File(place, fault)),
+            Err(fault) => return Err(ArchiveFault::File(place, fault)),
         }
     }
     Ok(())
@@ -91,7 +91,7 @@ pub fn put_files<S: Store>(
 
 /// Takes the members of files' names out, in order.
 pub fn delete_files(library: &mut Library, files: &[&str]) -> Result<(), LibraryFault>
-    ensures deleted { Gives is_memory (λ _. library.new)
+    ensures deleted { Refines is_memory (λ _. library.new)
         result (without_files library.old (map (λ s. s.now) files.now)) }
     ensures cause { IsErrOf result FileError → ⊥ }
 {
@@ -102,10 +102,10 @@ pub fn delete_files(library: &mut Library, files: &[&str]) -> Result<(), Library
 }
 
 /// The names of the members, one a line.
-pub fn list_names(alloc: Global, library: &Library) -> Result<Sequence<u8>, AllocError>
+pub fn list_names(alloc: Global, library: &Library) -> Result<ListVec<u8>, AllocError>
     ensures { IfOk result (λ text. text ≡ names_text (member_names library.now)) }
 {
-    let mut text = Sequence::new(alloc);
+    let mut text = ListVec::new(alloc);
     for name in library.names() {
         text.extend_from_slice(name)?;
         text.push(b'\n')?;
@@ -116,21 +116,21 @@ pub fn list_names(alloc: Global, library: &Library) -> Result<Sequence<u8>, Allo
 /// A member as it is written, to a file of its name.
 #[derive(Drop)]
 pub struct MemberFile {
-    pub name: Text,
-    pub bytes: Sequence<u8>,
+    pub name: PathString,
+    pub bytes: ListVec<u8>,
 }
 
 /// The file of the member of a name.
 fn file_of(alloc: Global, library: &Library, name: &str) -> Result<MemberFile, LibraryFault>
-    ensures found { Gives is_memory (λ file. file) result (file_of library.now name.now) }
+    ensures found { Refines is_memory (λ file. file) result (file_of library.now name.now) }
     ensures cause { IsErrOf result FileError → ⊥ }
 {
     match library.get(name.as_bytes()) {
         Some(bytes) => Ok(MemberFile {
-            name: Text::copy_of(alloc, name)?,
-            bytes: Sequence::copy_of(alloc, bytes)?,
+            name: PathString::copy_of(alloc, name)?,
+            bytes: ListVec::copy_of(alloc, bytes)?,
         }),
-        None => Err(LibraryFault::NoSuchMember(Sequence::copy_of(alloc, name.as_bytes())?)),
+        None => Err(LibraryFault::NoSuchMember(ListVec::copy_of(alloc, name.as_bytes())?)),
     }
 }
 
@@ -139,12 +139,12 @@ fn named_files(
     alloc: Global,
     library: &Library,
     files: &[&str],
-) -> Result<Sequence<MemberFile>, LibraryFault>
-    ensures found { Gives is_memory (λ found. found)
+) -> Result<ListVec<MemberFile>, LibraryFault>
+    ensures found { Refines is_memory (λ found. found)
         result (files_of library.now (map member_name (map (λ s. s.now) files.now))) }
     ensures cause { IsErrOf result FileError → ⊥ }
 {
-    let mut found = Sequence::new(alloc);
+    let mut found = ListVec::new(alloc);
     for file in files {
         found.push(file_of(alloc, library, member_name(file))?)?;
     }
@@ -162,12 +162,12 @@ fn text_of(name: &[u8]) -> &str
 }
 
 /// The files of all members of a library whose names are text, in order.
-fn all_files(alloc: Global, library: &Library) -> Result<Sequence<MemberFile>, LibraryFault>
+fn all_files(alloc: Global, library: &Library) -> Result<ListVec<MemberFile>, LibraryFault>
     ensures found { AreTexts (member_names library.now) →
-        Gives is_memory (λ found. found) result (files_of library.now (member_names library.now)) }
+        Refines is_memory (λ found. found) result (files_of library.now (member_names library.now)) }
     ensures cause { IsErrOf result FileError → ⊥ }
 {
-    let mut found = Sequence::new(alloc);
+    let mut found = ListVec::new(alloc);
     for name in library.names() {
         found.push(file_of(alloc, library, text_of(name))?)?;
     }
@@ -180,9 +180,9 @@ pub fn extract_files(
     alloc: Global,
     library: &Library,
     files: &[&str],
-) -> Result<Sequence<MemberFile>, LibraryFault>
+) -> Result<ListVec<MemberFile>, LibraryFault>
     ensures found { AreTexts (member_names library.now) →
-        Gives is_memory (λ found. found) result (extracted library.now (map (λ s. s.now) files.now)) }
+        Refines is_memory (λ found. found) result (extracted_files library.now (map (λ s. s.now) files.now)) }
     ensures cause { IsErrOf result FileError → ⊥ }
 {
     if files.is_empty() {
@@ -192,10 +192,10 @@ pub fn extract_files(
 }
 
 /// The bytes of a library.
-pub fn library_bytes(alloc: Global, library: &Library) -> Result<Sequence<u8>, LibraryFault>
-    ensures { Gives is_memory (λ bytes. bytes) result (written library.now) }
+pub fn library_bytes(alloc: Global, library: &Library) -> Result<ListVec<u8>, LibraryFault>
+    ensures { Refines is_memory (λ bytes. bytes) result (bytes_within_limit library.now) }
 {
     let mut bytes = Vec::new(alloc);
     library.write(&mut bytes)?;
-    Ok(Sequence::from_vec(bytes))
+    Ok(ListVec::from_vec(bytes))
 }

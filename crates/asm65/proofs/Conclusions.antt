@@ -2,39 +2,39 @@
 use Rattle.std.proofs.Common.{◌≡◌, ◌∙◌, ◌||◌, ℕ, Bool, true, false, List, refl, sym, ap, [], ◌∷◌, ◌++◌, subst, append_assoc, length, map}
 use Rattle.base65.specs.Outcome.{◌>>=◌, Unless}
 use Rattle.ast65.specs.declared.fault.AsmFault.{AsmFault}
-use Rattle.ast65.specs.Faults.{is_failure, is_memory, is_outside}
+use Rattle.ast65.specs.Faults.{is_failure, is_memory, is_system_error}
 use Rattle.std.specs.Prelude.{IfOk, Result, Ok, Err, None, nat_lt}
 use Rattle.std.specs.List.{list_all}
 use Rattle.std.proofs.lemmas.List.{append-nil, map-append}
 use Rattle.object65.specs.declared.object.Object.{Object}
-use Rattle.object65.specs.Objects.{is_good_object}
+use Rattle.object65.specs.Objects.{is_well_formed_object}
 use Rattle.semantics65.specs.Contents.{Content, exported_names}
 use Rattle.semantics65.specs.declared.contents.Segment.{Segment}
 use Rattle.semantics65.specs.Layout.{Cursor}
-use Rattle.sources65.specs.Machine.{State, concluded, finished}
-use Rattle.semantics65.specs.Module.{Outcome, quietly, Finished, Slot, coming, holds, resolved}
+use Rattle.sources65.specs.Machine.{State, outcome_of_state, resolution_of_state}
+use Rattle.semantics65.specs.Module.{Outcome, quietly, Resolution, Slot, slot_result, resolved, resolution_of}
 use Rattle.semantics65.specs.Numbering.{AreSound, all_said, object_with, section_keys}
 use Rattle.semantics65.specs.Symbols.{Symbols}
 use Rattle.semantics65.proofs.Found.{after, found_all, nothing_after, resolved_more, resolved_stops}
-use Rattle.emit65.specs.Fed.{AreAlike, AreSlotsAlike, HasSlots, StandIn, Stands, content_of, contents_so_far, names_in, names_of, slot_of, so_far, stands_in}
+use Rattle.emit65.specs.SectionContents.{AreAlike, AreSlotsAlike, HasSlots, StandIn, RepresentsSlots, content_of, contents_so_far, names_in, names_of, slot_of, so_far, stands_in}
 use Rattle.emit65.specs.declared.files.Files.{Files}
-use Rattle.emit65.specs.declared.entries.Entry.{Entry}
-use Rattle.emit65.specs.declared.entries.Entry.TheVariants.{Bytes, Room, Value, Told, Waits}
+use Rattle.emit65.specs.declared.entries.SectionEntry.{SectionEntry}
+use Rattle.emit65.specs.declared.entries.SectionEntry.TheVariants.{Bytes, Reserve, Value, DeclarationEntry, FixupEntry}
 use Rattle.emit65.specs.declared.entries.SourcePos.{SourcePos}
 use Rattle.emit65.specs.declared.fixups.Fixup.{Fixup}
 use Rattle.std.specs.Global.{Box}
-use Rattle.emit65.specs.declared.sections.Closed.{Closed}
+use Rattle.emit65.specs.declared.sections.ClosedSections.{ClosedSections}
 use Rattle.emit65.proofs.Grown.{standing_more}
 use Rattle.emit65.proofs.Renumbering.{and, left, right}
 use Rattle.emit65.proofs.Slots.{comes_alike, faulty_alike, held_alike, held_contents, keys_found, slots_back, slots_front, slots_same, slots_trans}
 use Rattle.symbols65.proofs.Measures.{unless_then}
 use Rattle.symbols65.specs.Views.{table_of}
 use Rattle.asm65.specs.declared.assembler.Assembler.{Assembler}
-use Rattle.asm65.specs.declared.concluding.Ending.{Ending}
-use Rattle.asm65.specs.declared.texts.AsmRefusal.{AsmRefusal}
-use Rattle.asm65.specs.Assembly.{in_places, is_from_outside, is_outside_refusal, placed_of}
-use Rattle.asm65.specs.Inner.Holding.{Holds}
-use Rattle.asm65.specs.Inner.Running.{AreFaulty, AreFed, AreSettled, ComesTo, IsFaulty, IsObjectOf, IsSettled, Replaces, StandsWhere}
+use Rattle.asm65.specs.declared.finish.ResolveState.{ResolveState}
+use Rattle.asm65.specs.declared.texts.Diagnostic.{Diagnostic}
+use Rattle.asm65.specs.Assembly.{in_places, is_from_outside, is_diagnostic_system_error, placed_of}
+use Rattle.asm65.specs.Internal.AssemblerState.{Represents}
+use Rattle.asm65.specs.Internal.RunState.{AreFaulty, AreFed, AreSettled, ComesTo, IsFaulty, IsObjectOf, IsSettled, CanReplace, StandsWhere}
 
 -- ---- Faults from outside.
 
@@ -51,7 +51,7 @@ certain true P u e = absurd cc
 certain false P u e = u
 
 -- a fault that isn't from outside is the one that was found
-pub found_inside : (e : AsmFault) (P : Type 0) → Unless (is_memory e) P → is_outside e ≡ false → P
+pub found_inside : (e : AsmFault) (P : Type 0) → Unless (is_memory e) P → is_system_error e ≡ false → P
 found_inside e P h k = certain (is_memory e) P h (either_false (is_memory e) (is_failure e) k)
 
 pub no_more : (b c : Bool) → (b ≡ true → c ≡ true) → c ≡ false → b ≡ false
@@ -70,21 +70,21 @@ none_last [] ys h = h
 none_last (x ∷ xs) ys h = absurd cc
 
 -- an entry that doesn't wait holds its content
-known_slot : (files : List (List ℕ)) (e : Entry) → ((w : Box Fixup) → e ≡ Waits w → ⊥) → slot_of files e ≡ holds (content_of files e)
+known_slot : (files : List (List ℕ)) (e : SectionEntry) → ((w : Box Fixup) → e ≡ FixupEntry w → ⊥) → slot_of files e ≡ resolved (content_of files e)
 known_slot files (Bytes g bytes) h = refl
-known_slot files (Room g n) h = refl
+known_slot files (Reserve g n) h = refl
 known_slot files (Value width g o f) h = refl
-known_slot files (Told t) h = refl
-known_slot files (Waits w) h = absurd (h w refl)
+known_slot files (DeclarationEntry t) h = refl
+known_slot files (FixupEntry w) h = absurd (h w refl)
 
 -- and stays as it is
-pub known_settled : (y : Symbols) (files : List (List ℕ)) (e : Entry) (now : Ending) → ((w : Box Fixup) → e ≡ Waits w → ⊥) → AreFed files (e ∷ []) → IsSettled y files (slot_of files e) e now now
+pub known_settled : (y : Symbols) (files : List (List ℕ)) (e : SectionEntry) (now : ResolveState) → ((w : Box Fixup) → e ≡ FixupEntry w → ⊥) → AreFed files (e ∷ []) → IsSettled y files (slot_of files e) e now now
 known_settled y files e now h fed =
     let is = known_slot files e h in
     let unsaid : (content_of files e).said ≡ [] = none_first (content_of files e).said [] (subst (λ (x : Slot). all_said (contents_so_far (x ∷ [])) ≡ []) is fed.unsaid) in
     record {
       made = quietly (content_of files e);
-      found = ap (coming y (names_of now.exported)) is;
+      found = ap (slot_result y (names_of now.exported)) is;
       entry = subst (λ (x : Slot). AreSlotsAlike (x ∷ []) (slot_of files e ∷ [])) is (slots_same (slot_of files e ∷ []));
       standing = left (stands_in (length files) e) true fed.standing;
       names = sym (append-nil (names_of now.exported)) ∙ ap (λ ss. names_of now.exported ++ exported_names ss) (sym unsaid);
@@ -92,24 +92,24 @@ known_settled y files e now h fed =
     }
 
 -- an entry stands in the place of its content
-pub replaced : (files : List (List ℕ)) (pos : SourcePos) (e : Entry) → StandsWhere pos e → Replaces files (content_of files e) e
-replaced files pos (Bytes g bytes) h = slots_same (holds (content_of files (Bytes g bytes)) ∷ [])
-replaced files pos (Room g n) h = slots_same (holds (content_of files (Room g n)) ∷ [])
-replaced files pos (Value width g o f) h = slots_same (holds (content_of files (Value width g o f)) ∷ [])
-replaced files pos (Told t) h = slots_same (holds (content_of files (Told t)) ∷ [])
-replaced files pos (Waits w) h = absurd h
+pub replaced : (files : List (List ℕ)) (pos : SourcePos) (e : SectionEntry) → StandsWhere pos e → CanReplace files (content_of files e) e
+replaced files pos (Bytes g bytes) h = slots_same (resolved (content_of files (Bytes g bytes)) ∷ [])
+replaced files pos (Reserve g n) h = slots_same (resolved (content_of files (Reserve g n)) ∷ [])
+replaced files pos (Value width g o f) h = slots_same (resolved (content_of files (Value width g o f)) ∷ [])
+replaced files pos (DeclarationEntry t) h = slots_same (resolved (content_of files (DeclarationEntry t)) ∷ [])
+replaced files pos (FixupEntry w) h = absurd h
 
 -- it stands in one of the files
-pub stands_there : (count : ℕ) (pos : SourcePos) (e : Entry) → nat_lt pos.file count ≡ true → StandsWhere pos e → stands_in count e ≡ true
+pub stands_there : (count : ℕ) (pos : SourcePos) (e : SectionEntry) → nat_lt pos.file count ≡ true → StandsWhere pos e → stands_in count e ≡ true
 stands_there count pos (Bytes g bytes) lt h = refl
-stands_there count pos (Room g n) lt h = refl
+stands_there count pos (Reserve g n) lt h = refl
 stands_there count pos (Value width g o f) lt h = ap (λ (p : SourcePos). nat_lt p.file count) h ∙ lt
-stands_there count pos (Told t) lt h = ap (λ (p : SourcePos). nat_lt p.file count) h ∙ lt
-stands_there count pos (Waits w) lt h = absurd h
+stands_there count pos (DeclarationEntry t) lt h = ap (λ (p : SourcePos). nat_lt p.file count) h ∙ lt
+stands_there count pos (FixupEntry w) lt h = absurd h
 
 -- ---- Slots come to their contents one behind the other.
 
-fed_first : (files : List (List ℕ)) (e : Entry) (es : List Entry) → AreFed files (e ∷ es) → AreFed files (e ∷ [])
+fed_first : (files : List (List ℕ)) (e : SectionEntry) (es : List SectionEntry) → AreFed files (e ∷ es) → AreFed files (e ∷ [])
 fed_first files e es h =
     let said = (so_far (slot_of files e)).said in
     record {
@@ -117,34 +117,34 @@ fed_first files e es h =
       unsaid = append-nil said ∙ none_first said (all_said (contents_so_far (map (slot_of files) es))) h.unsaid;
     }
 
-fed_rest : (files : List (List ℕ)) (e : Entry) (es : List Entry) → AreFed files (e ∷ es) → AreFed files es
+fed_rest : (files : List (List ℕ)) (e : SectionEntry) (es : List SectionEntry) → AreFed files (e ∷ es) → AreFed files es
 fed_rest files e es h = record {
   standing = right (stands_in (length files) e) (list_all (stands_in (length files)) es) h.standing;
   unsaid = none_last (so_far (slot_of files e)).said (all_said (contents_so_far (map (slot_of files) es))) h.unsaid;
 }
 
 -- some slots have come to their contents, which entries hold, and others are left
-pub record SoFar (y : Symbols) (files : List (List ℕ)) (all : List Slot) (done left : List Entry) (old new : Ending) : Type 0 where
+pub record SoFar (y : Symbols) (files : List (List ℕ)) (all : List Slot) (done left : List SectionEntry) (old new : ResolveState) : Type 0 where
   pub contents : List Content
   pub said : List ℕ
-  pub found : resolved y (names_of old.exported) all ≡ after (found_all contents said) (resolved y (names_of new.exported) (map (slot_of files) left))
-  pub entries : AreSlotsAlike (map holds contents) (map (slot_of files) done)
+  pub found : resolution_of y (names_of old.exported) all ≡ after (found_all contents said) (resolution_of y (names_of new.exported) (map (slot_of files) left))
+  pub entries : AreSlotsAlike (map resolved contents) (map (slot_of files) done)
   pub standing : StandIn (length files) done
   pub others : AreFed files left
   pub err : new.err ≡ old.err ++ said
 
-pub begins : (y : Symbols) (files : List (List ℕ)) (left : List Entry) (e : Ending) → AreFed files left → SoFar y files (map (slot_of files) left) [] left e e
+pub begins : (y : Symbols) (files : List (List ℕ)) (left : List SectionEntry) (e : ResolveState) → AreFed files left → SoFar y files (map (slot_of files) left) [] left e e
 begins y files left e fed = record {
   contents = [];
   said = [];
-  found = sym (nothing_after (resolved y (names_of e.exported) (map (slot_of files) left)));
+  found = sym (nothing_after (resolution_of y (names_of e.exported) (map (slot_of files) left)));
   entries = slots_same [];
   standing = refl;
   others = fed;
   err = sym (append-nil e.err);
 }
 
-pub goes_on : (y : Symbols) (files : List (List ℕ)) (all : List Slot) (done : List Entry) (e f : Entry) (left : List Entry) (old mid new : Ending) → SoFar y files all done (e ∷ left) old mid → (AreFed files (e ∷ []) → IsSettled y files (slot_of files e) f mid new) → SoFar y files all (done ++ f ∷ []) left old new
+pub goes_on : (y : Symbols) (files : List (List ℕ)) (all : List Slot) (done : List SectionEntry) (e f : SectionEntry) (left : List SectionEntry) (old mid new : ResolveState) → SoFar y files all done (e ∷ left) old mid → (AreFed files (e ∷ []) → IsSettled y files (slot_of files e) f mid new) → SoFar y files all (done ++ f ∷ []) left old new
 goes_on y files all done e f rest old mid new so settled =
     let k = settled (fed_first files e rest so.others) in
     record {
@@ -152,22 +152,22 @@ goes_on y files all done e f rest old mid new so settled =
       said = so.said ++ k.made.warning;
       found =
           so.found ∙ resolved_more y (names_of mid.exported) so.contents so.said (slot_of files e) (map (slot_of files) rest) k.made k.found
-          ∙ ap (λ names. after (found_all (so.contents ++ k.made.content ∷ []) (so.said ++ k.made.warning)) (resolved y names (map (slot_of files) rest))) (sym k.names);
+          ∙ ap (λ names. after (found_all (so.contents ++ k.made.content ∷ []) (so.said ++ k.made.warning)) (resolution_of y names (map (slot_of files) rest))) (sym k.names);
       entries =
-          let held = map holds so.contents in
+          let held = map resolved so.contents in
           let slots = map (slot_of files) done in
-          subst (λ (xs : List Slot). AreSlotsAlike xs (map (slot_of files) (done ++ f ∷ []))) (sym (map-append holds so.contents (k.made.content ∷ [])))
-          (subst (λ (ys : List Slot). AreSlotsAlike (held ++ holds k.made.content ∷ []) ys) (sym (map-append (slot_of files) done (f ∷ [])))
-          (slots_trans (held ++ holds k.made.content ∷ []) (slots ++ holds k.made.content ∷ []) (slots ++ slot_of files f ∷ [])
-          (slots_front held slots (holds k.made.content ∷ []) so.entries)
-          (slots_back slots (holds k.made.content ∷ []) (slot_of files f ∷ []) k.entry)));
+          subst (λ (xs : List Slot). AreSlotsAlike xs (map (slot_of files) (done ++ f ∷ []))) (sym (map-append resolved so.contents (k.made.content ∷ [])))
+          (subst (λ (ys : List Slot). AreSlotsAlike (held ++ resolved k.made.content ∷ []) ys) (sym (map-append (slot_of files) done (f ∷ [])))
+          (slots_trans (held ++ resolved k.made.content ∷ []) (slots ++ resolved k.made.content ∷ []) (slots ++ slot_of files f ∷ [])
+          (slots_front held slots (resolved k.made.content ∷ []) so.entries)
+          (slots_back slots (resolved k.made.content ∷ []) (slot_of files f ∷ []) k.entry)));
       standing = standing_more (length files) done f k.standing so.standing;
       others = fed_rest files e rest so.others;
       err = k.err ∙ ap (λ (x : List ℕ). x ++ k.made.warning) so.err ∙ append_assoc old.err so.said k.made.warning;
     }
 
-pub stops : (y : Symbols) (files : List (List ℕ)) (all : List Slot) (done : List Entry) (e : Entry) (left : List Entry) (old mid new : Ending) (f : AsmRefusal) → SoFar y files all done (e ∷ left) old mid → (AreFed files (e ∷ []) → Unless (is_outside_refusal f) (IsFaulty y (slot_of files e) f mid new)) → Unless (is_outside_refusal f) (AreFaulty y (names_of old.exported) all f old.err new.err)
-stops y files all done e rest old mid new f so faulty = unless_then (is_outside_refusal f) one (faulty (fed_first files e rest so.others))
+pub stops : (y : Symbols) (files : List (List ℕ)) (all : List Slot) (done : List SectionEntry) (e : SectionEntry) (left : List SectionEntry) (old mid new : ResolveState) (f : Diagnostic) → SoFar y files all done (e ∷ left) old mid → (AreFed files (e ∷ []) → Unless (is_diagnostic_system_error f) (IsFaulty y (slot_of files e) f mid new)) → Unless (is_diagnostic_system_error f) (AreFaulty y (names_of old.exported) all f old.err new.err)
+stops y files all done e rest old mid new f so faulty = unless_then (is_diagnostic_system_error f) one (faulty (fed_first files e rest so.others))
   where
     one : IsFaulty y (slot_of files e) f mid new → AreFaulty y (names_of old.exported) all f old.err new.err
     one k = record {
@@ -179,7 +179,7 @@ stops y files all done e rest old mid new f so faulty = unless_then (is_outside_
 after_none : (cs : List Content) (said : List ℕ) → after (found_all cs said) (found_all [] []) ≡ found_all cs said
 after_none cs said = λ n. found_all (append-nil cs n) (append-nil said n)
 
-pub ends : (y : Symbols) (files : List (List ℕ)) (all : List Slot) (done : List Entry) (old new : Ending) → SoFar y files all done [] old new → AreSettled y files all done old new
+pub ends : (y : Symbols) (files : List (List ℕ)) (all : List Slot) (done : List SectionEntry) (old new : ResolveState) → SoFar y files all done [] old new → AreSettled y files all done old new
 ends y files all done old new so = record {
   contents = so.contents;
   said = so.said;
@@ -192,26 +192,26 @@ ends y files all done old new so = record {
 -- ---- The object of what was fed.
 
 -- entries of sections that hold nothing that is said
-pub fed_closed : (xs : List Slot) (t : Closed) → HasSlots xs t → all_said (contents_so_far xs) ≡ [] → AreFed (names_in t.files) t.entries.items
+pub fed_closed : (xs : List Slot) (t : ClosedSections) → HasSlots xs t → all_said (contents_so_far xs) ≡ [] → AreFed (names_in t.files) t.entries.items
 fed_closed xs t h unsaid = record { standing = h.standing; unsaid = sym h.alike.held.said ∙ unsaid }
 
 -- contents that slots have come to stand in their place
-settled_slots : (y : Symbols) (xs : List Slot) (t u : Closed) (cs ds : List Content) → u.asked ≡ t.asked → u.files ≡ t.files → HasSlots xs t → (resolved y [] xs).found ≡ Ok cs → AreAlike cs ds → AreSlotsAlike (map holds ds) (map (slot_of (names_in t.files)) u.entries.items) → StandIn (length (names_in t.files)) u.entries.items → HasSlots (map holds cs) u
+settled_slots : (y : Symbols) (xs : List Slot) (t u : ClosedSections) (cs ds : List Content) → u.asked ≡ t.asked → u.files ≡ t.files → HasSlots xs t → (resolution_of y [] xs).found ≡ Ok cs → AreAlike cs ds → AreSlotsAlike (map resolved ds) (map (slot_of (names_in t.files)) u.entries.items) → StandIn (length (names_in t.files)) u.entries.items → HasSlots (map resolved cs) u
 settled_slots y xs t u cs ds asked files h found alike entries standing = record {
   asked = ap section_keys (held_contents cs) ∙ keys_found y [] xs cs found ∙ h.asked ∙ ap (λ s. s.keys) (sym asked);
   alike =
-      subst (λ (fs : Files). AreSlotsAlike (map holds cs) (map (slot_of (names_in fs)) u.entries.items)) (sym files)
-      (slots_trans (map holds cs) (map holds ds) (map (slot_of (names_in t.files)) u.entries.items) (held_alike cs ds alike) entries);
+      subst (λ (fs : Files). AreSlotsAlike (map resolved cs) (map (slot_of (names_in fs)) u.entries.items)) (sym files)
+      (slots_trans (map resolved cs) (map resolved ds) (map (slot_of (names_in t.files)) u.entries.items) (held_alike cs ds alike) entries);
   standing = subst (λ (fs : Files). StandIn (length (names_in fs)) u.entries.items) (sym files) standing;
 }
 
 -- an object that is made of what slots have come to
-pub object_come : (y : Symbols) (segments : List Segment) (xs : List Slot) (t u : Closed) (old new : Ending) (o : Object) → u.asked ≡ t.asked → u.files ≡ t.files → names_of old.exported ≡ [] → HasSlots xs t → AreSettled y (names_in t.files) (map (slot_of (names_in t.files)) t.entries.items) u.entries.items old new → ((cs : List Content) → HasSlots (map holds cs) u → o ≡ object_with segments y.imports cs) → ((cs : List Content) → HasSlots (map holds cs) u → AreSound segments y.imports cs → is_good_object o ≡ true) → IsObjectOf y segments xs o old.err new.err
+pub object_come : (y : Symbols) (segments : List Segment) (xs : List Slot) (t u : ClosedSections) (old new : ResolveState) (o : Object) → u.asked ≡ t.asked → u.files ≡ t.files → names_of old.exported ≡ [] → HasSlots xs t → AreSettled y (names_in t.files) (map (slot_of (names_in t.files)) t.entries.items) u.entries.items old new → ((cs : List Content) → HasSlots (map resolved cs) u → o ≡ object_with segments y.imports cs) → ((cs : List Content) → HasSlots (map resolved cs) u → AreSound segments y.imports cs → is_well_formed_object o ≡ true) → IsObjectOf y segments xs o old.err new.err
 object_come y segments xs t u old new o asked files none h k made good =
     let slots : List Slot = map (slot_of (names_in t.files)) t.entries.items in
-    let found : resolved y [] slots ≡ found_all k.contents k.said = subst (λ (names : List (List ℕ)). resolved y names slots ≡ found_all k.contents k.said) none k.found in
+    let found : resolution_of y [] slots ≡ found_all k.contents k.said = subst (λ (names : List (List ℕ)). resolution_of y names slots ≡ found_all k.contents k.said) none k.found in
     let come = comes_alike y [] xs slots k.contents k.said h.alike found in
-    let has = settled_slots y xs t u come.contents k.contents asked files h (ap (λ (f : Finished). f.found) come.is) come.alike k.entries k.standing in
+    let has = settled_slots y xs t u come.contents k.contents asked files h (ap (λ (f : Resolution). f.found) come.is) come.alike k.entries k.standing in
     record {
       contents = come.contents;
       said = k.said;
@@ -222,51 +222,51 @@ object_come y segments xs t u old new o asked files none h k made good =
     }
 
 -- or their first fault
-pub fault_come : (y : Symbols) (xs : List Slot) (t : Closed) (e : AsmRefusal) (names : List (List ℕ)) (old new : List ℕ) → names ≡ [] → HasSlots xs t → Unless (is_outside_refusal e) (AreFaulty y names (map (slot_of (names_in t.files)) t.entries.items) e old new) → Unless (is_outside_refusal e) (AreFaulty y [] xs e old new)
-fault_come y xs t e names old new none h = unless_then (is_outside_refusal e) (λ k.
+pub fault_come : (y : Symbols) (xs : List Slot) (t : ClosedSections) (e : Diagnostic) (names : List (List ℕ)) (old new : List ℕ) → names ≡ [] → HasSlots xs t → Unless (is_diagnostic_system_error e) (AreFaulty y names (map (slot_of (names_in t.files)) t.entries.items) e old new) → Unless (is_diagnostic_system_error e) (AreFaulty y [] xs e old new)
+fault_come y xs t e names old new none h = unless_then (is_diagnostic_system_error e) (λ k.
     let slots : List Slot = map (slot_of (names_in t.files)) t.entries.items in
     record {
       said = k.said;
-      found = faulty_alike y [] xs slots (placed_of e) k.said h.alike (subst (λ (ns : List (List ℕ)). resolved y ns slots ≡ record { found = Err (placed_of e); warned = k.said }) none k.found);
+      found = faulty_alike y [] xs slots (placed_of e) k.said h.alike (subst (λ (ns : List (List ℕ)). resolution_of y ns slots ≡ record { found = Err (placed_of e); warned = k.said }) none k.found);
       err = k.err;
     })
 
 -- ---- What an assembler comes to behind the last line.
 
 -- by the symbol table and the segments of the state that it holds
-held_comes : (count : ℕ) (t : State) (a : Assembler) (new : List ℕ) (r : Result Object AsmRefusal) → Holds count t a → ComesTo (table_of a.symbols) a.cursor.segments t.slots a.texts.err new r → ComesTo t.symbols t.cursor.segments t.slots t.err new r
+held_comes : (count : ℕ) (t : State) (a : Assembler) (new : List ℕ) (r : Result Object Diagnostic) → Represents count t a → ComesTo (table_of a.symbols) a.cursor.segments t.slots a.texts.err new r → ComesTo t.symbols t.cursor.segments t.slots t.err new r
 held_comes count t a new r h k =
     let first : ComesTo t.symbols a.cursor.segments t.slots a.texts.err new r = subst (λ (y : Symbols). ComesTo y a.cursor.segments t.slots a.texts.err new r) h.symbols k in
     let second : ComesTo t.symbols t.cursor.segments t.slots a.texts.err new r = subst (λ (w : Cursor). ComesTo t.symbols w.segments t.slots a.texts.err new r) h.cursor first in
     subst (λ (e : List ℕ). ComesTo t.symbols t.cursor.segments t.slots e new r) h.err second
 
-abbrev concluded_by : State → Finished → Outcome
+abbrev concluded_by : State → Resolution → Outcome
 concluded_by t r = record { result = r.found >>= (λ cs. Ok (object_with t.cursor.segments t.symbols.imports cs)); out = t.out; err = t.err ++ r.warned }
 
-answer_concluded : (t : State) (out new : List ℕ) (r : Result Object AsmRefusal) → out ≡ t.out → ComesTo t.symbols t.cursor.segments t.slots t.err new r → is_from_outside r ≡ false → record { result = in_places r; out = out; err = new } ≡ concluded t None
+answer_concluded : (t : State) (out new : List ℕ) (r : Result Object Diagnostic) → out ≡ t.out → ComesTo t.symbols t.cursor.segments t.slots t.err new r → is_from_outside r ≡ false → record { result = in_places r; out = out; err = new } ≡ outcome_of_state t None
 answer_concluded t out new (Ok o) same k inside =
     let answer : Object → List ℕ → List ℕ → Outcome = λ x said err. record { result = Ok x; out = said; err = err } in
     (λ n. answer (k.object n) (same n) (k.err n)) ∙ ap (concluded_by t) (sym k.found)
 answer_concluded t out new (Err e) same u inside =
-    let k = certain (is_outside_refusal e) (AreFaulty t.symbols [] t.slots e t.err new) u inside in
+    let k = certain (is_diagnostic_system_error e) (AreFaulty t.symbols [] t.slots e t.err new) u inside in
     let answer : List ℕ → List ℕ → Outcome = λ said err. record { result = Err (placed_of e); out = said; err = err } in
     (λ n. answer (same n) (k.err n)) ∙ ap (concluded_by t) (sym k.found)
 
-pub comes_concluded : (count : ℕ) (t : State) (a : Assembler) (new : List ℕ) (r : Result Object AsmRefusal) → Holds count t a → ComesTo (table_of a.symbols) a.cursor.segments t.slots a.texts.err new r → is_from_outside r ≡ false → record { result = in_places r; out = a.texts.out; err = new } ≡ concluded t None
+pub comes_concluded : (count : ℕ) (t : State) (a : Assembler) (new : List ℕ) (r : Result Object Diagnostic) → Represents count t a → ComesTo (table_of a.symbols) a.cursor.segments t.slots a.texts.err new r → is_from_outside r ≡ false → record { result = in_places r; out = a.texts.out; err = new } ≡ outcome_of_state t None
 comes_concluded count t a new r h k inside = answer_concluded t a.texts.out new r h.out (held_comes count t a new r h k) inside
 
 -- its object can be written, if what it rests on holds
 abbrev pub IsGoodIf : Assembler → Object → Type 0
 IsGoodIf a o =
-    (count : ℕ) (t : State) → Holds count t a →
-    ((cs : List Content) → (finished t).found ≡ Ok cs → AreSound t.cursor.segments t.symbols.imports cs) →
-    is_good_object o ≡ true
+    (count : ℕ) (t : State) → Represents count t a →
+    ((cs : List Content) → (resolution_of_state t).found ≡ Ok cs → AreSound t.cursor.segments t.symbols.imports cs) →
+    is_well_formed_object o ≡ true
 
-pub comes_good : (a : Assembler) (new : List ℕ) (r x : Result Object AsmRefusal) → x ≡ r → ((xs : List Slot) → Stands xs a.sections → all_said (contents_so_far xs) ≡ [] → ComesTo (table_of a.symbols) a.cursor.segments xs a.texts.err new r) → IfOk x (IsGoodIf a)
-comes_good a new r x same comes = subst (λ (z : Result Object AsmRefusal). IfOk z (IsGoodIf a)) (sym same) (by r comes)
+pub comes_good : (a : Assembler) (new : List ℕ) (r x : Result Object Diagnostic) → x ≡ r → ((xs : List Slot) → RepresentsSlots xs a.sections → all_said (contents_so_far xs) ≡ [] → ComesTo (table_of a.symbols) a.cursor.segments xs a.texts.err new r) → IfOk x (IsGoodIf a)
+comes_good a new r x same comes = subst (λ (z : Result Object Diagnostic). IfOk z (IsGoodIf a)) (sym same) (by r comes)
   where
-    by : (z : Result Object AsmRefusal) → ((xs : List Slot) → Stands xs a.sections → all_said (contents_so_far xs) ≡ [] → ComesTo (table_of a.symbols) a.cursor.segments xs a.texts.err new z) → IfOk z (IsGoodIf a)
+    by : (z : Result Object Diagnostic) → ((xs : List Slot) → RepresentsSlots xs a.sections → all_said (contents_so_far xs) ≡ [] → ComesTo (table_of a.symbols) a.cursor.segments xs a.texts.err new z) → IfOk z (IsGoodIf a)
     by (Ok o) k = λ count t h sound.
         (let found = held_comes count t a new (Ok o) h (k t.slots h.sections h.unsaid) in
-        found.good (sound found.contents (ap (λ (f : Finished). f.found) found.found)))
+        found.good (sound found.contents (ap (λ (f : Resolution). f.found) found.found)))
     by (Err e) k = tt

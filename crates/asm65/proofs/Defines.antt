@@ -2,75 +2,75 @@
 use Rattle.std.proofs.Common.{◌≡◌, ◌∙◌, ℕ, zero, suc, ◌+◌, ◌≤◌, ◌<◌, false, List, [], ◌∷◌, length, drop, get_or, map, refl, sym, ap, subst, arith}
 use Rattle.std.specs.Prelude.{Ok, Err, IfErr, ⊤}
 use Rattle.syntax65.specs.Trees.{number}
-use Rattle.syntax65.specs.declared.place.Place.{Place}
+use Rattle.syntax65.specs.declared.source_location.SourceLocation.{SourceLocation}
 use Rattle.ast65.specs.declared.fault.AsmFault.{AsmFault}
-use Rattle.ast65.specs.Faults.{is_outside}
+use Rattle.ast65.specs.Faults.{is_system_error}
 use Rattle.ast65.specs.declared.language.Statement.TheVariants.{Constant}
-use Rattle.sources65.specs.Reading.{Answers, AreDefined, Define}
-use Rattle.sources65.specs.Machine.{State, Takes, begun}
+use Rattle.sources65.specs.Reading.{RepresentsOrFails, AreDefined, Define}
+use Rattle.sources65.specs.Machine.{State, StepsTo, initial_state}
 use Rattle.sources65.proofs.Taken.{DefinesOn, faulty_constant, first_constant, next_constant}
 use Rattle.asm65.specs.declared.assembler.Assembler.{Assembler}
 use Rattle.asm65.specs.declared.assembling.Define as code
 use Rattle.asm65.specs.Assembly.{define_of}
 use Rattle.symbols65.specs.Measuring.{opening_limit}
-use Rattle.asm65.specs.Inner.Holding.{Holds}
-use Rattle.asm65.specs.Inner.Running.{IsReached, behind, at_first, Leaves}
+use Rattle.asm65.specs.Internal.AssemblerState.{Represents}
+use Rattle.asm65.specs.Internal.RunState.{IsReached, following, at_first, RefinesTransition}
 use Rattle.asm65.proofs.Runs.{Answer, fault_first, fault_then, says_same, takes_quiet}
 
 -- one opens nothing, and its name is no object's
-abbrev pub DefinesBy : Place → Define → Assembler → Assembler → Answer → Type 0
+abbrev pub DefinesBy : SourceLocation → Define → Assembler → Assembler → Answer → Type 0
 DefinesBy place d old new r =
-    (count : ℕ) (t : State) → count + 1 ≤ opening_limit → Holds count t old →
-    Leaves ⊤ (Takes t place (Constant d.0 (number d.1))) count t new r
+    (count : ℕ) (t : State) → count + 1 ≤ opening_limit → Represents count t old →
+    RefinesTransition ⊤ (StepsTo t place (Constant d.0 (number d.1))) count t new r
 
-pub defines_by : (place : Place) (d : Define) (old new : Assembler) (r : Answer) → ((count : ℕ) (t : State) → Holds count t old → count < opening_limit → Answers (Takes t place (Constant d.0 (number d.1))) (λ u. Holds (count + 0) u new) r) → IfErr r (λ e. is_outside e ≡ false → new.texts ≡ old.texts) → DefinesBy place d old new r
+pub defines_by : (place : SourceLocation) (d : Define) (old new : Assembler) (r : Answer) → ((count : ℕ) (t : State) → Represents count t old → count < opening_limit → RepresentsOrFails (StepsTo t place (Constant d.0 (number d.1))) (λ u. Represents (count + 0) u new) r) → IfErr r (λ e. is_system_error e ≡ false → new.texts ≡ old.texts) → DefinesBy place d old new r
 defines_by place d old new (Ok v) taken same = λ count t room h.
     (let a = taken count t h (omega (arith, room)) in
-    (a.0, a.1, λ reached. behind t a.0 place (Constant d.0 (number d.1)) reached tt a.1, (count + 0, omega arith, a.2)))
+    (a.0, a.1, λ reached. following t a.0 place (Constant d.0 (number d.1)) reached tt a.1, (count + 0, omega arith, a.2)))
 defines_by place d old new (Err e) taken same = λ count t room h.
-    fault_first ⊤ (Takes t place (Constant d.0 (number d.1))) count t new e (taken count t h (omega (arith, room))) (λ inside. says_same count t old new h (same inside))
+    fault_first ⊤ (StepsTo t place (Constant d.0 (number d.1))) count t new e (taken count t h (omega (arith, room))) (λ inside. says_same count t old new h (same inside))
 
 -- what is defined so far, with constants that are left
-pub record SoFar (place : Place) (ds left : List Define) (a : Assembler) : Type 0 where
+pub record SoFar (place : SourceLocation) (ds left : List Define) (a : Assembler) : Type 0 where
   pub state : State
-  pub goes : DefinesOn Takes place (AreDefined Takes begun place ds) left state
+  pub goes : DefinesOn StepsTo place (AreDefined StepsTo initial_state place ds) left state
   pub reached : IsReached state
-  pub holds : Holds 0 state a
-  pub out : state.out ≡ begun.out
-  pub err : state.err ≡ begun.err
+  pub holds : Represents 0 state a
+  pub out : state.out ≡ initial_state.out
+  pub err : state.err ≡ initial_state.err
 
-pub none_so_far : (place : Place) (ds : List Define) (a : Assembler) → Holds 0 begun a → SoFar place ds ds a
+pub none_so_far : (place : SourceLocation) (ds : List Define) (a : Assembler) → Represents 0 initial_state a → SoFar place ds ds a
 none_so_far place ds a h = record {
-  state = begun;
-  goes = first_constant Takes place ds begun;
+  state = initial_state;
+  goes = first_constant StepsTo place ds initial_state;
   reached = at_first;
   holds = h;
   out = refl;
   err = refl;
 }
 
-zero_within : (count : ℕ) (t : State) (a : Assembler) → count ≤ 0 → Holds count t a → Holds 0 t a
+zero_within : (count : ℕ) (t : State) (a : Assembler) → count ≤ 0 → Represents count t a → Represents 0 t a
 zero_within count t a le h =
     let none : count ≡ 0 = omega (arith, le) in
-    subst (λ n. Holds n t a) none h
+    subst (λ n. Represents n t a) none h
 
-pub one_more : (place : Place) (ds left : List Define) (d : Define) (old new : Assembler) (v : Unit {0}) → SoFar place ds (d ∷ left) old → DefinesBy place d old new (Ok v) → SoFar place ds left new
+pub one_more : (place : SourceLocation) (ds left : List Define) (d : Define) (old new : Assembler) (v : Unit {0}) → SoFar place ds (d ∷ left) old → DefinesBy place d old new (Ok v) → SoFar place ds left new
 one_more place ds left d old new v s defines =
     let a = defines 0 s.state (omega arith) s.holds in
     let quiet = takes_quiet s.state a.0 place (Constant d.0 (number d.1)) (refl, refl) a.1 in
     record {
       state = a.0;
-      goes = next_constant Takes place (AreDefined Takes begun place ds) d left s.state a.0 s.goes a.1;
+      goes = next_constant StepsTo place (AreDefined StepsTo initial_state place ds) d left s.state a.0 s.goes a.1;
       reached = a.2 s.reached;
       holds = zero_within a.3.0 a.0 new a.3.1 a.3.2;
       out = quiet.0 ∙ s.out;
       err = quiet.1 ∙ s.err;
     }
 
-pub one_wrong : (place : Place) (ds left : List Define) (d : Define) (old new : Assembler) (e : AsmFault) (r : Answer) → r ≡ Err e → SoFar place ds (d ∷ left) old → DefinesBy place d old new (Err e) → Leaves ⊤ (AreDefined Takes begun place ds) 0 begun new r
+pub one_wrong : (place : SourceLocation) (ds left : List Define) (d : Define) (old new : Assembler) (e : AsmFault) (r : Answer) → r ≡ Err e → SoFar place ds (d ∷ left) old → DefinesBy place d old new (Err e) → RefinesTransition ⊤ (AreDefined StepsTo initial_state place ds) 0 initial_state new r
 one_wrong place ds left d old new e r fails s defines =
-    let P : Answer → Type 0 = λ q. Leaves ⊤ (AreDefined Takes begun place ds) 0 begun new q in
-    subst P (sym fails) (fault_then ⊤ ⊤ (Takes s.state place (Constant d.0 (number d.1))) (AreDefined Takes begun place ds) 0 0 begun s.state new e (λ x. x) (λ p. faulty_constant Takes place (AreDefined Takes begun place ds) d left s.state e s.goes p) (λ says. (says.0 ∙ s.out, says.1 ∙ s.err)) (defines 0 s.state (omega arith) s.holds))
+    let P : Answer → Type 0 = λ q. RefinesTransition ⊤ (AreDefined StepsTo initial_state place ds) 0 initial_state new q in
+    subst P (sym fails) (fault_then ⊤ ⊤ (StepsTo s.state place (Constant d.0 (number d.1))) (AreDefined StepsTo initial_state place ds) 0 0 initial_state s.state new e (λ x. x) (λ p. faulty_constant StepsTo place (AreDefined StepsTo initial_state place ds) d left s.state e s.goes p) (λ says. (says.0 ∙ s.out, says.1 ∙ s.err)) (defines 0 s.state (omega arith) s.holds))
 
 -- ---- Lists.
 

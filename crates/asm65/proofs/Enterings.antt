@@ -4,43 +4,43 @@ use Rattle.std.specs.Prelude.{ℤ, pos, negsuc, Bool, true, false, Result, Ok, E
 use Rattle.std.specs.List.{list_all}
 use Rattle.base65.specs.Outcome.{◌>>=◌}
 use Rattle.syntax65.specs.Trees.{Tree, number}
-use Rattle.syntax65.specs.declared.place.Place.{Place}
+use Rattle.syntax65.specs.declared.source_location.SourceLocation.{SourceLocation}
 use Rattle.object65.specs.Form.{Form, lit}
 use Rattle.object65.specs.Objects.{fits_width, value_bytes}
 use Rattle.object65.proofs.Goods.{left, right}
 use Rattle.object65.specs.declared.object.Action.{Action}
 use Rattle.object65.specs.declared.object.Action.TheVariants as action
 use Rattle.object65.specs.declared.object.Width.{Width}
-use Rattle.ast65.specs.Items.{numbered}
-use Rattle.semantics65.specs.Contents.{Content, Known, Part, put, stored, telling}
+use Rattle.ast65.specs.Items.{literal_item}
+use Rattle.semantics65.specs.Contents.{Content, Known, Part, section_part, value_part, declaration_content}
 use Rattle.ast65.specs.declared.fault.AsmFault.{AsmFault}
 use Rattle.semantics65.specs.Norms.{IsFinal}
 use Rattle.semantics65.specs.declared.laid.Context.{Context}
-use Rattle.sources65.specs.Machine.{IsSettled, PutsAll, State, at_once, entered}
-use Rattle.semantics65.specs.Module.{Piece, Purpose, as_part, asserted, datum, given, operand, quietly, used, valued, item_piece, Slot, holds}
+use Rattle.sources65.specs.Machine.{IsSettled, PieceSteps, State, at_once, with_content}
+use Rattle.semantics65.specs.Module.{Piece, Purpose, as_part, asserted, datum, given, operand, quietly, value_result, valued, item_piece, Slot, resolved}
 use Rattle.sources65.proofs.Resolving.{final_settles, settled_given}
 use Rattle.semantics65.specs.Numbering.{all_said}
 use Rattle.semantics65.specs.Symbols.{Symbols}
 use Rattle.emit65.specs.declared.sections.Sections.{Sections}
-use Rattle.emit65.specs.Fed.{Feeds, Stands}
+use Rattle.emit65.specs.SectionContents.{AppendsSlot, RepresentsSlots}
 use Rattle.emit65.proofs.Alikes.{alike_sym, empty_alike}
 use Rattle.emit65.proofs.Pieces.{held_stand, runs, runs_stand}
 use Rattle.symbols65.specs.Views.{table_of}
 use Rattle.asm65.specs.declared.assembler.Assembler.{Assembler}
-use Rattle.asm65.specs.Inner.Holding.{Enters, AreStored, IsPut, IsTried, Waits, operand_stored}
+use Rattle.asm65.specs.Internal.AssemblerState.{EmitsPieces, AreStored, IsPut, EmitsIfResolved, DefersPiece, operand_stored}
 use Rattle.asm65.proofs.Puttings.{stored_is}
 use Rattle.asm65.proofs.Waitings.{all_entered, holds_all, holds_entered, waits_enters}
 
 -- ---- One behind the other.
 
-puts_append : (place : Place) (s : Context) (t u v : State) (ps qs : List Piece) → PutsAll place s t ps u → PutsAll place s u qs v → PutsAll place s t (ps ++ qs) v
-puts_append place s t u v [] qs h k = subst (λ w. PutsAll place s w qs v) h k
+puts_append : (place : SourceLocation) (s : Context) (t u v : State) (ps qs : List Piece) → PieceSteps place s t ps u → PieceSteps place s u qs v → PieceSteps place s t (ps ++ qs) v
+puts_append place s t u v [] qs h k = subst (λ w. PieceSteps place s w qs v) h k
 puts_append place s t u v (p ∷ ps) qs h k = (h.0, h.1, puts_append place s h.0 u v ps qs h.2 k)
 
-pub enters_none : (place : Place) (s : Context) (a : Assembler) → Enters place s [] a a
+pub enters_none : (place : SourceLocation) (s : Context) (a : Assembler) → EmitsPieces place s [] a a
 enters_none place s a count t h = (t, refl, h)
 
-pub enters_both : (place : Place) (s : Context) (ps qs : List Piece) (old mid new : Assembler) → Enters place s ps old mid → Enters place s qs mid new → Enters place s (ps ++ qs) old new
+pub enters_both : (place : SourceLocation) (s : Context) (ps qs : List Piece) (old mid new : Assembler) → EmitsPieces place s ps old mid → EmitsPieces place s qs mid new → EmitsPieces place s (ps ++ qs) old new
 enters_both place s ps qs old mid new first second count t h =
     let x = first count t h in
     let y = second count x.0 x.2 in
@@ -51,72 +51,72 @@ enters_both place s ps qs old mid new first second count t h =
 abbrev fed : Assembler → Sections → Assembler
 fed a x = record a { sections = x }
 
-pub fed_enters : (old : Assembler) (x : Sections) (place : Place) (s : Context) (p : Piece) (c : Content) → c.said ≡ [] → Feeds old.sections x (holds c) → IsSettled (table_of old.symbols) place s p c → Enters place s (p ∷ []) old (fed old x)
+pub fed_enters : (old : Assembler) (x : Sections) (place : SourceLocation) (s : Context) (p : Piece) (c : Content) → c.said ≡ [] → AppendsSlot old.sections x (resolved c) → IsSettled (table_of old.symbols) place s p c → EmitsPieces place s (p ∷ []) old (fed old x)
 fed_enters old x place s p c quiet feeds settled count t h =
     let there : IsSettled t.symbols place s p c = subst (λ y. IsSettled y place s p c) h.symbols settled in
-    (entered t c, (entered t c, at_once c there, refl), holds_entered count t old (fed old x) h (record { symbols = refl; known = refl; cursor = refl; texts = refl }) c quiet feeds)
+    (with_content t c, (with_content t c, at_once c there, refl), holds_entered count t old (fed old x) h (record { symbols = refl; known = refl; cursor = refl; texts = refl }) c quiet feeds)
 
 -- what needs no value
-pub given_enters : (old : Assembler) (x : Sections) (place : Place) (s : Context) (p : Part) → Feeds old.sections x (holds (put s.segment p)) → Enters place s (given p ∷ []) old (fed old x)
-given_enters old x place s p feeds = fed_enters old x place s (given p) (put s.segment p) refl feeds (settled_given (table_of old.symbols) place s p)
+pub given_enters : (old : Assembler) (x : Sections) (place : SourceLocation) (s : Context) (p : Part) → AppendsSlot old.sections x (resolved (section_part s.segment p)) → EmitsPieces place s (given p ∷ []) old (fed old x)
+given_enters old x place s p feeds = fed_enters old x place s (given p) (section_part s.segment p) refl feeds (settled_given (table_of old.symbols) place s p)
 
 -- a value whose form is final and puts a part
-module _ (old : Assembler) (x : Sections) (place : Place) (s : Context) (why : Purpose) (e : Tree) (f : Form) (final : IsFinal (table_of old.symbols) s e f) where
-  value_entered : (r : Result Part AsmFault) → used place s why f ≡ (r >>= as_part s.segment) → IsPut old.sections x s.segment r true → Enters place s (valued why e ∷ []) old (fed old x)
-  value_entered (Ok p) is feeds = fed_enters old x place s (valued why e) (put s.segment p) refl feeds (final_settles (table_of old.symbols) place s why e f (put s.segment p) final is)
+module _ (old : Assembler) (x : Sections) (place : SourceLocation) (s : Context) (why : Purpose) (e : Tree) (f : Form) (final : IsFinal (table_of old.symbols) s e f) where
+  value_entered : (r : Result Part AsmFault) → value_result place s why f ≡ (r >>= as_part s.segment) → IsPut old.sections x s.segment r true → EmitsPieces place s (valued why e ∷ []) old (fed old x)
+  value_entered (Ok p) is feeds = fed_enters old x place s (valued why e) (section_part s.segment p) refl feeds (final_settles (table_of old.symbols) place s why e f (section_part s.segment p) final is)
   value_entered (Err e) is feeds = absurd feeds
 
-  value_tried : (r : Result Part AsmFault) (b : Bool) → used place s why f ≡ (r >>= as_part s.segment) → IsPut old.sections x s.segment r b → IsTried place s (valued why e) old (fed old x) b
+  value_tried : (r : Result Part AsmFault) (b : Bool) → value_result place s why f ≡ (r >>= as_part s.segment) → IsPut old.sections x s.segment r b → EmitsIfResolved place s (valued why e) old (fed old x) b
   value_tried r true is h = value_entered r is h
   value_tried r false is h = ap (fed old) h
 
-pub datum_tried : (old : Assembler) (x : Sections) (place : Place) (s : Context) (width : Width) (e : Tree) (f : Form) (b : Bool) → IsFinal (table_of old.symbols) s e f → IsPut old.sections x s.segment (stored width place f) b → IsTried place s (valued (datum width) e) old (fed old x) b
-datum_tried old x place s width e f b final h = value_tried old x place s (datum width) e f final (stored width place f) b refl h
+pub datum_tried : (old : Assembler) (x : Sections) (place : SourceLocation) (s : Context) (width : Width) (e : Tree) (f : Form) (b : Bool) → IsFinal (table_of old.symbols) s e f → IsPut old.sections x s.segment (value_part width place f) b → EmitsIfResolved place s (valued (datum width) e) old (fed old x) b
+datum_tried old x place s width e f b final h = value_tried old x place s (datum width) e f final (value_part width place f) b refl h
 
-pub operand_tried : (old : Assembler) (x : Sections) (place : Place) (s : Context) (width : Width) (e : Tree) (f : Form) (b : Bool) → IsFinal (table_of old.symbols) s e f → IsPut old.sections x s.segment (operand_stored width s place f) b → IsTried place s (valued (operand width) e) old (fed old x) b
+pub operand_tried : (old : Assembler) (x : Sections) (place : SourceLocation) (s : Context) (width : Width) (e : Tree) (f : Form) (b : Bool) → IsFinal (table_of old.symbols) s e f → IsPut old.sections x s.segment (operand_stored width s place f) b → EmitsIfResolved place s (valued (operand width) e) old (fed old x) b
 operand_tried old x place s width e f b final h = value_tried old x place s (operand width) e f final (operand_stored width s place f) b refl h
 
 -- ---- Numbers in one go.
 
 -- a number that is in range
-number_settled : (y : Symbols) (place : Place) (s : Context) (width : Width) (n : ℕ) → fits_width width (pos n) ≡ true → IsSettled y place s (valued (datum width) (number n)) (put s.segment (Known (value_bytes width (pos n))))
+number_settled : (y : Symbols) (place : SourceLocation) (s : Context) (width : Width) (n : ℕ) → fits_width width (pos n) ≡ true → IsSettled y place s (valued (datum width) (number n)) (section_part s.segment (Known (value_bytes width (pos n))))
 number_settled y place s width n fits =
-    final_settles y place s (datum width) (number n) (lit (pos n)) (put s.segment (Known (value_bytes width (pos n)))) (λ z more. refl)
+    final_settles y place s (datum width) (number n) (lit (pos n)) (section_part s.segment (Known (value_bytes width (pos n)))) (λ z more. refl)
     (ap (λ (r : Result Part AsmFault). r >>= as_part s.segment) (stored_is width place (pos n) fits))
 
-numbers_put : (place : Place) (s : Context) (t : State) (width : Width) (ns : List ℕ) → list_all (λ (n : ℕ). fits_width width (pos n)) ns ≡ true → PutsAll place s t (map (item_piece width) (map numbered ns)) (all_entered t (runs s.segment (λ (n : ℕ). value_bytes width (pos n)) ns))
+numbers_put : (place : SourceLocation) (s : Context) (t : State) (width : Width) (ns : List ℕ) → list_all (λ (n : ℕ). fits_width width (pos n)) ns ≡ true → PieceSteps place s t (map (item_piece width) (map literal_item ns)) (all_entered t (runs s.segment (λ (n : ℕ). value_bytes width (pos n)) ns))
 numbers_put place s t width [] fit = ap (λ (slots : List Slot). record t { slots = slots }) (append-nil t.slots)
 numbers_put place s t width (n ∷ ns) fit =
-    let c : Content = put s.segment (Known (value_bytes width (pos n))) in
+    let c : Content = section_part s.segment (Known (value_bytes width (pos n))) in
     let cs : List Content = runs s.segment (λ (n : ℕ). value_bytes width (pos n)) ns in
     let first = left (fits_width width (pos n)) (list_all (λ (n : ℕ). fits_width width (pos n)) ns) fit in
     let others = right (fits_width width (pos n)) (list_all (λ (n : ℕ). fits_width width (pos n)) ns) fit in (
-      entered t c,
+      with_content t c,
       at_once c (number_settled t.symbols place s width n first),
-      subst (λ (slots : List Slot). PutsAll place s (entered t c) (map (item_piece width) (map numbered ns)) (record t { slots = slots }))
-          (append_assoc t.slots (holds c ∷ []) (map holds cs)) (numbers_put place s (entered t c) width ns others),
+      subst (λ (slots : List Slot). PieceSteps place s (with_content t c) (map (item_piece width) (map literal_item ns)) (record t { slots = slots }))
+          (append_assoc t.slots (resolved c ∷ []) (map resolved cs)) (numbers_put place s (with_content t c) width ns others),
     )
 
 runs_say : {A : Type 0} (g : ℕ) (f : A → List ℕ) (xs : List A) → all_said (runs g f xs) ≡ []
 runs_say g f [] = refl
 runs_say g f (x ∷ xs) = runs_say g f xs
 
-pub numbers_enter : (old : Assembler) (x : Sections) (place : Place) (s : Context) (width : Width) (ns bytes : List ℕ) → AreStored width ns bytes → Feeds old.sections x (holds (put s.segment (Known bytes))) → Enters place s (map (item_piece width) (map numbered ns)) old (fed old x)
-numbers_enter old x place s width ns bytes stored feeds count t h =
+pub numbers_enter : (old : Assembler) (x : Sections) (place : SourceLocation) (s : Context) (width : Width) (ns bytes : List ℕ) → AreStored width ns bytes → AppendsSlot old.sections x (resolved (section_part s.segment (Known bytes))) → EmitsPieces place s (map (item_piece width) (map literal_item ns)) old (fed old x)
+numbers_enter old x place s width ns bytes value_part feeds count t h =
     let f : ℕ → List ℕ = λ (n : ℕ). value_bytes width (pos n) in
-    let known = subst (λ (b : List ℕ). Feeds old.sections x (holds (put s.segment (Known b)))) stored.bytes feeds in (
+    let known = subst (λ (b : List ℕ). AppendsSlot old.sections x (resolved (section_part s.segment (Known b)))) value_part.bytes feeds in (
       all_entered t (runs s.segment f ns),
-      numbers_put place s t width ns stored.fit,
+      numbers_put place s t width ns value_part.fit,
       holds_all count t old (fed old x) h (record { symbols = refl; known = refl; cursor = refl; texts = refl }) (runs s.segment f ns) (runs_say s.segment f ns) (runs_stand s.segment f ns old.sections x known),
     )
 
 -- ---- Assertions.
 
 -- nothing is said
-pub says_nothing : (x : Sections) → Feeds x x (holds (telling []))
-says_nothing x xs h = held_stand xs [] (telling [] ∷ []) x (alike_sym (telling [] ∷ []) [] (empty_alike 0 false)) refl (subst (λ (ys : List Slot). Stands ys x) (sym (append-nil xs)) h)
+pub says_nothing : (x : Sections) → AppendsSlot x x (resolved (declaration_content []))
+says_nothing x xs h = held_stand xs [] (declaration_content [] ∷ []) x (alike_sym (declaration_content [] ∷ []) [] (empty_alike 0 false)) refl (subst (λ (ys : List Slot). RepresentsSlots ys x) (sym (append-nil xs)) h)
 
-so_used : (place : Place) (s : Context) (act : Action) (words : List ℕ) (v : ℤ) → (v ≡ pos 0 → ⊥) → used place s (asserted act words) (lit v) ≡ Ok (quietly (telling []))
+so_used : (place : SourceLocation) (s : Context) (act : Action) (words : List ℕ) (v : ℤ) → (v ≡ pos 0 → ⊥) → value_result place s (asserted act words) (lit v) ≡ Ok (quietly (declaration_content []))
 so_used place s action.Error words (pos zero) h = absurd (h refl)
 so_used place s action.Warning words (pos zero) h = absurd (h refl)
 so_used place s action.Error words (pos (suc n)) h = refl
@@ -125,12 +125,12 @@ so_used place s action.Error words (negsuc n) h = refl
 so_used place s action.Warning words (negsuc n) h = refl
 
 -- an assertion that is so whatever statements follow
-pub so_enters : (old : Assembler) (place : Place) (s : Context) (act : Action) (words : List ℕ) (e : Tree) (v : ℤ) → (v ≡ pos 0 → ⊥) → IsFinal (table_of old.symbols) s e (lit v) → Enters place s (valued (asserted act words) e ∷ []) old old
-so_enters old place s act words e v h final = fed_enters old old.sections place s (valued (asserted act words) e) (telling []) refl (says_nothing old.sections) (final_settles (table_of old.symbols) place s (asserted act words) e (lit v) (telling []) final (so_used place s act words v h))
+pub so_enters : (old : Assembler) (place : SourceLocation) (s : Context) (act : Action) (words : List ℕ) (e : Tree) (v : ℤ) → (v ≡ pos 0 → ⊥) → IsFinal (table_of old.symbols) s e (lit v) → EmitsPieces place s (valued (asserted act words) e ∷ []) old old
+so_enters old place s act words e v h final = fed_enters old old.sections place s (valued (asserted act words) e) (declaration_content []) refl (says_nothing old.sections) (final_settles (table_of old.symbols) place s (asserted act words) e (lit v) (declaration_content []) final (so_used place s act words v h))
 
 -- ---- Later.
 
 -- what isn't put at once waits
-pub tried_waits : (old mid new : Assembler) (place : Place) (s : Context) (p : Piece) (b : Bool) → IsTried place s p old mid b → b ≡ false → Waits place s p mid new → Enters place s (p ∷ []) old new
+pub tried_waits : (old mid new : Assembler) (place : SourceLocation) (s : Context) (p : Piece) (b : Bool) → EmitsIfResolved place s p old mid b → b ≡ false → DefersPiece place s p mid new → EmitsPieces place s (p ∷ []) old new
 tried_waits old mid new place s p true h e waits = absurd cc
-tried_waits old mid new place s p false h e waits = subst (λ (a : Assembler). Enters place s (p ∷ []) a new) h (waits_enters mid new place s p waits)
+tried_waits old mid new place s p false h e waits = subst (λ (a : Assembler). EmitsPieces place s (p ∷ []) a new) h (waits_enters mid new place s p waits)

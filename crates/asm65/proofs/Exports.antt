@@ -4,14 +4,14 @@ use Rattle.std.specs.Prelude.{Result, Ok, Err, IfOk, not}
 use Rattle.std.specs.Global.{Vec}
 use Rattle.std.specs.List.{list_any}
 use Rattle.std.specs.Str.{bytes_eq}
-use Rattle.base65.specs.Outcome.{Gives}
-use Rattle.syntax65.specs.declared.place.Place.{Place}
+use Rattle.base65.specs.Outcome.{Refines}
+use Rattle.syntax65.specs.declared.source_location.SourceLocation.{SourceLocation}
 use Rattle.object65.specs.Form.{Form}
 use Rattle.object65.specs.declared.object.Action.{Action}
 use Rattle.ast65.specs.declared.fault.AsmFault.{AsmFault}
 use Rattle.semantics65.specs.Contents.{exported_names}
 use Rattle.semantics65.specs.declared.laid.Context.{Context}
-use Rattle.semantics65.specs.Module.{Made, asserted, used}
+use Rattle.semantics65.specs.Module.{PieceResult, asserted, value_result}
 
 -- ---- A name more.
 
@@ -31,14 +31,14 @@ entered_new ks key n b same added =
 
 -- ---- What exports none.
 
-abbrev ExportsNone : Result Made AsmFault → Type 0
+abbrev ExportsNone : Result PieceResult AsmFault → Type 0
 ExportsNone r = IfOk r (λ m. exported_names m.content.said ≡ [])
 
-pub none_asserted : (place : Place) (s : Context) (act : Action) (words : List ℕ) (f : Form) → ExportsNone (used place s (asserted act words) f)
+pub none_asserted : (place : SourceLocation) (s : Context) (act : Action) (words : List ℕ) (f : Form) → ExportsNone (value_result place s (asserted act words) f)
 none_asserted place s x1 words x2 = grind (arith)
 
 -- names stay
-pub names_stay : {X : Type 0} (outside : AsmFault → Bool) (view : X → Made) (names : List (List ℕ)) (r : Result X AsmFault) (read : Result Made AsmFault) → ExportsNone read → Gives outside view r read → IfOk r (λ x. names ≡ names ++ exported_names (view x).content.said)
+pub names_stay : {X : Type 0} (outside : AsmFault → Bool) (view : X → PieceResult) (names : List (List ℕ)) (r : Result X AsmFault) (read : Result PieceResult AsmFault) → ExportsNone read → Refines outside view r read → IfOk r (λ x. names ≡ names ++ exported_names (view x).content.said)
 names_stay outside view names (Err e) read none gives = tt
 names_stay outside view names (Ok x) (Err e) none gives = absurd cc
 names_stay outside view names (Ok x) (Ok m) none gives =

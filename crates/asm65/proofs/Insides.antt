@@ -1,10 +1,10 @@
 -- No fault of a statement is a store's.
 use Rattle.std.proofs.Common.{◌≡◌, ℕ, zero, suc, ℤ, pos, Bool, true, false, refl, List, [], ◌∷◌, ◌+◌, length, take, Option, Some, None, slice_get}
 use Rattle.std.specs.Prelude.{Result, Ok, Err, IfErr, ◌-◌, nat_le, nat_lt, ◌&&◌, if◌then◌else◌}
-use Rattle.base65.specs.Outcome.{◌>>=◌, Gives, Unless}
+use Rattle.base65.specs.Outcome.{◌>>=◌, Refines, Unless}
 use Rattle.syntax65.specs.Trees.{Tree, number, here, name, cheap, forward, backward, unary, binary}
 use Rattle.syntax65.specs.declared.lexing.tokens.AddressSize.{AddressSize}
-use Rattle.syntax65.specs.declared.place.Place.{Place}
+use Rattle.syntax65.specs.declared.source_location.SourceLocation.{SourceLocation}
 use Rattle.syntax65.specs.declared.fault.ExpandFault.TheVariants as expand
 use Rattle.object65.specs.Form.{Form, lit, sec, imp, prefix as prefix_form, binary as binary_form}
 use Rattle.object65.specs.Folding.{fold1, fold2}
@@ -15,7 +15,7 @@ use Rattle.object65.specs.declared.object.Action.{Action}
 use Rattle.object65.specs.declared.object.Action.TheVariants as action
 use Rattle.object65.specs.declared.object.Width.{Width}
 use Rattle.object65.specs.declared.object.Width.TheVariants as width
-use Rattle.semantics65.specs.Contents.{Part, Known, Waiting, Declaration, Exported, Asserted, decided, export_said, import_fault, operand_form, stored, written}
+use Rattle.semantics65.specs.Contents.{Part, Known, Waiting, Declaration, Exported, Asserted, decided_assertion, export_said, import_fault, operand_form, value_part, located_declarations}
 use Rattle.semantics65.specs.declared.contents.Segment.{Segment}
 use Rattle.ast65.specs.declared.fault.AsmFault.{AsmFault}
 use Rattle.ast65.specs.declared.fault.AsmFault.TheVariants.{Expansion, FileError, FileNameTooLong, NotUnderstood, OutOfRange, SectionTooLarge, Undefined, NoSuchScope, NoSuchLabel}
@@ -25,12 +25,12 @@ use Rattle.ast65.specs.declared.language.Statement.{Statement}
 use Rattle.ast65.specs.declared.language.Statement.TheVariants as statement
 use Rattle.semantics65.specs.Layout.{Cursor, own_size, place_of, context_of, unless_fault}
 use Rattle.semantics65.specs.Layout as faults
-use Rattle.semantics65.specs.Symbols.{Meaning, defined_at, imported_as, first_found, last_of, meaning_of, member_meaning, or_fault, scope_from, scopes_from, scopes_of, shown, unnamed_meaning, Definition, Key, Scope, Symbols, cheap_in, defined, imported, key_defined, named, unnamed_at}
-use Rattle.semantics65.specs.Norms.{constant_in, defined_form, folded, form_by, form_of_definition, form_of_meaning, form_of_value, norm, norm_of, length_of}
+use Rattle.semantics65.specs.Symbols.{Binding, defined_at, imported_as, first_found, last_of, binding_of, member_meaning, or_fault, scope_from, scopes_from, scopes_of, display_name, unnamed_meaning, Definition, Key, Scope, Symbols, cheap_in, definition_index, import_index, key_defined, named, unnamed_at}
+use Rattle.semantics65.specs.Norms.{constant_in, defined_form, fold_result, form_by, form_of_definition, form_of_meaning, form_of_value, norm, norm_of, length_of}
 use Rattle.semantics65.specs.Module as piece
-use Rattle.semantics65.specs.Module.{Made, Piece, Purpose, absent_of, as_part, as_said, comes_behind, is_repeated, made_of, used}
-use Rattle.symbols65.specs.declared.measuring.Measured.{Measured}
-use Rattle.symbols65.specs.Measuring.{measure_of, measured, unread_fault}
+use Rattle.semantics65.specs.Module.{PieceResult, Piece, Purpose, absent_of, as_part, as_said, piece_result, is_repeated, made_of, value_result}
+use Rattle.symbols65.specs.declared.measuring.StatementLayout.{StatementLayout}
+use Rattle.symbols65.specs.Measuring.{measure_of, layout_result, unread_fault}
 
 abbrev pub IsInside : {A : Type 0} → Result A AsmFault → Type 0
 IsInside r = IfErr r (λ e. is_failure e ≡ false)
@@ -41,7 +41,7 @@ inside_then (Err e) f h k = h
 
 -- ---- Forms.
 
-inside_folded : (r : Result Form FormFault) → IsInside (folded r)
+inside_folded : (r : Result Form FormFault) → IsInside (fold_result r)
 inside_folded (Ok f) = tt
 inside_folded (Err form.OutOfMemory) = refl
 inside_folded (Err form.NoValue) = refl
@@ -54,10 +54,10 @@ inside_form operand s h (name global parts) = h (name global parts)
 inside_form operand s h (cheap n) = h (cheap n)
 inside_form operand s h (forward n) = h (forward n)
 inside_form operand s h (backward n) = h (backward n)
-inside_form operand s h (unary op e) = inside_then (form_by operand s e) (λ f. folded (fold1 op f)) (inside_form operand s h e) (λ f. inside_folded (fold1 op f))
+inside_form operand s h (unary op e) = inside_then (form_by operand s e) (λ f. fold_result (fold1 op f)) (inside_form operand s h e) (λ f. inside_folded (fold1 op f))
 inside_form operand s h (binary op e g) =
-    inside_then (form_by operand s e) (λ f. form_by operand s g >>= (λ k. folded (fold2 op f k))) (inside_form operand s h e)
-    (λ f. inside_then (form_by operand s g) (λ k. folded (fold2 op f k)) (inside_form operand s h g) (λ k. inside_folded (fold2 op f k)))
+    inside_then (form_by operand s e) (λ f. form_by operand s g >>= (λ k. fold_result (fold2 op f k))) (inside_form operand s h e)
+    (λ f. inside_then (form_by operand s g) (λ k. fold_result (fold2 op f k)) (inside_form operand s h g) (λ k. inside_folded (fold2 op f k)))
 
 inside_value : (a : Context → Tree → Result Form AsmFault) → ((s : Context) (e : Tree) → IsInside (a s e)) → (s : Context) (v : Option Tree) → IsInside (form_of_value a s v)
 inside_value a h s None = tt
@@ -67,7 +67,7 @@ inside_definition : (a : Context → Tree → Result Form AsmFault) → ((s : Co
 inside_definition a h None = refl
 inside_definition a h (Some d) = inside_value a h d.context d.value
 
-inside_meaning : (a : Context → Tree → Result Form AsmFault) (y : Symbols) → ((s : Context) (e : Tree) → IsInside (a s e)) → (m : Meaning) → IsInside (form_of_meaning a y m)
+inside_meaning : (a : Context → Tree → Result Form AsmFault) (y : Symbols) → ((s : Context) (e : Tree) → IsInside (a s e)) → (m : Binding) → IsInside (form_of_meaning a y m)
 inside_meaning a y h (imported_as k) = tt
 inside_meaning a y h (defined_at j) = inside_definition a h (slice_get y.definitions j)
 
@@ -80,28 +80,28 @@ inside_found z h None None = h
 
 inside_member : (y : Symbols) (n : List ℕ) (absent lost : AsmFault) → is_failure absent ≡ false → is_failure lost ≡ false → (scope : Option ℕ) → IsInside (member_meaning y n absent lost scope)
 inside_member y n absent lost a b None = b
-inside_member y n absent lost a b (Some zero) = inside_found absent a (defined y (named zero n)) (imported y n)
-inside_member y n absent lost a b (Some (suc i)) = inside_found absent a (defined y (named (suc i) n)) None
+inside_member y n absent lost a b (Some zero) = inside_found absent a (definition_index y (named zero n)) (import_index y n)
+inside_member y n absent lost a b (Some (suc i)) = inside_found absent a (definition_index y (named (suc i) n)) None
 
 inside_back : (y : Symbols) (k n : ℕ) (b : Bool) → IsInside (if b then unnamed_meaning y (k - n) else Err NoSuchLabel)
-inside_back y k n true = inside_found NoSuchLabel refl (defined y (unnamed_at (k - n))) None
+inside_back y k n true = inside_found NoSuchLabel refl (definition_index y (unnamed_at (k - n))) None
 inside_back y k n false = refl
 
-inside_operand : (y : Symbols) (s : Context) (e : Tree) → IsInside (meaning_of y s e)
-inside_operand y s (name false (n ∷ [])) = inside_found (Undefined n) refl (first_found (λ q. defined y (named q n)) (scopes_from y.scopes s.scope)) (imported y n)
-inside_operand y s (name false []) = inside_member y (last_of []) (Undefined (shown false [])) (NoSuchScope (shown false [])) refl refl (scope_from (take s.opened y.scopes) s.scope false (scopes_of []))
-inside_operand y s (name false (n ∷ m ∷ parts)) = inside_member y (last_of (n ∷ m ∷ parts)) (Undefined (shown false (n ∷ m ∷ parts))) (NoSuchScope (shown false (n ∷ m ∷ parts))) refl refl (scope_from (take s.opened y.scopes) s.scope false (scopes_of (n ∷ m ∷ parts)))
-inside_operand y s (name true parts) = inside_member y (last_of parts) (Undefined (shown true parts)) (NoSuchScope (shown true parts)) refl refl (scope_from (take s.opened y.scopes) s.scope true (scopes_of parts))
-inside_operand y s (cheap n) = inside_found (Undefined n) refl (defined y (cheap_in s.region n)) None
-inside_operand y s (forward n) = inside_found NoSuchLabel refl (defined y (unnamed_at (s.unnamed + n - 1))) None
+inside_operand : (y : Symbols) (s : Context) (e : Tree) → IsInside (binding_of y s e)
+inside_operand y s (name false (n ∷ [])) = inside_found (Undefined n) refl (first_found (λ q. definition_index y (named q n)) (scopes_from y.scopes s.scope)) (import_index y n)
+inside_operand y s (name false []) = inside_member y (last_of []) (Undefined (display_name false [])) (NoSuchScope (display_name false [])) refl refl (scope_from (take s.opened y.scopes) s.scope false (scopes_of []))
+inside_operand y s (name false (n ∷ m ∷ parts)) = inside_member y (last_of (n ∷ m ∷ parts)) (Undefined (display_name false (n ∷ m ∷ parts))) (NoSuchScope (display_name false (n ∷ m ∷ parts))) refl refl (scope_from (take s.opened y.scopes) s.scope false (scopes_of (n ∷ m ∷ parts)))
+inside_operand y s (name true parts) = inside_member y (last_of parts) (Undefined (display_name true parts)) (NoSuchScope (display_name true parts)) refl refl (scope_from (take s.opened y.scopes) s.scope true (scopes_of parts))
+inside_operand y s (cheap n) = inside_found (Undefined n) refl (definition_index y (cheap_in s.region n)) None
+inside_operand y s (forward n) = inside_found NoSuchLabel refl (definition_index y (unnamed_at (s.unnamed + n - 1))) None
 inside_operand y s (backward n) = inside_back y s.unnamed n (nat_le n s.unnamed)
 inside_operand y s _ = refl
 
 inside_norm : (n : ℕ) (y : Symbols) (s : Context) (e : Tree) → IsInside (norm n y s e)
 inside_norm zero y s e = refl
 inside_norm (suc n) y s e =
-    inside_form (λ t. meaning_of y s t >>= form_of_meaning (norm n y) y) s
-    (λ t. inside_then (meaning_of y s t) (form_of_meaning (norm n y) y) (inside_operand y s t) (inside_meaning (norm n y) y (inside_norm n y))) e
+    inside_form (λ t. binding_of y s t >>= form_of_meaning (norm n y) y) s
+    (λ t. inside_then (binding_of y s t) (form_of_meaning (norm n y) y) (inside_operand y s t) (inside_meaning (norm n y) y (inside_norm n y))) e
 
 inside_norm_of : (y : Symbols) (s : Context) (e : Tree) → IsInside (norm_of y s e)
 inside_norm_of y s e = inside_norm (suc (length y.definitions)) y s e
@@ -112,14 +112,14 @@ inside_defined y j = inside_meaning (norm_of y) y (inside_norm_of y) (defined_at
 -- ---- What waits.
 
 -- what is written may have a name that is too long
-inside_written : {A : Type 0} (place : Place) (x : A) → IsInside (written place x)
+inside_written : {A : Type 0} (place : SourceLocation) (x : A) → IsInside (located_declarations place x)
 inside_written {A} place x = by (is_file_name place.file)
   where
     by : (b : Bool) → IsInside (if b then Ok x else Err FileNameTooLong)
     by true = tt
     by false = refl
 
-inside_stored : (w : Width) (place : Place) (f : Form) → IsInside (stored w place f)
+inside_stored : (w : Width) (place : SourceLocation) (f : Form) → IsInside (value_part w place f)
 inside_stored w place (lit v) = by (fits_width w v)
   where
     by : (b : Bool) → IsInside (if b then Ok (Known (value_bytes w v)) else Err OutOfRange)
@@ -134,7 +134,7 @@ inside_branch : (w : Width) (s : Context) (f : Form) → IsInside (operand_form 
 inside_branch width.Branch s f = inside_folded _
 inside_branch width.Byte s f = tt
 inside_branch width.Word s f = tt
-inside_branch width.HighFirst s f = tt
+inside_branch width.BigEndianWord s f = tt
 inside_branch width.Dword s f = tt
 
 inside_part : (g : ℕ) (r : Result Part AsmFault) → IsInside r → IsInside (r >>= as_part g)
@@ -145,7 +145,7 @@ inside_said : (r : Result (List Declaration) AsmFault) → IsInside r → IsInsi
 inside_said (Ok ss) h = tt
 inside_said (Err e) h = h
 
-inside_decided : (act : Action) (place : Place) (words : List ℕ) (f : Form) → IsInside (decided act place words f)
+inside_decided : (act : Action) (place : SourceLocation) (words : List ℕ) (f : Form) → IsInside (decided_assertion act place words f)
 inside_decided action.Error place words (lit (pos zero)) = refl
 inside_decided action.Error place words (lit (pos (suc n))) = tt
 inside_decided action.Error place words (lit _) = tt
@@ -159,18 +159,18 @@ inside_decided action.Warning place words (imp k) = inside_written place (Assert
 inside_decided action.Warning place words (prefix_form op f) = inside_written place (Asserted action.Warning place words (prefix_form op f) ∷ [])
 inside_decided action.Warning place words (binary_form op f g) = inside_written place (Asserted action.Warning place words (binary_form op f g) ∷ [])
 
-inside_used : (place : Place) (s : Context) (why : Purpose) (f : Form) → IsInside (used place s why f)
-inside_used place s (piece.datum w) f = inside_part s.segment (stored w place f) (inside_stored w place f)
+inside_used : (place : SourceLocation) (s : Context) (why : Purpose) (f : Form) → IsInside (value_result place s why f)
+inside_used place s (piece.datum w) f = inside_part s.segment (value_part w place f) (inside_stored w place f)
 inside_used place s (piece.operand w) f =
-    inside_part s.segment (operand_form w s f >>= stored w place)
-    (inside_then (operand_form w s f) (stored w place) (inside_branch w s f) (inside_stored w place))
+    inside_part s.segment (operand_form w s f >>= value_part w place)
+    (inside_then (operand_form w s f) (value_part w place) (inside_branch w s f) (inside_stored w place))
 inside_used place s piece.equated f = tt
-inside_used place s (piece.asserted act words) f = inside_then (decided act place words f) _ (inside_decided act place words f) (λ ss. tt)
+inside_used place s (piece.asserted act words) f = inside_then (decided_assertion act place words f) _ (inside_decided act place words f) (λ ss. tt)
 
 inside_import : (y : Symbols) (n : List ℕ) → IsInside (import_fault y n)
-inside_import y n = by (defined y (named 0 n)) refl
+inside_import y n = by (definition_index y (named 0 n)) refl
   where
-    by : (o : Option ℕ) → defined y (named 0 n) ≡ o → IsInside (import_fault y n)
+    by : (o : Option ℕ) → definition_index y (named 0 n) ≡ o → IsInside (import_fault y n)
     by None e = rw e tt
     by (Some j) e = rw e refl
 
@@ -178,19 +178,19 @@ inside_absent : (must : Bool) (n : List ℕ) → IsInside (absent_of must n)
 inside_absent true n = refl
 inside_absent false n = tt
 
-inside_export : (y : Symbols) (place : Place) (n : List ℕ) (must : Bool) (o : Option ℕ) → IsInside (export_said y place n (absent_of must n) o)
+inside_export : (y : Symbols) (place : SourceLocation) (n : List ℕ) (must : Bool) (o : Option ℕ) → IsInside (export_said y place n (absent_of must n) o)
 inside_export y place n must None = inside_absent must n
 inside_export y place n must (Some j) = inside_then (defined_form y j) _ (inside_defined y j) (λ f. inside_written place (Exported n place f ∷ []))
 
-inside_valued : (y : Symbols) (place : Place) (s : Context) (why : Purpose) (e : Tree) → IsInside (made_of y place s (piece.valued why e))
-inside_valued y place s why e = inside_then (norm_of y s e) (used place s why) (inside_norm_of y s e) (inside_used place s why)
+inside_valued : (y : Symbols) (place : SourceLocation) (s : Context) (why : Purpose) (e : Tree) → IsInside (made_of y place s (piece.valued why e))
+inside_valued y place s why e = inside_then (norm_of y s e) (value_result place s why) (inside_norm_of y s e) (inside_used place s why)
 
-inside_made : (y : Symbols) (place : Place) (s : Context) (p : Piece) → IsInside (made_of y place s p)
+inside_made : (y : Symbols) (place : SourceLocation) (s : Context) (p : Piece) → IsInside (made_of y place s p)
 inside_made y place s (piece.given p) = tt
 inside_made y place s (piece.valued why e) = inside_valued y place s why e
 inside_made y place s (piece.imported n) = inside_said (import_fault y n) (inside_import y n)
 inside_made y place s (piece.demanded n) = tt
-inside_made y place s (piece.exported must n) = inside_said (export_said y place n (absent_of must n) (defined y (named 0 n))) (inside_export y place n must (defined y (named 0 n)))
+inside_made y place s (piece.exported must n) = inside_said (export_said y place n (absent_of must n) (definition_index y (named 0 n))) (inside_export y place n must (definition_index y (named 0 n)))
 
 -- ---- What a call answers.
 
@@ -200,7 +200,7 @@ memory_inside FileError h = absurd cc
 memory_inside _ h = refl
 
 -- where a fault is memory's, or one that is no store's
-pub inside_from : {X Y : Type 0} (r : Result X AsmFault) (view : X → Y) (read : Result Y AsmFault) → IsInside read → Gives is_memory view r read → IsInside r
+pub inside_from : {X Y : Type 0} (r : Result X AsmFault) (view : X → Y) (read : Result Y AsmFault) → IsInside read → Refines is_memory view r read → IsInside r
 inside_from {X} {Y} (Ok x) view read h k = tt
 inside_from {X} {Y} (Err e) view read h k = go (is_memory e) refl k
   where
@@ -212,16 +212,16 @@ inside_from {X} {Y} (Err e) view read h k = go (is_memory e) refl k
         by (Ok x) same i = absurd cc
         by (Err f) same i = (let e' : f ≡ e = cc in rw e' at i)
 
-inside_behind : (y : Symbols) (names : List (List ℕ)) (place : Place) (s : Context) (p : Piece) → IsInside (comes_behind y names place s p)
-inside_behind y names place s p = by (is_repeated names p)
+inside_after : (y : Symbols) (names : List (List ℕ)) (place : SourceLocation) (s : Context) (p : Piece) → IsInside (piece_result y names place s p)
+inside_after y names place s p = by (is_repeated names p)
   where
     by : (b : Bool) → IsInside (if b then as_said [] else made_of y place s p)
     by true = tt
     by false = inside_made y place s p
 
 -- what waits comes to its content, or to a fault that is no store's
-pub resolved_inside : {X : Type 0} (r : Result X AsmFault) (view : X → Made) (y : Symbols) (names : List (List ℕ)) (place : Place) (s : Context) (p : Piece) → Gives is_memory view r (comes_behind y names place s p) → IsInside r
-resolved_inside r view y names place s p h = inside_from r view (comes_behind y names place s p) (inside_behind y names place s p) h
+pub resolved_inside : {X : Type 0} (r : Result X AsmFault) (view : X → PieceResult) (y : Symbols) (names : List (List ℕ)) (place : SourceLocation) (s : Context) (p : Piece) → Refines is_memory view r (piece_result y names place s p) → IsInside r
+resolved_inside r view y names place s p h = inside_from r view (piece_result y names place s p) (inside_after y names place s p) h
 
 -- ---- A line.
 
@@ -298,7 +298,7 @@ inside_form_fault y s own _ = no_fault
 inside_operand_fault : (y : Symbols) (s : Context) (x : Statement) → AreInsideFaults (faults.operand_fault y s x)
 inside_operand_fault y s (statement.Reserve n v) = inside_when _ _ refl
 inside_operand_fault y s (statement.Align n v) = inside_when _ _ refl
-inside_operand_fault y s (statement.FilePart bytes start len) = inside_when _ _ refl
+inside_operand_fault y s (statement.Incbin bytes start len) = inside_when _ _ refl
 inside_operand_fault y s _ = no_fault
 
 inside_alignment : (y : Symbols) (s : Context) (x : Statement) → AreInsideFaults (faults.alignment_fault y s x)
@@ -306,12 +306,12 @@ inside_alignment y s (statement.Align n v) = inside_multiple (constant_in y s n)
 inside_alignment y s _ = no_fault
 
 inside_missing : (x : Statement) → AreInsideFaults (faults.missing_file x)
-inside_missing (statement.FilePart bytes start len) = inside_unless bytes _ refl
+inside_missing (statement.Incbin bytes start len) = inside_unless bytes _ refl
 inside_missing _ = no_fault
 
 inside_part_fault : (y : Symbols) (s : Context) (x : Statement) → AreInsideFaults (faults.part_fault y s x)
-inside_part_fault y s (statement.FilePart (Some bytes) start len) = inside_when _ _ refl
-inside_part_fault y s (statement.FilePart None start len) = no_fault
+inside_part_fault y s (statement.Incbin (Some bytes) start len) = inside_when _ _ refl
+inside_part_fault y s (statement.Incbin None start len) = no_fault
 inside_part_fault y s _ = no_fault
 
 inside_size : (gs : List Segment) (x : Statement) → AreInsideFaults (faults.size_fault gs x)
@@ -401,16 +401,16 @@ inside_unless_fault None x h = tt
 inside_unless_fault (Some e) x h = h e refl
 
 -- what a statement comes to at its line is found, or a fault that is no store's
-pub measured_inside : {X : Type 0} (r : Result X AsmFault) (view : X → Measured) (y : Symbols) (w : Cursor) (x : Statement) → Gives is_memory view r (measured y w x) → IsInside r
-measured_inside r view y w x h = inside_from r view (measured y w x) (inside_unless_fault (faults.line_fault y w x) (measure_of y w x) (line_inside y w x)) h
+pub measured_inside : {X : Type 0} (r : Result X AsmFault) (view : X → StatementLayout) (y : Symbols) (w : Cursor) (x : Statement) → Refines is_memory view r (layout_result y w x) → IsInside r
+measured_inside r view y w x h = inside_from r view (layout_result y w x) (inside_unless_fault (faults.line_fault y w x) (measure_of y w x) (line_inside y w x)) h
 
 either_inside : (a b : Option AsmFault) → AreInsideFaults a → AreInsideFaults b → AreInsideFaults (faults.or_then a b)
 either_inside (Some e) b h k = h
 either_inside None b h k = k
 
 -- so is what it is refused for whatever a file has
-pub unread_inside : (r : Result (Unit {0}) AsmFault) (y : Symbols) (w : Cursor) (start len : Option Tree) → Gives is_memory (λ u. u) r (unless_fault (unread_fault y w start len) tt) → IsInside r
+pub unread_inside : (r : Result (Unit {0}) AsmFault) (y : Symbols) (w : Cursor) (start len : Option Tree) → Refines is_memory (λ u. u) r (unless_fault (unread_fault y w start len) tt) → IsInside r
 unread_inside r y w start len h =
-    let part = statement.FilePart None start len in
+    let part = statement.Incbin None start len in
     let fault = either_inside (faults.lost_scopes y.scopes w.scope (faults.trees_of part)) (faults.operand_fault y (context_of w) part) (inside_lost_all y.scopes w.scope (faults.trees_of part)) (inside_operand_fault y (context_of w) part) in
     inside_from r (λ u. u) (unless_fault (unread_fault y w start len) tt) (inside_unless_fault (unread_fault y w start len) tt fault) h

@@ -1,27 +1,27 @@
 -- What is answered, from what the statements of a source come to.
 use Rattle.std.proofs.Common.{◌≡◌, ◌∙◌, ℕ, ◌+◌, ◌*◌, ◌≤◌, ◌<◌, inl, inr, arith, nat_lt, Bool, true, false, List, [], Option, Some, None, refl, sym, ap, subst}
 use Rattle.std.specs.Prelude.{Result, Ok, Err, IfOk, IfErr, IfSome, ⊤, ◌||◌}
-use Rattle.base65.specs.Outcome.{Finds, Unless, ◌>>=◌}
-use Rattle.base65.specs.Store.{Files, IsBlamedAt, Passes, PassesBy, Blamed}
+use Rattle.base65.specs.Outcome.{RefinesProp, Unless, ◌>>=◌}
+use Rattle.base65.specs.Store.{Files, FailedAt, PropagatesIoError, PropagatesIoErrors, LastFailure}
 use Rattle.std.proofs.lemmas.Bool.Decides.{nat_tests}
 use Rattle.syntax65.specs.declared.fault.ExpandFault.TheVariants.{FileError}
 use Rattle.expand65.specs.declared.expander.Expander.{Expander}
 use Rattle.syntax65.specs.declared.fault.ExpandFault.{ExpandFault}
 use Rattle.expand65.specs.Expansion.{opened_in}
 use Rattle.object65.specs.declared.object.Object.{Object}
-use Rattle.object65.specs.Objects.{is_good_object}
-use Rattle.syntax65.specs.declared.place.Place.{Place}
-use Rattle.expand65.specs.Standing.{IsPlaced, Opens, measure_of, place_of}
+use Rattle.object65.specs.Objects.{is_well_formed_object}
+use Rattle.syntax65.specs.declared.source_location.SourceLocation.{SourceLocation}
+use Rattle.expand65.specs.Representation.{IsPositioned, RepresentsFirstState, measure_of, place_of}
 use Rattle.ast65.specs.declared.fault.AsmFault.TheVariants.{Expansion, OutOfMemory, FileError as PartError}
 use Rattle.semantics65.specs.Contents.{Content}
 use Rattle.ast65.specs.declared.fault.AsmFault.{AsmFault}
-use Rattle.ast65.specs.Faults.{is_failure, is_memory, is_outside}
+use Rattle.ast65.specs.Faults.{is_failure, is_memory, is_system_error}
 use Rattle.semantics65.specs.Layout.{Layout, Cursor, nothing_laid}
 use Rattle.semantics65.specs.Numbering.{object_with, AreSound}
 use Rattle.semantics65.specs.Symbols.{Symbols, symbols_of}
-use Rattle.sources65.specs.Machine.{StandsFor, Runs, State, Takes, begun, concluded, finished, running}
-use Rattle.semantics65.specs.Module.{Finished, Outcome, ending_of, PlacedFault}
-use Rattle.sources65.specs.Reading.{IsOutcome, AreDefined, Job, no_line, stopped}
+use Rattle.sources65.specs.Machine.{SimulatesLayout, RunsStatements, State, StepsTo, initial_state, outcome_of_state, resolution_of_state, machine_semantics}
+use Rattle.semantics65.specs.Module.{Resolution, Outcome, module_resolution, LocatedFault}
+use Rattle.sources65.specs.Reading.{IsOutcome, AreDefined, Job, no_line, stopped_at}
 use Rattle.sources65.proofs.Taken.{constants_refused, open_refused}
 use Rattle.sources65.proofs.Passes.{Follows, begun_follows, one_pass, stands_for, takes_follows}
 use Rattle.sources65.proofs.SoundContents.{sound_contents}
@@ -30,12 +30,12 @@ use Rattle.sources65.proofs.SoundLayouts.{IsGood, good_statement, nothing_good}
 use Rattle.emit65.proofs.GoodObjects.{good_object}
 use Rattle.asm65.specs.declared.assembler.Assembler.{Assembler}
 use Rattle.asm65.specs.declared.assembling.Assembly.{Assembly}
-use Rattle.asm65.specs.declared.texts.AsmRefusal.{AsmRefusal}
-use Rattle.asm65.specs.declared.running.Run.{Run}
-use Rattle.asm65.specs.Assembly.{Concludes, answer_of, has_failed, is_from_memory, is_from_outside, is_outside_refusal, placed_of}
-use Rattle.asm65.specs.Failing.{nowhere, StopsAll, Stops, StopsSo, StopsBehind, Begins}
-use Rattle.asm65.specs.Inner.Holding.{Holds}
-use Rattle.asm65.specs.Inner.Running.{HoldsWithin, IsHeldBy, IsReached, at_first, behind, HoldsSome, IsRunning, Leaves, Ran, SaysAs, running_limit}
+use Rattle.asm65.specs.declared.texts.Diagnostic.{Diagnostic}
+use Rattle.asm65.specs.declared.driver.Run.{Run}
+use Rattle.asm65.specs.Assembly.{RefinesOutcome, answer_of, has_failed, is_from_memory, is_from_outside, is_diagnostic_system_error, placed_of}
+use Rattle.asm65.specs.Failing.{nowhere, StopsAll, StoreFailureStops, StopsSo, StopsAfter, StartsRun}
+use Rattle.asm65.specs.Internal.AssemblerState.{Represents}
+use Rattle.asm65.specs.Internal.RunState.{RepresentsWithin, RunRepresents, IsReached, at_first, following, RepresentsSome, IsRunning, RefinesTransition, RefinesRun, SaysAs, running_limit}
 use Rattle.asm65.proofs.Sources.{RanAll, some_all, some_both, some_then}
 
 -- ---- What statements lead to comes to objects of the grammar.
@@ -47,116 +47,116 @@ record Laid (t : State) : Type 0 where
 
 laid_reached : (t : State) → IsReached t → Laid t
 laid_reached _ at_first = record { layout = nothing_laid; follows = begun_follows; good = nothing_good }
-laid_reached _ (behind t u place x reached sound takes) =
+laid_reached _ (following t u place x reached sound takes) =
     let before = laid_reached t reached in
     let more = takes_follows before.layout t place x (Ok u) before.follows takes in
     record { layout = more.0; follows = more.2; good = good_statement before.layout more.0 place x before.good sound more.1 }
 
-stands_reached : (t : State) (l : Laid t) → StandsFor l.layout t
-stands_reached t l = subst (StandsFor l.layout) (sym l.follows.same) (stands_for l.layout l.follows.slots l.follows.comes)
+stands_reached : (t : State) (l : Laid t) → SimulatesLayout l.layout t
+stands_reached t l = subst (SimulatesLayout l.layout) (sym l.follows.same) (stands_for l.layout l.follows.slots l.follows.comes)
 
-pub good_concluded : (t : State) (o : Object) → IsReached t → (concluded t None).result ≡ Ok o → is_good_object o ≡ true
-good_concluded t o reached is = by (finished t).found refl is
+pub good_concluded : (t : State) (o : Object) → IsReached t → (outcome_of_state t None).result ≡ Ok o → is_well_formed_object o ≡ true
+good_concluded t o reached is = by (resolution_of_state t).found refl is
   where
-    by : (r : Result (List Content) PlacedFault) → (finished t).found ≡ r → (r >>= (λ cs. Ok (object_with t.cursor.segments t.symbols.imports cs))) ≡ Ok o → is_good_object o ≡ true
+    by : (r : Result (List Content) LocatedFault) → (resolution_of_state t).found ≡ r → (r >>= (λ cs. Ok (object_with t.cursor.segments t.symbols.imports cs))) ≡ Ok o → is_well_formed_object o ≡ true
     by (Err e) found made = absurd cc
     by (Ok cs) found made =
         let l = laid_reached t reached in
         let y = l.layout in
         let for = stands_reached t l in
         let same : object_with t.cursor.segments t.symbols.imports cs ≡ o = cc in
-        let whole : (ending_of y.laid).found ≡ Ok cs = ap (λ (f : Finished). f.found) (sym for.ending) ∙ found in
+        let whole : (module_resolution y.laid).found ≡ Ok cs = ap (λ (f : Resolution). f.found) (sym for.ending) ∙ found in
         let sound : AreSound y.cursor.segments (symbols_of y.laid).imports cs = sound_contents y cs (layouts.sound_from y l.good) whole in
         let sound' : AreSound y.cursor.segments t.symbols.imports cs = subst (λ (z : Symbols). AreSound y.cursor.segments z.imports cs) (sym for.symbols) sound in
         let sound'' : AreSound t.cursor.segments t.symbols.imports cs = subst (λ (w : Cursor). AreSound w.segments t.symbols.imports cs) (sym for.cursor) sound' in
-        ap is_good_object (sym same) ∙ good_object t.cursor.segments t.symbols.imports cs sound''
+        ap is_well_formed_object (sym same) ∙ good_object t.cursor.segments t.symbols.imports cs sound''
 
 -- ---- Answers.
 
 abbrev pub Found : Type 0
-Found = Result Object AsmRefusal
+Found = Result Object Diagnostic
 
-good_found : (a : Assembly) (t : State) (r : Found) → IsReached t → Finds is_outside_refusal (λ q. answer_of a q ≡ concluded t None) r → IfOk r (λ o. is_good_object o ≡ true)
+good_found : (a : Assembly) (t : State) (r : Found) → IsReached t → RefinesProp is_diagnostic_system_error (λ q. answer_of a q ≡ outcome_of_state t None) r → IfOk r (λ o. is_well_formed_object o ≡ true)
 good_found a t (Ok o) reached h = good_concluded t o reached (sym (ap (λ (x : Outcome). x.result) h))
 good_found a t (Err e) reached h = tt
 
-pub good_answer : (a : Assembly) (b : Assembler) → ((t : State) × IsReached t × HoldsSome t b) → ((count : ℕ) (t : State) → Holds count t b → Concludes (concluded t None) a) → IfOk a.result (λ o. is_good_object o ≡ true)
+pub good_answer : (a : Assembly) (b : Assembler) → ((t : State) × IsReached t × RepresentsSome t b) → ((count : ℕ) (t : State) → Represents count t b → RefinesOutcome (outcome_of_state t None) a) → IfOk a.result (λ o. is_well_formed_object o ≡ true)
 good_answer a b reached h = good_found a reached.0 a.result reached.1 (h reached.2.0 reached.0 reached.2.1)
 
-outcome_found : (a : Assembly) (o : Outcome) (m : Files) (job : Job) (r : Found) → IsOutcome m job o → Finds is_outside_refusal (λ q. answer_of a q ≡ o) r → Finds is_outside_refusal (λ q. IsOutcome m job (answer_of a q)) r
+outcome_found : (a : Assembly) (o : Outcome) (m : Files) (job : Job) (r : Found) → IsOutcome m job o → RefinesProp is_diagnostic_system_error (λ q. answer_of a q ≡ o) r → RefinesProp is_diagnostic_system_error (λ q. IsOutcome m job (answer_of a q)) r
 outcome_found a o m job (Ok x) is h = subst (IsOutcome m job) (sym h) is
-outcome_found a o m job (Err e) is h = by (is_outside_refusal e) h
+outcome_found a o m job (Err e) is h = by (is_diagnostic_system_error e) h
   where
     by : (b : Bool) → Unless b (answer_of a (Err e) ≡ o) → Unless b (IsOutcome m job (answer_of a (Err e)))
     by true h = tt
     by false h = subst (IsOutcome m job) (sym h) is
 
-pub outcome_answer : (a : Assembly) (o : Outcome) (m : Files) (job : Job) → IsOutcome m job o → Concludes o a → Finds is_outside_refusal (λ q. IsOutcome m job (answer_of a q)) a.result
+pub outcome_answer : (a : Assembly) (o : Outcome) (m : Files) (job : Job) → IsOutcome m job o → RefinesOutcome o a → RefinesProp is_diagnostic_system_error (λ q. IsOutcome m job (answer_of a q)) a.result
 outcome_answer a o m job is h = outcome_found a o m job a.result is h
 
-pub outside_found : (P : Found → Type 0) (r : Found) → is_from_outside r ≡ true → Finds is_outside_refusal P r
+pub outside_found : (P : Found → Type 0) (r : Found) → is_from_outside r ≡ true → RefinesProp is_diagnostic_system_error P r
 outside_found P (Ok o) h = absurd cc
-outside_found P (Err e) h = by (is_outside_refusal e) h
+outside_found P (Err e) h = by (is_diagnostic_system_error e) h
   where
     by : (b : Bool) → b ≡ true → Unless b (P (Err e))
     by true h = tt
     by false h = absurd cc
 
-abbrev pub RefusedBy : Assembler → Place → AsmFault → Assembly → Type 0
-RefusedBy b place e a = is_outside e ≡ false → (t : State) → SaysAs t b → Concludes (concluded t (Some (record { place = place; fault = e }))) a
+abbrev pub RefusedBy : Assembler → SourceLocation → AsmFault → Assembly → Type 0
+RefusedBy b place e a = is_system_error e ≡ false → (t : State) → SaysAs t b → RefinesOutcome (outcome_of_state t (Some (record { place = place; fault = e }))) a
 
 -- a fault of a source, at its place
-pub refused_answer : (a : Assembly) (b : Assembler) (m : Files) (job : Job) (place : Place) (e : AsmFault) → Unless (is_outside e) ((u : State) × Runs m job (stopped u place e) × SaysAs u b) → (is_outside e ≡ true → is_from_outside a.result ≡ true) → RefusedBy b place e a → Finds is_outside_refusal (λ q. IsOutcome m job (answer_of a q)) a.result
-refused_answer a b m job place e ran outside refused = by (is_outside e) refl ran
+pub refused_answer : (a : Assembly) (b : Assembler) (m : Files) (job : Job) (place : SourceLocation) (e : AsmFault) → Unless (is_system_error e) ((u : State) × RunsStatements m job (stopped_at u place e) × SaysAs u b) → (is_system_error e ≡ true → is_from_outside a.result ≡ true) → RefusedBy b place e a → RefinesProp is_diagnostic_system_error (λ q. IsOutcome m job (answer_of a q)) a.result
+refused_answer a b m job place e ran outside refused = by (is_system_error e) refl ran
   where
-    by : (c : Bool) → is_outside e ≡ c → Unless c ((u : State) × Runs m job (stopped u place e) × SaysAs u b) → Finds is_outside_refusal (λ q. IsOutcome m job (answer_of a q)) a.result
+    by : (c : Bool) → is_system_error e ≡ c → Unless c ((u : State) × RunsStatements m job (stopped_at u place e) × SaysAs u b) → RefinesProp is_diagnostic_system_error (λ q. IsOutcome m job (answer_of a q)) a.result
     by true is h = outside_found (λ q. IsOutcome m job (answer_of a q)) a.result (outside is)
-    by false is h = outcome_answer a (concluded h.0 (Some (record { place = place; fault = e }))) m job (one_pass m job (stopped h.0 place e) h.1) (refused is h.0 h.2)
+    by false is h = outcome_answer a (outcome_of_state h.0 (Some (record { place = place; fault = e }))) m job (one_pass m job (stopped_at h.0 place e) h.1) (refused is h.0 h.2)
 
 -- a source without a fault of a line
-pub concluded_answer : (a : Assembly) (m : Files) (job : Job) (run : Run) (v : Unit {0}) → Ran m job run (Ok v) → ((count : ℕ) (t : State) → Holds count t run.assembler → Concludes (concluded t None) a) → Finds is_outside_refusal (λ q. IsOutcome m job (answer_of a q)) a.result
+pub concluded_answer : (a : Assembly) (m : Files) (job : Job) (run : Run) (v : Unit {0}) → RefinesRun m job run (Ok v) → ((count : ℕ) (t : State) → Represents count t run.assembler → RefinesOutcome (outcome_of_state t None) a) → RefinesProp is_diagnostic_system_error (λ q. IsOutcome m job (answer_of a q)) a.result
 concluded_answer a m job run v ran h =
-    outcome_answer a (concluded ran.0 None) m job (one_pass m job (record { behind = ran.0; fault = None }) ran.1) (h ran.2.0 ran.0 ran.2.1)
+    outcome_answer a (outcome_of_state ran.0 None) m job (one_pass m job (record { following = ran.0; fault = None }) ran.1) (h ran.2.0 ran.0 ran.2.1)
 
 -- ---- What callers are told.
 
 abbrev pub AnswersAs : Files → Job → Assembly → Type 0
-AnswersAs m job a = Finds is_outside_refusal (λ r. IsOutcome m job (answer_of a r)) a.result
+AnswersAs m job a = RefinesProp is_diagnostic_system_error (λ r. IsOutcome m job (answer_of a r)) a.result
 
 abbrev pub AnswersAll : Files → Run → Assembly → Type 0
 AnswersAll m first a =
-    (job : Job) (t : State) → Opens m (Ok first.expander) (opened_in m job.source job.include) →
-    AreDefined Takes begun (no_line job.source) job.defines (Ok t) → IsHeldBy t first → AnswersAs m job a
+    (job : Job) (t : State) → RepresentsFirstState m (Ok first.expander) (opened_in m job.source job.include) →
+    AreDefined StepsTo initial_state (no_line job.source) job.defines (Ok t) → RunRepresents t first → AnswersAs m job a
 
-pub all_concluded : (o : Option Files) (first now : Run) (v : Unit {0}) (a : Assembly) → ((count : ℕ) (t : State) → Holds count t now.assembler → Concludes (concluded t None) a) → IfSome o (λ m. RanAll m first now (Ok v)) → IfSome o (λ m. AnswersAll m first a)
+pub all_concluded : (o : Option Files) (first now : Run) (v : Unit {0}) (a : Assembly) → ((count : ℕ) (t : State) → Represents count t now.assembler → RefinesOutcome (outcome_of_state t None) a) → IfSome o (λ m. RanAll m first now (Ok v)) → IfSome o (λ m. AnswersAll m first a)
 all_concluded o first now v a h ran = some_then (λ m. RanAll m first now (Ok v)) (λ m. AnswersAll m first a) o (λ m r job t opens defined held. concluded_answer a m job now v (r job t opens defined held) h) ran
 
-pub all_refused : (o : Option Files) (first now : Run) (e : AsmFault) (place : Place) (a : Assembly) → place ≡ place_of now.expander → (is_outside e ≡ true → is_from_outside a.result ≡ true) → RefusedBy now.assembler place e a → IfSome o (λ m. RanAll m first now (Err e)) → IfSome o (λ m. AnswersAll m first a)
+pub all_refused : (o : Option Files) (first now : Run) (e : AsmFault) (place : SourceLocation) (a : Assembly) → place ≡ place_of now.expander → (is_system_error e ≡ true → is_from_outside a.result ≡ true) → RefusedBy now.assembler place e a → IfSome o (λ m. RanAll m first now (Err e)) → IfSome o (λ m. AnswersAll m first a)
 all_refused o first now e place a at outside refused ran =
     some_then (λ m. RanAll m first now (Err e)) (λ m. AnswersAll m first a) o (λ m r job t opens defined held. refused_answer a now.assembler m job (place_of now.expander) e (r job t opens defined held) outside (subst (λ p. RefusedBy now.assembler p e a) at refused)) ran
 
-says_begun : (b : Assembler) → Holds 0 begun b → SaysAs begun b
+says_begun : (b : Assembler) → Represents 0 initial_state b → SaysAs initial_state b
 says_begun b h = (h.out, h.err)
 
-unless_state : (m : Files) (job : Job) (place : Place) (e : AsmFault) (b : Assembler) (c : Bool) → SaysAs begun b → Unless c (Runs m job (stopped begun place e)) → Unless c ((u : State) × Runs m job (stopped u place e) × SaysAs u b)
+unless_state : (m : Files) (job : Job) (place : SourceLocation) (e : AsmFault) (b : Assembler) (c : Bool) → SaysAs initial_state b → Unless c (RunsStatements m job (stopped_at initial_state place e)) → Unless c ((u : State) × RunsStatements m job (stopped_at u place e) × SaysAs u b)
 unless_state m job place e b true says h = tt
-unless_state m job place e b false says h = (begun, h, says)
+unless_state m job place e b false says h = (initial_state, h, says)
 
-pub open_answer : (o : Option Files) (job : Job) (e : ExpandFault) (a : Assembly) (b : Assembler) → Holds 0 begun b → (is_outside (Expansion e) ≡ true → is_from_outside a.result ≡ true) → RefusedBy b (no_line job.source) (Expansion e) a → IfSome o (λ m. Opens m (Err e) (opened_in m job.source job.include)) → IfSome o (λ m. AnswersAs m job a)
+pub open_answer : (o : Option Files) (job : Job) (e : ExpandFault) (a : Assembly) (b : Assembler) → Represents 0 initial_state b → (is_system_error (Expansion e) ≡ true → is_from_outside a.result ≡ true) → RefusedBy b (no_line job.source) (Expansion e) a → IfSome o (λ m. RepresentsFirstState m (Err e) (opened_in m job.source job.include)) → IfSome o (λ m. AnswersAs m job a)
 open_answer o job e a b h outside refused opens =
-    some_then (λ m. Opens m (Err e) (opened_in m job.source job.include)) (λ m. AnswersAs m job a) o (λ m q. refused_answer a b m job (no_line job.source) (Expansion e) (unless_state m job (no_line job.source) (Expansion e) b (is_outside (Expansion e)) (says_begun b h) (open_refused m running job begun e q)) outside refused) opens
+    some_then (λ m. RepresentsFirstState m (Err e) (opened_in m job.source job.include)) (λ m. AnswersAs m job a) o (λ m q. refused_answer a b m job (no_line job.source) (Expansion e) (unless_state m job (no_line job.source) (Expansion e) b (is_system_error (Expansion e)) (says_begun b h) (open_refused m machine_semantics job initial_state e q)) outside refused) opens
 
-pub define_answer : (o : Option Files) (job : Job) (x : Expander) (e : AsmFault) (a : Assembly) (b : Assembler) → Leaves ⊤ (AreDefined Takes begun (no_line job.source) job.defines) 0 begun b (Err e) → (is_outside e ≡ true → is_from_outside a.result ≡ true) → RefusedBy b (no_line job.source) e a → IfSome o (λ m. Opens m (Ok x) (opened_in m job.source job.include)) → IfSome o (λ m. AnswersAs m job a)
+pub define_answer : (o : Option Files) (job : Job) (x : Expander) (e : AsmFault) (a : Assembly) (b : Assembler) → RefinesTransition ⊤ (AreDefined StepsTo initial_state (no_line job.source) job.defines) 0 initial_state b (Err e) → (is_system_error e ≡ true → is_from_outside a.result ≡ true) → RefusedBy b (no_line job.source) e a → IfSome o (λ m. RepresentsFirstState m (Ok x) (opened_in m job.source job.include)) → IfSome o (λ m. AnswersAs m job a)
 define_answer o job x e a b left outside refused opens =
-    some_then (λ m. Opens m (Ok x) (opened_in m job.source job.include)) (λ m. AnswersAs m job a) o (λ m q. refused_answer a b m job (no_line job.source) e (by m q (is_outside e) left) outside refused) opens
+    some_then (λ m. RepresentsFirstState m (Ok x) (opened_in m job.source job.include)) (λ m. AnswersAs m job a) o (λ m q. refused_answer a b m job (no_line job.source) e (by m q (is_system_error e) left) outside refused) opens
   where
-    by : (m : Files) → Opens m (Ok x) (opened_in m job.source job.include) → (c : Bool) → Unless c ((⊤ → AreDefined Takes begun (no_line job.source) job.defines (Err e)) × SaysAs begun b) → Unless c ((u : State) × Runs m job (stopped u (no_line job.source) e) × SaysAs u b)
+    by : (m : Files) → RepresentsFirstState m (Ok x) (opened_in m job.source job.include) → (c : Bool) → Unless c ((⊤ → AreDefined StepsTo initial_state (no_line job.source) job.defines (Err e)) × SaysAs initial_state b) → Unless c ((u : State) × RunsStatements m job (stopped_at u (no_line job.source) e) × SaysAs u b)
     by m q true h = tt
-    by m q false h = (begun, constants_refused m running job x begun e q (h.0 tt), h.1)
+    by m q false h = (initial_state, constants_refused m machine_semantics job x initial_state e q (h.0 tt), h.1)
 
 -- an opened source behind its constants
-pub first_held : (x : Expander) (b : Assembler) (u : State) (run : Run) → run ≡ record { expander = x; assembler = b } → measure_of x ≤ 3145729 → HoldsWithin 0 u b → IsHeldBy u run
-first_held x b u run is size held = subst (IsHeldBy u) (sym is) (record {
+pub first_held : (x : Expander) (b : Assembler) (u : State) (run : Run) → run ≡ record { expander = x; assembler = b } → measure_of x ≤ 3145729 → RepresentsWithin 0 u b → RunRepresents u run
+first_held x b u run is size held = subst (RunRepresents u) (sym is) (record {
   count = held.0;
   room = first_room held.0 (measure_of x) held.1 size;
   holds = held.2;
@@ -166,22 +166,22 @@ first_held x b u run is size held = subst (IsHeldBy u) (sym is) (record {
     first_room count size none few = omega arith
 
 abbrev AreLeft : Job → Assembler → Unit {0} → Type 0
-AreLeft job b v = Leaves ⊤ (AreDefined Takes begun (no_line job.source) job.defines) 0 begun b (Ok v)
+AreLeft job b v = RefinesTransition ⊤ (AreDefined StepsTo initial_state (no_line job.source) job.defines) 0 initial_state b (Ok v)
 
 pub first_running : (job : Job) (x : Expander) (b : Assembler) (v : Unit {0}) → AreLeft job b v → measure_of x ≤ 3145729 → IsRunning (record { expander = x; assembler = b })
 first_running job x b v left size = (left.0, left.2 at_first, first_held x b left.0 (record { expander = x; assembler = b }) refl size left.3)
 
-pub run_answer : (o : Option Files) (job : Job) (x : Expander) (b : Assembler) (v : Unit {0}) (a : Assembly) → AreLeft job b v → measure_of x ≤ 3145729 → IfSome o (λ m. Opens m (Ok x) (opened_in m job.source job.include)) → IfSome o (λ m. AnswersAll m (record { expander = x; assembler = b }) a) → IfSome o (λ m. AnswersAs m job a)
+pub run_answer : (o : Option Files) (job : Job) (x : Expander) (b : Assembler) (v : Unit {0}) (a : Assembly) → AreLeft job b v → measure_of x ≤ 3145729 → IfSome o (λ m. RepresentsFirstState m (Ok x) (opened_in m job.source job.include)) → IfSome o (λ m. AnswersAll m (record { expander = x; assembler = b }) a) → IfSome o (λ m. AnswersAs m job a)
 run_answer o job x b v a left size opens all =
-    some_both (λ m. Opens m (Ok x) (opened_in m job.source job.include)) (λ m. AnswersAll m (record { expander = x; assembler = b }) a) (λ m. AnswersAs m job a) o (λ m q r. r job left.0 q left.1 (first_held x b left.0 (record { expander = x; assembler = b }) refl size left.3)) opens all
+    some_both (λ m. RepresentsFirstState m (Ok x) (opened_in m job.source job.include)) (λ m. AnswersAll m (record { expander = x; assembler = b }) a) (λ m. AnswersAs m job a) o (λ m q r. r job left.0 q left.1 (first_held x b left.0 (record { expander = x; assembler = b }) refl size left.3)) opens all
 
 -- ---- Failures of the store.
 
-pub passed_on : (old new : ℕ) (v : Unit {0}) (r : Found) → PassesBy {T = Unit {0}} {E = AsmFault} is_failure old new (Ok v) → IfErr r (λ e. has_failed e ≡ false) → PassesBy has_failed old new r
+pub passed_on : (old new : ℕ) (v : Unit {0}) (r : Found) → PropagatesIoErrors {T = Unit {0}} {E = AsmFault} is_failure old new (Ok v) → IfErr r (λ e. has_failed e ≡ false) → PropagatesIoErrors has_failed old new r
 passed_on old new v (Ok o) p h = record { later = p.later; told = λ lt. absurd (p.told lt); cause = tt }
 passed_on old new v (Err e) p h = record { later = p.later; told = λ lt. absurd (p.told lt); cause = λ yes. (let no : true ≡ false = sym yes ∙ h in absurd cc) }
 
-pub passed_as : (old new : ℕ) (e : AsmFault) (r : Found) → PassesBy {T = Unit {0}} {E = AsmFault} is_failure old new (Err e) → IfOk r (λ o. ⊥) → IfErr r (λ x. has_failed x ≡ is_failure e) → PassesBy has_failed old new r
+pub passed_as : (old new : ℕ) (e : AsmFault) (r : Found) → PropagatesIoErrors {T = Unit {0}} {E = AsmFault} is_failure old new (Err e) → IfOk r (λ o. ⊥) → IfErr r (λ x. has_failed x ≡ is_failure e) → PropagatesIoErrors has_failed old new r
 passed_as old new e (Ok o) p none h = absurd none
 passed_as old new e (Err x) p none h = record { later = p.later; told = λ lt. h ∙ p.told lt; cause = λ yes. p.cause (sym h ∙ yes) }
 
@@ -196,12 +196,12 @@ same_count old mid le never = by (nat_lt old mid) refl
     by true e = (let lt : old < mid = grind (arith, nat_tests) in absurd (never lt))
     by false e = grind (arith, nat_tests)
 
-pub passed_through : (old mid new : ℕ) (x : Expander) (r : Found) → Passes {T = Expander} {E = ExpandFault} FileError old mid (Ok x) → PassesBy has_failed mid new r → PassesBy has_failed old new r
+pub passed_through : (old mid new : ℕ) (x : Expander) (r : Found) → PropagatesIoError {T = Expander} {E = ExpandFault} FileError old mid (Ok x) → PropagatesIoErrors has_failed mid new r → PropagatesIoErrors has_failed old new r
 passed_through old mid new x r p q =
     let same : mid ≡ old = same_count old mid p.later (λ lt. let told = p.told lt in cc) in
-    subst (λ n. PassesBy has_failed n new r) same q
+    subst (λ n. PropagatesIoErrors has_failed n new r) same q
 
-pub none_passed : (old new : ℕ) (x : Expander) (e : AsmFault) (r : Found) → Passes {T = Expander} {E = ExpandFault} FileError old new (Ok x) → is_failure e ≡ false → IfOk r (λ o. ⊥) → IfErr r (λ y. has_failed y ≡ is_failure e) → PassesBy has_failed old new r
+pub none_passed : (old new : ℕ) (x : Expander) (e : AsmFault) (r : Found) → PropagatesIoError {T = Expander} {E = ExpandFault} FileError old new (Ok x) → is_failure e ≡ false → IfOk r (λ o. ⊥) → IfErr r (λ y. has_failed y ≡ is_failure e) → PropagatesIoErrors has_failed old new r
 none_passed old new x e (Ok o) p inside none h = absurd none
 none_passed old new x e (Err y) p inside none h = record { later = p.later; told = λ lt. (let told = p.told lt in absurd cc); cause = λ yes. (let no : true ≡ false = sym yes ∙ h ∙ inside in absurd cc) }
 
@@ -211,10 +211,10 @@ or_true : (b : Bool) → b || true ≡ true
 or_true true = refl
 or_true false = refl
 
-pub failure_outside : (e : AsmFault) → is_failure e ≡ true → is_outside e ≡ true
+pub failure_outside : (e : AsmFault) → is_failure e ≡ true → is_system_error e ≡ true
 failure_outside e h = ap (λ b. is_memory e || b) h ∙ or_true (is_memory e)
 
-memory_outside : (e : AsmFault) → is_memory e ≡ true → is_outside e ≡ true
+memory_outside : (e : AsmFault) → is_memory e ≡ true → is_system_error e ≡ true
 memory_outside e h = ap (λ b. b || is_failure e) h
 
 failure_inside : (e : AsmFault) → is_failure e ≡ true → is_memory e ≡ false
@@ -236,21 +236,21 @@ memory_silent (Ok o) P f h = absurd cc
 memory_silent (Err e) P f h = f (memory_outside e.fault h)
 
 -- the store didn't fail
-never_so : (m : Files) (blamed : Blamed) (job : Job) (a : Assembly) → IfErr a.result (λ e. has_failed e ≡ false) → StopsSo m blamed job a
-never_so m blamed job a none = by a.result none
+never_so : (m : Files) (last_failure : LastFailure) (job : Job) (a : Assembly) → IfErr a.result (λ e. has_failed e ≡ false) → StopsSo m last_failure job a
+never_so m last_failure job a none = by a.result none
   where
-    by : (r : Found) → IfErr r (λ e. has_failed e ≡ false) → IfErr r (λ e. has_failed e ≡ true → Stops m blamed job (placed_of e) a.out a.err)
+    by : (r : Found) → IfErr r (λ e. has_failed e ≡ false) → IfErr r (λ e. has_failed e ≡ true → StoreFailureStops m last_failure job (placed_of e) a.out a.err)
     by (Ok o) h = tt
     by (Err e) h = λ yes. absurd (let both : true ≡ false = sym yes ∙ h in cc)
 
-pub stops_never_so : (o : Option Files) (blamed : Blamed) (job : Job) (a : Assembly) → IfErr a.result (λ e. has_failed e ≡ false) → IfSome o (λ m. StopsSo m blamed job a)
-stops_never_so o blamed job a none = some_all (λ m. StopsSo m blamed job a) o (λ m. never_so m blamed job a none)
+pub stops_never_so : (o : Option Files) (last_failure : LastFailure) (job : Job) (a : Assembly) → IfErr a.result (λ e. has_failed e ≡ false) → IfSome o (λ m. StopsSo m last_failure job a)
+stops_never_so o last_failure job a none = some_all (λ m. StopsSo m last_failure job a) o (λ m. never_so m last_failure job a none)
 
-abbrev pub StopsFrom : Files → Blamed → Run → Assembly → Type 0
-StopsFrom m blamed first a = (job : Job) → Begins m job first → StopsSo m blamed job a
+abbrev pub StopsFrom : Files → LastFailure → Run → Assembly → Type 0
+StopsFrom m last_failure first a = (job : Job) → StartsRun m job first → StopsSo m last_failure job a
 
-pub stops_never_from : (o : Option Files) (blamed : Blamed) (first : Run) (a : Assembly) → IfErr a.result (λ e. has_failed e ≡ false) → IfSome o (λ m. StopsFrom m blamed first a)
-stops_never_from o blamed first a none = some_all (λ m. StopsFrom m blamed first a) o (λ m job begins. never_so m blamed job a none)
+pub stops_never_from : (o : Option Files) (last_failure : LastFailure) (first : Run) (a : Assembly) → IfErr a.result (λ e. has_failed e ≡ false) → IfSome o (λ m. StopsFrom m last_failure first a)
+stops_never_from o last_failure first a none = some_all (λ m. StopsFrom m last_failure first a) o (λ m job begins. never_so m last_failure job a none)
 
 pub as_fault : (r : Found) (e : AsmFault) → is_failure e ≡ false → IfErr r (λ x. has_failed x ≡ is_failure e) → IfErr r (λ x. has_failed x ≡ false)
 as_fault (Ok o) e inside h = tt
@@ -261,10 +261,10 @@ as_memory (Ok o) h = tt
 as_memory (Err x) h = ap is_failure h
 
 -- it failed before a line was read
-pub stops_first : (o : Option Files) (blamed : Blamed) (job : Job) (e : ExpandFault) (a : Assembly) → IfErr a.result (λ x. has_failed x ≡ is_failure (Expansion e)) → (is_failure (Expansion e) ≡ true → IfErr a.result (λ x. (x.fault ≡ Expansion e) × ((placed_of x).place ≡ nowhere))) → (is_from_outside a.result ≡ true → (a.out ≡ []) × (a.err ≡ [])) → (e ≡ FileError → IsBlamedAt blamed job.source 16777216) → IfSome o (λ m. StopsSo m blamed job a)
-stops_first o blamed job e a failed first silent asked = some_all (λ m. StopsSo m blamed job a) o (λ m. by m a.result failed first silent)
+pub stops_first : (o : Option Files) (last_failure : LastFailure) (job : Job) (e : ExpandFault) (a : Assembly) → IfErr a.result (λ x. has_failed x ≡ is_failure (Expansion e)) → (is_failure (Expansion e) ≡ true → IfErr a.result (λ x. (x.fault ≡ Expansion e) × ((placed_of x).place ≡ nowhere))) → (is_from_outside a.result ≡ true → (a.out ≡ []) × (a.err ≡ [])) → (e ≡ FileError → FailedAt last_failure job.source 16777216) → IfSome o (λ m. StopsSo m last_failure job a)
+stops_first o last_failure job e a failed first silent asked = some_all (λ m. StopsSo m last_failure job a) o (λ m. by m a.result failed first silent)
   where
-    by : (m : Files) (r : Found) → IfErr r (λ x. has_failed x ≡ is_failure (Expansion e)) → (is_failure (Expansion e) ≡ true → IfErr r (λ x. (x.fault ≡ Expansion e) × ((placed_of x).place ≡ nowhere))) → (is_from_outside r ≡ true → (a.out ≡ []) × (a.err ≡ [])) → IfErr r (λ x. has_failed x ≡ true → Stops m blamed job (placed_of x) a.out a.err)
+    by : (m : Files) (r : Found) → IfErr r (λ x. has_failed x ≡ is_failure (Expansion e)) → (is_failure (Expansion e) ≡ true → IfErr r (λ x. (x.fault ≡ Expansion e) × ((placed_of x).place ≡ nowhere))) → (is_from_outside r ≡ true → (a.out ≡ []) × (a.err ≡ [])) → IfErr r (λ x. has_failed x ≡ true → StoreFailureStops m last_failure job (placed_of x) a.out a.err)
     by m (Ok x) failed first silent = tt
     by m (Err x) failed first silent = λ yes.
         (let is : is_failure (Expansion e) ≡ true = sym failed ∙ yes in
@@ -272,36 +272,36 @@ stops_first o blamed job e a failed first silent asked = some_all (λ m. StopsSo
         let nothing = silent (failure_outside x.fault yes) in
         inl (record { source = asked (only_error e is); fault = there.0 ∙ expansion_error e is; place = there.1; no_out = nothing.0; no_err = nothing.1 }))
 
-abbrev pub StoppedAt : Place → AsmFault → Found → Type 0
+abbrev pub StoppedAt : SourceLocation → AsmFault → Found → Type 0
 StoppedAt place e r = IfErr r (λ x. placed_of x ≡ record { place = place; fault = e })
 
 -- it failed behind some statements
-pub stops_here : (o : Option Files) (blamed : Blamed) (first now : Run) (e : AsmFault) (a : Assembly) → is_failure e ≡ true → StoppedAt (place_of now.expander) e a.result → a.out ≡ now.assembler.texts.out → a.err ≡ now.assembler.texts.err → IfSome o (λ m. StopsAll m blamed first now (Err e)) → IfSome o (λ m. StopsFrom m blamed first a)
-stops_here o blamed first now e a failed placed out err all =
-    some_then (λ m. StopsAll m blamed first now (Err e)) (λ m. StopsFrom m blamed first a) o (λ m h job begins. by m job a.result placed (h failed job begins)) all
+pub stops_here : (o : Option Files) (last_failure : LastFailure) (first now : Run) (e : AsmFault) (a : Assembly) → is_failure e ≡ true → StoppedAt (place_of now.expander) e a.result → a.out ≡ now.assembler.texts.out → a.err ≡ now.assembler.texts.err → IfSome o (λ m. StopsAll m last_failure first now (Err e)) → IfSome o (λ m. StopsFrom m last_failure first a)
+stops_here o last_failure first now e a failed placed out err all =
+    some_then (λ m. StopsAll m last_failure first now (Err e)) (λ m. StopsFrom m last_failure first a) o (λ m h job begins. by m job a.result placed (h failed job begins)) all
   where
-    at : PlacedFault
+    at : LocatedFault
     at = record { place = place_of now.expander; fault = e }
 
-    by : (m : Files) (job : Job) (r : Found) → StoppedAt (place_of now.expander) e r → StopsBehind m blamed job (record { place = place_of now.expander; fault = e }) now.assembler.texts.out now.assembler.texts.err → IfErr r (λ x. has_failed x ≡ true → Stops m blamed job (placed_of x) a.out a.err)
+    by : (m : Files) (job : Job) (r : Found) → StoppedAt (place_of now.expander) e r → StopsAfter m last_failure job (record { place = place_of now.expander; fault = e }) now.assembler.texts.out now.assembler.texts.err → IfErr r (λ x. has_failed x ≡ true → StoreFailureStops m last_failure job (placed_of x) a.out a.err)
     by m job (Ok x) p h = tt
     by m job (Err x) p h = λ yes.
-        inr (subst (λ (q : PlacedFault). StopsBehind m blamed job q a.out a.err) (sym p) (subst (λ (t : List ℕ). StopsBehind m blamed job at t a.err) (sym out) (subst (λ (t : List ℕ). StopsBehind m blamed job at now.assembler.texts.out t) (sym err) h)))
+        inr (subst (λ (q : LocatedFault). StopsAfter m last_failure job q a.out a.err) (sym p) (subst (λ (t : List ℕ). StopsAfter m last_failure job at t a.err) (sym out) (subst (λ (t : List ℕ). StopsAfter m last_failure job at now.assembler.texts.out t) (sym err) h)))
 
-pub stopped_silent : (r : Found) (place : Place) (e : AsmFault) (P : Type 0) → is_failure e ≡ true → StoppedAt place e r → is_from_memory r ≡ true → P
+pub stopped_silent : (r : Found) (place : SourceLocation) (e : AsmFault) (P : Type 0) → is_failure e ≡ true → StoppedAt place e r → is_from_memory r ≡ true → P
 stopped_silent (Ok o) place e P failed p h = absurd cc
-stopped_silent (Err x) place e P failed p h = absurd (let both : true ≡ false = sym h ∙ ap (λ (q : PlacedFault). is_memory q.fault) p ∙ failure_inside e failed in cc)
+stopped_silent (Err x) place e P failed p h = absurd (let both : true ≡ false = sym h ∙ ap (λ (q : LocatedFault). is_memory q.fault) p ∙ failure_inside e failed in cc)
 
 -- a fault behind some statements, which may be a failure of the store
-pub stops_behind : (o : Option Files) (blamed : Blamed) (first now : Run) (e : AsmFault) (a : Assembly) → IfErr a.result (λ x. has_failed x ≡ is_failure e) → (is_failure e ≡ true → StoppedAt (place_of now.expander) e a.result) → (is_failure e ≡ true → (a.out ≡ now.assembler.texts.out) × (a.err ≡ now.assembler.texts.err)) → IfSome o (λ m. StopsAll m blamed first now (Err e)) → IfSome o (λ m. StopsFrom m blamed first a)
-stops_behind o blamed first now e a same stopped said all = by (is_failure e) refl
+pub stops_after : (o : Option Files) (last_failure : LastFailure) (first now : Run) (e : AsmFault) (a : Assembly) → IfErr a.result (λ x. has_failed x ≡ is_failure e) → (is_failure e ≡ true → StoppedAt (place_of now.expander) e a.result) → (is_failure e ≡ true → (a.out ≡ now.assembler.texts.out) × (a.err ≡ now.assembler.texts.err)) → IfSome o (λ m. StopsAll m last_failure first now (Err e)) → IfSome o (λ m. StopsFrom m last_failure first a)
+stops_after o last_failure first now e a same stopped_at said all = by (is_failure e) refl
   where
-    by : (b : Bool) → is_failure e ≡ b → IfSome o (λ m. StopsFrom m blamed first a)
-    by true is = stops_here o blamed first now e a is (stopped is) (said is).0 (said is).1 all
-    by false is = stops_never_from o blamed first a (as_fault a.result e is same)
+    by : (b : Bool) → is_failure e ≡ b → IfSome o (λ m. StopsFrom m last_failure first a)
+    by true is = stops_here o last_failure first now e a is (stopped_at is) (said is).0 (said is).1 all
+    by false is = stops_never_from o last_failure first a (as_fault a.result e is same)
 
 -- what an opened source comes to behind its constants
-pub run_stops : (o : Option Files) (blamed : Blamed) (job : Job) (x : Expander) (b : Assembler) (v : Unit {0}) (a : Assembly) → AreLeft job b v → measure_of x ≤ 3145729 → IfSome o (λ m. Opens m (Ok x) (opened_in m job.source job.include)) → IfSome o (λ m. IsPlaced m x) → IfSome o (λ m. StopsFrom m blamed (record { expander = x; assembler = b }) a) → IfSome o (λ m. StopsSo m blamed job a)
-run_stops o blamed job x b v a left size opens placed all =
-    some_both (λ m. Opens m (Ok x) (opened_in m job.source job.include) × IsPlaced m x) (λ m. StopsFrom m blamed (record { expander = x; assembler = b }) a) (λ m. StopsSo m blamed job a) o (λ m q r. r job (left.0, q.0, q.1, left.1, first_held x b left.0 (record { expander = x; assembler = b }) refl size left.3))
-    (some_both (λ m. Opens m (Ok x) (opened_in m job.source job.include)) (λ m. IsPlaced m x) (λ m. Opens m (Ok x) (opened_in m job.source job.include) × IsPlaced m x) o (λ m q p. (q, p)) opens placed) all
+pub run_stops : (o : Option Files) (last_failure : LastFailure) (job : Job) (x : Expander) (b : Assembler) (v : Unit {0}) (a : Assembly) → AreLeft job b v → measure_of x ≤ 3145729 → IfSome o (λ m. RepresentsFirstState m (Ok x) (opened_in m job.source job.include)) → IfSome o (λ m. IsPositioned m x) → IfSome o (λ m. StopsFrom m last_failure (record { expander = x; assembler = b }) a) → IfSome o (λ m. StopsSo m last_failure job a)
+run_stops o last_failure job x b v a left size opens placed all =
+    some_both (λ m. RepresentsFirstState m (Ok x) (opened_in m job.source job.include) × IsPositioned m x) (λ m. StopsFrom m last_failure (record { expander = x; assembler = b }) a) (λ m. StopsSo m last_failure job a) o (λ m q r. r job (left.0, q.0, q.1, left.1, first_held x b left.0 (record { expander = x; assembler = b }) refl size left.3))
+    (some_both (λ m. RepresentsFirstState m (Ok x) (opened_in m job.source job.include)) (λ m. IsPositioned m x) (λ m. RepresentsFirstState m (Ok x) (opened_in m job.source job.include) × IsPositioned m x) o (λ m q p. (q, p)) opens placed) all

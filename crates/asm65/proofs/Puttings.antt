@@ -5,16 +5,16 @@ use Rattle.semantics65.specs.Norms.{literal_in}
 use Rattle.object65.specs.Form.{Form, lit, sec, imp, prefix, binary}
 use Rattle.object65.specs.Objects.{fits_width, is_file_name, value_bytes}
 use Rattle.object65.specs.declared.object.Width.{Width}
-use Rattle.syntax65.specs.declared.place.Place.{Place}
-use Rattle.semantics65.specs.Contents.{Part, Known, Filled, Waiting, put, room_part, stored, written}
+use Rattle.syntax65.specs.declared.source_location.SourceLocation.{SourceLocation}
+use Rattle.semantics65.specs.Contents.{Part, Known, Filled, Waiting, section_part, room_part, value_part, located_declarations}
 use Rattle.ast65.specs.declared.fault.AsmFault.{AsmFault}
 use Rattle.ast65.specs.declared.fault.AsmFault.TheVariants.{FileNameTooLong, OutOfRange}
-use Rattle.semantics65.specs.Module.{holds}
+use Rattle.semantics65.specs.Module.{resolved}
 use Rattle.emit65.specs.declared.sections.Sections.{Sections}
-use Rattle.emit65.specs.Fed.{Feeds}
-use Rattle.semantics65.specs.declared.laid.Settled as held
-use Rattle.semantics65.specs.declared.laid.Settled.TheVariants as settled
-use Rattle.asm65.specs.Inner.Holding.{IsPut}
+use Rattle.emit65.specs.SectionContents.{AppendsSlot}
+use Rattle.semantics65.specs.declared.laid.EncodingChoice as held
+use Rattle.semantics65.specs.declared.laid.EncodingChoice.TheVariants as settled
+use Rattle.asm65.specs.Internal.AssemblerState.{IsPut}
 
 -- ---- What is stored of a form.
 
@@ -22,13 +22,13 @@ abbrev in_range : (known : List ℕ) → Result Part AsmFault
 in_range known = Ok (Known known)
 
 -- a literal that is in range is its bytes
-pub stored_is : (width : Width) (place : Place) (v : ℤ) → fits_width width v ≡ true → stored width place (lit v) ≡ in_range (value_bytes width v)
+pub stored_is : (width : Width) (place : SourceLocation) (v : ℤ) → fits_width width v ≡ true → value_part width place (lit v) ≡ in_range (value_bytes width v)
 stored_is width place v fits = ap (λ (b : Bool). if b then in_range (value_bytes width v) else Err OutOfRange) fits
 
-pub literal_put : (old new : Sections) (g : ℕ) (width : Width) (place : Place) (v : ℤ) (bytes : List ℕ) → fits_width width v ≡ true → bytes ≡ value_bytes width v → Feeds old new (holds (put g (Known bytes))) → IsPut old new g (stored width place (lit v)) true
+pub literal_put : (old new : Sections) (g : ℕ) (width : Width) (place : SourceLocation) (v : ℤ) (bytes : List ℕ) → fits_width width v ≡ true → bytes ≡ value_bytes width v → AppendsSlot old new (resolved (section_part g (Known bytes))) → IsPut old new g (value_part width place (lit v)) true
 literal_put old new g width place v bytes fits same feeds =
     subst (λ (r : Result Part AsmFault). IsPut old new g r true) (sym (stored_is width place v fits))
-    (subst (λ (known : List ℕ). Feeds old new (holds (put g (Known known)))) same feeds)
+    (subst (λ (known : List ℕ). AppendsSlot old new (resolved (section_part g (Known known)))) same feeds)
 
 pub literal_is : (f : Form) (v : ℤ) → literal_in (Ok f) ≡ Some v → f ≡ lit v
 literal_is (lit w) v e = let same : w ≡ v = cc in ap lit same
@@ -38,7 +38,7 @@ literal_is (prefix op f) v e = absurd cc
 literal_is (binary op f g) v e = absurd cc
 
 -- what isn't a literal is the linker's, and written with its place
-pub other_stored : (width : Width) (place : Place) (f : Form) → literal_in (Ok f) ≡ None → stored width place f ≡ written place (Waiting width place f)
+pub other_stored : (width : Width) (place : SourceLocation) (f : Form) → literal_in (Ok f) ≡ None → value_part width place f ≡ located_declarations place (Waiting width place f)
 other_stored width place (lit w) e = absurd cc
 other_stored width place (sec k a) e = refl
 other_stored width place (imp k) e = refl
@@ -46,13 +46,13 @@ other_stored width place (prefix op f) e = refl
 other_stored width place (binary op f g) e = refl
 
 -- so it is put where an object can hold the name of the file
-pub other_put : (old new : Sections) (g : ℕ) (width : Width) (place : Place) (f : Form) → literal_in (Ok f) ≡ None → is_file_name place.file ≡ true → Feeds old new (holds (put g (Waiting width place f))) → IsPut old new g (stored width place f) true
+pub other_put : (old new : Sections) (g : ℕ) (width : Width) (place : SourceLocation) (f : Form) → literal_in (Ok f) ≡ None → is_file_name place.file ≡ true → AppendsSlot old new (resolved (section_part g (Waiting width place f))) → IsPut old new g (value_part width place f) true
 other_put old new g width place f e fits feeds =
     subst (λ r. IsPut old new g r true) (sym (other_stored width place f e))
     (subst (λ b. IsPut old new g (if b then Ok (Waiting width place f) else Err FileNameTooLong) true) (sym fits) feeds)
 
-pub other_room : (count : ℕ) (s : held.Settled) → ((byte : ℕ) → s ≡ settled.FilledWith byte → ⊥) → room_part count s ≡ Filled count
-other_room count settled.Unsettled h = refl
+pub other_room : (count : ℕ) (s : held.EncodingChoice) → ((byte : ℕ) → s ≡ settled.FillByte byte → ⊥) → room_part count s ≡ Filled count
+other_room count settled.Undecided h = refl
 other_room count (settled.InMode mode) h = refl
-other_room count (settled.FilledWith byte) h = absurd (h byte refl)
-other_room count (settled.FromByte start) h = refl
+other_room count (settled.FillByte byte) h = absurd (h byte refl)
+other_room count (settled.FileOffset start) h = refl

@@ -1,23 +1,23 @@
 -- What holds of an answer by the fault that it is refused for.
 use Rattle.std.proofs.Common.{◌≡◌, ◌∙◌, ℕ, Bool, true, false, refl, sym, ap}
 use Rattle.std.specs.Prelude.{Ok, Err, IfOk, IfErr, IsErrAnd, ◌||◌}
-use Rattle.base65.specs.Store.{Asks, Passes, PassesBy}
-use Rattle.syntax65.specs.Faults.{is_outside as is_expand_outside}
+use Rattle.base65.specs.Store.{FailsAtLastCount, PropagatesIoError, PropagatesIoErrors}
+use Rattle.syntax65.specs.Faults.{is_system_error as is_expand_system_error}
 use Rattle.syntax65.specs.declared.fault.ExpandFault.{ExpandFault}
 use Rattle.syntax65.specs.declared.fault.ExpandFault.TheVariants.{FileError, OutOfMemory}
 use Rattle.expand65.specs.declared.expander.Expander.{Expander}
 use Rattle.ast65.specs.declared.fault.AsmFault.{AsmFault}
 use Rattle.ast65.specs.declared.fault.AsmFault.TheVariants.{Expansion}
-use Rattle.ast65.specs.Faults.{is_failure, is_memory, is_outside}
-use Rattle.asm65.specs.Assembly.{has_failed, is_from_outside, is_outside_refusal, placed_of}
+use Rattle.ast65.specs.Faults.{is_failure, is_memory, is_system_error}
+use Rattle.asm65.specs.Assembly.{has_failed, is_from_outside, is_diagnostic_system_error, placed_of}
 use Rattle.asm65.specs.Failing.{nowhere}
 use Rattle.asm65.proofs.Outcomes.{Found, only_error}
 
 -- ---- It is refused for this fault.
 
-pub outside_as : (e : AsmFault) (r : Found) → IfOk r (λ o. ⊥) → IfErr r (λ x. x.fault ≡ e) → is_outside e ≡ true → is_from_outside r ≡ true
+pub outside_as : (e : AsmFault) (r : Found) → IfOk r (λ o. ⊥) → IfErr r (λ x. x.fault ≡ e) → is_system_error e ≡ true → is_from_outside r ≡ true
 outside_as e (Ok o) none h outside = absurd none
-outside_as e (Err x) none h outside = ap is_outside h ∙ outside
+outside_as e (Err x) none h outside = ap is_system_error h ∙ outside
 
 pub failed_as : (e : AsmFault) (r : Found) → IfErr r (λ x. x.fault ≡ e) → IfErr r (λ x. has_failed x ≡ is_failure e)
 failed_as e (Ok o) h = tt
@@ -33,18 +33,18 @@ no_failure : (b c : Bool) → (b || c) ≡ false → c ≡ false
 no_failure true c h = absurd cc
 no_failure false c h = h
 
-pub inside_as : (e : AsmFault) (r : Found) → is_outside e ≡ false → IfErr r (λ x. has_failed x ≡ false) → IfErr r (λ x. has_failed x ≡ is_failure e)
+pub inside_as : (e : AsmFault) (r : Found) → is_system_error e ≡ false → IfErr r (λ x. has_failed x ≡ false) → IfErr r (λ x. has_failed x ≡ is_failure e)
 inside_as e (Ok o) inside h = tt
 inside_as e (Err x) inside h = h ∙ sym (no_failure (is_memory e) (is_failure e) inside)
 
 -- ---- The source couldn't be opened.
 
-expansion_outside : (e : ExpandFault) → is_expand_outside e ≡ true → is_outside (Expansion e) ≡ true
+expansion_outside : (e : ExpandFault) → is_expand_system_error e ≡ true → is_system_error (Expansion e) ≡ true
 expansion_outside OutOfMemory h = refl
 expansion_outside FileError h = refl
 expansion_outside _ h = absurd cc
 
-pub refused_passed : (old new : ℕ) (e : ExpandFault) (r : Found) → Passes {T = Expander} {E = ExpandFault} FileError old new (Err e) → IfOk r (λ o. ⊥) → IfErr r (λ x. has_failed x ≡ is_failure (Expansion e)) → PassesBy has_failed old new r
+pub refused_passed : (old new : ℕ) (e : ExpandFault) (r : Found) → PropagatesIoError {T = Expander} {E = ExpandFault} FileError old new (Err e) → IfOk r (λ o. ⊥) → IfErr r (λ x. has_failed x ≡ is_failure (Expansion e)) → PropagatesIoErrors has_failed old new r
 refused_passed old new e (Ok o) p none h = absurd none
 refused_passed old new e (Err x) p none h = record {
   later = p.later;
@@ -52,9 +52,9 @@ refused_passed old new e (Err x) p none h = record {
   cause = λ yes. p.cause (ap Err (only_error e (sym h ∙ yes)));
 }
 
-pub refused_asked : (old : ℕ) (e : ExpandFault) (r : Found) → Asks {T = Expander} {E = ExpandFault} is_expand_outside old (Err e) → (is_outside (Expansion e) ≡ true → is_from_outside r ≡ true) → Asks is_outside_refusal old r
+pub refused_asked : (old : ℕ) (e : ExpandFault) (r : Found) → FailsAtLastCount {T = Expander} {E = ExpandFault} is_expand_system_error old (Err e) → (is_system_error (Expansion e) ≡ true → is_from_outside r ≡ true) → FailsAtLastCount is_diagnostic_system_error old r
 refused_asked old e r asks outside last = by r (outside (expansion_outside e (asks last)))
   where
-    by : (q : Found) → is_from_outside q ≡ true → IsErrAnd q (λ x. is_outside_refusal x ≡ true)
+    by : (q : Found) → is_from_outside q ≡ true → IsErrAnd q (λ x. is_diagnostic_system_error x ≡ true)
     by (Ok o) h = absurd cc
     by (Err x) h = h

@@ -3,38 +3,38 @@ use Rattle.std.proofs.Common.{◌≡◌, ◌∙◌, ℕ, zero, suc, ◌+◌, ◌
 use Rattle.std.specs.Prelude.{Bool, ◌&&◌, ◌||◌, Result, OnOk, Ok, Err, slice_get, if◌then◌else◌}
 use Rattle.std.proofs.lemmas.Bool.Decides.{nat_tests}
 use Rattle.base65.specs.Outcome.{Unless}
-use Rattle.syntax65.specs.declared.place.Place.{Place}
+use Rattle.syntax65.specs.declared.source_location.SourceLocation.{SourceLocation}
 use Rattle.syntax65.specs.declared.lexing.tokens.AddressSize.{AddressSize}
 use Rattle.ast65.specs.declared.fault.AsmFault.{AsmFault}
 use Rattle.ast65.specs.declared.fault.AsmFault.TheVariants.{DefinedTwice, NotUnderstood, FileNotFound}
-use Rattle.semantics65.specs.Contents.{asking}
-use Rattle.semantics65.specs.Symbols.{Laid, asks_section, is_unnamed, Definition, Key, Scope, Symbols, cheap_in, defined, definition_with, definitions_of, key_defined, named, same_key, scope_opened, unnamed_at, value_defined}
+use Rattle.semantics65.specs.Contents.{section_request}
+use Rattle.semantics65.specs.Symbols.{LaidOutStatement, needs_section, is_unnamed, Definition, Key, Scope, Symbols, cheap_in, definition_index, definition_with, definitions_of, key_defined, named, same_key, scope_opened, unnamed_at, value_defined}
 use Rattle.semantics65.specs.declared.laid.Context.{Context}
 use Rattle.ast65.specs.declared.language.Statement.{Statement}
 use Rattle.ast65.specs.declared.language.Statement.TheVariants as statement
-use Rattle.semantics65.specs.Layout.{Cursor, laid, context_of, cursor_behind, defined_twice, first_fault, is_open, line_fault, lost_scopes, opened_twice, or_then, placing_faults, scope_name, stands_outside, trees_of, when, where_there, operand_fault, unless_fault}
+use Rattle.semantics65.specs.Layout.{Cursor, laid_out_statement, context_of, cursor_after, defined_twice, first_fault, is_open, line_fault, lost_scopes, opened_twice, or_then, placing_faults, scope_name, stands_outside, trees_of, when, where_there, operand_fault, unless_fault}
 use Rattle.symbols65.specs.Measuring.{AreInside, opened_by, measure_of, naming_fault, unread_fault, IsCounted}
-use Rattle.symbols65.specs.declared.measuring.Measured.{Measured}
-use Rattle.symbols65.proofs.Behind.{inside_behind}
+use Rattle.symbols65.specs.declared.measuring.StatementLayout.{StatementLayout}
+use Rattle.symbols65.proofs.Following.{inside_after}
 use Rattle.symbols65.proofs.Measures.{faults_are, unless_then}
 use Rattle.semantics65.proofs.Segments.{all_more, all_same}
-use Rattle.sources65.specs.Machine.{Puts, PutsAll, State, Steps, Takes, UnlessFault, at_once, entered, known, later, symbols_behind}
+use Rattle.sources65.specs.Machine.{PieceStep, PieceSteps, State, StepsWithoutError, StepsTo, UnlessFault, at_once, with_content, with_symbols, later, symbols_after}
 use Rattle.semantics65.specs.Module.{out_of, warning_of, Piece, pieces_of}
 use Rattle.symbols65.specs.declared.resolving.cache.NormCache.{NormCache}
 use Rattle.symbols65.specs.Resolving.{IsTable}
 use Rattle.symbols65.specs.Views.{table_of}
 use Rattle.symbols65.proofs.Words.{position_none}
 use Rattle.asm65.specs.declared.assembler.Assembler.{Assembler}
-use Rattle.asm65.specs.declared.texts.Texts.{Texts}
-use Rattle.asm65.specs.Inner.Holding.{AreBefore, Holds, IsBefore, IsNew, IsPlaced, Turns, asked_of, laid_as, stepped}
+use Rattle.asm65.specs.declared.texts.ConsoleOutput.{ConsoleOutput}
+use Rattle.asm65.specs.Internal.AssemblerState.{AreBefore, Represents, IsBefore, IsNew, IsMeasuredAt, EmitsThenDefines, asked_of, laid_as, state_after_layout}
 use Rattle.asm65.proofs.Namings.{IsBeside, puts_beside}
-use Rattle.base65.specs.Store.{Files, IsBlamed, Blamed}
+use Rattle.base65.specs.Store.{Files, FailedOn, LastFailure}
 use Rattle.syntax65.specs.Trees.{Tree}
 use Rattle.expand65.specs.Expansion.{beside, file_named}
-use Rattle.ast65.specs.Faults.{is_failure, is_memory, is_outside}
-use Rattle.ast65.specs.declared.language.Statement.TheVariants.{FilePart, NamedPart}
+use Rattle.ast65.specs.Faults.{is_failure, is_memory, is_system_error}
+use Rattle.ast65.specs.declared.language.Statement.TheVariants.{Incbin, IncbinPath}
 use Rattle.sources65.specs.Reading.{bytes_for, with_bytes}
-use Rattle.asm65.specs.Inner.Running.{IsRefusedUnread}
+use Rattle.asm65.specs.Internal.RunState.{IsRefusedUnread}
 
 -- ---- Unnamed labels.
 
@@ -50,8 +50,8 @@ still_before : (x : Statement) (n : ℕ) (ds : List Definition) → AreBefore n 
 still_before statement.UnnamedLabel n ds h = all_later n ds h
 still_before _ n ds h = h
 
-before_behind : (x : Statement) (s : Context) (own : AddressSize) (ds : List Definition) → AreBefore s.unnamed ds → AreBefore (if is_unnamed x then s.unnamed + 1 else s.unnamed) (ds ++ definition_with (key_defined s x) (value_defined x) s own)
-before_behind x s own ds h = by x
+before_after : (x : Statement) (s : Context) (own : AddressSize) (ds : List Definition) → AreBefore s.unnamed ds → AreBefore (if is_unnamed x then s.unnamed + 1 else s.unnamed) (ds ++ definition_with (key_defined s x) (value_defined x) s own)
+before_after x s own ds h = by x
   where
     more : (n : ℕ) (d : Definition) → AreBefore n ds → IsBefore n d.key → AreBefore n (ds ++ d ∷ [])
     more n d k p = all_more (λ (e : Definition). IsBefore n e.key) ds d k p
@@ -74,7 +74,7 @@ other_key n (named s m) h = refl
 other_key n (cheap_in r m) h = refl
 other_key n (unnamed_at j) h = grind (arith, nat_tests)
 
-next_free : (y : Symbols) (n : ℕ) → AreBefore n y.definitions → defined y (unnamed_at n) ≡ None
+next_free : (y : Symbols) (n : ℕ) → AreBefore n y.definitions → definition_index y (unnamed_at n) ≡ None
 next_free y n h = position_none (λ (d : Definition). same_key d.key (unnamed_at n)) y.definitions (λ i d e. other_key n d.key (before_at n y.definitions i d h e))
 
 -- ---- What is new.
@@ -95,10 +95,10 @@ unnamed_is (statement.OpenProc n) s j e = absurd cc
 unnamed_is (statement.CheapLabel n) s j e = absurd cc
 unnamed_is _ s j e = absurd cc
 
-key_free : (y : Symbols) (x : Statement) (s : Context) (k : Key) → defined_twice y (Some k) ≡ None → key_defined s x ≡ Some k → AreBefore s.unnamed y.definitions → defined y k ≡ None
-key_free y x s (named scope n) h e before = there_none (defined y (named scope n)) (DefinedTwice n) h
-key_free y x s (cheap_in region n) h e before = there_none (defined y (cheap_in region n)) (DefinedTwice n) h
-key_free y x s (unnamed_at j) h e before = subst (λ n. defined y (unnamed_at n) ≡ None) (unnamed_is x s j e) (next_free y s.unnamed before)
+key_free : (y : Symbols) (x : Statement) (s : Context) (k : Key) → defined_twice y (Some k) ≡ None → key_defined s x ≡ Some k → AreBefore s.unnamed y.definitions → definition_index y k ≡ None
+key_free y x s (named scope n) h e before = there_none (definition_index y (named scope n)) (DefinedTwice n) h
+key_free y x s (cheap_in region n) h e before = there_none (definition_index y (cheap_in region n)) (DefinedTwice n) h
+key_free y x s (unnamed_at j) h e before = subst (λ n. definition_index y (unnamed_at n) ≡ None) (unnamed_is x s j e) (next_free y s.unnamed before)
 
 -- a statement without a fault at its line defines and opens what isn't there
 pub is_new : (y : Symbols) (w : Cursor) (x : Statement) → line_fault y w x ≡ None → AreBefore w.unnamed y.definitions → IsNew y (context_of w) x
@@ -118,9 +118,9 @@ is_new y w x h before =
 -- ---- Behind a statement.
 
 asked_beside : (segment : ℕ) (x : Statement) (t : State) → IsBeside t (asked_of segment x t)
-asked_beside segment x t = by (asks_section x)
+asked_beside segment x t = by (needs_section x)
   where
-    by : (b : Bool) → IsBeside t (if b then entered t (asking segment) else t)
+    by : (b : Bool) → IsBeside t (if b then with_content t (section_request segment) else t)
     by true = record { symbols = refl; cursor = refl; out = refl; err = refl }
     by false = record { symbols = refl; cursor = refl; out = refl; err = refl }
 
@@ -128,7 +128,7 @@ wider : (count more : ℕ) (cs : List Scope) → AreInside count cs → AreInsid
 wider count more cs h = all_same (λ (c : Scope). c.within ≤ count) (λ (c : Scope). c.within ≤ count + more) (λ c le. omega (arith, le)) cs h
 
 -- another table of forms
-pub holds_known : (count : ℕ) (t : State) (a : Assembler) (k : NormCache) → Holds count t a → IsTable (table_of a.symbols) k.states.items → Holds count t (record a { known = k })
+pub holds_known : (count : ℕ) (t : State) (a : Assembler) (k : NormCache) → Represents count t a → IsTable (table_of a.symbols) k.states.items → Represents count t (record a { known = k })
 holds_known count t a k h table = record {
   symbols = h.symbols;
   known = subst (λ (y : Symbols). IsTable y k.states.items) h.symbols table;
@@ -143,11 +143,11 @@ holds_known count t a k h table = record {
 }
 
 -- the same where a call that found forms wasn't refused
-pub held_on : (count : ℕ) (t : State) (a : Assembler) (k : NormCache) (r : Result (Unit {0}) AsmFault) → Holds count t a → OnOk r (IsTable (table_of a.symbols) k.states.items) → OnOk r (Holds count t (record a { known = k }))
+pub held_on : (count : ℕ) (t : State) (a : Assembler) (k : NormCache) (r : Result (Unit {0}) AsmFault) → Represents count t a → OnOk r (IsTable (table_of a.symbols) k.states.items) → OnOk r (Represents count t (record a { known = k }))
 held_on count t a k (Ok u) h table = holds_known count t a k h table
 held_on count t a k (Err e) h table = tt
 
-pub holds_stepped : (count : ℕ) (t : State) (place : Place) (x : Statement) (a : Assembler) (v : Cursor) (said : Texts) → Holds count (asked_of (context_of t.cursor).segment x t) a → v ≡ cursor_behind t.symbols t.cursor x → IsCounted (count + opened_by x) (cursor_behind t.symbols t.cursor x) → said.out ≡ a.texts.out ++ out_of x → said.err ≡ a.texts.err ++ warning_of place x → Holds (count + opened_by x) (stepped t place x) (record a { cursor = v; texts = said })
+pub holds_stepped : (count : ℕ) (t : State) (place : SourceLocation) (x : Statement) (a : Assembler) (v : Cursor) (said : ConsoleOutput) → Represents count (asked_of (context_of t.cursor).segment x t) a → v ≡ cursor_after t.symbols t.cursor x → IsCounted (count + opened_by x) (cursor_after t.symbols t.cursor x) → said.out ≡ a.texts.out ++ out_of x → said.err ≡ a.texts.err ++ warning_of place x → Represents (count + opened_by x) (state_after_layout t place x) (record a { cursor = v; texts = said })
 holds_stepped count t place x a v said h cursor counted out err =
     let u : State = asked_of (context_of t.cursor).segment x t in
     let same : u.cursor ≡ t.cursor = (asked_beside (context_of t.cursor).segment x t).cursor in
@@ -171,18 +171,18 @@ unless_either P true b h = tt
 unless_either P false true h = tt
 unless_either P false false h = h
 
-pub takes_refused : (t : State) (place : Place) (x : Statement) (e : AsmFault) → line_fault t.symbols t.cursor x ≡ Some e → Takes t place x (Err e)
-takes_refused t place x e h = subst (λ (f : Option AsmFault). UnlessFault f (Steps t (laid t.symbols t.cursor place x)) (Err e)) (sym h) refl
+pub takes_refused : (t : State) (place : SourceLocation) (x : Statement) (e : AsmFault) → line_fault t.symbols t.cursor x ≡ Some e → StepsTo t place x (Err e)
+takes_refused t place x e h = subst (λ (f : Option AsmFault). UnlessFault f (StepsWithoutError t (laid_out_statement t.symbols t.cursor place x)) (Err e)) (sym h) refl
 
 abbrev aside : State → Cursor → List ℕ → List ℕ → State
 aside t w o e = record t { cursor = w; out = o; err = e }
 
-one_aside : (place : Place) (s : Context) (u v : State) (w : Cursor) (o e : List ℕ) (p : Piece) → Puts place s (aside u w o e) p v → Puts place s u p (aside v u.cursor u.out u.err)
+one_aside : (place : SourceLocation) (s : Context) (u v : State) (w : Cursor) (o e : List ℕ) (p : Piece) → PieceStep place s (aside u w o e) p v → PieceStep place s u p (aside v u.cursor u.out u.err)
 one_aside place s u _ w o e p (at_once c settled) = at_once c settled
 one_aside place s u _ w o e p later = later
 
 -- pieces are put whatever stands beside them
-puts_aside : (place : Place) (s : Context) (u v : State) (w : Cursor) (o e : List ℕ) (ps : List Piece) → PutsAll place s (aside u w o e) ps v → PutsAll place s u ps (aside v u.cursor u.out u.err)
+puts_aside : (place : SourceLocation) (s : Context) (u v : State) (w : Cursor) (o e : List ℕ) (ps : List Piece) → PieceSteps place s (aside u w o e) ps v → PieceSteps place s u ps (aside v u.cursor u.out u.err)
 puts_aside place s u v w o e [] h = ap (λ (x : State). aside x u.cursor u.out u.err) h
 puts_aside place s u v w o e (p ∷ ps) h =
     let x : State = h.0 in
@@ -198,28 +198,28 @@ all_same_state v y z w x o p e f a b c d =
     ∙ ap (λ (r : List ℕ). with_all v z x r e) c
     ∙ ap (λ (r : List ℕ). with_all v z x p r) d
 
-pub takes_entered : (count : ℕ) (t : State) (place : Place) (x : Statement) (s : Context) (m : Measured) (old mid new : Assembler) → Holds count t old → IsPlaced t x s m → Holds (count + opened_by x) (stepped t place x) mid → Turns place s (pieces_of m.length m.settled x) (λ y. symbols_behind y (laid_as place s m x)) mid new → (z : State) × Takes t place x (Ok z) × Holds (count + opened_by x) z new
+pub takes_entered : (count : ℕ) (t : State) (place : SourceLocation) (x : Statement) (s : Context) (m : StatementLayout) (old mid new : Assembler) → Represents count t old → IsMeasuredAt t x s m → Represents (count + opened_by x) (state_after_layout t place x) mid → EmitsThenDefines place s (pieces_of m.length m.settled x) (λ y. symbols_after y (laid_as place s m x)) mid new → (z : State) × StepsTo t place x (Ok z) × Represents (count + opened_by x) z new
 takes_entered count t place x s m old mid new h placed held turns =
-    let r : Laid = laid t.symbols t.cursor place x in
+    let r : LaidOutStatement = laid_out_statement t.symbols t.cursor place x in
     let u : State = asked_of (context_of t.cursor).segment x t in
     let beside = asked_beside (context_of t.cursor).segment x t in
     let ps : List Piece = pieces_of r.length r.settled x in
-    let measured : Turns place s ps (λ y. symbols_behind y (laid_as place s (measure_of t.symbols t.cursor x) x)) mid new = subst (λ (n : Measured). Turns place s (pieces_of n.length n.settled x) (λ y. symbols_behind y (laid_as place s n x)) mid new) placed.measured turns in
-    let here : Turns place (context_of t.cursor) ps (λ y. symbols_behind y r) mid new = subst (λ (q : Context). Turns place q ps (λ y. symbols_behind y (laid_as place q (measure_of t.symbols t.cursor x) x)) mid new) placed.context measured in
+    let measured : EmitsThenDefines place s ps (λ y. symbols_after y (laid_as place s (measure_of t.symbols t.cursor x) x)) mid new = subst (λ (n : StatementLayout). EmitsThenDefines place s (pieces_of n.length n.settled x) (λ y. symbols_after y (laid_as place s n x)) mid new) placed.measured turns in
+    let here : EmitsThenDefines place (context_of t.cursor) ps (λ y. symbols_after y r) mid new = subst (λ (q : Context). EmitsThenDefines place q ps (λ y. symbols_after y (laid_as place q (measure_of t.symbols t.cursor x) x)) mid new) placed.context measured in
     let low : t.cursor.scope ≤ count = h.counted.scope in
-    let inside : AreInside (count + opened_by x) (symbols_behind u.symbols r).scopes = subst (λ (y : Symbols). AreInside (count + opened_by x) (y.scopes ++ scope_opened t.cursor.scope x)) (sym beside.symbols) (inside_behind count t.cursor.scope t.symbols.scopes x low h.inside) in
-    let unnamed : AreBefore (cursor_behind t.symbols t.cursor x).unnamed (symbols_behind u.symbols r).definitions = subst (λ (y : Symbols). AreBefore (cursor_behind t.symbols t.cursor x).unnamed (y.definitions ++ definitions_of r)) (sym beside.symbols) (before_behind x (context_of t.cursor) r.size t.symbols.definitions h.unnamed) in
-    let done = here (count + opened_by x) (stepped t place x) held inside unnamed in
+    let inside : AreInside (count + opened_by x) (symbols_after u.symbols r).scopes = subst (λ (y : Symbols). AreInside (count + opened_by x) (y.scopes ++ scope_opened t.cursor.scope x)) (sym beside.symbols) (inside_after count t.cursor.scope t.symbols.scopes x low h.inside) in
+    let unnamed : AreBefore (cursor_after t.symbols t.cursor x).unnamed (symbols_after u.symbols r).definitions = subst (λ (y : Symbols). AreBefore (cursor_after t.symbols t.cursor x).unnamed (y.definitions ++ definitions_of r)) (sym beside.symbols) (before_after x (context_of t.cursor) r.size t.symbols.definitions h.unnamed) in
+    let done = here (count + opened_by x) (state_after_layout t place x) held inside unnamed in
     let v : State = done.0 in
     let w : State = aside v u.cursor u.out u.err in
-    let along = puts_beside place (context_of t.cursor) (stepped t place x) v ps done.1 in
-    let puts : PutsAll place (context_of t.cursor) u ps w = puts_aside place (context_of t.cursor) u v (cursor_behind t.symbols t.cursor x) (u.out ++ out_of x) (u.err ++ warning_of place x) ps done.1 in
-    let same : record v { symbols = symbols_behind u.symbols r } ≡ known w r =
-    all_same_state v (symbols_behind u.symbols r) (symbols_behind v.symbols r) v.cursor (cursor_behind v.symbols u.cursor x) v.out (u.out ++ out_of x) v.err (u.err ++ warning_of place x)
-    (ap (λ (y : Symbols). symbols_behind y r) (sym along.symbols))
-    (along.cursor ∙ ap (λ (y : Symbols). cursor_behind y t.cursor x) (sym beside.symbols ∙ sym along.symbols) ∙ ap (λ (z : Cursor). cursor_behind v.symbols z x) (sym beside.cursor))
+    let along = puts_beside place (context_of t.cursor) (state_after_layout t place x) v ps done.1 in
+    let puts : PieceSteps place (context_of t.cursor) u ps w = puts_aside place (context_of t.cursor) u v (cursor_after t.symbols t.cursor x) (u.out ++ out_of x) (u.err ++ warning_of place x) ps done.1 in
+    let same : record v { symbols = symbols_after u.symbols r } ≡ with_symbols w r =
+    all_same_state v (symbols_after u.symbols r) (symbols_after v.symbols r) v.cursor (cursor_after v.symbols u.cursor x) v.out (u.out ++ out_of x) v.err (u.err ++ warning_of place x)
+    (ap (λ (y : Symbols). symbols_after y r) (sym along.symbols))
+    (along.cursor ∙ ap (λ (y : Symbols). cursor_after y t.cursor x) (sym beside.symbols ∙ sym along.symbols) ∙ ap (λ (z : Cursor). cursor_after v.symbols z x) (sym beside.cursor))
     along.out along.err in
-    (known w r, subst (λ (f : Option AsmFault). UnlessFault f (Steps t r) (Ok (known w r))) (sym placed.faultless) (w, puts, refl), subst (λ (z : State). Holds (count + opened_by x) z new) same done.2)
+    (with_symbols w r, subst (λ (f : Option AsmFault). UnlessFault f (StepsWithoutError t r) (Ok (with_symbols w r))) (sym placed.faultless) (w, puts, refl), subst (λ (z : State). Represents (count + opened_by x) z new) same done.2)
 
 -- ---- The first fault.
 
@@ -235,16 +235,16 @@ first_missing None None rest h = refl
 
 module _ (y : Symbols) (w : Cursor) (start len : Option Tree) where
   abbrev lost : Option AsmFault
-  lost = lost_scopes y.scopes w.scope (trees_of (FilePart None start len))
+  lost = lost_scopes y.scopes w.scope (trees_of (Incbin None start len))
 
   abbrev bad : Option AsmFault
-  bad = operand_fault y (context_of w) (FilePart None start len)
+  bad = operand_fault y (context_of w) (Incbin None start len)
 
   -- what is wrong whatever the file has is
-  unread_refused : (bytes : Option (List ℕ)) (e : AsmFault) → unread_fault y w start len ≡ Some e → line_fault y w (FilePart bytes start len) ≡ Some e
+  unread_refused : (bytes : Option (List ℕ)) (e : AsmFault) → unread_fault y w start len ≡ Some e → line_fault y w (Incbin bytes start len) ≡ Some e
   unread_refused bytes e h = first_two lost bad _ e h
 
-  unread_missing : unread_fault y w start len ≡ None → line_fault y w (FilePart None start len) ≡ Some FileNotFound
+  unread_missing : unread_fault y w start len ≡ None → line_fault y w (Incbin None start len) ≡ Some FileNotFound
   unread_missing h = first_missing lost bad _ h
 
 -- ---- A statement.
@@ -257,31 +257,31 @@ fault_none : (f : Option AsmFault) (u : Unit {0}) → unless_fault {A = Unit {0}
 fault_none None u h = refl
 fault_none (Some d) u h = absurd cc
 
-module _ (t : State) (place : Place) (name : List ℕ) (start len : Option Tree) (x : Statement) (is : x ≡ NamedPart name start len) (e : AsmFault) where
+module _ (t : State) (place : SourceLocation) (name : List ℕ) (start len : Option Tree) (x : Statement) (is : x ≡ IncbinPath name start len) (e : AsmFault) where
   abbrev found : Option AsmFault
   found = unread_fault t.symbols t.cursor start len
 
-  whatever : found ≡ Some e → (m : Files) → Takes t place (with_bytes m place x) (Err e)
+  whatever : found ≡ Some e → (m : Files) → StepsTo t place (with_bytes m place x) (Err e)
   whatever h m =
-      subst (λ z. Takes t place (with_bytes m place z) (Err e)) (sym is)
-      (takes_refused t place (FilePart (bytes_for m place name) start len) e (unread_refused t.symbols t.cursor start len (bytes_for m place name) e h))
+      subst (λ z. StepsTo t place (with_bytes m place z) (Err e)) (sym is)
+      (takes_refused t place (Incbin (bytes_for m place name) start len) e (unread_refused t.symbols t.cursor start len (bytes_for m place name) e h))
 
-  without : found ≡ None → (m : Files) → file_named m (beside place.file name) ≡ None → Takes t place (with_bytes m place x) (Err FileNotFound)
+  without : found ≡ None → (m : Files) → file_named m (beside place.file name) ≡ None → StepsTo t place (with_bytes m place x) (Err FileNotFound)
   without h m none =
-      subst (λ z. Takes t place (with_bytes m place z) (Err FileNotFound)) (sym is)
-      (subst (λ b. Takes t place (FilePart b start len) (Err FileNotFound)) (sym none)
-      (takes_refused t place (FilePart None start len) FileNotFound (unread_missing t.symbols t.cursor start len h)))
+      subst (λ z. StepsTo t place (with_bytes m place z) (Err FileNotFound)) (sym is)
+      (subst (λ b. StepsTo t place (Incbin b start len) (Err FileNotFound)) (sym none)
+      (takes_refused t place (Incbin None start len) FileNotFound (unread_missing t.symbols t.cursor start len h)))
 
   -- it is refused whatever the file has
-  pub refused_unread : (blamed : Blamed) → is_failure e ≡ false → Unless (is_memory e) (unless_fault {A = Unit {0}} found tt ≡ Err e) → IsRefusedUnread blamed t place x e
-  refused_unread blamed inside h = record {
-    inside = unless_then (is_outside e) (λ p. whatever (fault_there found e p)) (unless_either _ (is_memory e) (is_failure e) h);
+  pub refused_unread : (last_failure : LastFailure) → is_failure e ≡ false → Unless (is_memory e) (unless_fault {A = Unit {0}} found tt ≡ Err e) → IsRefusedUnread last_failure t place x e
+  refused_unread last_failure inside h = record {
+    inside = unless_then (is_system_error e) (λ p. whatever (fault_there found e p)) (unless_either _ (is_memory e) (is_failure e) h);
     failed = λ so. absurd cc;
   }
 
   -- its file can't be read
-  pub failed_unread : (blamed : Blamed) (u : Unit {0}) → is_outside e ≡ true → (is_failure e ≡ true → IsBlamed blamed (beside place.file name)) → unless_fault {A = Unit {0}} found tt ≡ Ok u → IsRefusedUnread blamed t place x e
-  failed_unread blamed u outside asked h = record {
-    inside = subst (λ b. Unless b ((m : Files) → Takes t place (with_bytes m place x) (Err e))) (sym outside) tt;
+  pub failed_unread : (last_failure : LastFailure) (u : Unit {0}) → is_system_error e ≡ true → (is_failure e ≡ true → FailedOn last_failure (beside place.file name)) → unless_fault {A = Unit {0}} found tt ≡ Ok u → IsRefusedUnread last_failure t place x e
+  failed_unread last_failure u outside asked h = record {
+    inside = subst (λ b. Unless b ((m : Files) → StepsTo t place (with_bytes m place x) (Err e))) (sym outside) tt;
     failed = λ so. (beside place.file name, asked so, without (fault_none found u h));
   }

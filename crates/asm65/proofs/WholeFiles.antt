@@ -9,19 +9,19 @@ use Rattle.base65.specs.declared.store.StoreFault.TheVariants.{FileNotFound}
 use Rattle.syntax65.specs.Trees.{Tree}
 use Rattle.expand65.specs.Expansion.{as_text, beside, file_named}
 use Rattle.ast65.specs.declared.language.Statement.{Statement}
-use Rattle.ast65.specs.declared.language.Statement.TheVariants.{FilePart, NamedPart}
+use Rattle.ast65.specs.declared.language.Statement.TheVariants.{Incbin, IncbinPath}
 use Rattle.semantics65.specs.Views.{place_in}
-use Rattle.asm65.specs.Inner.Running.{read_bytes}
+use Rattle.asm65.specs.Internal.RunState.{read_bytes}
 use Rattle.std.proofs.lemmas.Bool.Decides.{nat_tests}
 use Rattle.std.proofs.lemmas.List.{length-take-le, take_all}
-use Rattle.syntax65.specs.declared.place.Place.{Place}
+use Rattle.syntax65.specs.declared.source_location.SourceLocation.{SourceLocation}
 use Rattle.ast65.specs.declared.fault.AsmFault.{AsmFault}
 use Rattle.ast65.specs.declared.fault.AsmFault.TheVariants.{BadPart}
-use Rattle.semantics65.specs.Layout.{Cursor, laid, context_of, file_limit, first_fault, is_part, left_from, line_fault, lost_scopes, operand_fault, or_then, part_fault, trees_of, when}
+use Rattle.semantics65.specs.Layout.{Cursor, laid_out_statement, context_of, file_limit, first_fault, is_part, left_from, line_fault, lost_scopes, operand_fault, or_then, part_fault, trees_of, when}
 use Rattle.semantics65.specs.Norms.{optional_value}
-use Rattle.semantics65.specs.Numbering.{IsSound}
+use Rattle.semantics65.specs.Numbering.{IsWellFormedStatement}
 use Rattle.semantics65.specs.Symbols.{Symbols}
-use Rattle.sources65.specs.Machine.{State, Steps, Takes, UnlessFault}
+use Rattle.sources65.specs.Machine.{State, StepsWithoutError, StepsTo, UnlessFault}
 use Rattle.sources65.specs.Reading.{bytes_for, with_bytes}
 
 -- ---- The bytes of the file of a name.
@@ -56,15 +56,15 @@ pub read_none : (m : Files) (name text : List ℕ) (most : ℕ) → Some text �
 read_none m name text most e h = front_none (fmap.get m text) most h ∙ ap (option_map (take most)) (sym (named m name text e))
 
 -- a statement with what was read of its file
-pub part_read : (m : Files) (file name slice : List ℕ) (line : ℕ) (bytes : Option (List ℕ)) (start len : Option Tree) (x : Statement) → x ≡ NamedPart name start len → slice ≡ name → bytes ≡ option_map (take 16777217) (file_named m (beside file slice)) → FilePart bytes start len ≡ read_bytes m (place_in file line) x
+pub part_read : (m : Files) (file name slice : List ℕ) (line : ℕ) (bytes : Option (List ℕ)) (start len : Option Tree) (x : Statement) → x ≡ IncbinPath name start len → slice ≡ name → bytes ≡ option_map (take 16777217) (file_named m (beside file slice)) → Incbin bytes start len ≡ read_bytes m (place_in file line) x
 part_read m file name slice line bytes start len x is same read =
-    ap (λ b. FilePart b start len) (read ∙ ap (λ n. option_map (take 16777217) (file_named m (beside file n))) same)
+    ap (λ b. Incbin b start len) (read ∙ ap (λ n. option_map (take 16777217) (file_named m (beside file n))) same)
     ∙ sym (ap (read_bytes m (place_in file line)) is)
 
 -- ---- A file of which more than the limit was read is refused as the whole file is.
 
-pub read_sound : (m : Files) (place : Place) (x : Statement) → IsSound x → IsSound (read_bytes m place x)
-read_sound m place (NamedPart name start len) sound = tt
+pub read_sound : (m : Files) (place : SourceLocation) (x : Statement) → IsWellFormedStatement x → IsWellFormedStatement (read_bytes m place x)
+read_sound m place (IncbinPath name start len) sound = tt
 read_sound m place _ sound = sound
 
 -- ---- Files that are too long.
@@ -81,42 +81,42 @@ first_of None None rest = refl
 -- the fault of a part of such a file
 abbrev long_fault : Symbols → Cursor → Option Tree → Option Tree → AsmFault
 long_fault y w start len =
-    or_bad (or_then (lost_scopes y.scopes w.scope (trees_of (FilePart None start len))) (operand_fault y (context_of w) (FilePart None start len)))
+    or_bad (or_then (lost_scopes y.scopes w.scope (trees_of (Incbin None start len))) (operand_fault y (context_of w) (Incbin None start len)))
 
-too_long : (y : Symbols) (w : Cursor) (bytes : List ℕ) (start len : Option Tree) → nat_le (length bytes) file_limit ≡ false → line_fault y w (FilePart (Some bytes) start len) ≡ Some (long_fault y w start len)
+too_long : (y : Symbols) (w : Cursor) (bytes : List ℕ) (start len : Option Tree) → nat_le (length bytes) file_limit ≡ false → line_fault y w (Incbin (Some bytes) start len) ≡ Some (long_fault y w start len)
 too_long y w bytes start len long =
-    let a : Option AsmFault = lost_scopes y.scopes w.scope (trees_of (FilePart None start len)) in
-    let b : Option AsmFault = operand_fault y (context_of w) (FilePart None start len) in
+    let a : Option AsmFault = lost_scopes y.scopes w.scope (trees_of (Incbin None start len)) in
+    let b : Option AsmFault = operand_fault y (context_of w) (Incbin None start len) in
     let P : Option AsmFault → Type 0 = λ f. (rest : List (Option AsmFault)) → first_fault (None ∷ a ∷ None ∷ None ∷ None ∷ b ∷ None ∷ None ∷ f ∷ rest) ≡ Some (long_fault y w start len) in
-    let bad : part_fault y (context_of w) (FilePart (Some bytes) start len) ≡ Some BadPart = part_bad (is_part (length bytes) (optional_value y (context_of w) start _) (optional_value y (context_of w) len (left_from (length bytes) (optional_value y (context_of w) start _)))) (nat_le (length bytes) file_limit) long in
+    let bad : part_fault y (context_of w) (Incbin (Some bytes) start len) ≡ Some BadPart = part_bad (is_part (length bytes) (optional_value y (context_of w) start _) (optional_value y (context_of w) len (left_from (length bytes) (optional_value y (context_of w) start _)))) (nat_le (length bytes) file_limit) long in
     subst P (sym bad) (first_of a b) _
   where
     part_bad : (p within : Bool) → within ≡ false → when (not (within && p)) BadPart ≡ Some BadPart
     part_bad p within e = subst (λ b. when (not (b && p)) BadPart ≡ Some BadPart) (sym e) refl
 
-takes_same : (t : State) (place : Place) (x z : Statement) (r : Result State AsmFault) (e : AsmFault) → line_fault t.symbols t.cursor x ≡ Some e → line_fault t.symbols t.cursor z ≡ Some e → Takes t place x r → Takes t place z r
+takes_same : (t : State) (place : SourceLocation) (x z : Statement) (r : Result State AsmFault) (e : AsmFault) → line_fault t.symbols t.cursor x ≡ Some e → line_fault t.symbols t.cursor z ≡ Some e → StepsTo t place x r → StepsTo t place z r
 takes_same t place x z r e p q h =
-    let fails : r ≡ Err e = subst (λ (f : Option AsmFault). UnlessFault f (Steps t (laid t.symbols t.cursor place x)) r) p h in
-    subst (λ (f : Option AsmFault). UnlessFault f (Steps t (laid t.symbols t.cursor place z)) r) (sym q) fails
+    let fails : r ≡ Err e = subst (λ (f : Option AsmFault). UnlessFault f (StepsWithoutError t (laid_out_statement t.symbols t.cursor place x)) r) p h in
+    subst (λ (f : Option AsmFault). UnlessFault f (StepsWithoutError t (laid_out_statement t.symbols t.cursor place z)) r) (sym q) fails
 
 -- ---- Whole files.
 
-whole : (t : State) (place : Place) (bytes : Option (List ℕ)) (start len : Option Tree) (r : Result State AsmFault) → Takes t place (FilePart (option_map (take 16777217) bytes) start len) r → Takes t place (FilePart bytes start len) r
+whole : (t : State) (place : SourceLocation) (bytes : Option (List ℕ)) (start len : Option Tree) (r : Result State AsmFault) → StepsTo t place (Incbin (option_map (take 16777217) bytes) start len) r → StepsTo t place (Incbin bytes start len) r
 whole t place None start len r h = h
 whole t place (Some bytes) start len r h = by (nat_le (length bytes) file_limit) refl
   where
-    by : (b : Bool) → nat_le (length bytes) file_limit ≡ b → Takes t place (FilePart (Some bytes) start len) r
+    by : (b : Bool) → nat_le (length bytes) file_limit ≡ b → StepsTo t place (Incbin (Some bytes) start len) r
     by true few =
         let most : length bytes ≤ 16777217 = grind (arith, nat_tests) in
-        subst (λ (all : List ℕ). Takes t place (FilePart (Some all) start len) r) (take_all 16777217 bytes most) h
+        subst (λ (all : List ℕ). StepsTo t place (Incbin (Some all) start len) r) (take_all 16777217 bytes most) h
     by false many =
         let most : 16777217 ≤ length bytes = grind (arith, nat_tests) in
         let front : length (take 16777217 bytes) ≡ 16777217 = length-take-le 16777217 bytes most in
         let cut : nat_le (length (take 16777217 bytes)) file_limit ≡ false = subst (λ n. nat_le n file_limit ≡ false) (sym front) refl in
-        takes_same t place (FilePart (Some (take 16777217 bytes)) start len) (FilePart (Some bytes) start len) r (long_fault t.symbols t.cursor start len)
+        takes_same t place (Incbin (Some (take 16777217 bytes)) start len) (Incbin (Some bytes) start len) r (long_fault t.symbols t.cursor start len)
         (too_long t.symbols t.cursor (take 16777217 bytes) start len cut) (too_long t.symbols t.cursor bytes start len many) h
 
 -- a statement is taken with what was read of its file as it is with the whole file
-pub takes_whole : (m : Files) (place : Place) (x : Statement) (t : State) (r : Result State AsmFault) → Takes t place (read_bytes m place x) r → Takes t place (with_bytes m place x) r
-takes_whole m place (NamedPart name start len) t r h = whole t place (bytes_for m place name) start len r h
+pub takes_whole : (m : Files) (place : SourceLocation) (x : Statement) (t : State) (r : Result State AsmFault) → StepsTo t place (read_bytes m place x) r → StepsTo t place (with_bytes m place x) r
+takes_whole m place (IncbinPath name start len) t r h = whole t place (bytes_for m place name) start len r h
 takes_whole m place _ t r h = h

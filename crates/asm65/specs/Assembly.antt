@@ -1,25 +1,25 @@
 -- From a source to its object: what is assembled, and files that could not be read.
 use Rattle.std.specs.Prelude.{◌≡◌, ℕ, List, None, Result, Err, Bool, false, [], map, Ok, unwrap_or}
-use Rattle.base65.specs.Store.{Files, IsBlamed, Blamed}
+use Rattle.base65.specs.Store.{Files, FailedOn, LastFailure}
 use Rattle.expand65.specs.Expansion.{file_named}
 use Rattle.ast65.specs.declared.fault.AsmFault.{AsmFault}
 use Rattle.sources65.specs.Machine.{State}
-use Rattle.semantics65.specs.Module.{PlacedFault, Outcome}
+use Rattle.semantics65.specs.Module.{LocatedFault, Outcome}
 use Rattle.sources65.specs.Reading.{Define, Job}
-use Rattle.base65.specs.Outcome.{Finds}
+use Rattle.base65.specs.Outcome.{RefinesProp}
 use Rattle.object65.specs.declared.object.Object.{Object}
-use Rattle.ast65.specs.Faults.{is_failure, is_memory, is_outside}
+use Rattle.ast65.specs.Faults.{is_failure, is_memory, is_system_error}
 use Rattle.asm65.specs.declared.assembling.AsmJob.{AsmJob}
 use Rattle.asm65.specs.declared.assembling.Assembly.{Assembly}
 use Rattle.asm65.specs.declared.assembling.Define as code
-use Rattle.asm65.specs.declared.texts.AsmRefusal.{AsmRefusal}
+use Rattle.asm65.specs.declared.texts.Diagnostic.{Diagnostic}
 
 -- ---- A statement whose file can't be read.
 
 -- so it is answered for any files among which the one that was asked for last isn't there
-abbrev pub Without : Blamed → (Files → State → Result State AsmFault → Type 0) → State → Result State AsmFault → Type 0
-Without blamed IsAnswer t r =
-    (name : List ℕ) × IsBlamed blamed name × ((m : Files) → file_named m name ≡ None → IsAnswer m t r)
+abbrev pub AnswersWithoutFile : LastFailure → (Files → State → Result State AsmFault → Type 0) → State → Result State AsmFault → Type 0
+AnswersWithoutFile last_failure IsAnswer t r =
+    (name : List ℕ) × FailedOn last_failure name × ((m : Files) → file_named m name ≡ None → IsAnswer m t r)
 
 -- ---- What assembling a source gives.
 
@@ -35,36 +35,36 @@ job_of job = record {
 }
 
 -- no file where memory ran out or the source couldn't be opened
-abbrev pub placed_of : AsmRefusal → PlacedFault
+abbrev pub placed_of : Diagnostic → LocatedFault
 placed_of e = record {
   place = record { file = unwrap_or e.file []; line = e.line };
   fault = e.fault;
 }
 
-abbrev pub in_places : Result Object AsmRefusal → Result Object PlacedFault
+abbrev pub in_places : Result Object Diagnostic → Result Object LocatedFault
 in_places (Ok o) = Ok o
 in_places (Err e) = Err (placed_of e)
 
-abbrev pub is_outside_refusal : AsmRefusal → Bool
-is_outside_refusal e = is_outside e.fault
+abbrev pub is_diagnostic_system_error : Diagnostic → Bool
+is_diagnostic_system_error e = is_system_error e.fault
 
-abbrev pub has_failed : AsmRefusal → Bool
+abbrev pub has_failed : Diagnostic → Bool
 has_failed e = is_failure e.fault
 
 -- an answer, with what was said
-abbrev pub answer_of : Assembly → Result Object AsmRefusal → Outcome
+abbrev pub answer_of : Assembly → Result Object Diagnostic → Outcome
 answer_of a r = record { result = in_places r; out = a.out; err = a.err }
 
 -- an assembly answers an outcome, unless memory ran out or the store failed
-abbrev pub Concludes : Outcome → Assembly → Type 0
-Concludes o a = Finds is_outside_refusal (λ r. answer_of a r ≡ o) a.result
+abbrev pub RefinesOutcome : Outcome → Assembly → Type 0
+RefinesOutcome o a = RefinesProp is_diagnostic_system_error (λ r. answer_of a r ≡ o) a.result
 
 -- memory ran out, or the store failed
-abbrev pub is_from_outside : Result Object AsmRefusal → Bool
+abbrev pub is_from_outside : Result Object Diagnostic → Bool
 is_from_outside (Ok o) = false
-is_from_outside (Err e) = is_outside_refusal e
+is_from_outside (Err e) = is_diagnostic_system_error e
 
 -- memory ran out
-abbrev pub is_from_memory : Result Object AsmRefusal → Bool
+abbrev pub is_from_memory : Result Object Diagnostic → Bool
 is_from_memory (Ok o) = false
 is_from_memory (Err e) = is_memory e.fault

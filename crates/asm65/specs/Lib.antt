@@ -1,3 +1,3 @@
 pub mod Assembly
 pub mod Failing
-pub mod Inner
+pub mod Internal

@@ -1,17 +1,17 @@
 //! What the assembler holds between two statements.
 
 ghost use Rattle.symbols65.specs.Views.{table_of};
-ghost use Rattle.asm65.specs.Inner.Holding.{known_where, Holds};
+ghost use Rattle.asm65.specs.Internal.AssemblerState.{known_where, Represents};
 ghost use Rattle.std.specs.Prelude.{IfOk};
-ghost use Rattle.sources65.specs.Machine.{begun};
+ghost use Rattle.sources65.specs.Machine.{initial_state};
 
-use crate::texts::Texts;
+use crate::texts::ConsoleOutput;
 use base65::Seed;
 use emit65::Sections;
 use expand65::Knows;
 use semantics65::Context;
 use std::alloc::{AllocError, Global};
-use symbols65::knowing::constant_now;
+use symbols65::constants::constant_now;
 use symbols65::{Cursor, NormCache, Symbols, definition_of};
 use syntax65::{Expr, Name};
 
@@ -43,20 +43,20 @@ pub struct Assembler {
     pub cursor: Cursor,
     /// What statements put into sections, and what of them waits for the last line.
     pub sections: Sections,
-    pub texts: Texts,
+    pub texts: ConsoleOutput,
 }
 
 impl Assembler {
     /// The assembler before the first statement.
     pub fn new(alloc: Global, seed: Seed) -> Result<Self, AllocError>
-        ensures { IfOk result (Holds 0 begun) }
+        ensures { IfOk result (Represents 0 initial_state) }
     {
         Ok(Assembler {
             symbols: Symbols::new(alloc, seed),
             known: NormCache::new(alloc),
             cursor: Cursor::start(alloc)?,
             sections: Sections::new(alloc, seed),
-            texts: Texts::new(alloc),
+            texts: ConsoleOutput::new(alloc),
         })
     }
 }

@@ -1,33 +1,33 @@
 //! From a source to its object: what is assembled, and what that gives.
 
 ghost use Rattle.std.specs.Prelude.{◌≡◌, ℕ, ◌+◌, false, IfErr, ⊤, ◌≤◌, true, IfOk, IfSome, IsErrOf, Ok, Some, []};
-ghost use Rattle.ast65.specs.Faults.{is_failure, is_outside};
-ghost use Rattle.sources65.specs.Machine.{Takes, begun, State, concluded};
+ghost use Rattle.ast65.specs.Faults.{is_failure, is_system_error};
+ghost use Rattle.sources65.specs.Machine.{StepsTo, initial_state, State, outcome_of_state};
 ghost use Rattle.sources65.specs.Reading.{AreDefined, no_line, Job, IsOutcome};
-ghost use Rattle.asm65.specs.Assembly.{define_of, job_of, Concludes, answer_of, has_failed, is_from_memory, is_from_outside, is_outside_refusal, placed_of};
-ghost use Rattle.asm65.specs.Inner.Holding.{Holds};
-ghost use Rattle.asm65.specs.Inner.Running.{IsRoomy, Leaves, IsHeldBy, IsRunning, SaysAs};
+ghost use Rattle.asm65.specs.Assembly.{define_of, job_of, RefinesOutcome, answer_of, has_failed, is_from_memory, is_from_outside, is_diagnostic_system_error, placed_of};
+ghost use Rattle.asm65.specs.Internal.AssemblerState.{Represents};
+ghost use Rattle.asm65.specs.Internal.RunState.{HasHeadroom, RefinesTransition, RunRepresents, IsRunning, SaysAs};
 ghost use Rattle.semantics65.specs.Views.{place_at};
 ghost use Rattle.symbols65.specs.Measuring.{opening_limit};
 ghost use Rattle.syntax65.specs.Trees.{number};
 ghost use Rattle.ast65.specs.declared.language.Statement.TheVariants.{Constant};
-ghost use Rattle.base65.specs.Outcome.{Finds};
-ghost use Rattle.base65.specs.Store.{Asks, IsBlamedAt, Passes, PassesBy};
-ghost use Rattle.object65.specs.Objects.{ObjectFits, is_good_object};
+ghost use Rattle.base65.specs.Outcome.{RefinesProp};
+ghost use Rattle.base65.specs.Store.{FailsAtLastCount, FailedAt, PropagatesIoError, PropagatesIoErrors};
+ghost use Rattle.object65.specs.Objects.{ObjectFits, is_well_formed_object};
 ghost use Rattle.expand65.specs.Expansion.{opened_in};
-ghost use Rattle.expand65.specs.Standing.{IsPlaced, Opens, measure_of, place_of};
-ghost use Rattle.syntax65.specs.Faults.{is_outside as is_expand_outside};
-ghost use Rattle.asm65.specs.Failing.{Begins, StopsSo, nowhere};
+ghost use Rattle.expand65.specs.Representation.{IsPositioned, RepresentsFirstState, measure_of, place_of};
+ghost use Rattle.syntax65.specs.Faults.{is_system_error as is_expand_system_error};
+ghost use Rattle.asm65.specs.Failing.{StartsRun, StopsSo, nowhere};
 
 use crate::assembler::Assembler;
-use crate::concluding::{conclude, refuse};
-use crate::running::{Run, take_all};
-use crate::texts::{AsmRefusal, Texts, is_failure, is_outside};
+use crate::driver::{Run, assemble_all};
+use crate::finish::{fail_at_line, finish_assembly};
+use crate::texts::{ConsoleOutput, Diagnostic, is_failure, is_system_error};
 use ast65::{AsmFault, Statement};
-use base65::{Sequence, Store, Text};
-use expand65::{ExpandFault, Expander, Options, Place};
+use base65::{ListVec, PathString, Store};
+use expand65::{ExpandFault, Expander, Options, SourceLocation};
 use object65::Object;
-use semantics65::At;
+use semantics65::LocationRef;
 use std::alloc::Global;
 use syntax65::{Expr, ExprKind, Identifier};
 
@@ -44,7 +44,7 @@ pub struct AsmJob<'a> {
     /// The source's file.
     pub source: &'a str,
     /// The folders in which included files are looked for, behind that of the file that includes them.
-    pub include: &'a [Text],
+    pub include: &'a [PathString],
     /// Constants of the global scope, which stand before the first line.
     pub defines: &'a [Define<'a>],
 }
@@ -53,30 +53,30 @@ pub struct AsmJob<'a> {
 #[derive(Drop)]
 pub struct Assembly {
     /// The object, or the first fault.
-    pub result: Result<Object, AsmRefusal>,
+    pub result: Result<Object, Diagnostic>,
     /// What goes to standard output, up to there.
-    pub out: Sequence<u8>,
+    pub out: ListVec<u8>,
     /// What goes to standard error, up to there.
-    pub err: Sequence<u8>,
+    pub err: ListVec<u8>,
 }
 
 /// Takes a constant.
 fn define_one(
     alloc: Global,
     assembler: &mut Assembler,
-    at: At<'_>,
+    at: LocationRef<'_>,
     define: &Define<'_>,
 ) -> Result<(), AsmFault>
-    requires { IsRoomy 1 assembler.old }
+    requires { HasHeadroom 1 assembler.old }
     ensures taken { (count : ℕ) (t : State) → count + 1 ≤ opening_limit →
-        Holds count t assembler.old → let d = define_of define.now in
-        Leaves ⊤ (Takes t (place_at at.entry) (Constant d.0 (number d.1)))
+        Represents count t assembler.old → let d = define_of define.now in
+        RefinesTransition ⊤ (StepsTo t (place_at at.entry) (Constant d.0 (number d.1)))
         count t assembler.new result }
     ensures inside { IfErr result (λ e. is_failure e ≡ false) }
 {
     let name = Identifier::copy_of(alloc, define.name)?;
     let value = Expr::new(ExprKind::Number(define.value));
-    assembler.take(alloc, at, Statement::Constant { name, value })
+    assembler.assemble_statement(alloc, at, Statement::Constant { name, value })
 }
 
 /// Takes the constants of a job, which stand before the first line.
@@ -85,12 +85,12 @@ pub fn define_all(
     assembler: &mut Assembler,
     job: &AsmJob<'_>,
 ) -> Result<(), AsmFault>
-    requires { Holds 0 begun assembler.old }
-    ensures defined { Leaves ⊤ (AreDefined Takes begun (no_line (job_of job.now).source)
-        (job_of job.now).defines) 0 begun assembler.new result }
+    requires { Represents 0 initial_state assembler.old }
+    ensures defined { RefinesTransition ⊤ (AreDefined StepsTo initial_state (no_line (job_of job.now).source)
+        (job_of job.now).defines) 0 initial_state assembler.new result }
     ensures inside { IfErr result (λ e. is_failure e ≡ false) }
 {
-    let at = At {
+    let at = LocationRef {
         file: job.source,
         line: 0,
     };
@@ -108,13 +108,13 @@ fn refused_outside(alloc: Global, fault: AsmFault) -> Assembly
     ensures silent { (result.out ≡ []) × (result.err ≡ []) }
 {
     Assembly {
-        result: Err(AsmRefusal {
+        result: Err(Diagnostic {
             file: None,
             line: 0,
             fault,
         }),
-        out: Sequence::new(alloc),
-        err: Sequence::new(alloc),
+        out: ListVec::new(alloc),
+        err: ListVec::new(alloc),
     }
 }
 
@@ -129,10 +129,10 @@ fn stopped(expander: Expander, assembler: Assembler, fault: AsmFault) -> Assembl
     // The name is handed on as it is, since no memory may be left for a copy.
     let rewriter = expander.rewriter;
     let reader = rewriter.reader;
-    let Place { file, line } = reader.place;
-    let Texts { out, err } = assembler.texts;
+    let SourceLocation { file, line } = reader.place;
+    let ConsoleOutput { out, err } = assembler.texts;
     Assembly {
-        result: Err(AsmRefusal {
+        result: Err(Diagnostic {
             file: Some(file),
             line,
             fault,
@@ -143,35 +143,35 @@ fn stopped(expander: Expander, assembler: Assembler, fault: AsmFault) -> Assembl
 }
 
 /// A fault at a place, behind what was said.
-fn refused(alloc: Global, assembler: Assembler, at: At<'_>, fault: AsmFault) -> Assembly
-    ensures refused { is_outside fault ≡ false → (t : State) → SaysAs t assembler →
-        Concludes (concluded t (Some (record {
+fn refused(alloc: Global, assembler: Assembler, at: LocationRef<'_>, fault: AsmFault) -> Assembly
+    ensures refused { is_system_error fault ≡ false → (t : State) → SaysAs t assembler →
+        RefinesOutcome (outcome_of_state t (Some (record {
           place = place_at at.entry;
           fault = fault;
         }))) result }
-    ensures outside { is_outside fault ≡ true → is_from_outside result.result ≡ true }
+    ensures outside { is_system_error fault ≡ true → is_from_outside result.result ≡ true }
     ensures none { IfOk result.result (λ _. ⊥) }
     ensures failed { IfErr result.result (λ e. has_failed e ≡ is_failure fault) }
     ensures first { is_failure fault ≡ true →
         IfErr result.result (λ e. (e.fault ≡ fault) × ((placed_of e).place ≡ nowhere)) }
     ensures silent { is_from_outside result.result ≡ true → (result.out ≡ []) × (result.err ≡ []) }
 {
-    if is_outside(&fault) {
+    if is_system_error(&fault) {
         return refused_outside(alloc, fault);
     }
-    refuse(alloc, assembler, at, fault)
+    fail_at_line(alloc, assembler, at, fault)
 }
 
 /// A fault behind some statements, at the place that was reached, behind what was said.
-fn refused_behind(
+fn refused_after(
     alloc: Global,
     expander: Expander,
     assembler: Assembler,
     fault: AsmFault,
 ) -> Assembly
-    ensures refused { is_outside fault ≡ false → (t : State) → SaysAs t assembler → Concludes
-        (concluded t (Some (record { place = place_of expander; fault = fault }))) result }
-    ensures outside { is_outside fault ≡ true → is_from_outside result.result ≡ true }
+    ensures refused { is_system_error fault ≡ false → (t : State) → SaysAs t assembler → RefinesOutcome
+        (outcome_of_state t (Some (record { place = place_of expander; fault = fault }))) result }
+    ensures outside { is_system_error fault ≡ true → is_from_outside result.result ≡ true }
     ensures none { IfOk result.result (λ _. ⊥) }
     ensures failed { IfErr result.result (λ e. has_failed e ≡ is_failure fault) }
     ensures stopped { is_failure fault ≡ true → IfErr result.result (λ e.
@@ -184,24 +184,24 @@ fn refused_behind(
         return stopped(expander, assembler, fault);
     }
     let (file, line) = expander.place();
-    refused(alloc, assembler, At { file, line }, fault)
+    refused(alloc, assembler, LocationRef { file, line }, fault)
 }
 
 /// Opens the source of a job.
 fn opened<S: Store>(alloc: Global, store: &mut S, job: &AsmJob<'_>) -> Result<Expander, ExpandFault>
     ensures opened { IfSome (S.files store.old) (λ m.
-        Opens m result (opened_in m (job_of job.now).source (job_of job.now).include)) }
+        RepresentsFirstState m result (opened_in m (job_of job.now).source (job_of job.now).include)) }
     ensures files { S.files store.new ≡ S.files store.old }
     ensures size { IfOk result (λ e. measure_of e ≤ 3145729) }
-    ensures count { Passes ExpandFault.FileError (S.failures store.old) (S.failures store.new) result }
-    ensures blamed { IsErrOf result ExpandFault.FileError →
-        IsBlamedAt (S.blamed store.new) (job_of job.now).source 16777216 }
-    ensures asked { Asks is_expand_outside (S.failures store.old) result }
-    ensures placed { IfSome (S.files store.old) (λ m. IfOk result (IsPlaced m)) }
+    ensures count { PropagatesIoError ExpandFault.FileError (S.failures store.old) (S.failures store.new) result }
+    ensures last_failure { IsErrOf result ExpandFault.FileError →
+        FailedAt (S.last_failure store.new) (job_of job.now).source 16777216 }
+    ensures at_last_count { FailsAtLastCount is_expand_system_error (S.failures store.old) result }
+    ensures placed { IfSome (S.files store.old) (λ m. IfOk result (IsPositioned m)) }
 {
-    let mut include = Sequence::new(alloc);
+    let mut include = ListVec::new(alloc);
     for folder in job.include {
-        include.push(Text::copy_of(alloc, folder.as_str())?)?;
+        include.push(PathString::copy_of(alloc, folder.as_str())?)?;
     }
     Expander::open(alloc, store, job.source, &Options { include })
 }
@@ -210,26 +210,26 @@ fn opened<S: Store>(alloc: Global, store: &mut S, job: &AsmJob<'_>) -> Result<Ex
 fn finished<S: Store>(alloc: Global, store: &mut S, run: Run) -> Assembly
     requires { IsRunning run }
     ensures assembled { IfSome (S.files store.old) (λ m. (job : Job) (t : State) →
-        Opens m (Ok run.expander) (opened_in m job.source job.include) →
-        AreDefined Takes begun (no_line job.source) job.defines (Ok t) → IsHeldBy t run →
-        Finds is_outside_refusal (λ r. IsOutcome m job (answer_of result r)) result.result) }
+        RepresentsFirstState m (Ok run.expander) (opened_in m job.source job.include) →
+        AreDefined StepsTo initial_state (no_line job.source) job.defines (Ok t) → RunRepresents t run →
+        RefinesProp is_diagnostic_system_error (λ r. IsOutcome m job (answer_of result r)) result.result) }
     ensures files { S.files store.new ≡ S.files store.old }
-    ensures count { PassesBy has_failed (S.failures store.old) (S.failures store.new) result.result }
-    ensures good { IfOk result.result (λ o. is_good_object o ≡ true) }
+    ensures count { PropagatesIoErrors has_failed (S.failures store.old) (S.failures store.new) result.result }
+    ensures good { IfOk result.result (λ o. is_well_formed_object o ≡ true) }
     ensures numbers { IfOk result.result ObjectFits }
-    ensures stopped { IfSome (S.files store.old) (λ m. (job : Job) → Begins m job run →
-        StopsSo m (S.blamed store.new) job result) }
+    ensures stopped { IfSome (S.files store.old) (λ m. (job : Job) → StartsRun m job run →
+        StopsSo m (S.last_failure store.new) job result) }
     ensures silent { is_from_memory result.result ≡ true → (result.out ≡ []) × (result.err ≡ []) }
 {
     let mut run = run;
-    let ran = take_all(alloc, store, &mut run);
+    let ran = assemble_all(alloc, store, &mut run);
     let Run {
         expander,
         assembler,
     } = run;
     match ran {
-        Ok(()) => conclude(alloc, assembler),
-        Err(fault) => refused_behind(alloc, expander, assembler, fault),
+        Ok(()) => finish_assembly(alloc, assembler),
+        Err(fault) => refused_after(alloc, expander, assembler, fault),
     }
 }
 
@@ -240,20 +240,20 @@ fn assembled<S: Store>(
     job: &AsmJob<'_>,
     assembler: Assembler,
 ) -> Assembly
-    requires { Holds 0 begun assembler }
-    ensures assembled { IfSome (S.files store.old) (λ m. Finds is_outside_refusal
+    requires { Represents 0 initial_state assembler }
+    ensures assembled { IfSome (S.files store.old) (λ m. RefinesProp is_diagnostic_system_error
         (λ r. IsOutcome m (job_of job.now) (answer_of result r)) result.result) }
     ensures files { S.files store.new ≡ S.files store.old }
-    ensures count { PassesBy has_failed (S.failures store.old) (S.failures store.new) result.result }
-    ensures asked { Asks is_outside_refusal (S.failures store.old) result.result }
-    ensures good { IfOk result.result (λ o. is_good_object o ≡ true) }
+    ensures count { PropagatesIoErrors has_failed (S.failures store.old) (S.failures store.new) result.result }
+    ensures at_last_count { FailsAtLastCount is_diagnostic_system_error (S.failures store.old) result.result }
+    ensures good { IfOk result.result (λ o. is_well_formed_object o ≡ true) }
     ensures numbers { IfOk result.result ObjectFits }
     ensures stopped { IfSome (S.files store.old) (λ m.
-        StopsSo m (S.blamed store.new) (job_of job.now) result) }
+        StopsSo m (S.last_failure store.new) (job_of job.now) result) }
     ensures silent { is_from_memory result.result ≡ true → (result.out ≡ []) × (result.err ≡ []) }
 {
     let mut assembler = assembler;
-    let at = At {
+    let at = LocationRef {
         file: job.source,
         line: 0,
     };
@@ -274,18 +274,18 @@ fn assembled<S: Store>(
 
 /// Assembles a source: its object, or the first fault and its place; and what is said up to there.
 pub fn assemble<S: Store>(alloc: Global, store: &mut S, job: &AsmJob<'_>) -> Assembly
-    ensures assembled { IfSome (S.files store.old) (λ m. Finds is_outside_refusal
+    ensures assembled { IfSome (S.files store.old) (λ m. RefinesProp is_diagnostic_system_error
         (λ r. IsOutcome m (job_of job.now) (answer_of result r)) result.result) }
     ensures files { S.files store.new ≡ S.files store.old }
-    ensures count { PassesBy has_failed (S.failures store.old) (S.failures store.new) result.result }
-    ensures asked { Asks is_outside_refusal (S.failures store.old) result.result }
+    ensures count { PropagatesIoErrors has_failed (S.failures store.old) (S.failures store.new) result.result }
+    ensures at_last_count { FailsAtLastCount is_diagnostic_system_error (S.failures store.old) result.result }
     // An object can be written.
-    ensures good { IfOk result.result (λ o. is_good_object o ≡ true) }
+    ensures good { IfOk result.result (λ o. is_well_formed_object o ≡ true) }
     ensures numbers { IfOk result.result ObjectFits }
     // Where the store fails, what the statements before say is said, and where it was, by the name that its last failed call
     // asked for where the store tells that.
     ensures stopped { IfSome (S.files store.old) (λ m.
-        StopsSo m (S.blamed store.new) (job_of job.now) result) }
+        StopsSo m (S.last_failure store.new) (job_of job.now) result) }
     // Where memory runs out nothing is said.
     ensures silent { is_from_memory result.result ≡ true → (result.out ≡ []) × (result.err ≡ []) }
 {

@@ -2,7 +2,7 @@
 
 ghost use Rattle.std.specs.Prelude.{◌≡◌, IfOk};
 
-use base65::Sequence;
+use base65::ListVec;
 use std::alloc::{AllocError, Global};
 use syntax65::{Expr, ExprKind, Identifier, Name, Operands};
 
@@ -10,9 +10,9 @@ use syntax65::{Expr, ExprKind, Identifier, Name, Operands};
 fn copy_of_name(alloc: Global, name: &Name) -> Result<Name, AllocError>
     ensures { IfOk result (λ n. n ≡ name.now) }
 {
-    let mut parts = Sequence::new(alloc);
+    let mut parts = ListVec::new(alloc);
     for part in name.parts.as_slice() {
-        parts.push(Sequence::copy_of(alloc, part.as_slice())?)?;
+        parts.push(ListVec::copy_of(alloc, part.as_slice())?)?;
     }
     Ok(Name {
         is_global: name.is_global,

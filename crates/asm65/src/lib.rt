@@ -3,15 +3,15 @@
 
 mod assembler;
 mod assembling;
-mod concluding;
 mod copying;
+mod driver;
+mod emission;
 mod files;
+mod finish;
 mod naming;
-mod putting;
 mod resolving;
-mod running;
-mod taking;
+mod statement;
 mod texts;
 
 pub use assembling::{AsmJob, Assembly, Define, assemble};
-pub use texts::AsmRefusal;
+pub use texts::Diagnostic;

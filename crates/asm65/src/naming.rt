@@ -1,37 +1,37 @@
 //! Names that statements define, open, import and export.
 
 ghost use Rattle.std.specs.Prelude.{◌≡◌, None, OnOk, length, IfOk, map, ◌∷◌, [], Some, ◌++◌, false, true};
-ghost use Rattle.semantics65.specs.Symbols.{defined, Key as DefinedKey, named};
+ghost use Rattle.semantics65.specs.Symbols.{definition_index, Key as DefinedKey, named};
 ghost use Rattle.symbols65.specs.Tables.{KeepsFinal, definition_seen, key_of};
 ghost use Rattle.symbols65.specs.Views.{table_of, with_definition, with_names, with_scope};
 ghost use Rattle.std.specs.Option.{option_map};
 ghost use Rattle.semantics65.specs.Layout.{opened_twice};
 ghost use Rattle.symbols65.specs.Resolving.{IsTable};
-ghost use Rattle.asm65.specs.Inner.Holding.{Enters, KeepsPut, IsNew, is_put, laid_as, KeepsTables, mentioned, is_for_zero_page, label_at, Mentions, Turns};
+ghost use Rattle.asm65.specs.Internal.AssemblerState.{EmitsPieces, KeepsPut, IsNew, is_put, laid_as, KeepsTables, name_use_piece, is_for_zero_page, label_at, DefersMentions, EmitsThenDefines};
 ghost use Rattle.semantics65.specs.Norms.{IsFinal};
 ghost use Rattle.object65.specs.Form.{Form};
-ghost use Rattle.emit65.specs.Fed.{piece_of};
-ghost use Rattle.sources65.specs.Machine.{symbols_behind};
+ghost use Rattle.emit65.specs.SectionContents.{piece_of};
+ghost use Rattle.sources65.specs.Machine.{symbols_after};
 ghost use Rattle.semantics65.specs.Views.{place_at};
 ghost use Rattle.semantics65.specs.Module.{equated, valued, demanded, imported, pieces_of};
-ghost use Rattle.syntax65.specs.declared.place.Place.{Place};
+ghost use Rattle.syntax65.specs.declared.source_location.SourceLocation.{SourceLocation};
 
 use crate::assembler::Assembler;
 use crate::copying::copy_of;
-use crate::putting::Site;
-use crate::putting::values::wait;
+use crate::emission::PieceContext;
+use crate::emission::values::defer;
 use ast65::Statement;
-use base65::Sequence;
-use emit65::Piece;
+use base65::ListVec;
+use emit65::FixupKind;
 use object65::Norm;
 use semantics65::Context;
 use std::alloc::{AllocError, Global};
-use symbols65::{Definition, Key, Measured, define, stable_form};
+use symbols65::{Definition, Key, StatementLayout, define, stable_form};
 use syntax65::{AddressSize, Expr};
 
 /// How a statement mentions a name.
 #[derive(Clone, Copy)]
-pub enum Mention {
+pub enum NameUse {
     Imported,
     /// It is imported though nothing may use it.
     ForcedImport,
@@ -40,14 +40,14 @@ pub enum Mention {
 }
 
 /// What waits of a name that is mentioned.
-fn piece_of(alloc: Global, mention: Mention, name: &[u8]) -> Result<Piece, AllocError>
-    ensures { IfOk result (λ p. piece_of p ≡ mentioned mention name.now) }
+fn piece_of(alloc: Global, mention: NameUse, name: &[u8]) -> Result<FixupKind, AllocError>
+    ensures { IfOk result (λ p. piece_of p ≡ name_use_piece mention name.now) }
 {
-    let name = Sequence::from_vec(Vec::from_slice(alloc, name)?);
+    let name = ListVec::from_vec(Vec::from_slice(alloc, name)?);
     match mention {
-        Mention::Imported => Ok(Piece::Import(name)),
-        Mention::ForcedImport => Ok(Piece::ForcedImport(name)),
-        Mention::Exported { must } => Ok(Piece::Export { must, name }),
+        NameUse::Imported => Ok(FixupKind::Import(name)),
+        NameUse::ForcedImport => Ok(FixupKind::ForcedImport(name)),
+        NameUse::Exported { must } => Ok(FixupKind::Export { must, name }),
     }
 }
 
@@ -60,7 +60,7 @@ impl Assembler {
         definition: Definition,
     ) -> Result<(), AllocError>
         requires known { IsTable (table_of self.old.symbols) self.old.known.states.items }
-        requires new { defined (table_of self.old.symbols) (key_of key) ≡ None }
+        requires new { definition_index (table_of self.old.symbols) (key_of key) ≡ None }
         requires form { KeepsFinal (table_of self.old.symbols)
             (length (table_of self.old.symbols).definitions)
             (definition_seen (key_of key) definition) definition.form }
@@ -110,7 +110,7 @@ impl Assembler {
     pub fn import(
         &mut self,
         alloc: Global,
-        names: &[Sequence<u8>],
+        names: &[ListVec<u8>],
         is_zero_page: bool,
     ) -> Result<(), AllocError>
         requires known { IsTable (table_of self.old.symbols) self.old.known.states.items }
@@ -129,18 +129,18 @@ impl Assembler {
     pub fn mention(
         &mut self,
         alloc: Global,
-        site: Site<'_>,
-        mention: Mention,
-        names: &[Sequence<u8>],
+        site: PieceContext<'_>,
+        mention: NameUse,
+        names: &[ListVec<u8>],
     ) -> Result<(), AllocError>
-        ensures mentioned { OnOk result (Mentions
+        ensures mentioned { OnOk result (DefersMentions
             (place_at site.entry.at) site.entry.context
-            (map (mentioned mention) names.now) self.old self.new) }
+            (map (name_use_piece mention) names.now) self.old self.new) }
         ensures tables { KeepsTables self.old self.new }
     {
         for name in names {
             let piece = piece_of(alloc, mention, name.as_slice())?;
-            wait(self, site, piece)?;
+            defer(self, site, piece)?;
         }
         Ok(())
     }
@@ -149,13 +149,13 @@ impl Assembler {
     fn enter_constant(
         &mut self,
         alloc: Global,
-        site: Site<'_>,
+        site: PieceContext<'_>,
         value: &Expr,
         form: &Option<Norm>,
     ) -> Result<(), AllocError>
         requires { (f : Form) → form.now ≡ Some f →
             IsFinal (table_of self.old.symbols) site.context value.now f }
-        ensures entered { OnOk result (Enters (place_at site.entry.at)
+        ensures entered { OnOk result (EmitsPieces (place_at site.entry.at)
             site.entry.context (valued equated value.now ∷ []) self.old self.new) }
         ensures tables { KeepsTables self.old self.new }
     {
@@ -163,7 +163,7 @@ impl Assembler {
             return Ok(());
         }
         let value = copy_of(alloc, value)?;
-        wait(self, site, Piece::Constant(value))
+        defer(self, site, FixupKind::Constant(value))
     }
 
     /// A constant is defined.
@@ -171,14 +171,14 @@ impl Assembler {
     pub fn define_constant(
         &mut self,
         alloc: Global,
-        site: Site<'_>,
+        site: PieceContext<'_>,
         size: AddressSize,
         name: &[u8],
         value: Expr,
     ) -> Result<(), AllocError>
         requires known { IsTable (table_of self.old.symbols) self.old.known.states.items }
-        requires new { defined (table_of self.old.symbols) (named site.context.scope name.now) ≡ None }
-        ensures { OnOk result (Turns (place_at site.entry.at)
+        requires new { definition_index (table_of self.old.symbols) (named site.context.scope name.now) ≡ None }
+        ensures { OnOk result (EmitsThenDefines (place_at site.entry.at)
             site.entry.context (valued equated value ∷ [])
             (λ y. with_definition y (record {
               key = named site.entry.context.scope name.now;
@@ -232,8 +232,8 @@ impl Assembler {
         size: AddressSize,
     ) -> Result<(), AllocError>
         requires known { IsTable (table_of self.old.symbols) self.old.known.states.items }
-        requires new { defined (table_of self.old.symbols) (key_of key) ≡ None }
-        ensures { OnOk result ((place : Place) → Turns place context []
+        requires new { definition_index (table_of self.old.symbols) (key_of key) ≡ None }
+        ensures { OnOk result ((place : SourceLocation) → EmitsThenDefines place context []
             (λ y. with_definition y (label_at (key_of key.entry) context size))
             self.old self.new) }
     {
@@ -251,7 +251,7 @@ impl Assembler {
         requires known { IsTable (table_of self.old.symbols) self.old.known.states.items }
         requires new { opened_twice (table_of self.old.symbols).scopes context.scope
             (option_map (λ n. n.now) name) ≡ None }
-        ensures { OnOk result ((place : Place) → Turns place context []
+        ensures { OnOk result ((place : SourceLocation) → EmitsThenDefines place context []
             (λ y. with_scope y (record {
               within = context.scope;
               name = option_map (λ n. n.now) name.entry;
@@ -272,10 +272,10 @@ impl Assembler {
         name: &[u8],
     ) -> Result<(), AllocError>
         requires known { IsTable (table_of self.old.symbols) self.old.known.states.items }
-        requires new { defined (table_of self.old.symbols) (named context.scope name.now) ≡ None }
+        requires new { definition_index (table_of self.old.symbols) (named context.scope name.now) ≡ None }
         requires unopened { opened_twice (table_of self.old.symbols).scopes context.scope
             (Some name.now) ≡ None }
-        ensures { OnOk result ((place : Place) → Turns place context []
+        ensures { OnOk result ((place : SourceLocation) → EmitsThenDefines place context []
             (λ y. with_scope
             (with_definition y (label_at (named context.scope name.now) context size))
             (record { within = context.scope; name = Some name.now; is_proc = true }))
@@ -291,15 +291,15 @@ impl Assembler {
     pub fn import_names(
         &mut self,
         alloc: Global,
-        site: Site<'_>,
-        mention: Mention,
+        site: PieceContext<'_>,
+        mention: NameUse,
         size: AddressSize,
-        names: &[Sequence<u8>],
+        names: &[ListVec<u8>],
     ) -> Result<(), AllocError>
         requires { IsTable (table_of self.old.symbols) self.old.known.states.items }
-        ensures { OnOk result (Turns
+        ensures { OnOk result (EmitsThenDefines
             (place_at site.entry.at) site.entry.context
-            (map (mentioned mention) names.now)
+            (map (name_use_piece mention) names.now)
             (λ y. with_names y (is_for_zero_page size) names.now) self.old self.new) }
     {
         self.mention(alloc, site, mention, names)?;
@@ -311,17 +311,17 @@ impl Assembler {
     pub fn force_import_names(
         &mut self,
         alloc: Global,
-        site: Site<'_>,
-        names: &[Sequence<u8>],
+        site: PieceContext<'_>,
+        names: &[ListVec<u8>],
     ) -> Result<(), AllocError>
         requires { IsTable (table_of self.old.symbols) self.old.known.states.items }
-        ensures { OnOk result (Turns
+        ensures { OnOk result (EmitsThenDefines
             (place_at site.entry.at) site.entry.context
             (map imported names.now ++ map demanded names.now)
             (λ y. with_names y false names.now) self.old self.new) }
     {
-        self.mention(alloc, site, Mention::Imported, names)?;
-        self.mention(alloc, site, Mention::ForcedImport, names)?;
+        self.mention(alloc, site, NameUse::Imported, names)?;
+        self.mention(alloc, site, NameUse::ForcedImport, names)?;
         self.import(alloc, names, false)
     }
 
@@ -330,8 +330,8 @@ impl Assembler {
     pub fn enter_names(
         &mut self,
         alloc: Global,
-        site: Site<'_>,
-        measured: Measured,
+        site: PieceContext<'_>,
+        measured: StatementLayout,
         statement: Statement,
     ) -> Result<(), AllocError>
         requires known { IsTable (table_of self.old.symbols) self.old.known.states.items }
@@ -339,8 +339,8 @@ impl Assembler {
         requires named { is_put statement ≡ false }
         ensures { OnOk result (let place = place_at site.entry.at in
             let s = site.entry.context in let m = measured in
-            Turns place s (pieces_of m.length m.settled statement)
-            (λ y. symbols_behind y (laid_as place s m statement))
+            EmitsThenDefines place s (pieces_of m.length m.settled statement)
+            (λ y. symbols_after y (laid_as place s m statement))
             self.old self.new) }
     {
         let context = site.context;
@@ -368,15 +368,15 @@ impl Assembler {
             },
             Statement::OpenProc(name) => self.open_proc(alloc, context, size, name.as_slice()),
             Statement::Import { size, names } => {
-                self.import_names(alloc, site, Mention::Imported, size, names.as_slice())
+                self.import_names(alloc, site, NameUse::Imported, size, names.as_slice())
             }
             Statement::Global { size, names } => {
-                let mention = Mention::Exported { must: false };
+                let mention = NameUse::Exported { must: false };
                 self.import_names(alloc, site, mention, size, names.as_slice())
             }
             Statement::ForceImport(names) => self.force_import_names(alloc, site, names.as_slice()),
             Statement::Export(names) => {
-                let mention = Mention::Exported { must: true };
+                let mention = NameUse::Exported { must: true };
                 self.mention(alloc, site, mention, names.as_slice())
             }
             // A part of a file has its file's bytes before it is taken, and other statements enter nothing.

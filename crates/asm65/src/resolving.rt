@@ -3,24 +3,24 @@
 ghost use Rattle.std.specs.Prelude.{◌≡◌, ◌∷◌, ◌++◌, [], None, Some, Bool, Option, OnOk, IfOk, not, if◌then◌else◌};
 ghost use Rattle.std.specs.List.{list_any};
 ghost use Rattle.std.specs.Str.{bytes_eq};
-ghost use Rattle.semantics65.specs.Contents.{exported_names, telling};
-ghost use Rattle.base65.specs.Outcome.{Gives};
+ghost use Rattle.semantics65.specs.Contents.{exported_names, declaration_content};
+ghost use Rattle.base65.specs.Outcome.{Refines};
 ghost use Rattle.ast65.specs.Faults.{is_memory};
 ghost use Rattle.semantics65.specs.declared.laid.Context.{Context as Site};
-ghost use Rattle.semantics65.specs.Symbols.{defined, named};
+ghost use Rattle.semantics65.specs.Symbols.{definition_index, named};
 ghost use Rattle.semantics65.specs.Views.{said_at};
-ghost use Rattle.semantics65.specs.Module.{asserted, comes_behind, datum, quietly, used};
+ghost use Rattle.semantics65.specs.Module.{asserted, piece_result, datum, quietly, value_result};
 ghost use Rattle.symbols65.specs.Resolving.{IsTable};
 ghost use Rattle.symbols65.specs.Views.{table_of};
-ghost use Rattle.asm65.specs.Inner.Running.{entry_at, HasDefined, made_at, noted, place_here, StandsAt};
-ghost use Rattle.asm65.specs.declared.resolving.Spot.{Spot};
-ghost use Rattle.emit65.specs.Fed.{names_of, piece_of};
-ghost use Rattle.emit65.specs.declared.fixups.Piece.TheVariants.{Export};
+ghost use Rattle.asm65.specs.Internal.RunState.{entry_at, HasDefined, made_at, declaration_result, place_here, StandsAt};
+ghost use Rattle.asm65.specs.declared.resolving.FixupLocation.{FixupLocation};
+ghost use Rattle.emit65.specs.SectionContents.{names_of, piece_of};
+ghost use Rattle.emit65.specs.declared.fixups.FixupKind.TheVariants.{Export};
 
-use crate::putting::values::{is_file_name, literal_of};
+use crate::emission::values::{is_file_name, literal_of};
 use ast65::AsmFault;
-use base65::{Seed, Sequence};
-use emit65::{Entry, Fixup, Piece, Saying, SourcePos};
+use base65::{ListVec, Seed};
+use emit65::{Fixup, FixupKind, LocatedDeclaration, SectionEntry, SourcePos};
 use indexmap::IndexSet;
 use object65::{Action, Norm, Width, fits, put};
 use semantics65::{Context, Declaration, GLOBAL_SCOPE};
@@ -32,21 +32,21 @@ pub type ExportedNames = IndexSet<Vec<u8>, Seed>;
 
 /// What a piece comes to.
 #[derive(Drop)]
-pub struct Made {
+pub struct ResolvedPiece {
     /// What is put or said, if something is.
-    pub entry: Option<Entry>,
+    pub entry: Option<SectionEntry>,
     /// The text of an assertion that failed, where that is a warning.
-    pub warning: Option<Sequence<u8>>,
+    pub warning: Option<ListVec<u8>>,
 }
 
 /// Where a piece that waits stands: its place, in one of these files.
 #[derive(Clone, Copy)]
-pub struct Spot<'a> {
+pub struct FixupLocation<'a> {
     pub files: &'a [String],
     pub pos: SourcePos,
 }
 
-impl<'a> Spot<'a> {
+impl<'a> FixupLocation<'a> {
     /// The name of the file, empty where there is none.
     pub fn file(self) -> &'a str
         ensures { result.now ≡ (place_here self.entry).file }
@@ -59,43 +59,51 @@ impl<'a> Spot<'a> {
 }
 
 /// Nothing is put anywhere.
-fn nothing() -> Made
-    ensures made { (spot : Spot) → made_at spot result ≡ quietly (telling []) }
+fn nothing() -> ResolvedPiece
+    ensures made { (spot : FixupLocation) → made_at spot result ≡ quietly (declaration_content []) }
     ensures entry { result.entry ≡ None }
 {
-    Made {
+    ResolvedPiece {
         entry: None,
         warning: None,
     }
 }
 
 /// One thing is put or said.
-fn one(entry: Entry) -> Made
-    ensures made { (spot : Spot) → made_at spot result ≡ quietly (entry_at spot entry) }
+fn one(entry: SectionEntry) -> ResolvedPiece
+    ensures made { (spot : FixupLocation) → made_at spot result ≡ quietly (entry_at spot entry) }
     ensures entry { result.entry ≡ Some entry }
 {
-    Made {
+    ResolvedPiece {
         entry: Some(entry),
         warning: None,
     }
 }
 
 /// One thing is said.
-fn told(alloc: Global, spot: Spot<'_>, said: Declaration) -> Result<Made, AllocError>
+fn told(
+    alloc: Global,
+    spot: FixupLocation<'_>,
+    said: Declaration,
+) -> Result<ResolvedPiece, AllocError>
     ensures made { IfOk result (λ m. made_at spot.entry m ≡
-        quietly (telling (said_at (place_here spot.entry) said ∷ []))) }
+        quietly (declaration_content (said_at (place_here spot.entry) said ∷ []))) }
     ensures standing { IfOk result (StandsAt spot.entry.pos) }
 {
-    let saying = Saying {
+    let saying = LocatedDeclaration {
         pos: spot.pos,
         said,
     };
-    Ok(one(Entry::Told(Box::new(alloc, saying)?)))
+    Ok(one(SectionEntry::DeclarationEntry(Box::new(alloc, saying)?)))
 }
 
 /// One thing is said in a file whose name an object can hold.
-fn written(alloc: Global, spot: Spot<'_>, said: Declaration) -> Result<Made, AsmFault>
-    ensures made { Gives is_memory (made_at spot.entry) result (noted (place_here spot.entry) said) }
+fn written(
+    alloc: Global,
+    spot: FixupLocation<'_>,
+    said: Declaration,
+) -> Result<ResolvedPiece, AsmFault>
+    ensures made { Refines is_memory (made_at spot.entry) result (declaration_result (place_here spot.entry) said) }
     ensures standing { IfOk result (StandsAt spot.entry.pos) }
 {
     if !is_file_name(spot.file()) {
@@ -108,12 +116,12 @@ fn written(alloc: Global, spot: Spot<'_>, said: Declaration) -> Result<Made, Asm
 fn use_datum(
     alloc: Global,
     width: Width,
-    spot: Spot<'_>,
+    spot: FixupLocation<'_>,
     context: Context,
     form: Norm,
-) -> Result<Made, AsmFault>
-    ensures made { Gives is_memory (made_at spot.entry) result
-        (used (place_here spot.entry) context (datum width) form) }
+) -> Result<ResolvedPiece, AsmFault>
+    ensures made { Refines is_memory (made_at spot.entry) result
+        (value_result (place_here spot.entry) context (datum width) form) }
     ensures standing { IfOk result (StandsAt spot.entry.pos) }
 {
     let segment = context.segment;
@@ -122,14 +130,14 @@ fn use_datum(
             if !fits(width, value) {
                 return Err(AsmFault::OutOfRange);
             }
-            let bytes = Sequence::from_vec(Vec::from_slice(alloc, &put(width, value))?);
-            Ok(one(Entry::Bytes { segment, bytes }))
+            let bytes = ListVec::from_vec(Vec::from_slice(alloc, &put(width, value))?);
+            Ok(one(SectionEntry::Bytes { segment, bytes }))
         }
         None => {
             if !is_file_name(spot.file()) {
                 return Err(AsmFault::FileNameTooLong);
             }
-            Ok(one(Entry::Value {
+            Ok(one(SectionEntry::Value {
                 width,
                 segment,
                 pos: spot.pos,
@@ -143,18 +151,18 @@ fn use_datum(
 fn use_assertion(
     alloc: Global,
     action: Action,
-    spot: Spot<'_>,
-    text: Sequence<u8>,
+    spot: FixupLocation<'_>,
+    text: ListVec<u8>,
     form: Norm,
-) -> Result<Made, AsmFault>
-    ensures made { (s : Site) → Gives is_memory (made_at spot.entry) result
-        (used (place_here spot.entry) s (asserted action text) form) }
+) -> Result<ResolvedPiece, AsmFault>
+    ensures made { (s : Site) → Refines is_memory (made_at spot.entry) result
+        (value_result (place_here spot.entry) s (asserted action text) form) }
     ensures standing { IfOk result (StandsAt spot.entry.pos) }
 {
     match literal_of(&form) {
         Some(0) => match action {
             Action::Error => Err(AsmFault::Assertion(text)),
-            Action::Warning => Ok(Made {
+            Action::Warning => Ok(ResolvedPiece {
                 entry: None,
                 warning: Some(text),
             }),
@@ -166,7 +174,7 @@ fn use_assertion(
 
 /// The place of the definition of a name in the global scope.
 fn defined(symbols: &Symbols, name: &[u8]) -> Option<usize>
-    ensures { result ≡ defined (table_of symbols.now) (named 0 name.now) }
+    ensures { result ≡ definition_index (table_of symbols.now) (named 0 name.now) }
 {
     symbols.defined(Key::Named {
         scope: GLOBAL_SCOPE as usize,
@@ -193,15 +201,15 @@ fn resolve_export(
     symbols: &Symbols,
     known: &mut NormCache,
     exported: &mut ExportedNames,
-    spot: Spot<'_>,
+    spot: FixupLocation<'_>,
     place: usize,
-    name: Sequence<u8>,
-) -> Result<Made, AsmFault>
+    name: ListVec<u8>,
+) -> Result<ResolvedPiece, AsmFault>
     requires table { IsTable (table_of symbols.now) known.old.states.items }
     requires names { HasDefined (table_of symbols.now) (names_of exported.old) }
-    requires place { defined (table_of symbols.now) (named 0 name) ≡ Some place }
-    ensures made { (must : Bool) (s : Site) → Gives is_memory (made_at spot.entry) result
-        (comes_behind (table_of symbols.now) (names_of exported.old) (place_here spot.entry) s
+    requires place { definition_index (table_of symbols.now) (named 0 name) ≡ Some place }
+    ensures made { (must : Bool) (s : Site) → Refines is_memory (made_at spot.entry) result
+        (piece_result (table_of symbols.now) (names_of exported.old) (place_here spot.entry) s
         (piece_of (Export must name))) }
     ensures standing { IfOk result (StandsAt spot.entry.pos) }
     ensures table { OnOk result (IsTable (table_of symbols.now) known.new.states.items) }
@@ -222,13 +230,13 @@ pub fn resolve(
     symbols: &Symbols,
     known: &mut NormCache,
     exported: &mut ExportedNames,
-    spot: Spot<'_>,
+    spot: FixupLocation<'_>,
     fixup: Fixup,
-) -> Result<Made, AsmFault>
+) -> Result<ResolvedPiece, AsmFault>
     requires table { IsTable (table_of symbols.now) known.old.states.items }
     requires names { HasDefined (table_of symbols.now) (names_of exported.old) }
-    ensures made { Gives is_memory (made_at spot.entry) result
-        (comes_behind (table_of symbols.now) (names_of exported.old) (place_here spot.entry)
+    ensures made { Refines is_memory (made_at spot.entry) result
+        (piece_result (table_of symbols.now) (names_of exported.old) (place_here spot.entry)
         fixup.context (piece_of fixup.piece)) }
     ensures standing { IfOk result (StandsAt spot.entry.pos) }
     ensures table { OnOk result (IsTable (table_of symbols.now) known.new.states.items) }
@@ -238,20 +246,20 @@ pub fn resolve(
 {
     let Fixup { context, piece, .. } = fixup;
     match piece {
-        Piece::Datum { width, value } => {
+        FixupKind::Datum { width, value } => {
             let form = norm(alloc, symbols, known, context, &value)?;
             use_datum(alloc, width, spot, context, form)
         }
-        Piece::Operand { width, value } => {
+        FixupKind::Operand { width, value } => {
             let form = norm(alloc, symbols, known, context, &value)?;
             let form = operand_form(alloc, width, context, form)?;
             use_datum(alloc, width, spot, context, form)
         }
-        Piece::Constant(value) => {
+        FixupKind::Constant(value) => {
             norm(alloc, symbols, known, context, &value)?;
             Ok(nothing())
         }
-        Piece::Assertion {
+        FixupKind::Assertion {
             action,
             text,
             value,
@@ -260,12 +268,12 @@ pub fn resolve(
             use_assertion(alloc, action, spot, text, form)
         }
         // The module may not define what it imports.
-        Piece::Import(name) => match defined(symbols, name.as_slice()) {
+        FixupKind::Import(name) => match defined(symbols, name.as_slice()) {
             Some(_) => Err(AsmFault::ImportedAndDefined(name)),
             None => Ok(nothing()),
         },
-        Piece::ForcedImport(name) => Ok(told(alloc, spot, Declaration::ForcedImport(name))?),
-        Piece::Export { must, name } => match defined(symbols, name.as_slice()) {
+        FixupKind::ForcedImport(name) => Ok(told(alloc, spot, Declaration::ForcedImport(name))?),
+        FixupKind::Export { must, name } => match defined(symbols, name.as_slice()) {
             Some(place) => resolve_export(alloc, symbols, known, exported, spot, place, name),
             None if must => Err(AsmFault::NotDefined(name)),
             None => Ok(nothing()),

@@ -1,16 +1,16 @@
 //! What is said while a source is assembled, and why it has no object.
 
 ghost use Rattle.std.specs.Prelude.{◌≡◌, [], false, true, unwrap_or, ◌++◌, codes, OnOk};
-ghost use Rattle.ast65.specs.Faults.{is_failure, is_outside};
-ghost use Rattle.asm65.specs.Assembly.{has_failed, is_outside_refusal, placed_of};
+ghost use Rattle.ast65.specs.Faults.{is_failure, is_system_error};
+ghost use Rattle.asm65.specs.Assembly.{has_failed, is_diagnostic_system_error, placed_of};
 ghost use Rattle.semantics65.specs.Views.{place_at, place_in};
 ghost use Rattle.semantics65.specs.Module.{out_of, warning_at, warning_of};
 
 use ast65::{AsmFault, Statement};
-use base65::{Sequence, Text};
+use base65::{ListVec, PathString};
 use expand65::ExpandFault;
 use itoa::Buffer;
-use semantics65::At;
+use semantics65::LocationRef;
 use std::alloc::{AllocError, Global};
 
 /// Whether the store failed.
@@ -24,28 +24,28 @@ pub fn is_failure(fault: &AsmFault) -> bool
 }
 
 /// Whether memory ran out, or the store failed.
-pub fn is_outside(fault: &AsmFault) -> bool
-    ensures { result ≡ is_outside fault.now }
+pub fn is_system_error(fault: &AsmFault) -> bool
+    ensures { result ≡ is_system_error fault.now }
 {
     fault.is_memory() || is_failure(fault)
 }
 
 /// Why a source has no object, and where: the line is 0 where none was read.
 #[derive(Drop)]
-pub struct AsmRefusal {
+pub struct Diagnostic {
     /// The file of the line, or the source where no line was read; none where memory ran out, or where the source could not be opened.
-    pub file: Option<Text>,
+    pub file: Option<PathString>,
     pub line: u32,
     pub fault: AsmFault,
 }
 
-impl AsmRefusal {
+impl Diagnostic {
     /// Memory ran out, perhaps for the name of a file.
     pub fn without_memory() -> Self
-        ensures outside { is_outside_refusal result ≡ true }
+        ensures outside { is_diagnostic_system_error result ≡ true }
         ensures inside { has_failed result ≡ false }
     {
-        AsmRefusal {
+        Diagnostic {
             file: None,
             line: 0,
             fault: AsmFault::OutOfMemory,
@@ -53,20 +53,20 @@ impl AsmRefusal {
     }
 
     /// The refusal of a fault at a line.
-    pub fn of_fault(alloc: Global, at: At<'_>, fault: AsmFault) -> Self
-        ensures placed { is_outside_refusal result ≡ false → placed_of result ≡
+    pub fn of_fault(alloc: Global, at: LocationRef<'_>, fault: AsmFault) -> Self
+        ensures placed { is_diagnostic_system_error result ≡ false → placed_of result ≡
             record { place = place_at at.entry; fault = fault } }
-        ensures outside { is_outside fault ≡ true → is_outside_refusal result ≡ true }
+        ensures outside { is_system_error fault ≡ true → is_diagnostic_system_error result ≡ true }
         ensures inside { is_failure fault ≡ false → has_failed result ≡ false }
-        ensures kept { is_outside fault ≡ false → has_failed result ≡ false }
+        ensures kept { is_system_error fault ≡ false → has_failed result ≡ false }
     {
-        match Text::copy_of(alloc, at.file) {
-            Ok(file) => AsmRefusal {
+        match PathString::copy_of(alloc, at.file) {
+            Ok(file) => Diagnostic {
                 file: Some(file),
                 line: at.line,
                 fault,
             },
-            Err(_) => AsmRefusal::without_memory(),
+            Err(_) => Diagnostic::without_memory(),
         }
     }
 
@@ -81,34 +81,38 @@ impl AsmRefusal {
     }
 
     /// Whether memory ran out, or the store failed.
-    pub fn is_outside(&self) -> bool
-        ensures { result ≡ is_outside_refusal self.now }
+    pub fn is_system_error(&self) -> bool
+        ensures { result ≡ is_diagnostic_system_error self.now }
     {
-        is_outside(&self.fault)
+        is_system_error(&self.fault)
     }
 }
 
 /// What is said: to standard output, and to standard error.
 #[derive(Drop)]
-pub struct Texts {
-    pub out: Sequence<u8>,
-    pub err: Sequence<u8>,
+pub struct ConsoleOutput {
+    pub out: ListVec<u8>,
+    pub err: ListVec<u8>,
 }
 
-impl Texts {
+impl ConsoleOutput {
     /// Nothing is said.
     pub fn new(alloc: Global) -> Self
         ensures out { result.out ≡ [] }
         ensures err { result.err ≡ [] }
     {
-        Texts {
-            out: Sequence::new(alloc),
-            err: Sequence::new(alloc),
+        ConsoleOutput {
+            out: ListVec::new(alloc),
+            err: ListVec::new(alloc),
         }
     }
 
     /// Adds what a statement prints.
-    pub fn say(&mut self, at: At<'_>, statement: &Statement) -> Result<(), AllocError>
+    pub fn record_output(
+        &mut self,
+        at: LocationRef<'_>,
+        statement: &Statement,
+    ) -> Result<(), AllocError>
         ensures out { OnOk result (self.new.out ≡ self.old.out ++ out_of statement.now) }
         ensures err { OnOk result (self.new.err ≡
             self.old.err ++ warning_of (place_at at.entry)
@@ -124,7 +128,7 @@ impl Texts {
 
 /// Adds a line of words.
 #[inline(never)]
-fn add_line(out: &mut Sequence<u8>, words: &[u8]) -> Result<(), AllocError>
+fn add_line(out: &mut ListVec<u8>, words: &[u8]) -> Result<(), AllocError>
     ensures { OnOk result (out.new ≡ out.old ++ (words.now ++ codes "\n")) }
 {
     out.extend_from_slice(words)?;
@@ -134,7 +138,7 @@ fn add_line(out: &mut Sequence<u8>, words: &[u8]) -> Result<(), AllocError>
 
 /// Adds a warning at a line of a file.
 #[inline(never)]
-pub fn warn(err: &mut Sequence<u8>, file: &str, line: u32, words: &[u8]) -> Result<(), AllocError>
+pub fn warn(err: &mut ListVec<u8>, file: &str, line: u32, words: &[u8]) -> Result<(), AllocError>
     ensures { OnOk result (err.new ≡ err.old ++ warning_at (place_in file.now line) words.now) }
 {
     let mut buffer = Buffer::new();

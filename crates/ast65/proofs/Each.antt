@@ -2,12 +2,12 @@
 use Rattle.std.proofs.Common.{◌≡◌, ◌≢◌, ℕ, suc, Bool, true, false, List, [], ◌∷◌, ◌++◌, length, Option, Some, None, Result, Ok, Err, refl, ap, sym, ◌∙◌, subst, append_assoc, append-nil, option_map, Bor}
 use Rattle.std.specs.Result.{IsErrAnd}
 use Rattle.base65.specs.Outcome.{◌>>=◌, Unless}
-use Rattle.base65.specs.Relations.{Answers}
+use Rattle.base65.specs.Relations.{RefinesRel}
 use Rattle.syntax65.specs.Tokens.{Lexeme, lexemes}
 use Rattle.syntax65.specs.declared.lexing.tokens.Token.{Token}
 use Rattle.syntax65.specs.Trees.{Tree}
-use Rattle.ast65.specs.Faults.{is_outside}
-use Rattle.ast65.specs.Parsing.{parts_behind, parts_of, unknown, words_of, EachIs, IsOneOrTwo, IsRange, Parses, Then}
+use Rattle.ast65.specs.Faults.{is_system_error}
+use Rattle.ast65.specs.Parsing.{parts_after, parts_of, unknown, words_of, EachIs, IsOneOrTwo, IsRange, RefinesParse, AndThenReturn}
 use Rattle.ast65.proofs.Parts.{some_part, too_many, too_many_words}
 use Rattle.ast65.specs.declared.fault.AsmFault.{AsmFault}
 
@@ -16,7 +16,7 @@ abbrev pub before : {B : Type 0} → List B → Result (List B) AsmFault → Res
 before found r = r >>= (λ more. Ok (found ++ more))
 
 abbrev pub parts_left : Option (Bor (List Token)) → List (List Lexeme)
-parts_left rest = parts_behind (option_map (λ r. lexemes r.now) rest)
+parts_left rest = parts_after (option_map (λ r. lexemes r.now) rest)
 
 abbrev pub count_left : Option (Bor (List Token)) → ℕ
 count_left None = 0
@@ -34,8 +34,8 @@ pub one_more : {B : Type 0} (Is : List Lexeme → Result B AsmFault → Type 0) 
 one_more Is all found part left y h goes r more = rw (further found y r) (goes (r >>= (λ ys. Ok (y ∷ ys))) (Ok y, h, (r, more, refl)))
 
 -- the next part is taken off
-pub taken : {B : Type 0} (Is : List Lexeme → Result B AsmFault → Type 0) (all : List (List Lexeme)) (found : List B) (rest : Option (Bor (List Token))) (left : Bor (List Token)) (part : List Lexeme) (behind : List (List Lexeme)) → rest ≡ Some left → parts_of (lexemes left.now) ≡ part ∷ behind → GoesOn Is all found (parts_left rest) → GoesOn Is all found (part ∷ behind)
-taken Is all found rest left part behind e f goes =
+pub taken : {B : Type 0} (Is : List Lexeme → Result B AsmFault → Type 0) (all : List (List Lexeme)) (found : List B) (rest : Option (Bor (List Token))) (left : Bor (List Token)) (part : List Lexeme) (following : List (List Lexeme)) → rest ≡ Some left → parts_of (lexemes left.now) ≡ part ∷ following → GoesOn Is all found (parts_left rest) → GoesOn Is all found (part ∷ following)
+taken Is all found rest left part following e f goes =
     let P : List (List Lexeme) → Type 0 = λ ps. GoesOn Is all found ps in
     let Q : Option (Bor (List Token)) → Type 0 = λ o. GoesOn Is all found (parts_left o) in
     subst P f (subst Q e goes)
@@ -43,9 +43,9 @@ taken Is all found rest left part behind e f goes =
 at_end : {B : Type 0} (Is : List Lexeme → Result B AsmFault → Type 0) (all : List (List Lexeme)) (found : List B) → GoesOn Is all found [] → EachIs Is all (Ok found)
 at_end Is all found goes = let P : List _ → Type 0 = λ xs. EachIs Is all (Ok xs) in subst P (append-nil found) (goes (Ok []) refl)
 
-pub stops : {B X : Type 0} (Is : List Lexeme → Result B AsmFault → Type 0) (all : List (List Lexeme)) (found : List B) (part : List Lexeme) (left : List (List Lexeme)) (view : X → List B) (result : Result X AsmFault) (e : AsmFault) → IsErrAnd result (λ f. f ≡ e) → Unless (is_outside e) (Is part (Err e)) → GoesOn Is all found (part ∷ left) → Answers is_outside view result (EachIs Is all)
+pub stops : {B X : Type 0} (Is : List Lexeme → Result B AsmFault → Type 0) (all : List (List Lexeme)) (found : List B) (part : List Lexeme) (left : List (List Lexeme)) (view : X → List B) (result : Result X AsmFault) (e : AsmFault) → IsErrAnd result (λ f. f ≡ e) → Unless (is_system_error e) (Is part (Err e)) → GoesOn Is all found (part ∷ left) → RefinesRel is_system_error view result (EachIs Is all)
 stops Is all found part left view (Ok x) e h i goes = absurd h
-stops Is all found part left view (Err f) e h i goes = rw h (go (is_outside e) i)
+stops Is all found part left view (Err f) e h i goes = rw h (go (is_system_error e) i)
   where
     go : (t : Bool) → Unless t (Is part (Err e)) → Unless t (EachIs Is all (Err e))
     go true j = tt
@@ -66,12 +66,12 @@ three_parts ts n v rest more b c e f g h =
     subst P (sym all) (subst Q (sym next) (too_many n v (lexemes c.now)))
 
 -- what stands behind a comma has a part, so a start
-pub some_range : (rest : Option (Bor (List Token))) (b : Bor (List Token)) (result : Result (Option Tree × Option Tree) AsmFault) → rest ≡ Some b → Parses result (Then (IsOneOrTwo (parts_of (lexemes b.now))) (λ x. Ok (Some x.0, x.1))) → Parses result (IsRange (parts_left rest))
+pub some_range : (rest : Option (Bor (List Token))) (b : Bor (List Token)) (result : Result (Option Tree × Option Tree) AsmFault) → rest ≡ Some b → RefinesParse result (AndThenReturn (IsOneOrTwo (parts_of (lexemes b.now))) (λ x. Ok (Some x.0, x.1))) → RefinesParse result (IsRange (parts_left rest))
 some_range rest b result e h =
-    let P : Option (Bor (List Token)) → Type 0 = λ o. Parses result (IsRange (parts_left o)) in
+    let P : Option (Bor (List Token)) → Type 0 = λ o. RefinesParse result (IsRange (parts_left o)) in
     subst P (sym e) (go (parts_of (lexemes b.now)) (some_part (lexemes b.now)) h)
   where
-    go : (ps : List (List Lexeme)) → ps ≢ [] → Parses result (Then (IsOneOrTwo ps) (λ x. Ok (Some x.0, x.1))) → Parses result (IsRange ps)
+    go : (ps : List (List Lexeme)) → ps ≢ [] → RefinesParse result (AndThenReturn (IsOneOrTwo ps) (λ x. Ok (Some x.0, x.1))) → RefinesParse result (IsRange ps)
     go [] n h = absurd (n refl)
     go (p ∷ ps) n h = h
 

@@ -3,10 +3,10 @@ use Rattle.std.proofs.Common.{◌≡◌, ℕ, List, [], ◌∷◌, Option, Some,
 use Rattle.syntax65.specs.Expressions.{IsParsed, NoOperator, Phrase, a_leaf, binary_at, leaf_of, of_level, opening_at, opening_of, text_at}
 use Rattle.syntax65.specs.Tokens.{Lexeme, lexeme_of, lexemes}
 use Rattle.syntax65.specs.Trees.{Tree, number}
-use Rattle.syntax65.specs.declared.expressions.words.Opening.TheVariants.{Number}
+use Rattle.syntax65.specs.declared.expressions.words.OperandStart.TheVariants.{Number}
 use Rattle.syntax65.specs.declared.lexing.tokens.Token.{Token}
-use Rattle.ast65.specs.Items.{numbered}
-use Rattle.ast65.specs.declared.reading.words.Elements.{Elements}
+use Rattle.ast65.specs.Items.{literal_item}
+use Rattle.ast65.specs.declared.reading.words.ElementKind.{ElementKind}
 use Rattle.ast65.specs.Parsing.{quoted_in, IsItem}
 use Rattle.ast65.proofs.Parts.{is_item, is_whole}
 
@@ -26,14 +26,14 @@ phrase ts t h =
 pub alone : (ts : List Lexeme) (v : ℕ) → opening_at ts 0 ≡ Number v → binary_at ts 1 ≡ None → IsParsed ts (Ok (number v, 1))
 alone ts v o e = record { phrase = phrase ts (number v) (ap (λ x. leaf_of x (text_at ts 0)) o); ends = no_operator ts e }
 
-pub alone_if : (o : Option ℕ) (all behind : List Token) (first : Token) → all ≡ first ∷ behind → IfSome o (λ v. opening_of first.kind first.text.now ≡ Number v) → binary_at (lexemes behind) 0 ≡ None → IfSome o (λ v. IsParsed (lexemes all) (Ok (number v, 1)))
-alone_if None all behind first e n b = tt
-alone_if (Some v) all behind first e n b =
+pub alone_if : (o : Option ℕ) (all following : List Token) (first : Token) → all ≡ first ∷ following → IfSome o (λ v. opening_of first.kind first.text.now ≡ Number v) → binary_at (lexemes following) 0 ≡ None → IfSome o (λ v. IsParsed (lexemes all) (Ok (number v, 1)))
+alone_if None all following first e n b = tt
+alone_if (Some v) all following first e n b =
     let P : List Token → Type 0 = λ ts. IsParsed (lexemes ts) (Ok (number v, 1)) in
-    subst P (sym e) (alone (lexemes (first ∷ behind)) v n b)
+    subst P (sym e) (alone (lexemes (first ∷ following)) v n b)
 
 -- so it is an element of a list
-pub number_item : (all behind : List Token) (first : Token) (v : ℕ) → all ≡ first ∷ behind → opening_of first.kind first.text.now ≡ Number v → quoted_in (lexeme_of first) ≡ None → (e : Elements) → IsItem e (lexemes (take 1 all)) (Ok (numbered v))
-number_item all behind first v is n q e =
-    let P : List Token → Type 0 = λ ts. IsItem e (lexemes (take 1 ts)) (Ok (numbered v)) in
+pub number_item : (all following : List Token) (first : Token) (v : ℕ) → all ≡ first ∷ following → opening_of first.kind first.text.now ≡ Number v → quoted_in (lexeme_of first) ≡ None → (e : ElementKind) → IsItem e (lexemes (take 1 all)) (Ok (literal_item v))
+number_item all following first v is n q e =
+    let P : List Token → Type 0 = λ ts. IsItem e (lexemes (take 1 ts)) (Ok (literal_item v)) in
     subst P (sym is) (is_item e (lexemes (first ∷ [])) v (is_whole (first ∷ []) (number v) 1 (alone (lexemes (first ∷ [])) v n refl) refl) q)

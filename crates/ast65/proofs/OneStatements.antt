@@ -3,18 +3,18 @@ use Rattle.std.proofs.Common.{◌≡◌, ◌∙◌, ℕ, Bool, true, false, List
 use Rattle.std.specs.Prelude.{Result, Ok, Err, length, codes, MatchBool, MatchOption}
 use Rattle.syntax65.specs.Expressions.{IsParsed}
 use Rattle.syntax65.specs.Mnemonics.{mnemonic_of}
-use Rattle.base65.specs.Outcome.{◌>>=◌, First}
+use Rattle.base65.specs.Outcome.{◌>>=◌, AndThen}
 use Rattle.syntax65.specs.Tokens.{Lexeme}
 use Rattle.syntax65.specs.Trees.{Tree}
 use Rattle.syntax65.specs.declared.instructions.names.Mnemonic.{Mnemonic}
 use Rattle.syntax65.specs.declared.lexing.tokens.TokenKind.TheVariants as token
-use Rattle.syntax65.specs.declared.lexing.tokens.Mark.TheVariants as mark
+use Rattle.syntax65.specs.declared.lexing.tokens.Punctuation.TheVariants as mark
 use Rattle.syntax65.proofs.Parses.{one_parse}
 use Rattle.ast65.specs.declared.fault.AsmFault.{AsmFault}
 use Rattle.ast65.specs.declared.reading.words.Directive.{Directive}
 use Rattle.ast65.specs.declared.reading.words.Directive.TheVariants as directive
-use Rattle.ast65.specs.declared.reading.words.Elements.{Elements}
-use Rattle.ast65.specs.declared.reading.words.Elements.TheVariants as elements
+use Rattle.ast65.specs.declared.reading.words.ElementKind.{ElementKind}
+use Rattle.ast65.specs.declared.reading.words.ElementKind.TheVariants as elements
 use Rattle.ast65.specs.declared.language.Index.{Index}
 use Rattle.ast65.specs.declared.language.Operand.{Operand}
 use Rattle.ast65.specs.declared.language.Statement.{Statement}
@@ -33,18 +33,18 @@ One Is = (r s : _) → Is r → Is s → r ≡ s
 
 -- ---- Steps.
 
-then_one : {A B : Type 0} (Is : Result A AsmFault → Type 0) (next : A → Result B AsmFault) → One Is → One (p.Then Is next)
+then_one : {A B : Type 0} (Is : Result A AsmFault → Type 0) (next : A → Result B AsmFault) → One Is → One (p.AndThenReturn Is next)
 then_one Is next one r s h k = h.2 ∙ ap (λ q. q >>= next) (one h.0 k.0 h.1 k.1) ∙ sym k.2
 
-pub first_one : {E A B : Type 0} (q : Result A E) (Next : A → Result B E → Type 0) → ((x : A) → One (Next x)) → One (First q Next)
+pub first_one : {E A B : Type 0} (q : Result A E) (Next : A → Result B E → Type 0) → ((x : A) → One (Next x)) → One (AndThen q Next)
 first_one (Ok x) Next one r s h k = one x r s h k
 first_one (Err e) Next one r s h k = h ∙ sym k
 
 -- what was found first is the same, and so what follows
-pub followed_one : {E F A B : Type 0} (Is : Result A E → Type 0) (by : Result A E → Result A F) (Next : A → Result B F → Type 0) → One Is → ((x : A) → One (Next x)) → One (λ r. (q : Result A E) × Is q × First (by q) Next r)
+pub followed_one : {E F A B : Type 0} (Is : Result A E → Type 0) (by : Result A E → Result A F) (Next : A → Result B F → Type 0) → One Is → ((x : A) → One (Next x)) → One (λ r. (q : Result A E) × Is q × AndThen (by q) Next r)
 followed_one Is by Next one next r s h k =
     let same = one k.0 h.0 k.1 h.1 in
-    first_one (by h.0) Next next r s h.2 (subst (λ q. First (by q) Next s) same k.2)
+    first_one (by h.0) Next next r s h.2 (subst (λ q. AndThen (by q) Next s) same k.2)
 
 pub made_one : {A B : Type 0} (Is : A → Type 0) (make : A → B) → One Is → One (λ r. (q : A) × Is q × (r ≡ make q))
 made_one Is make one r s h k = h.2 ∙ ap make (one h.0 k.0 h.1 k.1) ∙ sym k.2
@@ -60,10 +60,10 @@ test_one false P Q where_true where_false = where_false
 -- ---- Expressions.
 
 expression_one : (ts : List Lexeme) → One (p.IsExpression ts)
-expression_one ts = made_one (IsParsed ts) (p.whole (length ts)) (one_parse ts)
+expression_one ts = made_one (IsParsed ts) (p.complete_expression (length ts)) (one_parse ts)
 
 front_one : (ts : List Lexeme) → One (p.IsFront ts)
-front_one ts = made_one (IsParsed ts) (p.behind ts) (one_parse ts)
+front_one ts = made_one (IsParsed ts) (p.expression_and_rest ts) (one_parse ts)
 
 -- ---- Lists.
 
@@ -76,11 +76,11 @@ each_one {A} {B} Is one (x ∷ xs) r s h k =
 value_one : (ts : List Lexeme) → One (p.IsValue ts)
 value_one ts = then_one (p.IsExpression ts) (λ x. Ok (item.Value x)) (expression_one ts)
 
-text_item_one : (ts : List Lexeme) (w : Option (List ℕ)) → One (λ r. MatchOption w (p.IsValue ts r) (λ s. r ≡ Ok (item.Text s)))
+text_item_one : (ts : List Lexeme) (w : Option (List ℕ)) → One (λ r. MatchOption w (p.IsValue ts r) (λ s. r ≡ Ok (item.StringLiteral s)))
 text_item_one ts None = value_one ts
-text_item_one ts (Some s) = same_one (Ok (item.Text s))
+text_item_one ts (Some s) = same_one (Ok (item.StringLiteral s))
 
-item_one : (which : Elements) (ts : List Lexeme) → One (p.IsItem which ts)
+item_one : (which : ElementKind) (ts : List Lexeme) → One (p.IsItem which ts)
 item_one elements.Values ts = value_one ts
 item_one elements.ValuesAndTexts ts = text_item_one ts (p.string_of ts)
 
@@ -94,7 +94,7 @@ ended_one end make ts = then_one (p.IsFront ts) (λ x. end x.1 >>= (λ i. Ok (ma
 
 plain_operand_one : (ts : List Lexeme) → One (p.IsPlainOperand ts)
 unfolding IsPlainOperand
-plain_operand_one ts = test_one (p.spelled (p.word_of ts) (codes "a")) (λ r. r ≡ Ok operand.Accumulator) (p.IsEnded p.index_of (operand.Address None) ts) (same_one (Ok operand.Accumulator)) (ended_one p.index_of (operand.Address None) ts)
+plain_operand_one ts = test_one (p.is_spelled_as (p.word_of ts) (codes "a")) (λ r. r ≡ Ok operand.Accumulator) (p.IsEnded p.index_of (operand.Address None) ts) (same_one (Ok operand.Accumulator)) (ended_one p.index_of (operand.Address None) ts)
 
 operand_one : (ts : List Lexeme) → One (p.IsOperand ts)
 operand_one [] = same_one (Ok operand.Absent)
@@ -108,7 +108,7 @@ operand_one ((k, t) ∷ ts) = plain_operand_one ((k, t) ∷ ts)
 one_or_two_one : (parts : List (List Lexeme)) → One (p.IsOneOrTwo parts)
 one_or_two_one [] = same_one p.unknown
 one_or_two_one (n ∷ []) = then_one (p.IsExpression n) (λ x. Ok (x, None)) (expression_one n)
-one_or_two_one (n ∷ v ∷ []) = followed_one (p.IsExpression n) (λ q. q) (λ x. p.Then (p.IsExpression v) (λ y. Ok (x, Some y))) (expression_one n) (λ x. then_one (p.IsExpression v) (λ y. Ok (x, Some y)) (expression_one v))
+one_or_two_one (n ∷ v ∷ []) = followed_one (p.IsExpression n) (λ q. q) (λ x. p.AndThenReturn (p.IsExpression v) (λ y. Ok (x, Some y))) (expression_one n) (λ x. then_one (p.IsExpression v) (λ y. Ok (x, Some y)) (expression_one v))
 one_or_two_one (n ∷ v ∷ w ∷ parts) = same_one p.unknown
 
 range_one : (parts : List (List Lexeme)) → One (p.IsRange parts)
@@ -118,19 +118,19 @@ range_one (n ∷ parts) = then_one (p.IsOneOrTwo (n ∷ parts)) (λ x. Ok (Some 
 file_part_one : (parts : List (List Lexeme)) → One (p.IsFilePart parts)
 file_part_one [] = same_one p.unknown
 file_part_one (name ∷ range) =
-    first_one (p.understood (p.string_of name)) (λ n. p.Then (p.IsRange range) (λ x. Ok (statement.NamedPart n x.0 x.1)))
-    (λ n. then_one (p.IsRange range) (λ x. Ok (statement.NamedPart n x.0 x.1)) (range_one range))
+    first_one (p.ok_or_not_understood (p.string_of name)) (λ n. p.AndThenReturn (p.IsRange range) (λ x. Ok (statement.IncbinPath n x.0 x.1)))
+    (λ n. then_one (p.IsRange range) (λ x. Ok (statement.IncbinPath n x.0 x.1)) (range_one range))
 
 assertion_one : (parts : List (List Lexeme)) → One (p.IsAssertion parts)
 assertion_one [] = same_one p.unknown
 assertion_one (e ∷ []) = same_one p.unknown
-assertion_one (e ∷ a ∷ rest) = then_one (p.IsExpression e) (λ x. p.understood (p.word_of a) >>= p.action_word >>= (λ act. p.words_of rest >>= (λ text. Ok (statement.Assert x act text)))) (expression_one e)
+assertion_one (e ∷ a ∷ rest) = then_one (p.IsExpression e) (λ x. p.ok_or_not_understood (p.word_of a) >>= p.action_word >>= (λ act. p.words_of rest >>= (λ text. Ok (statement.Assert x act text)))) (expression_one e)
 
 directive_one : (d : Directive) (ts : List Lexeme) → One (p.IsDirective d ts)
 directive_one (directive.List which width) ts = then_one (p.EachIs (p.IsItem which) (p.parts_of ts)) (λ xs. Ok (statement.Values width xs)) (each_one (p.IsItem which) (item_one which) (p.parts_of ts))
-directive_one directive.EndedText ts = same_one _
+directive_one directive.Asciiz ts = same_one _
 directive_one (directive.Amount which) ts = then_one (p.IsOneOrTwo (p.parts_of ts)) (λ x. Ok (p.amount_statement which x.0 x.1)) (one_or_two_one (p.parts_of ts))
-directive_one directive.FilePart ts = file_part_one (p.parts_of ts)
+directive_one directive.Incbin ts = file_part_one (p.parts_of ts)
 directive_one directive.Segment [] = same_one p.unknown
 directive_one directive.Segment (t ∷ ts) = same_one _
 directive_one (directive.Lone which) [] = same_one (Ok (p.lone_statement which))
@@ -147,7 +147,7 @@ directive_one directive.SetProcessor ts = same_one _
 
 constant_one : (n : List ℕ) (ts : List Lexeme) → One (p.IsConstant n ts)
 constant_one n ts =
-    first_one (p.plain_name n) (λ own. p.Then (p.IsExpression ts) (λ x. Ok (statement.Constant own x)))
+    first_one (p.plain_name n) (λ own. p.AndThenReturn (p.IsExpression ts) (λ x. Ok (statement.Constant own x)))
     (λ own. then_one (p.IsExpression ts) (λ x. Ok (statement.Constant own x)) (expression_one ts))
 
 instruction_one : (m : Option Mnemonic) (ts : List Lexeme) → One (p.IsInstruction m ts)
@@ -161,5 +161,5 @@ named_one n (t ∷ ts) = test_one (p.defines t) (p.IsConstant n ts) (p.IsInstruc
 pub statement_one : (ts : List Lexeme) → One (p.IsStatement ts)
 statement_one [] = same_one p.unknown
 statement_one ((token.Identifier, n) ∷ ts) = named_one n ts
-statement_one ((token.Directive, d) ∷ ts) = first_one (p.understood (p.directive_of d)) (λ x. p.IsDirective x ts) (λ x. directive_one x ts)
+statement_one ((token.Directive, d) ∷ ts) = first_one (p.ok_or_not_understood (p.directive_of d)) (λ x. p.IsDirective x ts) (λ x. directive_one x ts)
 statement_one ((_, t) ∷ ts) = same_one p.unknown

@@ -5,16 +5,16 @@ use Rattle.std.specs.List.{prefix_len, onto_first}
 use Rattle.std.proofs.lemmas.List.{take_all}
 use Rattle.syntax65.specs.Expressions.{IsParsed}
 use Rattle.std.specs.Result.{IsErrAnd}
-use Rattle.base65.specs.Outcome.{◌>>=◌, First, Unless}
-use Rattle.base65.specs.Relations.{Answers}
+use Rattle.base65.specs.Outcome.{◌>>=◌, AndThen, Unless}
+use Rattle.base65.specs.Relations.{RefinesRel}
 use Rattle.ast65.specs.declared.fault.AsmFault.{AsmFault}
-use Rattle.ast65.specs.Faults.{is_failure, is_outside}
+use Rattle.ast65.specs.Faults.{is_failure, is_system_error}
 use Rattle.syntax65.specs.Tokens.{Lexeme, lexeme_of, lexemes}
 use Rattle.syntax65.specs.Trees.{Tree, number}
 use Rattle.syntax65.specs.declared.lexing.tokens.Token.{Token}
-use Rattle.ast65.specs.Parsing.{closing_of, index_of, is_close, is_comma, spells, parts_of, string_of, unknown, whole, words_of, IsEnded, IsExpression, IsFront, IsItem, IsOneOrTwo, ParsesAs, Then}
-use Rattle.ast65.specs.declared.reading.words.Elements.{Elements}
-use Rattle.ast65.specs.declared.reading.words.Elements.TheVariants.{Values, ValuesAndTexts}
+use Rattle.ast65.specs.Parsing.{closing_of, index_of, is_close, is_comma, is_word_of, parts_of, string_of, unknown, complete_expression, words_of, IsEnded, IsExpression, IsFront, IsItem, IsOneOrTwo, ParsesAs, AndThenReturn}
+use Rattle.ast65.specs.declared.reading.words.ElementKind.{ElementKind}
+use Rattle.ast65.specs.declared.reading.words.ElementKind.TheVariants.{Values, ValuesAndTexts}
 use Rattle.ast65.specs.declared.language.Index.{Index}
 use Rattle.ast65.specs.declared.language.Index.TheVariants as index
 use Rattle.ast65.specs.declared.language.Item.TheVariants.{Value}
@@ -31,10 +31,10 @@ lexemes_drop (suc n) (t ∷ ts) = lexemes_drop n ts
 
 -- ---- Expressions of all the tokens.
 
-whole_all : (e : Tree) (n count : ℕ) → n ≡ count → whole count (Ok (e, n)) ≡ Ok e
+whole_all : (e : Tree) (n count : ℕ) → n ≡ count → complete_expression count (Ok (e, n)) ≡ Ok e
 whole_all e n count h = go (nat_eq n count) refl
   where
-    go : (t : Bool) → nat_eq n count ≡ t → whole count (Ok (e, n)) ≡ Ok e
+    go : (t : Bool) → nat_eq n count ≡ t → complete_expression count (Ok (e, n)) ≡ Ok e
     go true f = rw f refl
     go false f = absurd (grind (arith, nat_tests))
 
@@ -42,7 +42,7 @@ pub is_whole : (ts : List Token) (e : Tree) (n : ℕ) → IsParsed (lexemes ts) 
 is_whole ts e n h f = (Ok (e, n), h, sym (whole_all e n (length (lexemes ts)) (f ∙ sym (lexemes_len ts))))
 
 -- a number is an element, also where a text may be one
-pub is_item : (elements : Elements) (ts : List Lexeme) (v : ℕ) → IsExpression ts (Ok (number v)) → string_of ts ≡ None → IsItem elements ts (Ok (Value (number v)))
+pub is_item : (elements : ElementKind) (ts : List Lexeme) (v : ℕ) → IsExpression ts (Ok (number v)) → string_of ts ≡ None → IsItem elements ts (Ok (Value (number v)))
 is_item Values ts v h n = (Ok (number v), h, refl)
 is_item ValuesAndTexts ts v h n = rw n (Ok (number v), h, refl)
 
@@ -53,16 +53,16 @@ is_front ts e n h =
     rw all (Ok (e, n), h, ap (λ us. Ok (e, us)) (sym (lexemes_drop n ts)))
 
 -- a fault of the first part is a fault of the whole
-pub then_fault : {A B X : Type 0} (Is : Result A AsmFault → Type 0) (next : A → Result B AsmFault) (view : X → B) (result : Result X AsmFault) (e : AsmFault) → IsErrAnd result (λ f. f ≡ e) → Unless (is_outside e) (Is (Err e)) → Answers is_outside view result (Then Is next)
+pub then_fault : {A B X : Type 0} (Is : Result A AsmFault → Type 0) (next : A → Result B AsmFault) (view : X → B) (result : Result X AsmFault) (e : AsmFault) → IsErrAnd result (λ f. f ≡ e) → Unless (is_system_error e) (Is (Err e)) → RefinesRel is_system_error view result (AndThenReturn Is next)
 then_fault Is next view (Ok x) e h i = absurd h
-then_fault Is next view (Err f) e h i = rw h (go (is_outside e) i)
+then_fault Is next view (Err f) e h i = rw h (go (is_system_error e) i)
   where
-    go : (t : Bool) → Unless t (Is (Err e)) → Unless t (Then Is next (Err e))
+    go : (t : Bool) → Unless t (Is (Err e)) → Unless t (AndThenReturn Is next (Err e))
     go true j = tt
     go false j = (Err e, j, refl)
 
 -- a fault is handed on, and no store failed
-pub parses_fault : {A X : Type 0} (Is : Result A AsmFault → Type 0) (view : X → A) (result : Result X AsmFault) (e : AsmFault) → IsErrAnd result (λ f. f ≡ e) → is_failure e ≡ false → Answers is_outside view result Is → ParsesAs view result Is
+pub parses_fault : {A X : Type 0} (Is : Result A AsmFault → Type 0) (view : X → A) (result : Result X AsmFault) (e : AsmFault) → IsErrAnd result (λ f. f ≡ e) → is_failure e ≡ false → RefinesRel is_system_error view result Is → ParsesAs view result Is
 parses_fault {X = X} Is view result e h inside value = record { value = value; inside = by result h }
   where
     by : (r : Result X AsmFault) → IsErrAnd r (λ f. f ≡ e) → IfErr r (λ f. is_failure f ≡ false)
@@ -75,7 +75,7 @@ IsInside r = IfErr r (λ f. is_failure f ≡ false)
 pub index_inside : (ts : List Lexeme) → IsInside (index_of ts)
 index_inside [] = tt
 index_inside (c ∷ []) = refl
-index_inside (c ∷ t ∷ []) = by (is_comma c && spells t (codes "x")) (is_comma c && spells t (codes "y"))
+index_inside (c ∷ t ∷ []) = by (is_comma c && is_word_of t (codes "x")) (is_comma c && is_word_of t (codes "y"))
   where
     by : (x y : Bool) → IsInside {X = Option Index} (if x then Ok (Some index.X) else if y then Ok (Some index.Y) else unknown)
     by true y = tt
@@ -91,7 +91,7 @@ closing_inside (a ∷ []) = by (is_close a)
     by true = tt
     by false = refl
 closing_inside (a ∷ b ∷ []) = refl
-closing_inside (a ∷ b ∷ c ∷ []) = by (is_comma a && spells b (codes "x") && is_close c) (is_close a && is_comma b && spells c (codes "y"))
+closing_inside (a ∷ b ∷ c ∷ []) = by (is_comma a && is_word_of b (codes "x") && is_close c) (is_close a && is_comma b && is_word_of c (codes "y"))
   where
     by : (x y : Bool) → IsInside {X = Option Index} (if x then Ok (Some index.X) else if y then Ok (Some index.Y) else unknown)
     by true y = tt
@@ -153,16 +153,16 @@ one_part ts n e lt =
     rw all (let P : ℕ → Type 0 = λ k. parts_of (lexemes ts) ≡ lexemes (take k ts) ∷ parts_of (lexemes (drop (k + 1) ts)) in subst P (sym e) (rw add-one (first ts (omega arith))))
 
 -- a fault of what follows is a fault of the whole
-pub second_fault : {A B X : Type 0} (Is : Result A AsmFault → Type 0) (next : A → Result B AsmFault) (view : X → B) (result : Result X AsmFault) (x : A) (e : AsmFault) → IsErrAnd result (λ f. f ≡ e) → Is (Ok x) → next x ≡ Err e → Answers is_outside view result (Then Is next)
+pub second_fault : {A B X : Type 0} (Is : Result A AsmFault → Type 0) (next : A → Result B AsmFault) (view : X → B) (result : Result X AsmFault) (x : A) (e : AsmFault) → IsErrAnd result (λ f. f ≡ e) → Is (Ok x) → next x ≡ Err e → RefinesRel is_system_error view result (AndThenReturn Is next)
 second_fault Is next view (Ok y) x e h i n = absurd h
-second_fault Is next view (Err f) x e h i n = rw h (go (is_outside e))
+second_fault Is next view (Err f) x e h i n = rw h (go (is_system_error e))
   where
-    go : (t : Bool) → Unless t (Then Is next (Err e))
+    go : (t : Bool) → Unless t (AndThenReturn Is next (Err e))
     go true = tt
     go false = (Ok x, i, sym n)
 
 -- an operand whose expression isn't understood, or whose end isn't, or that is understood
-pub front_fault : {X : Type 0} (end : List Lexeme → Result (Option Index) AsmFault) (make : Tree → Option Index → Operand) (ts : List Lexeme) (view : X → Operand) (result : Result X AsmFault) (e : AsmFault) → IsErrAnd result (λ f. f ≡ e) → is_failure e ≡ false → Unless (is_outside e) (IsFront ts (Err e)) → ParsesAs view result (IsEnded end make ts)
+pub front_fault : {X : Type 0} (end : List Lexeme → Result (Option Index) AsmFault) (make : Tree → Option Index → Operand) (ts : List Lexeme) (view : X → Operand) (result : Result X AsmFault) (e : AsmFault) → IsErrAnd result (λ f. f ≡ e) → is_failure e ≡ false → Unless (is_system_error e) (IsFront ts (Err e)) → ParsesAs view result (IsEnded end make ts)
 front_fault end make ts view result e h inside value = parses_fault _ view result e h inside (then_fault (IsFront ts) _ view result e h value)
 
 pub end_fault : {X : Type 0} (end : List Lexeme → Result (Option Index) AsmFault) (make : Tree → Option Index → Operand) (ts : List Lexeme) (view : X → Operand) (result : Result X AsmFault) (x : Tree × List Lexeme) (e : AsmFault) → IsErrAnd result (λ f. f ≡ e) → IsFront ts (Ok x) → IsInside (end x.1) → Err e ≡ end x.1 → ParsesAs view result (IsEnded end make ts)
@@ -173,19 +173,19 @@ end_fault end make ts view result x e h front inside is =
 pub is_ended : (end : List Lexeme → Result (Option Index) AsmFault) (make : Tree → Option Index → Operand) (ts : List Lexeme) (x : Tree × List Lexeme) (i : Option Index) → IsFront ts (Ok x) → Ok i ≡ end x.1 → IsEnded end make ts (Ok (make x.0 i))
 is_ended end make ts x i front is = (Ok x, front, rw (← is) refl)
 
-pub first_fault : {A B X : Type 0} (Is : Result A AsmFault → Type 0) (Next : A → Result B AsmFault → Type 0) (view : X → B) (result : Result X AsmFault) (e : AsmFault) → IsErrAnd result (λ f. f ≡ e) → Unless (is_outside e) (Is (Err e)) → Answers is_outside view result (λ r. (q : Result A AsmFault) × Is q × First q Next r)
+pub first_fault : {A B X : Type 0} (Is : Result A AsmFault → Type 0) (Next : A → Result B AsmFault → Type 0) (view : X → B) (result : Result X AsmFault) (e : AsmFault) → IsErrAnd result (λ f. f ≡ e) → Unless (is_system_error e) (Is (Err e)) → RefinesRel is_system_error view result (λ r. (q : Result A AsmFault) × Is q × AndThen q Next r)
 first_fault Is Next view (Ok x) e h i = absurd h
-first_fault Is Next view (Err f) e h i = rw h (go (is_outside e) i)
+first_fault Is Next view (Err f) e h i = rw h (go (is_system_error e) i)
   where
-    go : (t : Bool) → Unless t (Is (Err e)) → Unless t ((q : Result _ AsmFault) × Is q × First q Next (Err e))
+    go : (t : Bool) → Unless t (Is (Err e)) → Unless t ((q : Result _ AsmFault) × Is q × AndThen q Next (Err e))
     go true j = tt
     go false j = (Err e, j, refl)
 
-pub first_goes : {A B X : Type 0} (Is : Result A AsmFault → Type 0) (Next : A → Result B AsmFault → Type 0) (view : X → B) (result : Result X AsmFault) (x : A) → Is (Ok x) → Answers is_outside view result (Next x) → Answers is_outside view result (λ r. (q : Result A AsmFault) × Is q × First q Next r)
+pub first_goes : {A B X : Type 0} (Is : Result A AsmFault → Type 0) (Next : A → Result B AsmFault → Type 0) (view : X → B) (result : Result X AsmFault) (x : A) → Is (Ok x) → RefinesRel is_system_error view result (Next x) → RefinesRel is_system_error view result (λ r. (q : Result A AsmFault) × Is q × AndThen q Next r)
 first_goes Is Next view (Ok y) x i h = (Ok x, i, h)
-first_goes Is Next view (Err f) x i h = go (is_outside f) h
+first_goes Is Next view (Err f) x i h = go (is_system_error f) h
   where
-    go : (t : Bool) → Unless t (Next x (Err f)) → Unless t ((q : Result _ AsmFault) × Is q × First q Next (Err f))
+    go : (t : Bool) → Unless t (Next x (Err f)) → Unless t ((q : Result _ AsmFault) × Is q × AndThen q Next (Err f))
     go true j = tt
     go false j = (Ok x, i, j)
 

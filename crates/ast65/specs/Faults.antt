@@ -55,8 +55,8 @@ abbrev pub fault_text : AsmFault → List ℕ
 fault_text e = words_of e ++ name_in e
 
 -- the same as characters: each byte of a name is the character of its code, so ASCII is as it is
-abbrev pub displayed : AsmFault → List ℕ
-displayed e = words_of e ++ encode_utf8_all (name_in e)
+abbrev pub display_text : AsmFault → List ℕ
+display_text e = words_of e ++ encode_utf8_all (name_in e)
 
 -- memory ran out
 abbrev pub is_memory : AsmFault → Bool
@@ -70,8 +70,8 @@ is_failure (Expansion expand.FileError) = true
 is_failure FileError = true
 is_failure _ = false
 
-abbrev pub is_outside : AsmFault → Bool
-is_outside e = is_memory e || is_failure e
+abbrev pub is_system_error : AsmFault → Bool
+is_system_error e = is_memory e || is_failure e
 
 -- a store's fault where a part of a file is taken
 abbrev pub of_store : StoreFault → AsmFault

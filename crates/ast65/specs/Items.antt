@@ -6,9 +6,9 @@ use Rattle.ast65.specs.declared.language.Item.TheVariants.{Value}
 use Rattle.ast65.specs.declared.language.ItemsKind.{ItemsKind}
 use Rattle.ast65.specs.declared.language.ItemsKind.TheVariants.{Numbers, Mixed}
 
-abbrev pub numbered : ℕ → Item
-numbered n = Value (number n)
+abbrev pub literal_item : ℕ → Item
+literal_item n = Value (number n)
 
 abbrev pub items_of : ItemsKind → List Item
-items_of (Numbers numbers) = map numbered numbers
+items_of (Numbers numbers) = map literal_item numbers
 items_of (Mixed items) = items

@@ -1,14 +1,14 @@
 -- What holds of tokens, whatever they are.
 use Rattle.std.specs.Prelude.{List, Result}
-use Rattle.base65.specs.Own.{IsOwn}
+use Rattle.base65.specs.SystemErrors.{IsNoSystemError}
 use Rattle.syntax65.specs.Tokens.{Lexeme}
-use Rattle.ast65.specs.Faults.{is_outside}
+use Rattle.ast65.specs.Faults.{is_system_error}
 use Rattle.ast65.specs.Parsing.{IsStatement}
 use Rattle.ast65.specs.declared.fault.AsmFault.{AsmFault}
 use Rattle.ast65.specs.declared.language.Statement.{Statement}
 
 -- tokens are a statement or aren't understood, which is no fault from outside
-abbrev pub SomeStatementLaw : Type 0
-SomeStatementLaw =
+abbrev pub StatementExists : Type 0
+StatementExists =
     (ts : List Lexeme) →
-    (r : Result Statement AsmFault) × IsStatement ts r × IsOwn is_outside r
+    (r : Result Statement AsmFault) × IsStatement ts r × IsNoSystemError is_system_error r

@@ -7,51 +7,51 @@ use Rattle.std.specs.Str.{bytes_eq, str_eq_ignore_ascii_case}
 use Rattle.syntax65.specs.Expressions.{IsParsed, is_reserved}
 use Rattle.syntax65.specs.Forms.{is_word}
 use Rattle.syntax65.specs.Mnemonics.{mnemonic_of}
-use Rattle.base65.specs.Outcome.{◌>>=◌, First}
-use Rattle.base65.specs.Relations.{Answers}
+use Rattle.base65.specs.Outcome.{◌>>=◌, AndThen}
+use Rattle.base65.specs.Relations.{RefinesRel}
 use Rattle.syntax65.specs.Tokens.{Lexeme}
 use Rattle.syntax65.specs.Trees.{Tree}
 use Rattle.syntax65.specs.declared.expressions.words.ExprFault.{ExprFault}
 use Rattle.syntax65.specs.declared.instructions.names.Mnemonic.{Mnemonic}
 use Rattle.syntax65.specs.declared.lexing.tokens.AddressSize.{AddressSize}
 use Rattle.syntax65.specs.declared.lexing.tokens.AddressSize.TheVariants as size
-use Rattle.syntax65.specs.declared.lexing.tokens.Mark.TheVariants as mark
+use Rattle.syntax65.specs.declared.lexing.tokens.Punctuation.TheVariants as mark
 use Rattle.syntax65.specs.declared.lexing.tokens.TokenKind.{TokenKind}
 use Rattle.syntax65.specs.declared.lexing.tokens.TokenKind.TheVariants as token
 use Rattle.object65.specs.declared.object.Action.{Action}
 use Rattle.object65.specs.declared.object.Action.TheVariants as action
-use Rattle.object65.specs.declared.object.Width.TheVariants.{Byte, Word, HighFirst, Dword}
+use Rattle.object65.specs.declared.object.Width.TheVariants.{Byte, Word, BigEndianWord, Dword}
 use Rattle.ast65.specs.declared.fault.AsmFault.{AsmFault}
-use Rattle.ast65.specs.Faults.{is_failure, is_outside}
+use Rattle.ast65.specs.Faults.{is_failure, is_system_error}
 use Rattle.ast65.specs.declared.fault.AsmFault.TheVariants.{NotUnderstood}
 use Rattle.ast65.specs.declared.language.Index.{Index}
 use Rattle.ast65.specs.declared.language.Index.TheVariants as index
-use Rattle.ast65.specs.declared.reading.words.Amount.{Amount}
-use Rattle.ast65.specs.declared.reading.words.Amount.TheVariants as amount
+use Rattle.ast65.specs.declared.reading.words.SizedDirective.{SizedDirective}
+use Rattle.ast65.specs.declared.reading.words.SizedDirective.TheVariants as amount
 use Rattle.ast65.specs.declared.reading.words.Directive.{Directive}
 use Rattle.ast65.specs.declared.reading.words.Directive.TheVariants as directive
-use Rattle.ast65.specs.declared.reading.words.Elements.{Elements}
-use Rattle.ast65.specs.declared.reading.words.Elements.TheVariants as elements
-use Rattle.ast65.specs.declared.reading.words.Lone.{Lone}
-use Rattle.ast65.specs.declared.reading.words.Lone.TheVariants as lone
+use Rattle.ast65.specs.declared.reading.words.ElementKind.{ElementKind}
+use Rattle.ast65.specs.declared.reading.words.ElementKind.TheVariants as elements
+use Rattle.ast65.specs.declared.reading.words.BareDirective.{BareDirective}
+use Rattle.ast65.specs.declared.reading.words.BareDirective.TheVariants as lone
 use Rattle.ast65.specs.declared.reading.words.Message.{Message}
 use Rattle.ast65.specs.declared.reading.words.Message.TheVariants as message
-use Rattle.ast65.specs.declared.reading.words.Names.{Names}
-use Rattle.ast65.specs.declared.reading.words.Names.TheVariants as names
+use Rattle.ast65.specs.declared.reading.words.NameListDirective.{NameListDirective}
+use Rattle.ast65.specs.declared.reading.words.NameListDirective.TheVariants as names
 use Rattle.ast65.specs.declared.language.Item.{Item}
 use Rattle.ast65.specs.declared.language.Operand.{Operand}
 use Rattle.ast65.specs.declared.language.Statement.{Statement}
-use Rattle.ast65.specs.declared.language.Statement.TheVariants.{Label, CheapLabel, UnnamedLabel, Constant, Instruction, Values, Reserve, Align, NamedPart, Segment, PushSegment, PopSegment, OpenScope, CloseScope, OpenProc, CloseProc, Import, Export, Global, ForceImport, Assert, Out, Warning, Nothing}
+use Rattle.ast65.specs.declared.language.Statement.TheVariants.{Label, CheapLabel, UnnamedLabel, Constant, Instruction, Values, Reserve, Align, IncbinPath, Segment, PushSegment, PopSegment, OpenScope, CloseScope, OpenProc, CloseProc, Import, Export, Global, ForceImport, Assert, Out, Warning, Nothing}
 use Rattle.ast65.specs.declared.language.Operand.TheVariants.{Absent, Accumulator, Immediate, Address, Indirect, IndirectX, IndirectY}
-use Rattle.ast65.specs.declared.language.Item.TheVariants.{Value, Text}
+use Rattle.ast65.specs.declared.language.Item.TheVariants.{Value, StringLiteral}
 
 -- what a call answered, seen by view, is so parsed, unless it was refused from outside; no store failed
 pub record ParsesAs {A B : Type 0} (view : A → B) (result : Result A AsmFault) (IsParsedAs : Result B AsmFault → Type 0) : Type 0 where
-  pub value : Answers is_outside view result IsParsedAs
+  pub value : RefinesRel is_system_error view result IsParsedAs
   pub inside : IfErr result (λ e. is_failure e ≡ false)
 
-abbrev pub Parses : {A : Type 0} → Result A AsmFault → (Result A AsmFault → Type 0) → Type 0
-Parses result IsParsedAs = ParsesAs (λ x. x) result IsParsedAs
+abbrev pub RefinesParse : {A : Type 0} → Result A AsmFault → (Result A AsmFault → Type 0) → Type 0
+RefinesParse result IsParsedAs = ParsesAs (λ x. x) result IsParsedAs
 
 -- what isn't understood
 abbrev pub unknown : {A : Type 0} → Result A AsmFault
@@ -60,24 +60,24 @@ unknown = Err NotUnderstood
 -- ---- Expressions.
 
 -- first this, and then what follows from it
-abbrev pub Then : {A B : Type 0} → (Result A AsmFault → Type 0) → (A → Result B AsmFault) → Result B AsmFault → Type 0
-Then Is next r = (q : Result _ AsmFault) × Is q × (r ≡ (q >>= next))
+abbrev pub AndThenReturn : {A B : Type 0} → (Result A AsmFault → Type 0) → (A → Result B AsmFault) → Result B AsmFault → Type 0
+AndThenReturn Is next r = (q : Result _ AsmFault) × Is q × (r ≡ (q >>= next))
 
 -- an expression of all the tokens
-abbrev pub whole : ℕ → Result (Tree × ℕ) ExprFault → Result Tree AsmFault
-whole count (Ok (e, n)) = if n == count then Ok e else unknown
-whole count (Err e) = unknown
+abbrev pub complete_expression : ℕ → Result (Tree × ℕ) ExprFault → Result Tree AsmFault
+complete_expression count (Ok (e, n)) = if n == count then Ok e else unknown
+complete_expression count (Err e) = unknown
 
 abbrev pub IsExpression : List Lexeme → Result Tree AsmFault → Type 0
-IsExpression ts r = (q : Result (Tree × ℕ) ExprFault) × IsParsed ts q × (r ≡ whole (length ts) q)
+IsExpression ts r = (q : Result (Tree × ℕ) ExprFault) × IsParsed ts q × (r ≡ complete_expression (length ts) q)
 
 -- an expression at the front, and what stands behind it
-abbrev pub behind : List Lexeme → Result (Tree × ℕ) ExprFault → Result (Tree × List Lexeme) AsmFault
-behind ts (Ok (e, n)) = Ok (e, drop n ts)
-behind ts (Err f) = unknown
+abbrev pub expression_and_rest : List Lexeme → Result (Tree × ℕ) ExprFault → Result (Tree × List Lexeme) AsmFault
+expression_and_rest ts (Ok (e, n)) = Ok (e, drop n ts)
+expression_and_rest ts (Err f) = unknown
 
 abbrev pub IsFront : List Lexeme → Result (Tree × List Lexeme) AsmFault → Type 0
-IsFront ts r = (q : Result (Tree × ℕ) ExprFault) × IsParsed ts q × (r ≡ behind ts q)
+IsFront ts r = (q : Result (Tree × ℕ) ExprFault) × IsParsed ts q × (r ≡ expression_and_rest ts q)
 
 -- ---- Tokens.
 
@@ -104,7 +104,7 @@ abbrev pub inner : List ℕ → List ℕ
 inner quoted = take (length quoted - 2) (drop 1 quoted)
 
 abbrev pub quoted_in : Lexeme → Option (List ℕ)
-quoted_in (token.Text, t) = Some (inner t)
+quoted_in (token.StringLiteral, t) = Some (inner t)
 quoted_in _ = None
 
 abbrev pub word_in : Lexeme → Option (List ℕ)
@@ -124,15 +124,15 @@ string_of ts = one quoted_in ts
 abbrev pub word_of : List Lexeme → Option (List ℕ)
 word_of ts = one word_in ts
 
-abbrev pub spelled : Option (List ℕ) → List ℕ → Bool
-spelled t name = option_map_or (λ s. str_eq_ignore_ascii_case s name) t false
+abbrev pub is_spelled_as : Option (List ℕ) → List ℕ → Bool
+is_spelled_as t name = option_map_or (λ s. str_eq_ignore_ascii_case s name) t false
 
 -- whether a token is this identifier, in either case
-abbrev pub spells : Lexeme → List ℕ → Bool
-spells t name = spelled (word_in t) name
+abbrev pub is_word_of : Lexeme → List ℕ → Bool
+is_word_of t name = is_spelled_as (word_in t) name
 
-abbrev pub understood : {A : Type 0} → Option A → Result A AsmFault
-understood o = ok_or o NotUnderstood
+abbrev pub ok_or_not_understood : {A : Type 0} → Option A → Result A AsmFault
+ok_or_not_understood o = ok_or o NotUnderstood
 
 -- ---- Lists.
 
@@ -141,36 +141,36 @@ abbrev pub parts_of : List Lexeme → List (List Lexeme)
 parts_of ts = slice_split is_comma ts
 
 -- what stands behind a comma, if there is one
-abbrev pub parts_behind : Option (List Lexeme) → List (List Lexeme)
-parts_behind None = []
-parts_behind (Some ts) = parts_of ts
+abbrev pub parts_after : Option (List Lexeme) → List (List Lexeme)
+parts_after None = []
+parts_after (Some ts) = parts_of ts
 
 -- each part in turn
 abbrev pub EachIs : {A B : Type 0} → (A → Result B AsmFault → Type 0) → List A → Result (List B) AsmFault → Type 0
 EachIs Is [] r = r ≡ Ok []
-EachIs Is (x ∷ xs) r = (q : Result _ AsmFault) × Is x q × First q (λ y. Then (EachIs Is xs) (λ ys. Ok (y ∷ ys))) r
+EachIs Is (x ∷ xs) r = (q : Result _ AsmFault) × Is x q × AndThen q (λ y. AndThenReturn (EachIs Is xs) (λ ys. Ok (y ∷ ys))) r
 
 -- one expression or two
 abbrev pub IsOneOrTwo : List (List Lexeme) → Result (Tree × Option Tree) AsmFault → Type 0
-IsOneOrTwo (n ∷ []) r = Then (IsExpression n) (λ x. Ok (x, None)) r
-IsOneOrTwo (n ∷ v ∷ []) r = (q : Result Tree AsmFault) × IsExpression n q × First q (λ x. Then (IsExpression v) (λ y. Ok (x, Some y))) r
+IsOneOrTwo (n ∷ []) r = AndThenReturn (IsExpression n) (λ x. Ok (x, None)) r
+IsOneOrTwo (n ∷ v ∷ []) r = (q : Result Tree AsmFault) × IsExpression n q × AndThen q (λ x. AndThenReturn (IsExpression v) (λ y. Ok (x, Some y))) r
 IsOneOrTwo _ r = r ≡ unknown
 
 -- an element that is a value
 abbrev pub IsValue : List Lexeme → Result Item AsmFault → Type 0
-IsValue ts r = Then (IsExpression ts) (λ x. Ok (Value x)) r
+IsValue ts r = AndThenReturn (IsExpression ts) (λ x. Ok (Value x)) r
 
 -- an element of a list: a value, or in some lists a string
-abbrev pub IsItem : Elements → List Lexeme → Result Item AsmFault → Type 0
+abbrev pub IsItem : ElementKind → List Lexeme → Result Item AsmFault → Type 0
 IsItem elements.Values ts r = IsValue ts r
-IsItem elements.ValuesAndTexts ts r = MatchOption (string_of ts) (IsValue ts r) (λ s. r ≡ Ok (Text s))
+IsItem elements.ValuesAndTexts ts r = MatchOption (string_of ts) (IsValue ts r) (λ s. r ≡ Ok (StringLiteral s))
 
 abbrev pub plain_name : List ℕ → Result (List ℕ) AsmFault
 plain_name t = if is_reserved t then unknown else Ok t
 
 -- a plain name
 abbrev pub name_of : List Lexeme → Result (List ℕ) AsmFault
-name_of ts = understood (word_of ts) >>= plain_name
+name_of ts = ok_or_not_understood (word_of ts) >>= plain_name
 
 abbrev pub IsName : List Lexeme → Result (List ℕ) AsmFault → Type 0
 IsName ts r = r ≡ name_of ts
@@ -181,8 +181,8 @@ IsName ts r = r ≡ name_of ts
 abbrev pub index_of : List Lexeme → Result (Option Index) AsmFault
 index_of [] = Ok None
 index_of (c ∷ t ∷ []) =
-    if is_comma c && spells t (codes "x") then Ok (Some index.X)
-    else if is_comma c && spells t (codes "y") then Ok (Some index.Y)
+    if is_comma c && is_word_of t (codes "x") then Ok (Some index.X)
+    else if is_comma c && is_word_of t (codes "y") then Ok (Some index.Y)
     else unknown
 index_of _ = unknown
 
@@ -190,8 +190,8 @@ index_of _ = unknown
 abbrev pub closing_of : List Lexeme → Result (Option Index) AsmFault
 closing_of (a ∷ []) = if is_close a then Ok None else unknown
 closing_of (a ∷ b ∷ c ∷ []) =
-    if is_comma a && spells b (codes "x") && is_close c then Ok (Some index.X)
-    else if is_close a && is_comma b && spells c (codes "y") then Ok (Some index.Y)
+    if is_comma a && is_word_of b (codes "x") && is_close c then Ok (Some index.X)
+    else if is_close a && is_comma b && is_word_of c (codes "y") then Ok (Some index.Y)
     else unknown
 closing_of _ = unknown
 
@@ -202,16 +202,16 @@ indirect_by e (Some index.Y) = IndirectY e
 
 -- the operand of an expression and of what stands behind it, which has to end the operand
 abbrev pub IsEnded : (List Lexeme → Result (Option Index) AsmFault) → (Tree → Option Index → Operand) → List Lexeme → Result Operand AsmFault → Type 0
-IsEnded end make ts r = Then (IsFront ts) (λ x. end x.1 >>= (λ i. Ok (make x.0 i))) r
+IsEnded end make ts r = AndThenReturn (IsFront ts) (λ x. end x.1 >>= (λ i. Ok (make x.0 i))) r
 
 -- `a`, or an address without a prefix
 unfoldable pub IsPlainOperand : List Lexeme → Result Operand AsmFault → Type 0
-IsPlainOperand ts r = MatchBool (spelled (word_of ts) (codes "a")) (r ≡ Ok Accumulator) (IsEnded index_of (Address None) ts r)
+IsPlainOperand ts r = MatchBool (is_spelled_as (word_of ts) (codes "a")) (r ≡ Ok Accumulator) (IsEnded index_of (Address None) ts r)
 
 -- nothing, `#e`, `(e)`, `(e,x)`, `(e),y`, or `a`, `e`, `e,x`, `e,y`, the last three perhaps with a prefix
 abbrev pub IsOperand : List Lexeme → Result Operand AsmFault → Type 0
 IsOperand [] r = r ≡ Ok Absent
-IsOperand ((token.Symbol mark.Hash, t) ∷ ts) r = Then (IsExpression ts) (λ x. Ok (Immediate x)) r
+IsOperand ((token.Symbol mark.Hash, t) ∷ ts) r = AndThenReturn (IsExpression ts) (λ x. Ok (Immediate x)) r
 IsOperand ((token.Symbol mark.OpenParenthesis, t) ∷ ts) r = IsEnded closing_of indirect_by ts r
 IsOperand ((token.SizePrefix own, t) ∷ ts) r = IsEnded index_of (Address (Some own)) ts r
 IsOperand ts r = IsPlainOperand ts r
@@ -219,7 +219,7 @@ IsOperand ts r = IsPlainOperand ts r
 -- ---- Statements of directives.
 
 -- a statement without operands
-abbrev pub lone_statement : Lone → Statement
+abbrev pub lone_statement : BareDirective → Statement
 lone_statement lone.PushSegment = PushSegment
 lone_statement lone.PopSegment = PopSegment
 lone_statement lone.EndScope = CloseScope
@@ -232,12 +232,12 @@ lone_statement lone.Bss = Segment (codes "BSS") None
 lone_statement lone.ZeroPage = Segment (codes "ZEROPAGE") None
 
 -- of `n[,v]`
-abbrev pub amount_statement : Amount → Tree → Option Tree → Statement
+abbrev pub amount_statement : SizedDirective → Tree → Option Tree → Statement
 amount_statement amount.Reserve n v = Reserve n v
 amount_statement amount.Align n v = Align n v
 
 -- of a list of names
-abbrev pub names_statement : Names → List (List ℕ) → Statement
+abbrev pub names_statement : NameListDirective → List (List ℕ) → Statement
 names_statement (names.Import own) ns = Import own ns
 names_statement names.Export ns = Export ns
 names_statement (names.Global own) ns = Global own ns
@@ -252,9 +252,9 @@ abbrev pub size_word : List ℕ → Result AddressSize AsmFault
 size_word t = if bytes_eq t (codes "zeropage") then Ok size.ZeroPage else if bytes_eq t (codes "absolute") then Ok size.Absolute else unknown
 
 -- nothing, or `: zeropage` or `: absolute`
-abbrev pub size_behind : List Lexeme → Result (Option AddressSize) AsmFault
-size_behind [] = Ok None
-size_behind (c ∷ ts) = if is_colon c then understood (word_of ts) >>= size_word >>= (λ own. Ok (Some own)) else unknown
+abbrev pub size_after : List Lexeme → Result (Option AddressSize) AsmFault
+size_after [] = Ok None
+size_after (c ∷ ts) = if is_colon c then ok_or_not_understood (word_of ts) >>= size_word >>= (λ own. Ok (Some own)) else unknown
 
 abbrev pub is_letter : ℕ → Bool
 is_letter b = is_ascii_alphabetic b || b == 95
@@ -270,24 +270,24 @@ action_word t = if bytes_eq t (codes "warning") then Ok action.Warning else if b
 -- an assertion's text, which it may have of its own
 abbrev pub words_of : List (List Lexeme) → Result (List ℕ) AsmFault
 words_of [] = Ok (codes "assertion failed")
-words_of (part ∷ []) = understood (string_of part) >>= (λ s. if nat_le (length s) 255 then Ok s else unknown)
+words_of (part ∷ []) = ok_or_not_understood (string_of part) >>= (λ s. if nat_le (length s) 255 then Ok s else unknown)
 words_of _ = unknown
 
 -- `e, action` or `e, action, "text"`
 abbrev pub IsAssertion : List (List Lexeme) → Result Statement AsmFault → Type 0
 IsAssertion (e ∷ a ∷ rest) r =
-    Then (IsExpression e) (λ x. understood (word_of a) >>= action_word >>= (λ act. words_of rest >>= (λ text. Ok (Assert x act text)))) r
+    AndThenReturn (IsExpression e) (λ x. ok_or_not_understood (word_of a) >>= action_word >>= (λ act. words_of rest >>= (λ text. Ok (Assert x act text)))) r
 IsAssertion _ r = r ≡ unknown
 
 -- a start and a length, each where it is there
 abbrev pub IsRange : List (List Lexeme) → Result (Option Tree × Option Tree) AsmFault → Type 0
 IsRange [] r = r ≡ Ok (None, None)
-IsRange parts r = Then (IsOneOrTwo parts) (λ x. Ok (Some x.0, x.1)) r
+IsRange parts r = AndThenReturn (IsOneOrTwo parts) (λ x. Ok (Some x.0, x.1)) r
 
 -- a file's name as a string, and perhaps a start and a length
 abbrev pub IsFilePart : List (List Lexeme) → Result Statement AsmFault → Type 0
 IsFilePart [] r = r ≡ unknown
-IsFilePart (name ∷ range) r = First (understood (string_of name)) (λ n. Then (IsRange range) (λ x. Ok (NamedPart n x.0 x.1))) r
+IsFilePart (name ∷ range) r = AndThen (ok_or_not_understood (string_of name)) (λ n. AndThenReturn (IsRange range) (λ x. Ok (IncbinPath n x.0 x.1))) r
 
 -- ---- Directives.
 
@@ -298,12 +298,12 @@ words =
     ∷ (codes ".byt", directive.List elements.ValuesAndTexts Byte)
     ∷ (codes ".word", directive.List elements.Values Word)
     ∷ (codes ".addr", directive.List elements.Values Word)
-    ∷ (codes ".dbyt", directive.List elements.Values HighFirst)
+    ∷ (codes ".dbyt", directive.List elements.Values BigEndianWord)
     ∷ (codes ".dword", directive.List elements.Values Dword)
-    ∷ (codes ".asciiz", directive.EndedText)
+    ∷ (codes ".asciiz", directive.Asciiz)
     ∷ (codes ".res", directive.Amount amount.Reserve)
     ∷ (codes ".align", directive.Amount amount.Align)
-    ∷ (codes ".incbin", directive.FilePart)
+    ∷ (codes ".incbin", directive.Incbin)
     ∷ (codes ".segment", directive.Segment)
     ∷ (codes ".pushseg", directive.Lone lone.PushSegment)
     ∷ (codes ".popseg", directive.Lone lone.PopSegment)
@@ -342,23 +342,23 @@ directive_of d = among words d
 -- what is taken of it; `"N"`, perhaps with an address size; nothing; a name, which a scope may be without; names; a condition to
 -- check; one string; the processor.
 abbrev pub IsDirective : Directive → List Lexeme → Result Statement AsmFault → Type 0
-IsDirective (directive.List elements width) ts r = Then (EachIs (IsItem elements) (parts_of ts)) (λ xs. Ok (Values width xs)) r
-IsDirective directive.EndedText ts r = r ≡ (understood (string_of ts) >>= (λ s. Ok (Values Byte (Text (s ++ 0 ∷ []) ∷ []))))
-IsDirective (directive.Amount which) ts r = Then (IsOneOrTwo (parts_of ts)) (λ x. Ok (amount_statement which x.0 x.1)) r
-IsDirective directive.FilePart ts r = IsFilePart (parts_of ts) r
+IsDirective (directive.List elements width) ts r = AndThenReturn (EachIs (IsItem elements) (parts_of ts)) (λ xs. Ok (Values width xs)) r
+IsDirective directive.Asciiz ts r = r ≡ (ok_or_not_understood (string_of ts) >>= (λ s. Ok (Values Byte (StringLiteral (s ++ 0 ∷ []) ∷ []))))
+IsDirective (directive.Amount which) ts r = AndThenReturn (IsOneOrTwo (parts_of ts)) (λ x. Ok (amount_statement which x.0 x.1)) r
+IsDirective directive.Incbin ts r = IsFilePart (parts_of ts) r
 IsDirective directive.Segment [] r = r ≡ unknown
 IsDirective directive.Segment (t ∷ ts) r =
-    r ≡ (understood (quoted_in t) >>= (λ n. size_behind ts >>= (λ own. if is_identifier n then Ok (Segment n own) else unknown)))
+    r ≡ (ok_or_not_understood (quoted_in t) >>= (λ n. size_after ts >>= (λ own. if is_identifier n then Ok (Segment n own) else unknown)))
 IsDirective (directive.Lone which) [] r = r ≡ Ok (lone_statement which)
 IsDirective (directive.Lone which) ts r = r ≡ unknown
 IsDirective directive.Scope [] r = r ≡ Ok (OpenScope None)
 IsDirective directive.Scope ts r = r ≡ (name_of ts >>= (λ n. Ok (OpenScope (Some n))))
 IsDirective directive.Proc ts r = r ≡ (name_of ts >>= (λ n. Ok (OpenProc n)))
-IsDirective (directive.Names which) ts r = Then (EachIs IsName (parts_of ts)) (λ ns. Ok (names_statement which ns)) r
+IsDirective (directive.Names which) ts r = AndThenReturn (EachIs IsName (parts_of ts)) (λ ns. Ok (names_statement which ns)) r
 IsDirective directive.Assert ts r = IsAssertion (parts_of ts) r
-IsDirective (directive.Message which) ts r = r ≡ (understood (string_of ts) >>= (λ s. Ok (message_statement which s)))
+IsDirective (directive.Message which) ts r = r ≡ (ok_or_not_understood (string_of ts) >>= (λ s. Ok (message_statement which s)))
 IsDirective directive.SetProcessor ts r =
-    r ≡ (understood (string_of ts) >>= (λ s. if bytes_eq s (codes "6502") then Ok Nothing else unknown))
+    r ≡ (ok_or_not_understood (string_of ts) >>= (λ s. if bytes_eq s (codes "6502") then Ok Nothing else unknown))
 
 -- ---- Lines.
 
@@ -381,10 +381,10 @@ label_of (t ∷ ts) =
 
 -- what stands behind a name and `=` or `:=`
 abbrev pub IsConstant : List ℕ → List Lexeme → Result Statement AsmFault → Type 0
-IsConstant n ts r = First (plain_name n) (λ own. Then (IsExpression ts) (λ x. Ok (Constant own x))) r
+IsConstant n ts r = AndThen (plain_name n) (λ own. AndThenReturn (IsExpression ts) (λ x. Ok (Constant own x))) r
 
 abbrev pub IsInstruction : Option Mnemonic → List Lexeme → Result Statement AsmFault → Type 0
-IsInstruction o ts r = First (understood o) (λ m. Then (IsOperand ts) (λ x. Ok (Instruction m x))) r
+IsInstruction o ts r = AndThen (ok_or_not_understood o) (λ m. AndThenReturn (IsOperand ts) (λ x. Ok (Instruction m x))) r
 
 -- a statement that begins with an identifier
 abbrev pub IsNamed : List ℕ → List Lexeme → Result Statement AsmFault → Type 0
@@ -394,5 +394,5 @@ IsNamed n (t ∷ ts) r = MatchBool (defines t) (IsConstant n ts r) (IsInstructio
 -- a statement of some tokens
 abbrev pub IsStatement : List Lexeme → Result Statement AsmFault → Type 0
 IsStatement ((token.Identifier, n) ∷ ts) r = IsNamed n ts r
-IsStatement ((token.Directive, d) ∷ ts) r = First (understood (directive_of d)) (λ x. IsDirective x ts) r
+IsStatement ((token.Directive, d) ∷ ts) r = AndThen (ok_or_not_understood (directive_of d)) (λ x. IsDirective x ts) r
 IsStatement _ r = r ≡ unknown

@@ -3,7 +3,7 @@
 ghost use Rattle.std.specs.Prelude.{◌≡◌, Some};
 ghost use Rattle.ast65.specs.declared.fault.AsmFault.TheVariants.{Expansion, OutOfMemory};
 
-use base65::{Sequence, StoreFault};
+use base65::{ListVec, StoreFault};
 use std::alloc::{AllocError, AllocFailed};
 use std::error::Error;
 use std::fmt;
@@ -18,8 +18,8 @@ pub enum AsmFault {
     NotUnderstood,
     /// The instruction has no such addressing form.
     NoSuchForm,
-    DefinedTwice(Sequence<u8>),
-    Undefined(Sequence<u8>),
+    DefinedTwice(ListVec<u8>),
+    Undefined(ListVec<u8>),
     Circular,
     OutOfRange,
     /// A zero divisor, or a shift count outside 0 to 63.
@@ -27,13 +27,13 @@ pub enum AsmFault {
     /// An expression has too many nodes.
     TooLarge,
     SectionTooLarge,
-    NoSuchScope(Sequence<u8>),
-    ScopeTwice(Sequence<u8>),
+    NoSuchScope(ListVec<u8>),
+    ScopeTwice(ListVec<u8>),
     /// There is no such unnamed label.
     NoSuchLabel,
-    ImportedAndDefined(Sequence<u8>),
+    ImportedAndDefined(ListVec<u8>),
     /// An export isn't defined.
-    NotDefined(Sequence<u8>),
+    NotDefined(ListVec<u8>),
     BadAlignment,
     PopWithoutPush,
     /// An operand of a directive isn't constant or is out of range.
@@ -41,7 +41,7 @@ pub enum AsmFault {
     /// A file has no such part.
     BadPart,
     /// An assertion failed; its text.
-    Assertion(Sequence<u8>),
+    Assertion(ListVec<u8>),
     /// A segment's address size differs from the one it has.
     SizeChanged,
     /// A scope isn't open or isn't closed.
@@ -119,13 +119,13 @@ impl AsmFault {
 }
 
 impl fmt::Display for AsmFault {
-    ghost use Rattle.ast65.specs.Faults.{displayed};
+    ghost use Rattle.ast65.specs.Faults.{display_text};
 
-    ghost output = { λ e. Some (displayed e) };
+    ghost output = { λ e. Some (display_text e) };
 
     fn fmt<W: fmt::Write>(&self, f: &mut fmt::Formatter<W>) -> fmt::Result {
         let words = self.words();
-        let name = Shown(self.name());
+        let name = ByteDisplay(self.name());
         write!(f, "{words}{name}")
     }
 }
@@ -134,9 +134,9 @@ impl Error for AsmFault {}
 
 /// A name as it is printed: each byte is the character of its code.
 #[derive(Clone, Copy)]
-struct Shown<'a>(&'a [u8]);
+struct ByteDisplay<'a>(&'a [u8]);
 
-impl fmt::Display for Shown<'_> {
+impl fmt::Display for ByteDisplay<'_> {
     ghost use Rattle.std.specs.Prelude.{encode_utf8_all};
 
     ghost output = { λ x. Some (encode_utf8_all x.0.now) };

@@ -3,7 +3,7 @@
 ghost use Rattle.std.specs.Prelude.{◌≡◌, None, Some, IfOk, option_map};
 ghost use Rattle.ast65.specs.Items.{items_of};
 
-use base65::Sequence;
+use base65::ListVec;
 use object65::{Action, Width};
 use std::alloc::{AllocError, Global};
 use std::marker::Model;
@@ -13,7 +13,7 @@ use syntax65::{AddressSize, Expr, Identifier, Mnemonic};
 #[derive(Drop)]
 pub enum Item {
     Value(Expr),
-    Text(Sequence<u8>),
+    StringLiteral(ListVec<u8>),
 }
 
 /// The elements of a list of data, which contracts see as a list of items.
@@ -26,8 +26,8 @@ pub struct Items {
 #[derive(Drop)]
 pub enum ItemsKind {
     /// Numbers alone.
-    Numbers(Sequence<u32>),
-    Mixed(Sequence<Item>),
+    Numbers(ListVec<u32>),
+    Mixed(ListVec<Item>),
 }
 
 impl Model for Items {
@@ -144,7 +144,7 @@ impl OptionalExpr {
 
 /// What is taken of a file: from a byte on, so many. By default all from the first byte on.
 #[derive(Clone, Copy)]
-pub struct PartRange<'a> {
+pub struct IncbinRange<'a> {
     pub start: &'a OptionalExpr,
     pub len: &'a OptionalExpr,
 }
@@ -179,24 +179,24 @@ pub enum Statement {
     },
     /// `.align n[,v]`
     Align {
-        multiple: Expr,
+        alignment: Expr,
         value: OptionalExpr,
     },
     /// `.incbin` with the name of its file, as it is read.
-    NamedPart {
-        name: Sequence<u8>,
+    IncbinPath {
+        name: ListVec<u8>,
         start: OptionalExpr,
         len: OptionalExpr,
     },
     /// `.incbin` with the bytes of its file, if there is one.
-    FilePart {
-        bytes: Option<Sequence<u8>>,
+    Incbin {
+        bytes: Option<ListVec<u8>>,
         start: OptionalExpr,
         len: OptionalExpr,
     },
     /// `.segment "N"`, perhaps with an address size; `.code` and the like.
     Segment {
-        name: Sequence<u8>,
+        name: ListVec<u8>,
         size: Option<AddressSize>,
     },
     PushSegment,
@@ -210,25 +210,25 @@ pub enum Statement {
     /// `.import`, `.importzp`
     Import {
         size: AddressSize,
-        names: Sequence<Sequence<u8>>,
+        names: ListVec<ListVec<u8>>,
     },
     /// `.export`, `.exportzp`
-    Export(Sequence<Sequence<u8>>),
+    Export(ListVec<ListVec<u8>>),
     /// `.global`, `.globalzp`
     Global {
         size: AddressSize,
-        names: Sequence<Sequence<u8>>,
+        names: ListVec<ListVec<u8>>,
     },
-    ForceImport(Sequence<Sequence<u8>>),
+    ForceImport(ListVec<ListVec<u8>>),
     Assert {
         value: Expr,
         action: Action,
-        text: Sequence<u8>,
+        text: ListVec<u8>,
     },
     /// `.out`
-    Out(Sequence<u8>),
+    Out(ListVec<u8>),
     /// `.warning`
-    Warning(Sequence<u8>),
+    Warning(ListVec<u8>),
     /// `.setcpu "6502"` and `.p02`, which do nothing.
     Nothing,
 }

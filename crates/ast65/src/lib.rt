@@ -8,5 +8,5 @@ pub mod laws;
 mod reading;
 
 pub use fault::AsmFault;
-pub use language::{Index, Item, Items, ItemsKind, Operand, OptionalExpr, PartRange, Statement};
+pub use language::{IncbinRange, Index, Item, Items, ItemsKind, Operand, OptionalExpr, Statement};
 pub use reading::{instruction_front, label, operand, statement};

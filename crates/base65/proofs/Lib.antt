@@ -1,7 +1,7 @@
 pub mod Filling
 pub mod Chunks
 pub mod Outcome
-pub mod Own
+pub mod SystemErrors
 pub mod Wraps
 pub mod Places
 pub mod Digit

@@ -1,20 +1,20 @@
 -- What is said of a part, said of the whole.
 use Rattle.std.proofs.Common.{◌≡◌, ◌∙◌, Bool, true, false, Result, Ok, Err, refl, sym}
-use Rattle.base65.specs.Outcome.{◌>>=◌, First, Gives, Refuses, Unless}
+use Rattle.base65.specs.Outcome.{◌>>=◌, AndThen, Refines, RefinesErr, Unless}
 
-module _ {E : Type 0} (is_outside : E → Bool) where
-  pub refused-then : {A B : Type 0} (e : E) (read : Result A E) (f : A → Result B E) → Refuses is_outside e read → Refuses is_outside e (read >>= f)
-  refused-then {A} {B} e read f = go (is_outside e)
+module _ {E : Type 0} (is_system_error : E → Bool) where
+  pub refused-then : {A B : Type 0} (e : E) (read : Result A E) (f : A → Result B E) → RefinesErr is_system_error e read → RefinesErr is_system_error e (read >>= f)
+  refused-then {A} {B} e read f = go (is_system_error e)
     where
       go : (b : Bool) → Unless b (read ≡ Err e) → Unless b ((read >>= f) ≡ Err e)
       go true h = tt
       go false h = rw h refl
 
-  pub gives-then : {X A B : Type 0} (result : Result X E) (x : A) (read : Result A E) (f : A → B) → Gives is_outside (λ _. x) result read → Gives is_outside (λ _. f x) result (read >>= (λ y. Ok (f y)))
+  pub gives-then : {X A B : Type 0} (result : Result X E) (x : A) (read : Result A E) (f : A → B) → Refines is_system_error (λ _. x) result read → Refines is_system_error (λ _. f x) result (read >>= (λ y. Ok (f y)))
   gives-then (Ok u) x read f h = rw h refl
   gives-then (Err e) x read f h = refused-then e read (λ y. Ok (f y)) h
 
 -- what follows a first part is one thing at most, where it is behind each answer of that part
-pub first_once : {E A B : Type 0} (head : Result A E) (Next : A → Result B E → Type 0) (r q : Result B E) → ((x : A) → Next x r → Next x q → r ≡ q) → First head Next r → First head Next q → r ≡ q
+pub first_once : {E A B : Type 0} (head : Result A E) (Next : A → Result B E → Type 0) (r q : Result B E) → ((x : A) → Next x r → Next x q → r ≡ q) → AndThen head Next r → AndThen head Next q → r ≡ q
 first_once (Ok x) Next r q once h k = once x h k
 first_once (Err e) Next r q once h k = h ∙ sym k

@@ -2,7 +2,7 @@ pub mod Digit
 pub mod Holding
 pub mod MemStore
 pub mod Outcome
-pub mod Own
+pub mod SystemErrors
 pub mod Reading
 pub mod Relations
 pub mod Store

@@ -19,35 +19,35 @@ abbrev pub HoldsBytes : {T E : Type 0} → Option (List ℕ) → Result T E → 
 HoldsBytes file result = IfOk result (λ x. IfSome file IsBytes)
 
 -- the count's last value
-abbrev pub last_count : ℕ
-last_count = 2 ^ 64 - 1
+abbrev pub max_failures : ℕ
+max_failures = 2 ^ 64 - 1
 
 -- a call that began at the count old and ended at new failed, or the count stood at its last value
 abbrev pub HasFailed : ℕ → ℕ → Type 0
-HasFailed old new = (old < new) ⊎ (old ≡ last_count)
+HasFailed old new = (old < new) ⊎ (old ≡ max_failures)
 
 -- An error is the store's failure passed on: it is answered where the count rose, and nowhere but where the
 -- count rose or stood at its last value. The count never falls.
-pub record Passes {T E : Type 0} (error : E) (old new : ℕ) (result : Result T E) : Type 0 where
+pub record PropagatesIoError {T E : Type 0} (error : E) (old new : ℕ) (result : Result T E) : Type 0 where
   pub later : old ≤ new
   pub told : old < new → IsErrOf result error
   pub cause : IsErrOf result error → HasFailed old new
 
 -- The same where several errors are the store's failures passed on.
-pub record PassesBy {T E : Type 0} (fails : E → Bool) (old new : ℕ) (result : Result T E) : Type 0 where
+pub record PropagatesIoErrors {T E : Type 0} (fails : E → Bool) (old new : ℕ) (result : Result T E) : Type 0 where
   pub later : old ≤ new
   pub told : old < new → IsErrAnd result (λ e. fails e ≡ true)
   pub cause : IfErr result (λ e. fails e ≡ true → HasFailed old new)
 
 -- the same of one call of a store, which also fails wherever the count stands at its last value
-pub record Counts {T : Type 0} (old new : ℕ) (result : Result T StoreFault) : Type 0 where
+pub record CountsFailure {T : Type 0} (old new : ℕ) (result : Result T StoreFault) : Type 0 where
   pub later : old ≤ new
   pub told : HasFailed old new → IsErrOf result FileError
   pub cause : IsErrOf result FileError → HasFailed old new
 
 -- a call that asks the store is refused from outside where the count stands at its last value
-abbrev pub Asks : {T E : Type 0} → (E → Bool) → ℕ → Result T E → Type 0
-Asks is_outside old result = old ≡ last_count → IsErrAnd result (λ e. is_outside e ≡ true)
+abbrev pub FailsAtLastCount : {T E : Type 0} → (E → Bool) → ℕ → Result T E → Type 0
+FailsAtLastCount is_system_error old result = old ≡ max_failures → IsErrAnd result (λ e. is_system_error e ≡ true)
 
 -- a call that failed: the file that it asked for, and where a reading began
 pub record FailedCall : Type 0 where
@@ -55,31 +55,31 @@ pub record FailedCall : Type 0 where
   pub at : Option ℕ
 
 -- the call that failed last, where the store tells it
-abbrev pub Blamed : Type 0
-Blamed = Option FailedCall
+abbrev pub LastFailure : Type 0
+LastFailure = Option FailedCall
 
 -- the last failed call asked for this file, where the store tells for which
-abbrev pub IsBlamed : Blamed → List ℕ → Type 0
-IsBlamed blamed name = IfSome blamed (λ c. c.name ≡ name)
+abbrev pub FailedOn : LastFailure → List ℕ → Type 0
+FailedOn last_failure name = IfSome last_failure (λ c. c.name ≡ name)
 
 -- it was a reading of this file from there on, where the store tells that
-abbrev pub IsBlamedAt : Blamed → List ℕ → ℕ → Type 0
-IsBlamedAt blamed name at = IfSome blamed (λ c. (c.name ≡ name) × (c.at ≡ Some at))
+abbrev pub FailedAt : LastFailure → List ℕ → ℕ → Type 0
+FailedAt last_failure name at = IfSome last_failure (λ c. (c.name ≡ name) × (c.at ≡ Some at))
 
 -- it was a reading of this file from a place between these on, where the store tells that
-abbrev pub IsBlamedIn : Blamed → List ℕ → ℕ → ℕ → Type 0
-IsBlamedIn blamed name begin end = IfSome blamed (λ c. (c.name ≡ name) × (at : ℕ) × (c.at ≡ Some at) × (begin ≤ at) × (at ≤ end))
+abbrev pub FailedWithin : LastFailure → List ℕ → ℕ → ℕ → Type 0
+FailedWithin last_failure name begin end = IfSome last_failure (λ c. (c.name ≡ name) × (at : ℕ) × (c.at ≡ Some at) × (begin ≤ at) × (at ≤ end))
 
 -- which call failed last, behind a call that is told so where it failed
-abbrev pub Blames : {T : Type 0} → (Blamed → Type 0) → Blamed → Blamed → Result T StoreFault → Type 0
-Blames IsTold old new (Err FileError) = IsTold new
-Blames IsTold old new (Err FileNotFound) = new ≡ old
-Blames IsTold old new (Err OutOfMemory) = new ≡ old
-Blames IsTold old new (Ok x) = new ≡ old
+abbrev pub RecordsFailure : {T : Type 0} → (LastFailure → Type 0) → LastFailure → LastFailure → Result T StoreFault → Type 0
+RecordsFailure IsTold old new (Err FileError) = IsTold new
+RecordsFailure IsTold old new (Err FileNotFound) = new ≡ old
+RecordsFailure IsTold old new (Err OutOfMemory) = new ≡ old
+RecordsFailure IsTold old new (Ok x) = new ≡ old
 
 -- The first n bytes of the buffer are those of what the file has from there on. There are none only at the
 -- file's end or where the buffer is empty.
-pub record Fills (rest : List ℕ) (n : ℕ) (buf : List ℕ) : Type 0 where
+pub record ReadsPrefix (rest : List ℕ) (n : ℕ) (buf : List ℕ) : Type 0 where
   pub within : n ≤ length rest
   pub front : take n buf ≡ take n rest
   pub ends : n ≡ 0 → 0 < length buf → rest ≡ []
@@ -87,34 +87,34 @@ pub record Fills (rest : List ℕ) (n : ℕ) (buf : List ℕ) : Type 0 where
 -- what a file has from a place on is read into the buffer, or there is no such file
 abbrev pub ReadsAt : Option (List ℕ) → ℕ → List ℕ → Result ℕ StoreFault → Type 0
 ReadsAt None at buf (Ok n) = ⊥
-ReadsAt (Some bytes) at buf (Ok n) = Fills (drop at bytes) n buf
+ReadsAt (Some bytes) at buf (Ok n) = ReadsPrefix (drop at bytes) n buf
 ReadsAt file at buf (Err FileNotFound) = file ≡ None
 ReadsAt file at buf (Err FileError) = ⊤
 ReadsAt file at buf (Err OutOfMemory) = ⊤
 
 -- new is old with the file emptied, or old where the call was refused; a file that isn't there is no cause
-abbrev pub Creates : Files → List ℕ → Files → Result (Unit {0}) StoreFault → Type 0
-Creates old name new (Ok u) = new ≡ insert old name []
-Creates old name new (Err FileNotFound) = ⊥
-Creates old name new (Err FileError) = new ≡ old
-Creates old name new (Err OutOfMemory) = new ≡ old
+abbrev pub CreatesFile : Files → List ℕ → Files → Result (Unit {0}) StoreFault → Type 0
+CreatesFile old name new (Ok u) = new ≡ insert old name []
+CreatesFile old name new (Err FileNotFound) = ⊥
+CreatesFile old name new (Err FileError) = new ≡ old
+CreatesFile old name new (Err OutOfMemory) = new ≡ old
 
 -- new is old with the first n bytes of the piece behind the file's own
-pub record Extends (old : Files) (name piece : List ℕ) (n : ℕ) (new : Files) (bytes : List ℕ) : Type 0 where
+pub record ExtendsFile (old : Files) (name piece : List ℕ) (n : ℕ) (new : Files) (bytes : List ℕ) : Type 0 where
   pub was : get old name ≡ Some bytes
   pub grown : new ≡ insert old name (bytes ++ take n piece)
 
-abbrev pub Appends : Files → List ℕ → List ℕ → Files → Result ℕ StoreFault → Type 0
-Appends old name piece new (Ok n) = (bytes : List ℕ) × Extends old name piece n new bytes
-Appends old name piece new (Err FileNotFound) = (get old name ≡ None) × (new ≡ old)
-Appends old name piece new (Err FileError) = new ≡ old
-Appends old name piece new (Err OutOfMemory) = new ≡ old
+abbrev pub AppendsToFile : Files → List ℕ → List ℕ → Files → Result ℕ StoreFault → Type 0
+AppendsToFile old name piece new (Ok n) = (bytes : List ℕ) × ExtendsFile old name piece n new bytes
+AppendsToFile old name piece new (Err FileNotFound) = (get old name ≡ None) × (new ≡ old)
+AppendsToFile old name piece new (Err FileError) = new ≡ old
+AppendsToFile old name piece new (Err OutOfMemory) = new ≡ old
 
 -- two knowledges of files stand in a relation, where the files are known
-abbrev pub Tells : (Files → Files → Type 0) → Option Files → Option Files → Type 0
-Tells P None new = ⊤
-Tells P (Some old) None = ⊥
-Tells P (Some old) (Some new) = P old new
+abbrev pub RelatesFiles : (Files → Files → Type 0) → Option Files → Option Files → Type 0
+RelatesFiles P None new = ⊤
+RelatesFiles P (Some old) None = ⊥
+RelatesFiles P (Some old) (Some new) = P old new
 
 -- the buffer has been filled from there on as far as the file goes
 pub record FillsAll (rest : List ℕ) (n : ℕ) (buf : List ℕ) : Type 0 where
@@ -136,4 +136,4 @@ FilledTo (Some bytes) at n buf = (n ≤ length (drop at bytes)) × (take n buf �
 -- no call of the store failed between two counts
 pub record NoneFailed (old new : ℕ) : Type 0 where
   pub same : new ≡ old
-  pub before : old < last_count
+  pub before : old < max_failures

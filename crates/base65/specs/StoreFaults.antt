@@ -9,7 +9,7 @@ store_words FileNotFound = codes "file not found"
 store_words FileError = codes "file error"
 
 -- memory ran out or the store failed
-abbrev pub is_outside_store : StoreFault → Bool
-is_outside_store OutOfMemory = true
-is_outside_store FileNotFound = false
-is_outside_store FileError = true
+abbrev pub is_store_system_error : StoreFault → Bool
+is_store_system_error OutOfMemory = true
+is_store_system_error FileNotFound = false
+is_store_system_error FileError = true

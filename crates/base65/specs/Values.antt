@@ -8,8 +8,8 @@ use Rattle.base65.specs.declared.values.Op2.{Op2}
 use Rattle.base65.specs.declared.values.Op2.TheVariants.{Multiply, Divide, Modulo, BitAnd, BitXor, ShiftLeft, ShiftRight, Add, Subtract, BitOr, Equal, NotEqual, Less, Greater, LessOrEqual, GreaterOrEqual, And, Xor, Or}
 
 -- brought into the signed 64-bit range modulo 2 ^ 64
-abbrev pub wrapped : ℤ → ℤ
-wrapped z = int_wrap w64 z
+abbrev pub wrap_signed : ℤ → ℤ
+wrap_signed z = int_wrap w64 z
 
 abbrev pub truth : Bool → ℤ
 truth true = pos 1
@@ -25,7 +25,7 @@ is_other false b = b
 
 abbrev pub value1 : Op1 → ℤ → ℤ
 value1 Plus a = a
-value1 Negate a = wrapped (neg_ℤ a)
+value1 Negate a = wrap_signed (neg_ℤ a)
 value1 BitNot a = neg_ℤ a -ℤ pos 1
 value1 LowByte a = pos (cast_unsigned w64 a % 2 ^ 8)
 value1 HighByte a = pos (cast_unsigned w64 a / 2 ^ 8 % 2 ^ 8)
@@ -33,24 +33,24 @@ value1 BankByte a = pos (cast_unsigned w64 a / 2 ^ 16 % 2 ^ 8)
 value1 Not a = truth (not (is_true a))
 
 -- a formula that has no value at the divisor 0
-abbrev pub divided : (ℤ → ℤ → ℤ) → ℤ → ℤ → Option ℤ
-divided f a b = if int_eq b (pos 0) then None else Some (wrapped (f a b))
+abbrev pub unless_zero_divisor : (ℤ → ℤ → ℤ) → ℤ → ℤ → Option ℤ
+unless_zero_divisor f a b = if int_eq b (pos 0) then None else Some (wrap_signed (f a b))
 
 -- a formula that has no value at a shift count outside 0 to 63
-abbrev pub shifted : (ℤ → ℤ → ℤ) → ℤ → ℤ → Option ℤ
-shifted f a (pos n) = if nat_lt n 64 then Some (wrapped (f a (pos (2 ^ n)))) else None
-shifted f a (negsuc n) = None
+abbrev pub unless_bad_shift : (ℤ → ℤ → ℤ) → ℤ → ℤ → Option ℤ
+unless_bad_shift f a (pos n) = if nat_lt n 64 then Some (wrap_signed (f a (pos (2 ^ n)))) else None
+unless_bad_shift f a (negsuc n) = None
 
 abbrev pub value2 : Op2 → ℤ → ℤ → Option ℤ
-value2 Multiply a b = Some (wrapped (a *ℤ b))
-value2 Divide a b = divided int_div a b
-value2 Modulo a b = divided int_rem a b
+value2 Multiply a b = Some (wrap_signed (a *ℤ b))
+value2 Divide a b = unless_zero_divisor int_div a b
+value2 Modulo a b = unless_zero_divisor int_rem a b
 value2 BitAnd a b = Some (int_bit_and w64 a b)
 value2 BitXor a b = Some (int_bit_xor w64 a b)
-value2 ShiftLeft a b = shifted (λ x p. x *ℤ p) a b
-value2 ShiftRight a b = shifted int_div_euclid a b
-value2 Add a b = Some (wrapped (a +ℤ b))
-value2 Subtract a b = Some (wrapped (a -ℤ b))
+value2 ShiftLeft a b = unless_bad_shift (λ x p. x *ℤ p) a b
+value2 ShiftRight a b = unless_bad_shift int_div_euclid a b
+value2 Add a b = Some (wrap_signed (a +ℤ b))
+value2 Subtract a b = Some (wrap_signed (a -ℤ b))
 value2 BitOr a b = Some (int_bit_or w64 a b)
 value2 Equal a b = Some (truth (int_eq a b))
 value2 NotEqual a b = Some (truth (not (int_eq a b)))

@@ -2,22 +2,22 @@
 //! contracts see as lists.
 #![tactic(auto)]
 
+mod list_vec;
 mod mem_store;
 mod numbers;
 mod output;
+mod path_string;
 mod reading;
 mod seed;
-mod sequence;
 mod store;
-mod text;
 mod values;
 
+pub use list_vec::ListVec;
 pub use mem_store::MemStore;
 pub use numbers::digits;
 pub use output::OutputFile;
+pub use path_string::{PathString, is_utf8};
 pub use reading::read_front;
 pub use seed::Seed;
-pub use sequence::Sequence;
 pub use store::{Store, StoreFault, read_full};
-pub use text::{Text, is_utf8};
 pub use values::{Op1, Op2, apply1, apply2};

@@ -4,7 +4,7 @@ ghost use Rattle.std.specs.Prelude.{◌≡◌, ◌+◌, ◌<◌, ◌≤◌, min,
 ghost use Rattle.std.specs.Option.{option_map, option_copied};
 ghost use Rattle.std.specs.FinMap as map;
 ghost use Rattle.std.proofs.Common.{rules};
-ghost use Rattle.base65.specs.Store.{ReadsAt, Fills, Appends, IsBytes};
+ghost use Rattle.base65.specs.Store.{ReadsAt, ReadsPrefix, AppendsToFile, IsBytes};
 ghost use Rattle.base65.specs.MemStore.{place_of, files_of};
 ghost use Rattle.base65.specs.Holding.{HoldBytes};
 
@@ -128,7 +128,7 @@ fn set_file(
 
 /// Puts bytes behind those of the file of a name.
 fn extend_file(files: &mut Vec<File>, name: &[u8], piece: &[u8]) -> Result<usize, StoreFault>
-    ensures appended { Appends (files_of files.old.items) name.now piece.now (files_of files.new.items) result }
+    ensures appended { AppendsToFile (files_of files.old.items) name.now piece.now (files_of files.new.items) result }
     ensures all { IfOk result (λ n. n ≡ length piece.now) }
     ensures cause { IsErrOf result StoreFault.FileError → ⊥ }
 {
@@ -144,7 +144,7 @@ fn extend_file(files: &mut Vec<File>, name: &[u8], piece: &[u8]) -> Result<usize
 
 /// Puts what bytes have from a place on into the front of a buffer, and answers how many these are.
 fn copy_from(bytes: &[u8], at: u64, buf: &mut [u8]) -> usize
-    ensures fills { Fills (drop at bytes.now) result buf.new }
+    ensures fills { ReadsPrefix (drop at bytes.now) result buf.new }
     ensures bound { result ≤ length buf.new }
     ensures bytes { IsBytes bytes.now }
 {
@@ -160,7 +160,7 @@ impl Store for MemStore {
 
     ghost failures = { λ _. 0 };
 
-    ghost blamed = { λ _. None };
+    ghost last_failure = { λ _. None };
 
     fn read_at(&mut self, name: &str, at: u64, buf: &mut [u8]) -> Result<usize, StoreFault> {
         let bytes = self.get(name).ok_or(StoreFault::FileNotFound)?;

@@ -1,10 +1,10 @@
 //! What a command leaves.
 
-use crate::{Sequence, Text};
+use crate::{ListVec, PathString};
 
 /// A file that a command leaves.
 #[derive(Drop)]
 pub struct OutputFile {
-    pub name: Text,
-    pub bytes: Sequence<u8>,
+    pub name: PathString,
+    pub bytes: ListVec<u8>,
 }

@@ -2,9 +2,9 @@
 
 ghost use Rattle.std.specs.Prelude.{◌≡◌, ◌≤◌, ◌<◌, ◌+◌, ◌^◌, IfOk, IfSome, IsErrOf, length};
 ghost use Rattle.std.specs.FinMap as map;
-ghost use Rattle.base65.specs.Outcome.{Gives};
-ghost use Rattle.base65.specs.Store.{Asks, HoldsBytes, IsBlamed, Passes};
-ghost use Rattle.base65.specs.StoreFaults.{is_outside_store};
+ghost use Rattle.base65.specs.Outcome.{Refines};
+ghost use Rattle.base65.specs.Store.{FailsAtLastCount, HoldsBytes, FailedOn, PropagatesIoError};
+ghost use Rattle.base65.specs.StoreFaults.{is_store_system_error};
 ghost use Rattle.base65.specs.Reading.{front_in, ReadsChunk};
 
 use crate::{Store, StoreFault, read_full};
@@ -26,9 +26,9 @@ fn read_chunk<S: Store>(
     ensures bytes { IfSome (S.files store.old) (λ m. HoldsBytes (map.get m name.now) result) }
     ensures grown { IfOk result (λ n. (n ≤ want) × (length bytes.new.items ≡ length bytes.old.items + n)) }
     ensures files { S.files store.new ≡ S.files store.old }
-    ensures count { Passes StoreFault.FileError (S.failures store.old) (S.failures store.new) result }
-    ensures blamed { IsErrOf result StoreFault.FileError → IsBlamed (S.blamed store.new) name.now }
-    ensures asked { Asks is_outside_store (S.failures store.old) result }
+    ensures count { PropagatesIoError StoreFault.FileError (S.failures store.old) (S.failures store.new) result }
+    ensures last_failure { IsErrOf result StoreFault.FileError → FailedOn (S.last_failure store.new) name.now }
+    ensures at_last_count { FailsAtLastCount is_store_system_error (S.failures store.old) result }
 {
     let mut chunk = [0u8; CHUNK];
     let n = read_full(store, name, at, &mut chunk[..want])?;
@@ -44,12 +44,12 @@ pub fn read_front<S: Store>(
     most: usize,
 ) -> Result<Vec<u8>, StoreFault>
     requires { most < 2 ^ 62 }
-    ensures read { IfSome (S.files store.old) (λ m. Gives is_outside_store (λ v. v.items) result (front_in (map.get m name.now) most)) }
+    ensures read { IfSome (S.files store.old) (λ m. Refines is_store_system_error (λ v. v.items) result (front_in (map.get m name.now) most)) }
     ensures bytes { IfSome (S.files store.old) (λ m. HoldsBytes (map.get m name.now) result) }
     ensures files { S.files store.new ≡ S.files store.old }
-    ensures count { Passes StoreFault.FileError (S.failures store.old) (S.failures store.new) result }
-    ensures blamed { IsErrOf result StoreFault.FileError → IsBlamed (S.blamed store.new) name.now }
-    ensures asked { Asks is_outside_store (S.failures store.old) result }
+    ensures count { PropagatesIoError StoreFault.FileError (S.failures store.old) (S.failures store.new) result }
+    ensures last_failure { IsErrOf result StoreFault.FileError → FailedOn (S.last_failure store.new) name.now }
+    ensures at_last_count { FailsAtLastCount is_store_system_error (S.failures store.old) result }
 {
     let mut bytes = Vec::new(alloc);
     'reading: loop {

@@ -3,8 +3,8 @@
 ghost use Rattle.std.specs.Prelude.{◌≡◌, ◌≤◌, ◌<◌, ◌+◌, ◌-◌, ◌^◌, ℕ, Option, List, length, IfOk, IfSome, IsErrOf};
 ghost use Rattle.std.specs.FinMap as map;
 ghost use Rattle.base65.specs.declared.store.StoreFault.TheVariants.{OutOfMemory, FileError};
-ghost use Rattle.base65.specs.StoreFaults.{is_outside_store};
-ghost use Rattle.base65.specs.Store.{Files, Blamed, HoldsBytes, Asks, Blames, IsBlamed, IsBlamedAt, IsBlamedIn, last_count, Counts, ReadsAt, Creates, Appends, Tells, ReadsFull, Passes};
+ghost use Rattle.base65.specs.StoreFaults.{is_store_system_error};
+ghost use Rattle.base65.specs.Store.{Files, LastFailure, HoldsBytes, FailsAtLastCount, RecordsFailure, FailedOn, FailedAt, FailedWithin, max_failures, CountsFailure, ReadsAt, CreatesFile, AppendsToFile, RelatesFiles, ReadsFull, PropagatesIoError};
 
 use crate::seed::Seed;
 use std::alloc::{AllocError, AllocFailed};
@@ -58,7 +58,7 @@ pub trait Store {
     ghost failures: { Self → ℕ };
 
     /// Which call failed last, where the store tells it.
-    ghost blamed: { Self → Blamed };
+    ghost last_failure: { Self → LastFailure };
 
     /// What tables of names begin their hashes with in a run over these files.
     fn seed(&self) -> Seed {
@@ -71,25 +71,25 @@ pub trait Store {
         ensures read { IfSome (files self.old) (λ m. ReadsAt (map.get m name.now) at buf.new result) }
         ensures bytes { IfSome (files self.old) (λ m. HoldsBytes (map.get m name.now) result) }
         ensures files { files self.new ≡ files self.old }
-        ensures count { Counts (failures self.old) (failures self.new) result }
-        ensures blamed { Blames (λ b. IsBlamedAt b name.now at) (blamed self.old) (blamed self.new) result };
+        ensures count { CountsFailure (failures self.old) (failures self.new) result }
+        ensures last_failure { RecordsFailure (λ b. FailedAt b name.now at) (last_failure self.old) (last_failure self.new) result };
 
     /// Makes a file empty, and begins it where there is none.
     fn create(&mut self, name: &str) -> Result<(), StoreFault>
-        ensures created { Tells (λ old new. Creates old name.now new result) (files self.old) (files self.new) }
-        ensures count { Counts (failures self.old) (failures self.new) result }
-        ensures blamed { Blames (λ b. IsBlamed b name.now) (blamed self.old) (blamed self.new) result };
+        ensures created { RelatesFiles (λ old new. CreatesFile old name.now new result) (files self.old) (files self.new) }
+        ensures count { CountsFailure (failures self.old) (failures self.new) result }
+        ensures last_failure { RecordsFailure (λ b. FailedOn b name.now) (last_failure self.old) (last_failure self.new) result };
 
     /// Adds the first bytes of a piece behind a file's own, and answers how many it added: one at least of a
     /// piece that isn't empty.
     fn append(&mut self, name: &str, piece: &[u8]) -> Result<usize, StoreFault>
         ensures bound { IfOk result (λ n. (n ≤ length piece.now) × (n ≡ 0 → length piece.now ≡ 0)) }
-        ensures appended { Tells (λ old new. Appends old name.now piece.now new result) (files self.old) (files self.new) }
-        ensures count { Counts (failures self.old) (failures self.new) result }
-        ensures blamed { Blames (λ b. IsBlamed b name.now) (blamed self.old) (blamed self.new) result };
+        ensures appended { RelatesFiles (λ old new. AppendsToFile old name.now piece.now new result) (files self.old) (files self.new) }
+        ensures count { CountsFailure (failures self.old) (failures self.new) result }
+        ensures last_failure { RecordsFailure (λ b. FailedOn b name.now) (last_failure self.old) (last_failure self.new) result };
 
     /// The count of failures has a last value.
-    ghost counted: { (s : Self) → failures s ≤ last_count };
+    ghost counted: { (s : Self) → failures s ≤ max_failures };
 }
 
 /// Reads until the buffer is full or the file ends.
@@ -104,10 +104,10 @@ pub fn read_full<S: Store>(
     ensures read { IfSome (S.files store.old) (λ m. ReadsFull (map.get m name.now) at buf.new result) }
     ensures bytes { IfSome (S.files store.old) (λ m. HoldsBytes (map.get m name.now) result) }
     ensures files { S.files store.new ≡ S.files store.old }
-    ensures count { Passes FileError (S.failures store.old) (S.failures store.new) result }
-    ensures blamed { IsErrOf result FileError → IsBlamed (S.blamed store.new) name.now }
-    ensures within { IsErrOf result FileError → IsBlamedIn (S.blamed store.new) name.now at (at + (length buf.old - 1)) }
-    ensures asked { Asks is_outside_store (S.failures store.old) result }
+    ensures count { PropagatesIoError FileError (S.failures store.old) (S.failures store.new) result }
+    ensures last_failure { IsErrOf result FileError → FailedOn (S.last_failure store.new) name.now }
+    ensures within { IsErrOf result FileError → FailedWithin (S.last_failure store.new) name.now at (at + (length buf.old - 1)) }
+    ensures at_last_count { FailsAtLastCount is_store_system_error (S.failures store.old) result }
 {
     let mut done = 0;
     'fill: loop {

@@ -1,7 +1,7 @@
 //! The operators of expressions and their values, over whole numbers brought into the signed 64-bit range.
 
 ghost use Rattle.std.specs.Prelude.{◌≡◌};
-ghost use Rattle.base65.specs.Values.{value1, value2, truth, divided, shifted};
+ghost use Rattle.base65.specs.Values.{value1, value2, truth, unless_zero_divisor, unless_bad_shift};
 ghost use Rattle.std.specs.Prelude.{◌*ℤ◌, int_div, int_rem};
 ghost use Rattle.std.specs.Int.{int_div_euclid};
 
@@ -94,7 +94,7 @@ pub fn apply2(op: Op2, a: i64, b: i64) -> Option<i64>
 }
 
 fn divide(a: i64, b: i64) -> Option<i64>
-    ensures { result ≡ divided int_div a b }
+    ensures { result ≡ unless_zero_divisor int_div a b }
 {
     if b == 0 {
         None
@@ -104,7 +104,7 @@ fn divide(a: i64, b: i64) -> Option<i64>
 }
 
 fn remain(a: i64, b: i64) -> Option<i64>
-    ensures { result ≡ divided int_rem a b }
+    ensures { result ≡ unless_zero_divisor int_rem a b }
 {
     if b == 0 {
         None
@@ -114,7 +114,7 @@ fn remain(a: i64, b: i64) -> Option<i64>
 }
 
 fn shift_left(a: i64, b: i64) -> Option<i64>
-    ensures { result ≡ shifted (λ x p. x *ℤ p) a b }
+    ensures { result ≡ unless_bad_shift (λ x p. x *ℤ p) a b }
 {
     let count = u32::try_from(b).ok()?;
     if count < 64 {
@@ -125,7 +125,7 @@ fn shift_left(a: i64, b: i64) -> Option<i64>
 }
 
 fn shift_right(a: i64, b: i64) -> Option<i64>
-    ensures { result ≡ shifted int_div_euclid a b }
+    ensures { result ≡ unless_bad_shift int_div_euclid a b }
 {
     let count = u32::try_from(b).ok()?;
     if count < 64 { Some(a >> count) } else { None }

@@ -4,7 +4,7 @@
 use std::io::ErrorKind;
 use std::process::ExitCode;
 use std::{env, io};
-use tools65::{DiskStore, Seed, Status, Stream, print, run_over};
+use tools65::{DiskStore, Seed, Status, Stream, print, run_with_streams};
 
 /// Runs the program's words as a command. It fails where memory runs out before they are there, or where some word isn't
 /// text.
@@ -18,7 +18,7 @@ fn run_words(rt: &HostRuntime) -> io::Result<Status> {
     let mut store = DiskStore::new(rt.alloc(), rt.clone()?).with_seed(seed);
     let mut out = rt.stdout();
     let mut err = rt.stderr();
-    Ok(run_over(
+    Ok(run_with_streams(
         rt.alloc(),
         words.as_slice(),
         &mut store,

@@ -3,5 +3,5 @@ use Rattle.std.proofs.Common.{List, ◌++◌, Result, Ok}
 use Rattle.base65.specs.Outcome.{◌>>=◌}
 
 -- what is left, behind what was found
-abbrev pub behind : {E B : Type 0} → List B → Result (List B) E → Result (List B) E
-behind front r = r >>= (λ ys. Ok (front ++ ys))
+abbrev pub following : {E B : Type 0} → List B → Result (List B) E → Result (List B) E
+following front r = r >>= (λ ys. Ok (front ++ ys))

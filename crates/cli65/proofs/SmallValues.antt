@@ -8,15 +8,15 @@ use Rattle.std.specs.Str.Parse.{digits_value}
 use Rattle.std.proofs.lemmas.Bool.Decides.{nat_tests}
 use Rattle.clap.specs.Words.{Row, Text}
 use Rattle.base65.specs.Digit.{digits, is_digit}
-use Rattle.base65.specs.Outcome.{◌>>=◌, each}
+use Rattle.base65.specs.Outcome.{◌>>=◌, try_map}
 use Rattle.syntax65.specs.Forms.{plain_number_of}
 use Rattle.cli65.specs.Defining.{Defining, as_value, define_at, define_of, named_in, number_in, valued_in}
-use Rattle.cli65.specs.Line.{Archiving, Assembling, Says, all_given, archiving_of, as_archive, as_assemble, assemble, assembling_of, line_of, link, linking_of, said, said_by, taken}
+use Rattle.cli65.specs.Line.{Archiving, Assembling, CommandView, all_given, archiving_of, as_archive, as_assemble, assemble, assembling_of, line_of, link, linking_of, command_of_matches, said_by, clap_matches}
 use Rattle.cli65.specs.declared.fault.LineFault.{LineFault}
 use Rattle.cli65.specs.declared.fault.LineFault.TheVariants.{BadArguments}
 
 -- the values of its constants are those of 32 bits
-abbrev pub HasSmallValues : Says → Type 0
+abbrev pub HasSmallValues : CommandView → Type 0
 HasSmallValues (assemble a) = AllByRecursion (λ d. d.value < 2 ^ 32) a.defines
 HasSmallValues _ = ⊤
 
@@ -35,11 +35,11 @@ choice_ok : {A : Type 0} (P : A → Type 0) (b : Bool) (x y : Result A LineFault
 choice_ok P true x y h k = h
 choice_ok P false x y h k = k
 
-each_ok : {A B : Type 0} (P : B → Type 0) (f : A → Result B LineFault) → ((x : A) → IfOk (f x) P) → (xs : List A) → IfOk (each f xs) (AllByRecursion P)
+each_ok : {A B : Type 0} (P : B → Type 0) (f : A → Result B LineFault) → ((x : A) → IfOk (f x) P) → (xs : List A) → IfOk (try_map f xs) (AllByRecursion P)
 each_ok P f h [] = tt
 each_ok P f h (x ∷ xs) =
     so_ok P (AllByRecursion P) (f x) _ (h x) (λ y p.
-    so_ok (AllByRecursion P) (AllByRecursion P) (each f xs) _ (each_ok P f h xs) (λ ys ps. (p, ps)))
+    so_ok (AllByRecursion P) (AllByRecursion P) (try_map f xs) _ (each_ok P f h xs) (λ ys ps. (p, ps)))
 
 -- ---- Numbers.
 
@@ -97,7 +97,7 @@ define_small text = at_small text (position (λ b. b == 61) text)
 assembling_small : (rows : List Row) → IfOk (assembling_of rows) (λ a. HasSmallValues (assemble a))
 unfolding assembling_of
 assembling_small rows =
-    so_ok (AllByRecursion HasSmall) (λ (a : Assembling). HasSmallValues (assemble a)) (each define_of (all_given (codes "define") rows)) _
+    so_ok (AllByRecursion HasSmall) (λ (a : Assembling). HasSmallValues (assemble a)) (try_map define_of (all_given (codes "define") rows)) _
     (each_ok HasSmall define_of define_small (all_given (codes "define") rows)) (λ defines h. h)
 
 assemble_small : (r : Result Assembling LineFault) → IfOk r (λ a. HasSmallValues (assemble a)) → IfOk (as_assemble r) HasSmallValues
@@ -115,10 +115,10 @@ said_by_small name rows =
     (choice_ok HasSmallValues (bytes_eq name (codes "ld65")) (Ok (link (linking_of rows))) _ tt
     (choice_ok HasSmallValues (bytes_eq name (codes "ar65")) _ (Err BadArguments) (archive_small (archiving_of rows)) tt))
 
-said_small : (found : Option (Text × List Row)) → IfOk (said found) HasSmallValues
+said_small : (found : Option (Text × List Row)) → IfOk (command_of_matches found) HasSmallValues
 said_small None = tt
 said_small (Some p) = said_by_small p.0 p.1
 
 pub line_small : (words : List Text) → IfOk (line_of words) HasSmallValues
 unfolding line_of
-line_small words = then_ok HasSmallValues (taken words) said said_small
+line_small words = then_ok HasSmallValues (clap_matches words) command_of_matches said_small

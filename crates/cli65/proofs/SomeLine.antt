@@ -4,39 +4,39 @@ use Rattle.std.specs.Prelude.{◌==◌, codes}
 use Rattle.std.specs.List.{position}
 use Rattle.std.specs.Str.{bytes_eq}
 use Rattle.clap.specs.Words.{Kinds, Row, Text, fault_of, subcommand_of}
-use Rattle.base65.proofs.Own.{Own, bad, choice, each_own, good, next}
-use Rattle.base65.specs.Outcome.{each}
+use Rattle.base65.proofs.SystemErrors.{Own, bad, choice, each_own, good, next}
+use Rattle.base65.specs.Outcome.{try_map}
 use Rattle.cli65.specs.CommandLine.{bin65}
 use Rattle.cli65.specs.Defining.{as_value, define_at, define_of, is_constant_name, named_in, number_in, valued_in}
-use Rattle.cli65.specs.Laws.{SomeLineLaw}
-use Rattle.cli65.specs.Line.{Archiving, Assembling, all_given, archiving_of, as_archive, as_assemble, assembling_of, given, line_of, operation_of, said, said_by, taken, unless_kinds}
-use Rattle.cli65.specs.LineFaults.{is_outside}
+use Rattle.cli65.specs.Laws.{LineExists}
+use Rattle.cli65.specs.Line.{Archiving, Assembling, all_given, archiving_of, as_archive, as_assemble, assembling_of, argument_value, line_of, operation_of, command_of_matches, said_by, clap_matches, unless_kinds}
+use Rattle.cli65.specs.LineFaults.{is_system_error}
 use Rattle.cli65.specs.declared.fault.LineFault.{LineFault}
 use Rattle.cli65.specs.declared.fault.LineFault.TheVariants.{BadArguments}
 
-name_own : (name : Text) → Own is_outside (named_in name)
+name_own : (name : Text) → Own is_system_error (named_in name)
 name_own name = choice (is_constant_name name) _ _ (good _) (bad BadArguments refl)
 
-as_value_own : (v : Option ℕ) → Own is_outside (as_value v)
+as_value_own : (v : Option ℕ) → Own is_system_error (as_value v)
 as_value_own (Some v) = good v
 as_value_own None = bad BadArguments refl
 
-value_own : (text : Text) → Own is_outside (valued_in text)
+value_own : (text : Text) → Own is_system_error (valued_in text)
 value_own text = as_value_own (number_in text)
 
-at_own : (text : Text) (place : Option ℕ) → Own is_outside (define_at text place)
+at_own : (text : Text) (place : Option ℕ) → Own is_system_error (define_at text place)
 at_own text None = next (named_in text) _ (name_own text) (λ n. good _)
 at_own text (Some i) = next (named_in (take i text)) _ (name_own (take i text)) (λ n. next (valued_in (drop (i + 1) text)) _ (value_own (drop (i + 1) text)) (λ v. good _))
 
-define_own : (text : Text) → Own is_outside (define_of text)
+define_own : (text : Text) → Own is_system_error (define_of text)
 unfolding define_of
 define_own text = at_own text (position (λ b. b == 61) text)
 
-assembling_own : (rows : List Row) → Own is_outside (assembling_of rows)
+assembling_own : (rows : List Row) → Own is_system_error (assembling_of rows)
 unfolding assembling_of
-assembling_own rows = next (each define_of (all_given (codes "define") rows)) _ (each_own define_of define_own (all_given (codes "define") rows)) (λ defines. good _)
+assembling_own rows = next (try_map define_of (all_given (codes "define") rows)) _ (each_own define_of define_own (all_given (codes "define") rows)) (λ defines. good _)
 
-operation_own : (word : Text) → Own is_outside (operation_of word)
+operation_own : (word : Text) → Own is_system_error (operation_of word)
 unfolding operation_of
 operation_own word =
     choice (bytes_eq word (codes "r")) _ _ (good _)
@@ -44,40 +44,40 @@ operation_own word =
     (choice (bytes_eq word (codes "t")) _ _ (good _)
     (choice (bytes_eq word (codes "x")) _ _ (good _) (bad BadArguments refl))))
 
-archiving_own : (rows : List Row) → Own is_outside (archiving_of rows)
+archiving_own : (rows : List Row) → Own is_system_error (archiving_of rows)
 unfolding archiving_of
-archiving_own rows = next (operation_of (given (codes "operation") rows)) _ (operation_own (given (codes "operation") rows)) (λ operation. good _)
+archiving_own rows = next (operation_of (argument_value (codes "operation") rows)) _ (operation_own (argument_value (codes "operation") rows)) (λ operation. good _)
 
-assemble_own : (r : Result Assembling LineFault) → Own is_outside r → Own is_outside (as_assemble r)
+assemble_own : (r : Result Assembling LineFault) → Own is_system_error r → Own is_system_error (as_assemble r)
 assemble_own (Ok a) h = good _
 assemble_own (Err e) h = record { own = h.own }
 
-archive_own : (r : Result Archiving LineFault) → Own is_outside r → Own is_outside (as_archive r)
+archive_own : (r : Result Archiving LineFault) → Own is_system_error r → Own is_system_error (as_archive r)
 archive_own (Ok a) h = good _
 archive_own (Err e) h = record { own = h.own }
 
-said_by_own : (name : Text) (rows : List Row) → Own is_outside (said_by name rows)
+said_by_own : (name : Text) (rows : List Row) → Own is_system_error (said_by name rows)
 unfolding said_by
 said_by_own name rows =
     choice (bytes_eq name (codes "ca65")) _ _ (assemble_own (assembling_of rows) (assembling_own rows))
     (choice (bytes_eq name (codes "ld65")) _ _ (good _)
     (choice (bytes_eq name (codes "ar65")) _ _ (archive_own (archiving_of rows) (archiving_own rows)) (bad BadArguments refl)))
 
-said_own : (found : Option (Text × List Row)) → Own is_outside (said found)
+said_own : (found : Option (Text × List Row)) → Own is_system_error (command_of_matches found)
 said_own None = bad BadArguments refl
 said_own (Some p) = said_by_own p.0 p.1
 
-kinds_own : {A : Type 0} (kinds : Kinds) (x : A) → Own is_outside (unless_kinds kinds x)
+kinds_own : {A : Type 0} (kinds : Kinds) (x : A) → Own is_system_error (unless_kinds kinds x)
 kinds_own [] x = good x
 kinds_own (k ∷ ks) x = bad BadArguments refl
 
-taken_own : (words : List Text) → Own is_outside (taken words)
-unfolding taken
+taken_own : (words : List Text) → Own is_system_error (clap_matches words)
+unfolding clap_matches
 taken_own words = kinds_own (fault_of bin65 words) (subcommand_of bin65 words)
 
-line_own : (words : List Text) → Own is_outside (line_of words)
+line_own : (words : List Text) → Own is_system_error (line_of words)
 unfolding line_of
-line_own words = next (taken words) said (taken_own words) said_own
+line_own words = next (clap_matches words) command_of_matches (taken_own words) said_own
 
-pub some_line : SomeLineLaw
+pub some_line : LineExists
 some_line words = (line_own words).own

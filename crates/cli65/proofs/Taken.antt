@@ -7,9 +7,9 @@ use Rattle.clap.specs.declared.error.kind.ErrorKind.TheVariants as kind
 use Rattle.clap.specs.declared.parser.matches.ArgMatches.{ArgMatches}
 use Rattle.clap.proofs.OnLiterals.{clap_on_literals}
 use Rattle.cli65.specs.CommandLine.{bin65}
-use Rattle.cli65.specs.LineFaults.{of_kind, is_outside}
-use Rattle.base65.specs.Outcome.{Refuses}
-use Rattle.cli65.specs.Line.{line_of, taken, unless_kinds}
+use Rattle.cli65.specs.LineFaults.{of_kind, is_system_error}
+use Rattle.base65.specs.Outcome.{RefinesErr}
+use Rattle.cli65.specs.Line.{line_of, clap_matches, unless_kinds}
 use Rattle.cli65.specs.declared.fault.LineFault.{LineFault}
 use Rattle.std.proofs.lemmas.Grind.{common_steps}
 
@@ -24,7 +24,7 @@ bin65_free = refl
 takes_all : {A : Type 0} (ks : Kinds) (x y : A) → ks ≡ [] → y ≡ x → unless_kinds ks x ≡ Ok y
 takes_all ks x y none same = rw (none, same) refl
 
-refuses : {A : Type 0} (ks : Kinds) (x : A) (k : ErrorKind) → (k ≡ kind.OutOfMemory) ⊎ IsAmong k ks → Refuses is_outside (of_kind k) (unless_kinds ks x)
+refuses : {A : Type 0} (ks : Kinds) (x : A) (k : ErrorKind) → (k ≡ kind.OutOfMemory) ⊎ IsAmong k ks → RefinesErr is_system_error (of_kind k) (unless_kinds ks x)
 refuses ks x k (inl e) = rw e tt
 refuses [] x k (inr h) = absurd h
 refuses (y ∷ ks) x kind.OutOfMemory (inr h) = tt
@@ -32,8 +32,8 @@ refuses (y ∷ ks) x k (inr h) = refl
 
 module _ (a : App) (is : a ≡ bin65) (words : List Text) where
   -- what clap gives is the answer
-  pub takes_words : (m : ArgMatches) → (is_simple_and_free a ≡ true → fault_of a words ≡ []) → HasMatchesOf a words m → taken words ≡ Ok (subcommand_rows_of m)
-  unfolding taken
+  pub takes_words : (m : ArgMatches) → (is_simple_and_free a ≡ true → fault_of a words ≡ []) → HasMatchesOf a words m → clap_matches words ≡ Ok (subcommand_rows_of m)
+  unfolding clap_matches
   takes_words m none has =
       let free : is_simple_and_free a ≡ true = ap is_simple_and_free is ∙ bin65_free in
       let simple : is_simple a ≡ true = ap is_simple is ∙ bin65_simple in
@@ -42,14 +42,14 @@ module _ (a : App) (is : a ≡ bin65) (words : List Text) where
       ((has simple).1 ∙ ap (λ (b : App). subcommand_of b words) is)
 
   -- what clap refuses is refused, unless memory ran out
-  pub refuses_words : (e : Error) → (is_simple_and_free a ≡ true → HasKind (fault_of a words) e) → Refuses is_outside (of_kind (kind_of e)) (taken words)
-  unfolding taken
+  pub refuses_words : (e : Error) → (is_simple_and_free a ≡ true → HasKind (fault_of a words) e) → RefinesErr is_system_error (of_kind (kind_of e)) (clap_matches words)
+  unfolding clap_matches
   refuses_words e has =
       let free : is_simple_and_free a ≡ true = ap is_simple_and_free is ∙ bin65_free in
       let at : HasKind (fault_of bin65 words) e = subst (λ (b : App). HasKind (fault_of b words) e) is (has free) in
       refuses (fault_of bin65 words) (subcommand_of bin65 words) (kind_of e) at
 
 -- what is refused of words is refused of their line
-pub refused_line : (words : List Text) (e : LineFault) → Refuses is_outside e (taken words) → Refuses is_outside e (line_of words)
+pub refused_line : (words : List Text) (e : LineFault) → RefinesErr is_system_error e (clap_matches words) → RefinesErr is_system_error e (line_of words)
 unfolding line_of
 refused_line words e refused = grind (arith, common_steps)

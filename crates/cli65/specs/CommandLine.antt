@@ -58,8 +58,8 @@ ar65 = with_rule (with_rule (with_rule (new_app (codes "ar65"))
     (any_words_rule (codes "file"))
 
 -- the program's own words: one of the subcommands, and neither help nor version
-abbrev pub named : App
-named = record (new_app (codes "bin65")) {
+abbrev pub root_command : App
+root_command = record (new_app (codes "bin65")) {
   top = record (new_shape (codes "bin65")) {
     disable_help_flag = true;
     disable_help_subcommand = true;
@@ -69,7 +69,7 @@ named = record (new_app (codes "bin65")) {
 
 -- the whole command
 abbrev pub bin65 : App
-bin65 = with_subcommand (with_subcommand (with_subcommand named ca65.top) ld65.top) ar65.top
+bin65 = with_subcommand (with_subcommand (with_subcommand root_command ca65.top) ld65.top) ar65.top
 
 -- c is read as a, and none of its arguments is global
 pub record IsMade (a : App) (c : Command) : Type 0 where
@@ -77,6 +77,6 @@ pub record IsMade (a : App) (c : Command) : Type 0 where
   pub local : (out-Command c).has_globals ≡ false
 
 -- new is old with one more argument, which isn't global
-pub record Adds (old : Command) (r : Rule) (new : Command) : Type 0 where
+pub record AddsArgument (old : Command) (r : Rule) (new : Command) : Type 0 where
   pub app : app_of new ≡ with_rule (app_of old) r
   pub local : (out-Command new).has_globals ≡ (out-Command old).has_globals

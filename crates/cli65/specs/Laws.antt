@@ -1,10 +1,10 @@
 -- What holds of words, whatever they are.
 use Rattle.std.specs.Prelude.{List}
 use Rattle.clap.specs.Words.{Text}
-use Rattle.base65.specs.Own.{IsOwn}
+use Rattle.base65.specs.SystemErrors.{IsNoSystemError}
 use Rattle.cli65.specs.Line.{line_of}
-use Rattle.cli65.specs.LineFaults.{is_outside}
+use Rattle.cli65.specs.LineFaults.{is_system_error}
 
 -- words are a line, or bad arguments, which alone don't come from outside
-abbrev pub SomeLineLaw : Type 0
-SomeLineLaw = (words : List Text) → IsOwn is_outside (line_of words)
+abbrev pub LineExists : Type 0
+LineExists = (words : List Text) → IsNoSystemError is_system_error (line_of words)

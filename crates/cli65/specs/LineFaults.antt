@@ -10,9 +10,9 @@ of_kind kind.OutOfMemory = OutOfMemory
 of_kind _ = BadArguments
 
 -- the faults that the words don't decide
-abbrev pub is_outside : LineFault → Bool
-is_outside OutOfMemory = true
-is_outside BadArguments = false
+abbrev pub is_system_error : LineFault → Bool
+is_system_error OutOfMemory = true
+is_system_error BadArguments = false
 
 -- why a line is refused
 abbrev pub line_words : LineFault → List ℕ

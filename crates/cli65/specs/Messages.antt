@@ -5,20 +5,20 @@ use Rattle.cli65.specs.declared.fault.LineFault.{LineFault}
 use Rattle.cli65.specs.declared.fault.LineFault.TheVariants as line
 
 -- texts one behind the other
-abbrev pub joined : List (List ℕ) → List ℕ
-joined parts = flat_map (λ p. p) parts
+abbrev pub concat_texts : List (List ℕ) → List ℕ
+concat_texts parts = flat_map (λ p. p) parts
 
 -- `name: Error: words`
 abbrev pub file_message : List ℕ → List ℕ → List ℕ
-file_message name words = joined (name ∷ codes ": Error: " ∷ words ∷ codes "\n" ∷ [])
+file_message name words = concat_texts (name ∷ codes ": Error: " ∷ words ∷ codes "\n" ∷ [])
 
 -- what is said of want of memory: `name: Error: out of memory`
 abbrev pub memory_line : List ℕ → List ℕ
-memory_line name = joined (name ∷ codes ": Error: out of memory\n" ∷ [])
+memory_line name = concat_texts (name ∷ codes ": Error: out of memory\n" ∷ [])
 
 -- `name:line: Error: words`
 abbrev pub line_message : List ℕ → ℕ → List ℕ → List ℕ
-line_message name line words = joined (name ∷ codes ":" ∷ decimal line ∷ codes ": Error: " ∷ words ∷ codes "\n" ∷ [])
+line_message name line words = concat_texts (name ∷ codes ":" ∷ decimal line ∷ codes ": Error: " ∷ words ∷ codes "\n" ∷ [])
 
 -- why a line is refused
 abbrev pub line_memory_message : List ℕ

@@ -2,7 +2,7 @@
 
 ghost use Rattle.std.specs.Prelude.{◌≡◌, IfOk, false};
 ghost use Rattle.clap.specs.Words.{app_of, rule_of};
-ghost use Rattle.cli65.specs.CommandLine.{Adds, IsMade, named, bin65, ar65, ca65, ld65};
+ghost use Rattle.cli65.specs.CommandLine.{AddsArgument, IsMade, root_command, bin65, ar65, ca65, ld65};
 ghost use Rattle.cli65.specs.CommandLine.{any_words_rule, flag_rule, option_rule, repeated_option_rule, required_option_rule, word_rule, words_rule};
 
 use clap::{Arg, ArgAction, Command};
@@ -11,7 +11,7 @@ use std::alloc::{AllocError, Global};
 /// The command with one more argument.
 fn with<'a>(command: Command<'a>, arg: Arg<'a>) -> Result<Command<'a>, AllocError>
     requires { arg.global ≡ false }
-    ensures { IfOk result (λ c. Adds command.entry (rule_of arg.entry) c) }
+    ensures { IfOk result (λ c. AddsArgument command.entry (rule_of arg.entry) c) }
 {
     command.arg(arg)
 }
@@ -23,7 +23,7 @@ fn with_option<'a>(
     id: &'a str,
     short: char,
 ) -> Result<Command<'a>, AllocError>
-    ensures { IfOk result (λ c. Adds command.entry (option_rule id.entry.now short) c) }
+    ensures { IfOk result (λ c. AddsArgument command.entry (option_rule id.entry.now short) c) }
 {
     with(command, Arg::new(alloc, id).short(short))
 }
@@ -35,7 +35,7 @@ fn with_required_option<'a>(
     id: &'a str,
     short: char,
 ) -> Result<Command<'a>, AllocError>
-    ensures { IfOk result (λ c. Adds command.entry (required_option_rule id.entry.now short) c) }
+    ensures { IfOk result (λ c. AddsArgument command.entry (required_option_rule id.entry.now short) c) }
 {
     with(command, Arg::new(alloc, id).short(short).required(true))
 }
@@ -47,7 +47,7 @@ fn with_repeated_option<'a>(
     id: &'a str,
     short: char,
 ) -> Result<Command<'a>, AllocError>
-    ensures { IfOk result (λ c. Adds command.entry (repeated_option_rule id.entry.now short) c) }
+    ensures { IfOk result (λ c. AddsArgument command.entry (repeated_option_rule id.entry.now short) c) }
 {
     with(
         command,
@@ -62,7 +62,7 @@ fn with_flag<'a>(
     id: &'a str,
     short: char,
 ) -> Result<Command<'a>, AllocError>
-    ensures { IfOk result (λ c. Adds command.entry (flag_rule id.entry.now short) c) }
+    ensures { IfOk result (λ c. AddsArgument command.entry (flag_rule id.entry.now short) c) }
 {
     with(
         command,
@@ -76,7 +76,7 @@ fn with_word<'a>(
     command: Command<'a>,
     id: &'a str,
 ) -> Result<Command<'a>, AllocError>
-    ensures { IfOk result (λ c. Adds command.entry (word_rule id.entry.now) c) }
+    ensures { IfOk result (λ c. AddsArgument command.entry (word_rule id.entry.now) c) }
 {
     with(command, Arg::new(alloc, id).required(true))
 }
@@ -87,7 +87,7 @@ fn with_any_words<'a>(
     command: Command<'a>,
     id: &'a str,
 ) -> Result<Command<'a>, AllocError>
-    ensures { IfOk result (λ c. Adds command.entry (any_words_rule id.entry.now) c) }
+    ensures { IfOk result (λ c. AddsArgument command.entry (any_words_rule id.entry.now) c) }
 {
     with(command, Arg::new(alloc, id).action(ArgAction::Append))
 }
@@ -98,7 +98,7 @@ fn with_words<'a>(
     command: Command<'a>,
     id: &'a str,
 ) -> Result<Command<'a>, AllocError>
-    ensures { IfOk result (λ c. Adds command.entry (words_rule id.entry.now) c) }
+    ensures { IfOk result (λ c. AddsArgument command.entry (words_rule id.entry.now) c) }
 {
     with(
         command,
@@ -138,7 +138,7 @@ fn ar65<'a>(alloc: Global) -> Result<Command<'a>, AllocError>
 
 /// The program's own part.
 fn named<'a>(alloc: Global) -> Command<'a>
-    ensures { app_of result ≡ named }
+    ensures { app_of result ≡ root_command }
 {
     Command::new(alloc, "bin65")
         .disable_help_flag(true)

@@ -3,22 +3,22 @@
 ghost use Rattle.std.specs.Prelude.{◌≡◌, ◌==◌, ◌<◌, length, IfSome, map};
 ghost use Rattle.std.specs.List.{list_all, position};
 ghost use Rattle.syntax65.specs.Forms.{is_word};
-ghost use Rattle.base65.specs.Outcome.{Gives, each};
+ghost use Rattle.base65.specs.Outcome.{Refines, try_map};
 ghost use Rattle.cli65.specs.Defining.{begins_name, define_of, defining, is_constant_name, named_in};
-ghost use Rattle.cli65.specs.LineFaults.{is_outside};
+ghost use Rattle.cli65.specs.LineFaults.{is_system_error};
 
 use crate::fault::LineFault;
 use crate::line::Define;
 use crate::numbers::number_in;
-use base65::Sequence;
+use base65::ListVec;
 use std::alloc::Global;
 use syntax65::{MAX_NAME, is_reserved};
 
 /// The constants that texts define, or the first fault.
-pub fn defines<'a>(alloc: Global, texts: &[&'a str]) -> Result<Sequence<Define<'a>>, LineFault>
-    ensures { Gives is_outside (λ ds. map defining ds) result (each define_of (map (λ t. t.now) texts.now)) }
+pub fn defines<'a>(alloc: Global, texts: &[&'a str]) -> Result<ListVec<Define<'a>>, LineFault>
+    ensures { Refines is_system_error (λ ds. map defining ds) result (try_map define_of (map (λ t. t.now) texts.now)) }
 {
-    let mut done = Sequence::new(alloc);
+    let mut done = ListVec::new(alloc);
     for text in texts {
         let one = define(text)?;
         done.push(one)?;
@@ -29,7 +29,7 @@ pub fn defines<'a>(alloc: Global, texts: &[&'a str]) -> Result<Sequence<Define<'
 /// `NAME[=NUMBER]`: without a number, 0.
 #[tactic(auto, unfolding(crate::specs::Defining::define_of))]
 fn define<'a>(text: &'a str) -> Result<Define<'a>, LineFault>
-    ensures { Gives is_outside defining result (define_of text.entry.now) }
+    ensures { Refines is_system_error defining result (define_of text.entry.now) }
 {
     let bytes = text.as_bytes();
     match place_of_equal(bytes) {
@@ -61,7 +61,7 @@ fn place_of_equal(bytes: &[u8]) -> Option<usize>
 
 /// Refuses what is no name of a constant.
 fn check_name(name: &[u8]) -> Result<(), LineFault>
-    ensures { Gives is_outside (λ _. name.now) result (named_in name.now) }
+    ensures { Refines is_system_error (λ _. name.now) result (named_in name.now) }
 {
     if !is_constant_name(name) {
         return Err(LineFault::BadArguments);

@@ -1,8 +1,8 @@
 //! What holds of words, whatever they are. Each function's contract is a law.
 
-ghost use Rattle.cli65.specs.Laws.{SomeLineLaw};
+ghost use Rattle.cli65.specs.Laws.{LineExists};
 
 /// Any words are a line, or else bad arguments.
-pub fn some_line()
-    ensures { SomeLineLaw }
+pub fn line_exists()
+    ensures { LineExists }
 {}

@@ -12,6 +12,6 @@ mod numbers;
 mod reading;
 
 pub use fault::LineFault;
-pub use line::{ArchiveLine, AssembleLine, Define, Line, LinkLine, Operation};
+pub use line::{ArchiveArgs, AssembleArgs, Define, Line, LinkArgs, Operation};
 pub use messages::{fault_message, file_message, join, line_message};
 pub use reading::read_line;

@@ -1,10 +1,10 @@
 //! A command line as a value.
 
-use base65::Sequence;
+use base65::ListVec;
 
 /// `ld65 -C SCRIPT [-o FILE] [-m MAP] INPUT..`
 #[derive(Drop)]
-pub struct LinkLine<'a> {
+pub struct LinkArgs<'a> {
     /// The script's file.
     pub script: &'a str,
     /// The output, where one is named.
@@ -12,7 +12,7 @@ pub struct LinkLine<'a> {
     /// The map's file, where one is named.
     pub map: Option<&'a str>,
     /// The inputs' files, in order.
-    pub inputs: Sequence<&'a str>,
+    pub inputs: ListVec<&'a str>,
 }
 
 /// A constant that a line defines for the source.
@@ -24,13 +24,13 @@ pub struct Define<'a> {
 
 /// `ca65 [-o FILE] [-I DIR].. [-D NAME[=NUMBER]].. [-g] SOURCE`
 #[derive(Drop)]
-pub struct AssembleLine<'a> {
+pub struct AssembleArgs<'a> {
     /// The output, where one is named.
     pub output: Option<&'a str>,
     /// The folders in which includes are looked for, in order.
-    pub include: Sequence<&'a str>,
+    pub include: ListVec<&'a str>,
     /// The constants that are defined, in order.
-    pub defines: Sequence<Define<'a>>,
+    pub defines: ListVec<Define<'a>>,
     /// The source's file.
     pub source: &'a str,
 }
@@ -50,18 +50,18 @@ pub enum Operation {
 
 /// `ar65 OP LIBRARY [FILE]..`
 #[derive(Drop)]
-pub struct ArchiveLine<'a> {
+pub struct ArchiveArgs<'a> {
     pub operation: Operation,
     /// The library's file.
     pub library: &'a str,
     /// The files of objects, or for members, in order.
-    pub files: Sequence<&'a str>,
+    pub files: ListVec<&'a str>,
 }
 
 /// A command line.
 #[derive(Drop)]
 pub enum Line<'a> {
-    Assemble(AssembleLine<'a>),
-    Link(LinkLine<'a>),
-    Archive(ArchiveLine<'a>),
+    Assemble(AssembleArgs<'a>),
+    Link(LinkArgs<'a>),
+    Archive(ArchiveArgs<'a>),
 }

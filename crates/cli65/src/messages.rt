@@ -1,18 +1,18 @@
 //! The texts that are printed.
 
 ghost use Rattle.std.specs.Prelude.{◌≡◌, ◌<◌, IfOk, map, Some};
-ghost use Rattle.cli65.specs.Messages.{joined, file_message, line_message, line_message_of};
+ghost use Rattle.cli65.specs.Messages.{concat_texts, file_message, line_message, line_message_of};
 
 use crate::fault::LineFault;
-use base65::Sequence;
+use base65::ListVec;
 use itoa::Buffer;
 use std::alloc::{AllocError, Global};
 
 /// Texts one behind the other.
-pub fn join(alloc: Global, parts: &[&[u8]]) -> Result<Sequence<u8>, AllocError>
-    ensures { IfOk result (λ text. text ≡ joined (map (λ p. p.now) parts.now)) }
+pub fn join(alloc: Global, parts: &[&[u8]]) -> Result<ListVec<u8>, AllocError>
+    ensures { IfOk result (λ text. text ≡ concat_texts (map (λ p. p.now) parts.now)) }
 {
-    let mut text = Sequence::new(alloc);
+    let mut text = ListVec::new(alloc);
     for part in parts {
         text.extend_from_slice(part)?;
     }
@@ -20,7 +20,7 @@ pub fn join(alloc: Global, parts: &[&[u8]]) -> Result<Sequence<u8>, AllocError>
 }
 
 /// `name: Error: words`
-pub fn file_message(alloc: Global, name: &[u8], words: &[u8]) -> Result<Sequence<u8>, AllocError>
+pub fn file_message(alloc: Global, name: &[u8], words: &[u8]) -> Result<ListVec<u8>, AllocError>
     ensures { IfOk result (λ text. text ≡ file_message name.now words.now) }
 {
     join(alloc, &[name, b": Error: ", words, b"\n"])
@@ -32,7 +32,7 @@ pub fn line_message(
     name: &[u8],
     line: usize,
     words: &[u8],
-) -> Result<Sequence<u8>, AllocError>
+) -> Result<ListVec<u8>, AllocError>
     ensures { IfOk result (λ text. text ≡ line_message name.now line words.now) }
 {
     let mut buffer = Buffer::new();

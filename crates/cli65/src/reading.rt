@@ -2,15 +2,15 @@
 
 ghost use Rattle.std.specs.Prelude.{◌≡◌, IfOk, map, option_map};
 ghost use Rattle.clap.specs.Words.{found_of, rows_of, first_of};
-ghost use Rattle.base65.specs.Outcome.{Gives};
-ghost use Rattle.cli65.specs.LineFaults.{is_outside};
+ghost use Rattle.base65.specs.Outcome.{Refines};
+ghost use Rattle.cli65.specs.LineFaults.{is_system_error};
 ghost use Rattle.cli65.specs.Line.{view, all_given, archiving, assembling, linking, line_of, operation_of, said_by, archiving_of, assembling_of, linking_of};
 
 use crate::commands::command;
 use crate::defining::defines;
 use crate::fault::LineFault;
-use crate::line::{ArchiveLine, AssembleLine, Line, LinkLine, Operation};
-use base65::Sequence;
+use crate::line::{ArchiveArgs, AssembleArgs, Line, LinkArgs, Operation};
+use base65::ListVec;
 use clap::ArgMatches;
 use std::alloc::{AllocError, Global};
 use std::convert::AsStr;
@@ -18,7 +18,7 @@ use std::convert::AsStr;
 /// The line that words are; the first is the program's name. Words that are no line are bad arguments.
 #[tactic(auto, unfolding(crate::specs::Line::line_of))]
 pub fn read_line<'a, A: AsStr>(alloc: Global, words: &'a [A]) -> Result<Line<'a>, LineFault>
-    ensures { Gives is_outside view result (line_of (map A.text words.entry.now)) }
+    ensures { Refines is_system_error view result (line_of (map A.text words.entry.now)) }
 {
     let found = command(alloc)?.try_get_matches_from(words)?;
     let Some((name, own)) = found.subcommand() else {
@@ -30,7 +30,7 @@ pub fn read_line<'a, A: AsStr>(alloc: Global, words: &'a [A]) -> Result<Line<'a>
 /// The line of a subcommand's matches.
 #[tactic(auto, unfolding(crate::specs::Line::said_by))]
 fn line_by<'a>(alloc: Global, name: &str, own: &ArgMatches<'a>) -> Result<Line<'a>, LineFault>
-    ensures { Gives is_outside view result (said_by name.now (rows_of (found_of own.now))) }
+    ensures { Refines is_system_error view result (said_by name.now (rows_of (found_of own.now))) }
 {
     match name {
         "ca65" => Ok(Line::Assemble(assemble_line(alloc, own)?)),
@@ -41,12 +41,12 @@ fn line_by<'a>(alloc: Global, name: &str, own: &ArgMatches<'a>) -> Result<Line<'
 }
 
 #[tactic(auto, unfolding(crate::specs::Line::assembling_of))]
-fn assemble_line<'a>(alloc: Global, own: &ArgMatches<'a>) -> Result<AssembleLine<'a>, LineFault>
-    ensures { Gives is_outside assembling result (assembling_of (rows_of (found_of own.now))) }
+fn assemble_line<'a>(alloc: Global, own: &ArgMatches<'a>) -> Result<AssembleArgs<'a>, LineFault>
+    ensures { Refines is_system_error assembling result (assembling_of (rows_of (found_of own.now))) }
 {
     let texts = all(alloc, own, "define")?;
     let defines = defines(alloc, texts.as_slice())?;
-    Ok(AssembleLine {
+    Ok(AssembleArgs {
         output: one(own, "output"),
         include: all(alloc, own, "include")?,
         defines,
@@ -55,10 +55,10 @@ fn assemble_line<'a>(alloc: Global, own: &ArgMatches<'a>) -> Result<AssembleLine
 }
 
 #[tactic(auto, unfolding(crate::specs::Line::linking_of))]
-fn link_line<'a>(alloc: Global, own: &ArgMatches<'a>) -> Result<LinkLine<'a>, AllocError>
+fn link_line<'a>(alloc: Global, own: &ArgMatches<'a>) -> Result<LinkArgs<'a>, AllocError>
     ensures { IfOk result (λ l. linking l ≡ linking_of (rows_of (found_of own.now))) }
 {
-    Ok(LinkLine {
+    Ok(LinkArgs {
         script: one(own, "script").unwrap_or(""),
         output: one(own, "output"),
         map: one(own, "map"),
@@ -69,7 +69,7 @@ fn link_line<'a>(alloc: Global, own: &ArgMatches<'a>) -> Result<LinkLine<'a>, Al
 /// The operation of a word.
 #[tactic(auto, unfolding(crate::specs::Line::operation_of))]
 fn operation_of(word: &str) -> Result<Operation, LineFault>
-    ensures { Gives is_outside (λ operation. operation) result (operation_of word.now) }
+    ensures { Refines is_system_error (λ operation. operation) result (operation_of word.now) }
 {
     match word {
         "r" => Ok(Operation::Replace),
@@ -81,10 +81,10 @@ fn operation_of(word: &str) -> Result<Operation, LineFault>
 }
 
 #[tactic(auto, unfolding(crate::specs::Line::archiving_of))]
-fn archive_line<'a>(alloc: Global, own: &ArgMatches<'a>) -> Result<ArchiveLine<'a>, LineFault>
-    ensures { Gives is_outside archiving result (archiving_of (rows_of (found_of own.now))) }
+fn archive_line<'a>(alloc: Global, own: &ArgMatches<'a>) -> Result<ArchiveArgs<'a>, LineFault>
+    ensures { Refines is_system_error archiving result (archiving_of (rows_of (found_of own.now))) }
 {
-    Ok(ArchiveLine {
+    Ok(ArchiveArgs {
         operation: operation_of(one(own, "operation").unwrap_or(""))?,
         library: one(own, "library").unwrap_or(""),
         files: all(alloc, own, "file")?,
@@ -93,12 +93,12 @@ fn archive_line<'a>(alloc: Global, own: &ArgMatches<'a>) -> Result<ArchiveLine<'
 
 /// All values of an argument, in order.
 #[tactic(auto, using(crate::proofs::Rows::all_rows))]
-fn all<'a>(alloc: Global, own: &ArgMatches<'a>, id: &str) -> Result<Sequence<&'a str>, AllocError>
+fn all<'a>(alloc: Global, own: &ArgMatches<'a>, id: &str) -> Result<ListVec<&'a str>, AllocError>
     ensures { IfOk result (λ s. map (λ x. x.now) s ≡ all_given id.now (rows_of (found_of own.now))) }
 {
     match own.get_strs(id) {
-        Some(texts) => Ok(Sequence::from_vec(Vec::from_slice(alloc, texts)?)),
-        None => Ok(Sequence::new(alloc)),
+        Some(texts) => Ok(ListVec::from_vec(Vec::from_slice(alloc, texts)?)),
+        None => Ok(ListVec::new(alloc)),
     }
 }
 

@@ -5,23 +5,23 @@ use Rattle.std.specs.List.{flat_map}
 use Rattle.std.proofs.lemmas.Grind.{common_steps, flat_map-append}
 use Rattle.object65.specs.declared.object.Fragment.{Fragment}
 use Rattle.object65.specs.declared.object.Fragment.TheVariants.{Literal, Fill}
-use Rattle.syntax65.specs.declared.place.Place.{Place}
+use Rattle.syntax65.specs.declared.source_location.SourceLocation.{SourceLocation}
 use Rattle.object65.specs.declared.object.Object.{Object}
 use Rattle.object65.specs.declared.object.Origin.{Origin}
-use Rattle.semantics65.specs.Contents.{Content, Part, Known, Filled, Declaration, put}
+use Rattle.semantics65.specs.Contents.{Content, Part, Known, Filled, Declaration, section_part}
 use Rattle.semantics65.specs.declared.contents.Segment.{Segment}
-use Rattle.semantics65.specs.Numbering.{all_joined, all_said, assert_files, assert_of, content_imports, export_files, export_of, fragments_of, import_keys, in_files, joined, name_of, names_once, once, part_files, part_imports, parts_in, section_of, segment_name, segment_power}
-use Rattle.emit65.specs.Fed.{AreAlike}
+use Rattle.semantics65.specs.Numbering.{all_joined, all_said, assert_files, assert_of, content_imports, export_files, export_of, fragments_of, import_keys, in_files, merged_fragments, name_of, names_once, distinct_keys, part_files, part_imports, parts_in, section_of, segment_name, segment_power}
+use Rattle.emit65.specs.SectionContents.{AreAlike}
 
 -- ---- An equivalence.
 
 pub alike_same : (cs : List Content) → AreAlike cs cs
-alike_same cs = record { imports = λ names. refl; parts = λ at s i g before behind. refl; files = λ g. refl; said = refl }
+alike_same cs = record { imports = λ names. refl; parts = λ at s i g before following. refl; files = λ g. refl; said = refl }
 
 pub alike_trans : (cs ds es : List Content) → AreAlike cs ds → AreAlike ds es → AreAlike cs es
 alike_trans cs ds es h k = record {
   imports = λ names. h.imports names ∙ k.imports names;
-  parts = λ at s i g before behind. h.parts at s i g before behind ∙ k.parts at s i g before behind;
+  parts = λ at s i g before following. h.parts at s i g before following ∙ k.parts at s i g before following;
   files = λ g. h.files g ∙ k.files g;
   said = h.said ∙ k.said;
 }
@@ -29,7 +29,7 @@ alike_trans cs ds es h k = record {
 pub alike_sym : (cs ds : List Content) → AreAlike cs ds → AreAlike ds cs
 alike_sym cs ds h = record {
   imports = λ names. sym (h.imports names);
-  parts = λ at s i g before behind. sym (h.parts at s i g before behind);
+  parts = λ at s i g before following. sym (h.parts at s i g before following);
   files = λ g. sym (h.files g);
   said = sym h.said;
 }
@@ -47,7 +47,7 @@ files_in cs g = flat_map part_files (parts_in cs g)
 files_more : (cs ds : List Content) (g : ℕ) → files_in (cs ++ ds) g ≡ files_in cs g ++ files_in ds g
 files_more cs ds g = ap (flat_map part_files) (parts_more cs ds g) ∙ flat_map-append part_files (parts_in cs g) (parts_in ds g)
 
-module _ (at : Place → Origin) (s i : List ℕ) where
+module _ (at : SourceLocation → Origin) (s i : List ℕ) where
   -- what contents put into a segment
   abbrev pub placed : List Content → ℕ → List Fragment
   placed cs g = fragments_of at s i (parts_in cs g)
@@ -64,18 +64,18 @@ alike_front cs ds es h = record {
       flat_map-append (content_imports names) cs es
       ∙ ap (λ ks. ks ++ flat_map (content_imports names) es) (h.imports names)
       ∙ sym (flat_map-append (content_imports names) ds es);
-  parts = λ at s i g before behind.
-      split at s i g before behind cs ∙ h.parts at s i g before (placed at s i es g ++ behind) ∙ sym (split at s i g before behind ds);
+  parts = λ at s i g before following.
+      split at s i g before following cs ∙ h.parts at s i g before (placed at s i es g ++ following) ∙ sym (split at s i g before following ds);
   files = λ g. files_more cs es g ∙ ap (λ fs. fs ++ files_in es g) (h.files g) ∙ sym (files_more ds es g);
   said =
       flat_map-append (λ (c : Content). c.said) cs es ∙ ap (λ ss. ss ++ all_said es) h.said
       ∙ sym (flat_map-append (λ (c : Content). c.said) ds es);
 }
   where
-    split : (at : Place → Origin) (s i : List ℕ) (g : ℕ) (before behind : List Fragment) (xs : List Content) → all_joined (before ++ (placed at s i (xs ++ es) g ++ behind)) ≡ all_joined (before ++ (placed at s i xs g ++ (placed at s i es g ++ behind)))
-    split at s i g before behind xs =
-        ap (λ fs. all_joined (before ++ (fs ++ behind))) (placed_more at s i xs es g)
-        ∙ ap (λ fs. all_joined (before ++ fs)) (append_assoc (placed at s i xs g) (placed at s i es g) behind)
+    split : (at : SourceLocation → Origin) (s i : List ℕ) (g : ℕ) (before following : List Fragment) (xs : List Content) → all_joined (before ++ (placed at s i (xs ++ es) g ++ following)) ≡ all_joined (before ++ (placed at s i xs g ++ (placed at s i es g ++ following)))
+    split at s i g before following xs =
+        ap (λ fs. all_joined (before ++ (fs ++ following))) (placed_more at s i xs es g)
+        ∙ ap (λ fs. all_joined (before ++ fs)) (append_assoc (placed at s i xs g) (placed at s i es g) following)
 
 pub alike_back : (es cs ds : List Content) → AreAlike cs ds → AreAlike (es ++ cs) (es ++ ds)
 alike_back es cs ds h = record {
@@ -83,19 +83,19 @@ alike_back es cs ds h = record {
       flat_map-append (content_imports names) es cs
       ∙ ap (λ ks. flat_map (content_imports names) es ++ ks) (h.imports names)
       ∙ sym (flat_map-append (content_imports names) es ds);
-  parts = λ at s i g before behind.
-      split at s i g before behind cs ∙ h.parts at s i g (before ++ placed at s i es g) behind ∙ sym (split at s i g before behind ds);
+  parts = λ at s i g before following.
+      split at s i g before following cs ∙ h.parts at s i g (before ++ placed at s i es g) following ∙ sym (split at s i g before following ds);
   files = λ g. files_more es cs g ∙ ap (λ fs. files_in es g ++ fs) (h.files g) ∙ sym (files_more es ds g);
   said =
       flat_map-append (λ (c : Content). c.said) es cs ∙ ap (λ ss. all_said es ++ ss) h.said
       ∙ sym (flat_map-append (λ (c : Content). c.said) es ds);
 }
   where
-    split : (at : Place → Origin) (s i : List ℕ) (g : ℕ) (before behind : List Fragment) (xs : List Content) → all_joined (before ++ (placed at s i (es ++ xs) g ++ behind)) ≡ all_joined ((before ++ placed at s i es g) ++ (placed at s i xs g ++ behind))
-    split at s i g before behind xs =
-        ap (λ fs. all_joined (before ++ (fs ++ behind))) (placed_more at s i es xs g)
-        ∙ ap (λ fs. all_joined (before ++ fs)) (append_assoc (placed at s i es g) (placed at s i xs g) behind)
-        ∙ ap all_joined (sym (append_assoc before (placed at s i es g) (placed at s i xs g ++ behind)))
+    split : (at : SourceLocation → Origin) (s i : List ℕ) (g : ℕ) (before following : List Fragment) (xs : List Content) → all_joined (before ++ (placed at s i (es ++ xs) g ++ following)) ≡ all_joined ((before ++ placed at s i es g) ++ (placed at s i xs g ++ following))
+    split at s i g before following xs =
+        ap (λ fs. all_joined (before ++ (fs ++ following))) (placed_more at s i es xs g)
+        ∙ ap (λ fs. all_joined (before ++ fs)) (append_assoc (placed at s i es g) (placed at s i xs g) following)
+        ∙ ap all_joined (sym (append_assoc before (placed at s i es g) (placed at s i xs g ++ following)))
 
 -- contents that are fed behind those of which others make no difference
 pub alike_nothing : (cs es : List Content) → AreAlike es [] → AreAlike (cs ++ es) cs
@@ -103,37 +103,37 @@ alike_nothing cs es h = alike_trans (cs ++ es) (cs ++ []) cs (alike_back cs es [
 
 -- ---- Neighbours that are joined.
 
-literals_join : (f : Fragment) (before behind : List Fragment) (a b : List ℕ) → joined f (before ++ (Literal a ∷ Literal b ∷ behind)) ≡ joined f (before ++ (Literal (a ++ b) ∷ behind))
-literals_join x [] behind a b = grind (arith, common_steps, append_assoc)
-literals_join x (y ∷ before) behind a b =
-    let again : (f : Fragment) → joined f (before ++ (Literal a ∷ Literal b ∷ behind)) ≡ joined f (before ++ (Literal (a ++ b) ∷ behind)) = λ f. literals_join f before behind a b in
+literals_join : (f : Fragment) (before following : List Fragment) (a b : List ℕ) → merged_fragments f (before ++ (Literal a ∷ Literal b ∷ following)) ≡ merged_fragments f (before ++ (Literal (a ++ b) ∷ following))
+literals_join x [] following a b = grind (arith, common_steps, append_assoc)
+literals_join x (y ∷ before) following a b =
+    let again : (f : Fragment) → merged_fragments f (before ++ (Literal a ∷ Literal b ∷ following)) ≡ merged_fragments f (before ++ (Literal (a ++ b) ∷ following)) = λ f. literals_join f before following a b in
     grind (arith, common_steps, again)
 
-all_literals_join : (before behind : List Fragment) (a b : List ℕ) → all_joined (before ++ (Literal a ∷ Literal b ∷ behind)) ≡ all_joined (before ++ (Literal (a ++ b) ∷ behind))
-all_literals_join [] behind a b = refl
-all_literals_join (f ∷ before) behind a b = literals_join f before behind a b
+all_literals_join : (before following : List Fragment) (a b : List ℕ) → all_joined (before ++ (Literal a ∷ Literal b ∷ following)) ≡ all_joined (before ++ (Literal (a ++ b) ∷ following))
+all_literals_join [] following a b = refl
+all_literals_join (f ∷ before) following a b = literals_join f before following a b
 
-fills_join : (f : Fragment) (before behind : List Fragment) (a b : ℕ) → joined f (before ++ (Fill a ∷ Fill b ∷ behind)) ≡ joined f (before ++ (Fill (a + b) ∷ behind))
-fills_join x [] behind a b = grind (arith, common_steps)
-fills_join x (y ∷ before) behind a b =
-    let again : (f : Fragment) → joined f (before ++ (Fill a ∷ Fill b ∷ behind)) ≡ joined f (before ++ (Fill (a + b) ∷ behind)) = λ f. fills_join f before behind a b in
+fills_join : (f : Fragment) (before following : List Fragment) (a b : ℕ) → merged_fragments f (before ++ (Fill a ∷ Fill b ∷ following)) ≡ merged_fragments f (before ++ (Fill (a + b) ∷ following))
+fills_join x [] following a b = grind (arith, common_steps)
+fills_join x (y ∷ before) following a b =
+    let again : (f : Fragment) → merged_fragments f (before ++ (Fill a ∷ Fill b ∷ following)) ≡ merged_fragments f (before ++ (Fill (a + b) ∷ following)) = λ f. fills_join f before following a b in
     grind (arith, common_steps, again)
 
-all_fills_join : (before behind : List Fragment) (a b : ℕ) → all_joined (before ++ (Fill a ∷ Fill b ∷ behind)) ≡ all_joined (before ++ (Fill (a + b) ∷ behind))
-all_fills_join [] behind a b = refl
-all_fills_join (f ∷ before) behind a b = fills_join f before behind a b
+all_fills_join : (before following : List Fragment) (a b : ℕ) → all_joined (before ++ (Fill a ∷ Fill b ∷ following)) ≡ all_joined (before ++ (Fill (a + b) ∷ following))
+all_fills_join [] following a b = refl
+all_fills_join (f ∷ before) following a b = fills_join f before following a b
 
 -- contents of bytes alone, or of room alone, which come to the same fragments in their segment
-unnamed_alike : (g : ℕ) (p q r : Part) → part_imports p ≡ [] → part_imports q ≡ [] → part_imports r ≡ [] → part_files p ≡ [] → part_files q ≡ [] → part_files r ≡ [] → ((at : Place → Origin) (s i : List ℕ) (before behind : List Fragment) → all_joined (before ++ (fragments_of at s i (p ∷ q ∷ []) ++ behind)) ≡ all_joined (before ++ (fragments_of at s i (r ∷ []) ++ behind))) → AreAlike (put g p ∷ put g q ∷ []) (put g r ∷ [])
+unnamed_alike : (g : ℕ) (p q r : Part) → part_imports p ≡ [] → part_imports q ≡ [] → part_imports r ≡ [] → part_files p ≡ [] → part_files q ≡ [] → part_files r ≡ [] → ((at : SourceLocation → Origin) (s i : List ℕ) (before following : List Fragment) → all_joined (before ++ (fragments_of at s i (p ∷ q ∷ []) ++ following)) ≡ all_joined (before ++ (fragments_of at s i (r ∷ []) ++ following))) → AreAlike (section_part g p ∷ section_part g q ∷ []) (section_part g r ∷ [])
 unnamed_alike g p q r no_p no_q no_r none_p none_q none_r same = grind (arith, common_steps)
 
-pub bytes_alike : (g : ℕ) (a b : List ℕ) → AreAlike (put g (Known a) ∷ put g (Known b) ∷ []) (put g (Known (a ++ b)) ∷ [])
+pub bytes_alike : (g : ℕ) (a b : List ℕ) → AreAlike (section_part g (Known a) ∷ section_part g (Known b) ∷ []) (section_part g (Known (a ++ b)) ∷ [])
 bytes_alike g a b = grind (arith, common_steps, unnamed_alike, append-nil, all_literals_join)
 
-room_is : (at : Place → Origin) (s i : List ℕ) (before behind : List Fragment) (k j : ℕ) → k ≡ suc j → all_joined (before ++ (Fill k ∷ behind)) ≡ all_joined (before ++ (fragments_of at s i (Filled k ∷ []) ++ behind))
-room_is at s i before behind k j e = rw e refl
+room_is : (at : SourceLocation → Origin) (s i : List ℕ) (before following : List Fragment) (k j : ℕ) → k ≡ suc j → all_joined (before ++ (Fill k ∷ following)) ≡ all_joined (before ++ (fragments_of at s i (Filled k ∷ []) ++ following))
+room_is at s i before following k j e = rw e refl
 
-pub room_alike : (g m n : ℕ) → AreAlike (put g (Filled m) ∷ put g (Filled n) ∷ []) (put g (Filled (m + n)) ∷ [])
+pub room_alike : (g m n : ℕ) → AreAlike (section_part g (Filled m) ∷ section_part g (Filled n) ∷ []) (section_part g (Filled (m + n)) ∷ [])
 room_alike g m n = grind (arith, common_steps, unnamed_alike, all_fills_join, room_is)
 
 -- ---- What makes no difference.
@@ -143,13 +143,13 @@ pub empty_alike : (g : ℕ) (asks : Bool) → AreAlike (record { segment = g; as
 empty_alike g asks = grind (arith, common_steps)
 
 -- a part of no byte
-empty_part : (g : ℕ) (p : Part) → part_imports p ≡ [] → part_files p ≡ [] → ((at : Place → Origin) (s i : List ℕ) → fragments_of at s i (p ∷ []) ≡ []) → AreAlike (put g p ∷ []) []
+empty_part : (g : ℕ) (p : Part) → part_imports p ≡ [] → part_files p ≡ [] → ((at : SourceLocation → Origin) (s i : List ℕ) → fragments_of at s i (p ∷ []) ≡ []) → AreAlike (section_part g p ∷ []) []
 empty_part g p no_imports no_files nothing = grind (arith, common_steps)
 
-pub no_bytes_alike : (g : ℕ) → AreAlike (put g (Known []) ∷ []) []
+pub no_bytes_alike : (g : ℕ) → AreAlike (section_part g (Known []) ∷ []) []
 no_bytes_alike g = empty_part g (Known []) refl refl (λ at s i. refl)
 
-pub no_room_alike : (g : ℕ) → AreAlike (put g (Filled 0) ∷ []) []
+pub no_room_alike : (g : ℕ) → AreAlike (section_part g (Filled 0) ∷ []) []
 no_room_alike g = empty_part g (Filled 0) refl refl (λ at s i. refl)
 
 -- ---- One object.
@@ -180,7 +180,7 @@ pub same_object : (segments : List Segment) (names : List (List ℕ)) (s : List 
 same_object segments names s cs ds h = λ n. made (numbers n) (files n) (λ g. fragments (in_files (files n)) (numbers n) g n) (h.said n)
   where
     numbers : import_keys names cs ≡ import_keys names ds
-    numbers = ap (once []) (h.imports names)
+    numbers = ap (distinct_keys []) (h.imports names)
 
     sections_files : (keys : List ℕ) → flat_map (files_in cs) keys ≡ flat_map (files_in ds) keys
     sections_files [] = refl
@@ -189,7 +189,7 @@ same_object segments names s cs ds h = λ n. made (numbers n) (files n) (λ g. f
     files : files_by s cs ≡ files_by s ds
     files = λ n. names_once [] (sections_files s n ++ flat_map export_files (h.said n) ++ flat_map assert_files (h.said n))
 
-    fragments : (at : Place → Origin) (i : List ℕ) (g : ℕ) → all_joined (placed at s i cs g) ≡ all_joined (placed at s i ds g)
+    fragments : (at : SourceLocation → Origin) (i : List ℕ) (g : ℕ) → all_joined (placed at s i cs g) ≡ all_joined (placed at s i ds g)
     fragments at i g =
         ap all_joined (sym (append-nil (placed at s i cs g))) ∙ h.parts at s i g [] [] ∙ ap all_joined (append-nil (placed at s i ds g))
 

@@ -6,9 +6,9 @@ use Rattle.std.specs.List.{AllByRecursion, IsDistinct, list_any, position, posit
 use Rattle.std.proofs.lemmas.Bool.Decides.{nat_tests}
 use Rattle.std.proofs.lemmas.List.{map-id}
 use Rattle.std.proofs.lemmas.Map.Keys.{IsDistinct-head, IsDistinct-tail}
-use Rattle.emit65.specs.declared.entries.Entry.{Entry}
-use Rattle.emit65.specs.declared.numbering.drafts.Draft.{Draft}
-use Rattle.emit65.specs.Inner.Drafts.{draft_of, is_segment, put_in, segment_of, with_entry}
+use Rattle.emit65.specs.declared.entries.SectionEntry.{SectionEntry}
+use Rattle.emit65.specs.declared.numbering.drafts.SectionDraft.{SectionDraft}
+use Rattle.emit65.specs.Internal.Drafts.{draft_of, is_segment, put_in, segment_of, with_entry}
 
 -- ---- One item of a list in which each has a key of its own.
 
@@ -46,21 +46,21 @@ one_changed key g h keys ds i d e same distinct at is new = grind (arith, common
 
 -- ---- Drafts behind an entry.
 
-abbrev pub pushed : Entry → Draft → Draft
+abbrev pub pushed : SectionEntry → SectionDraft → SectionDraft
 pushed e d = record d { entries = d.entries ++ e ∷ [] }
 
 -- what an entry puts changes the draft of its segment alone
-pub put_there : (e : Entry) (g : ℕ) (ds : List Draft) → segment_of e ≡ Some g → map (λ (d : Draft). if nat_eq g d.segment then pushed e d else d) ds ≡ map (with_entry e) ds
-put_there e g ds is = ap (λ o. map (λ (d : Draft). if is_segment d.segment o then pushed e d else d) ds) (sym is)
+pub put_there : (e : SectionEntry) (g : ℕ) (ds : List SectionDraft) → segment_of e ≡ Some g → map (λ (d : SectionDraft). if nat_eq g d.segment then pushed e d else d) ds ≡ map (with_entry e) ds
+put_there e g ds is = ap (λ o. map (λ (d : SectionDraft). if is_segment d.segment o then pushed e d else d) ds) (sym is)
 
 -- what is said and what waits put nothing into a section
-pub nothing_put : (e : Entry) (ds : List Draft) → segment_of e ≡ None → ds ≡ map (with_entry e) ds
-nothing_put e ds none = sym (map-id ds) ∙ ap (λ o. map (λ (d : Draft). if is_segment d.segment o then pushed e d else d) ds) (sym none)
+pub nothing_put : (e : SectionEntry) (ds : List SectionDraft) → segment_of e ≡ None → ds ≡ map (with_entry e) ds
+nothing_put e ds none = sym (map-id ds) ∙ ap (λ o. map (λ (d : SectionDraft). if is_segment d.segment o then pushed e d else d) ds) (sym none)
 
-entry_segment : (e : Entry) (d : Draft) → (with_entry e d).segment ≡ d.segment
+entry_segment : (e : SectionEntry) (d : SectionDraft) → (with_entry e d).segment ≡ d.segment
 entry_segment e d = grind (arith, common_steps)
 
-pub segments_stay : (e : Entry) (ds : List Draft) → map (λ d. d.segment) (map (with_entry e) ds) ≡ map (λ d. d.segment) ds
+pub segments_stay : (e : SectionEntry) (ds : List SectionDraft) → map (λ d. d.segment) (map (with_entry e) ds) ≡ map (λ d. d.segment) ds
 segments_stay e [] = refl
 segments_stay e (d ∷ ds) = λ n. entry_segment e d n ∷ segments_stay e ds n
 
@@ -70,20 +70,20 @@ segments_begin (k ∷ keys) = ap (λ ks. k ∷ ks) (segments_begin keys)
 
 -- ---- Drafts behind all entries.
 
-abbrev pub behind : List Entry → Draft → Draft
-behind es d = record d { entries = d.entries ++ put_in d.segment es }
+abbrev pub following : List SectionEntry → SectionDraft → SectionDraft
+following es d = record d { entries = d.entries ++ put_in d.segment es }
 
-behind_entry : (e : Entry) (es : List Entry) (d : Draft) → behind es (with_entry e d) ≡ behind (e ∷ es) d
-behind_entry e es d = grind (arith, common_steps)
+after_entry : (e : SectionEntry) (es : List SectionEntry) (d : SectionDraft) → following es (with_entry e d) ≡ following (e ∷ es) d
+after_entry e es d = grind (arith, common_steps)
 
-pub one_behind : (e : Entry) (es : List Entry) (ds : List Draft) → map (behind es) (map (with_entry e) ds) ≡ map (behind (e ∷ es)) ds
-one_behind e es [] = refl
-one_behind e es (d ∷ ds) = λ n. behind_entry e es d n ∷ one_behind e es ds n
+pub one_after : (e : SectionEntry) (es : List SectionEntry) (ds : List SectionDraft) → map (following es) (map (with_entry e) ds) ≡ map (following (e ∷ es)) ds
+one_after e es [] = refl
+one_after e es (d ∷ ds) = λ n. after_entry e es d n ∷ one_after e es ds n
 
-pub all_behind : (es : List Entry) (keys : List ℕ) → map (behind es) (map (draft_of []) keys) ≡ map (draft_of es) keys
-all_behind es [] = refl
-all_behind es (k ∷ keys) = ap (λ ds. draft_of es k ∷ ds) (all_behind es keys)
+pub all_after : (es : List SectionEntry) (keys : List ℕ) → map (following es) (map (draft_of []) keys) ≡ map (draft_of es) keys
+all_after es [] = refl
+all_after es (k ∷ keys) = ap (λ ds. draft_of es k ∷ ds) (all_after es keys)
 
-pub none_behind : (ds : List Draft) → ds ≡ map (behind []) ds
-none_behind [] = refl
-none_behind (d ∷ ds) = λ n. record { segment = d.segment; entries = sym (append-nil d.entries) n } ∷ none_behind ds n
+pub none_after : (ds : List SectionDraft) → ds ≡ map (following []) ds
+none_after [] = refl
+none_after (d ∷ ds) = λ n. record { segment = d.segment; entries = sym (append-nil d.entries) n } ∷ none_after ds n

@@ -6,16 +6,16 @@ use Rattle.std.specs.List.{AllByRecursion, flat_map, list_all, list_any}
 use Rattle.std.specs.Str.{bytes_eq}
 use Rattle.std.proofs.lemmas.Bool.Decides.{nat_tests}
 use Rattle.std.proofs.lemmas.List.Folds.{list_any-append}
-use Rattle.syntax65.specs.declared.place.Place.{Place}
+use Rattle.syntax65.specs.declared.source_location.SourceLocation.{SourceLocation}
 use Rattle.object65.specs.declared.object.Assert.{Assert}
 use Rattle.object65.specs.declared.object.Export.{Export}
 use Rattle.object65.specs.declared.object.Fragment.{Fragment}
 use Rattle.object65.specs.declared.object.Origin.{Origin}
 use Rattle.object65.specs.declared.object.Section.{Section}
-use Rattle.object65.specs.Objects.{are_distinct, has_good_origin, has_good_origins, is_file_name, is_good_origin}
+use Rattle.object65.specs.Objects.{are_distinct, has_good_origin, has_good_origins, is_file_name, is_well_formed_origin}
 use Rattle.semantics65.specs.Contents.{Content, Part, Known, Filled, Waiting, Declaration, Exported, ForcedImport, Asserted}
 use Rattle.semantics65.specs.declared.contents.Segment.{Segment}
-use Rattle.semantics65.specs.Numbering.{all_joined, all_said, assert_files, assert_of, export_files, export_of, files_named, files_of, fragments_of, import_keys, in_files, joined, names_once, object_with, part_files, parts_in, section_keys, section_of, IsSoundContent, IsSoundPart, IsSoundDeclaration}
+use Rattle.semantics65.specs.Numbering.{all_joined, all_said, assert_files, assert_of, export_files, export_of, files_named, files_of, fragments_of, import_keys, in_files, merged_fragments, names_once, object_with, part_files, parts_in, section_keys, section_of, IsSoundContent, IsSoundPart, IsSoundDeclaration}
 use Rattle.emit65.proofs.Fitting.{all_more}
 use Rattle.emit65.proofs.GoodNames.{names_push}
 use Rattle.emit65.proofs.Naming.{any_below, itself, position_at}
@@ -105,16 +105,16 @@ module _ (asked : List ℕ) (count : ℕ) where
 -- ---- Origins.
 
 module _ (files : List (List ℕ)) (s i : List ℕ) where
-  abbrev at : Place → Origin
+  abbrev at : SourceLocation → Origin
   at = in_files files
 
   abbrev is_good : Origin → Bool
-  is_good origin = is_good_origin 2 (length files) origin
+  is_good origin = is_well_formed_origin 2 (length files) origin
 
   abbrev has_good : Fragment → Bool
   has_good f = has_good_origin 2 (length files) f
 
-  pub origin_good : (place : Place) → IsAmong files place.file → is_good (at place) ≡ true
+  pub origin_good : (place : SourceLocation) → IsAmong files place.file → is_good (at place) ≡ true
   origin_good place h = grind (arith, common_steps, any_below, nat_tests, position_at)
 
   parts_origins : (ps : List Part) → AreAmong files (flat_map part_files ps) → list_all has_good (fragments_of at s i ps) ≡ true
@@ -125,10 +125,10 @@ module _ (files : List (List ℕ)) (s i : List ℕ) where
   parts_origins (Filled (suc n) ∷ ps) h = parts_origins ps h
   parts_origins (Waiting width place f ∷ ps) h = and (is_good (at place)) (list_all has_good (fragments_of at s i ps)) (origin_good place h.0) (parts_origins ps h.1)
 
-  joined_origins : (f : Fragment) (fs : List Fragment) → has_good f ≡ true → list_all has_good fs ≡ true → list_all has_good (joined f fs) ≡ true
+  joined_origins : (f : Fragment) (fs : List Fragment) → has_good f ≡ true → list_all has_good fs ≡ true → list_all has_good (merged_fragments f fs) ≡ true
   joined_origins x [] h all = and (has_good x) true h refl
   joined_origins x (y ∷ fs) h all =
-      let again : (f : Fragment) → has_good f ≡ true → list_all has_good fs ≡ true → list_all has_good (joined f fs) ≡ true = λ f. joined_origins f fs in
+      let again : (f : Fragment) → has_good f ≡ true → list_all has_good fs ≡ true → list_all has_good (merged_fragments f fs) ≡ true = λ f. joined_origins f fs in
       grind (arith, common_steps, again, and, left, right)
 
   all_joined_origins : (fs : List Fragment) → list_all has_good fs ≡ true → list_all has_good (all_joined fs) ≡ true
@@ -166,8 +166,8 @@ origins_good segments names cs =
     let all : AreAmong files (files_named cs) = once_has [] (files_named cs) in
     let front = all_first (IsAmong files) (a ++ b) c all in
     let p = list_all (λ (x : Section). list_all (has_good_origin 2 (length files)) x.fragments) (map (section_of (in_files files) segments s i cs) s) in
-    let q = list_all (λ (e : Export). is_good_origin 2 (length files) e.origin) (filter_map (export_of (in_files files) s i) (all_said cs)) in
-    let r = list_all (λ (t : Assert). is_good_origin 2 (length files) t.origin) (filter_map (assert_of (in_files files) s i) (all_said cs)) in
+    let q = list_all (λ (e : Export). is_well_formed_origin 2 (length files) e.origin) (filter_map (export_of (in_files files) s i) (all_said cs)) in
+    let r = list_all (λ (t : Assert). is_well_formed_origin 2 (length files) t.origin) (filter_map (assert_of (in_files files) s i) (all_said cs)) in
     and (p && q) r
     (and p q (sections_origins files s i segments cs s (all_first (IsAmong files) a b front)) (exports_origins files s i (all_said cs) (all_second (IsAmong files) a b front)))
     (asserts_origins files s i (all_said cs) (all_second (IsAmong files) (a ++ b) c all))

@@ -10,12 +10,12 @@ use Rattle.object65.specs.declared.object.Assert.{Assert}
 use Rattle.object65.specs.declared.object.Export.{Export}
 use Rattle.object65.specs.declared.object.Origin.{Origin}
 use Rattle.object65.specs.declared.object.Section.{Section}
-use Rattle.syntax65.specs.declared.place.Place.{Place}
+use Rattle.syntax65.specs.declared.source_location.SourceLocation.{SourceLocation}
 use Rattle.object65.specs.Folding.{is_literal}
-use Rattle.object65.specs.Objects.{are_names, has_good_parts, is_good_assert, is_good_form, is_good_object, is_good_section}
+use Rattle.object65.specs.Objects.{are_names, has_good_parts, is_well_formed_assert, is_well_formed_form, is_well_formed_object, is_well_formed_section}
 use Rattle.semantics65.specs.Contents.{Content, Part, Declaration, Exported, ForcedImport, Asserted}
 use Rattle.semantics65.specs.declared.contents.Segment.{Segment}
-use Rattle.semantics65.specs.Numbering.{all_said, assert_of, content_imports, export_of, files_of, import_keys, in_files, imports_in, key_of, name_of, numbered, object_with, optional_key, part_imports, said_imports, section_keys, section_of, segments_asked, AreSound, IsSoundContent, IsSoundPart, IsSoundDeclaration}
+use Rattle.semantics65.specs.Numbering.{all_said, assert_of, content_imports, export_of, files_of, import_keys, in_files, imports_in, key_of, name_of, renumbered_form, object_with, optional_key, part_imports, said_imports, section_keys, section_of, segments_asked, AreSound, IsSoundContent, IsSoundPart, IsSoundDeclaration}
 use Rattle.emit65.proofs.GoodFiles.{files_good, origins_good}
 use Rattle.emit65.proofs.GoodNames.{names_at, segment_named}
 use Rattle.semantics65.proofs.Found.{exports_named}
@@ -63,7 +63,7 @@ all_both : {A : Type 0} (P : A → Type 0) (xs ys : List A) → AllByRecursion P
 all_both P [] ys h g = g
 all_both P (x ∷ xs) ys h g = (h.0, all_both P xs ys h.1 g)
 
-module _ (at : Place → Origin) (s i : List ℕ) (names : List (List ℕ)) where
+module _ (at : SourceLocation → Origin) (s i : List ℕ) (names : List (List ℕ)) where
   said_sound : (count : ℕ) (cs : List Content) → AllByRecursion (IsSoundContent s count) cs → AllByRecursion (IsSoundDeclaration s count) (all_said cs)
   said_sound count [] sound = tt
   said_sound count (c ∷ cs) sound = all_both (IsSoundDeclaration s count) c.said (all_said cs) sound.0.said (said_sound count cs sound.1)
@@ -79,41 +79,41 @@ module _ (at : Place → Origin) (s i : List ℕ) (names : List (List ℕ)) wher
   said_has (c ∷ cs) h = grind (arith, common_steps, (said_has cs (second_has i (content_imports names c) (flat_map (content_imports names) cs) h)), has_parts, second_has, first_has)
 
   abbrev is_good_export : Export → Bool
-  is_good_export e = is_good_form (length s) (length i) e.form
+  is_good_export e = is_well_formed_form (length s) (length i) e.form
 
   exports_good : (count : ℕ) (ss : List Declaration) → AllByRecursion (IsSoundDeclaration s count) ss → HasAll i (flat_map (said_imports names) ss) → list_all is_good_export (filter_map (export_of at s i) ss) ≡ true
   exports_good count [] sound g = refl
   exports_good count (ForcedImport n ∷ ss) sound g = exports_good count ss sound.1 (second_has i (optional_key (key_of names n)) (flat_map (said_imports names) ss) g)
   exports_good count (Asserted act line words f ∷ ss) sound g = exports_good count ss sound.1 (second_has i (imports_in f) (flat_map (said_imports names) ss) g)
   exports_good count (Exported n line f ∷ ss) sound g =
-      and (is_good_form (length s) (length i) (numbered s i f)) (list_all is_good_export (filter_map (export_of at s i) ss))
+      and (is_well_formed_form (length s) (length i) (renumbered_form s i f)) (list_all is_good_export (filter_map (export_of at s i) ss))
       (good_form s i count f sound.0.1.form (first_has i (imports_in f) (flat_map (said_imports names) ss) g))
       (exports_good count ss sound.1 (second_has i (imports_in f) (flat_map (said_imports names) ss) g))
 
-  asserts_good : (count : ℕ) (ss : List Declaration) → AllByRecursion (IsSoundDeclaration s count) ss → HasAll i (flat_map (said_imports names) ss) → list_all (is_good_assert (length s) (length i)) (filter_map (assert_of at s i) ss) ≡ true
+  asserts_good : (count : ℕ) (ss : List Declaration) → AllByRecursion (IsSoundDeclaration s count) ss → HasAll i (flat_map (said_imports names) ss) → list_all (is_well_formed_assert (length s) (length i)) (filter_map (assert_of at s i) ss) ≡ true
   asserts_good count [] sound g = refl
   asserts_good count (Exported n line f ∷ ss) sound g = asserts_good count ss sound.1 (second_has i (imports_in f) (flat_map (said_imports names) ss) g)
   asserts_good count (ForcedImport n ∷ ss) sound g = asserts_good count ss sound.1 (second_has i (optional_key (key_of names n)) (flat_map (said_imports names) ss) g)
   asserts_good count (Asserted act line words f ∷ ss) sound g =
-      and (nat_lt (length words) 256 && is_good_form (length s) (length i) (numbered s i f) && not (is_literal (numbered s i f))) (list_all (is_good_assert (length s) (length i)) (filter_map (assert_of at s i) ss))
-      (and (nat_lt (length words) 256 && is_good_form (length s) (length i) (numbered s i f)) (not (is_literal (numbered s i f)))
-      (and (nat_lt (length words) 256) (is_good_form (length s) (length i) (numbered s i f)) short good)
+      and (nat_lt (length words) 256 && is_well_formed_form (length s) (length i) (renumbered_form s i f) && not (is_literal (renumbered_form s i f))) (list_all (is_well_formed_assert (length s) (length i)) (filter_map (assert_of at s i) ss))
+      (and (nat_lt (length words) 256 && is_well_formed_form (length s) (length i) (renumbered_form s i f)) (not (is_literal (renumbered_form s i f)))
+      (and (nat_lt (length words) 256) (is_well_formed_form (length s) (length i) (renumbered_form s i f)) short good)
       (ap not (same_literal s i f ∙ sound.0.2)))
       (asserts_good count ss sound.1 (second_has i (imports_in f) (flat_map (said_imports names) ss) g))
     where
       short : nat_lt (length words) 256 ≡ true
       short = (let few : length words < 256 = sound.0.0 in grind (arith, nat_tests))
 
-      good : is_good_form (length s) (length i) (numbered s i f) ≡ true
+      good : is_well_formed_form (length s) (length i) (renumbered_form s i f) ≡ true
       good = good_form s i count f sound.0.1.form (first_has i (imports_in f) (flat_map (said_imports names) ss) g)
 
 -- ---- The object.
 
-sections_good : (at : Place → Origin) (segments : List Segment) (s i : List ℕ) (cs : List Content) (keys : List ℕ) → ((g : ℕ) → is_good_section (length s) (length i) (section_of at segments s i cs g) ≡ true) → list_all (is_good_section (length s) (length i)) (map (section_of at segments s i cs) keys) ≡ true
+sections_good : (at : SourceLocation → Origin) (segments : List Segment) (s i : List ℕ) (cs : List Content) (keys : List ℕ) → ((g : ℕ) → is_well_formed_section (length s) (length i) (section_of at segments s i cs g) ≡ true) → list_all (is_well_formed_section (length s) (length i)) (map (section_of at segments s i cs) keys) ≡ true
 sections_good at segments s i cs [] h = refl
-sections_good at segments s i cs (k ∷ keys) h = and (is_good_section (length s) (length i) (section_of at segments s i cs k)) (list_all (is_good_section (length s) (length i)) (map (section_of at segments s i cs) keys)) (h k) (sections_good at segments s i cs keys h)
+sections_good at segments s i cs (k ∷ keys) h = and (is_well_formed_section (length s) (length i) (section_of at segments s i cs k)) (list_all (is_well_formed_section (length s) (length i)) (map (section_of at segments s i cs) keys)) (h k) (sections_good at segments s i cs keys h)
 
-sections_named : (at : Place → Origin) (segments : List Segment) (s i : List ℕ) (cs : List Content) (keys : List ℕ) → map (λ (x : Section). x.name) (map (section_of at segments s i cs) keys) ≡ map (name_of (map (λ g. g.name) segments)) keys
+sections_named : (at : SourceLocation → Origin) (segments : List Segment) (s i : List ℕ) (cs : List Content) (keys : List ℕ) → map (λ (x : Section). x.name) (map (section_of at segments s i cs) keys) ≡ map (name_of (map (λ g. g.name) segments)) keys
 sections_named at segments s i cs [] = refl
 sections_named at segments s i cs (k ∷ keys) = λ j. segment_named segments k j ∷ sections_named at segments s i cs keys j
 
@@ -123,7 +123,7 @@ none_twice = tt
 
 parts_are_good : (segments : List Segment) (names : List (List ℕ)) (cs : List Content) → AreSound segments names cs → has_good_parts (object_with segments names cs) ≡ true
 parts_are_good segments names cs sound =
-    let at : Place → Origin = in_files (files_of cs) in
+    let at : SourceLocation → Origin = in_files (files_of cs) in
     let s : List ℕ = section_keys cs in
     let i : List ℕ = import_keys names cs in
     let count = length names in
@@ -142,9 +142,9 @@ parts_are_good segments names cs sound =
     let a = are_names (map (name_of names) i) in
     let b = are_names (map (λ (x : Section). x.name) (map (section_of at segments s i cs) s)) in
     let c = are_names (map (λ (e : Export). e.name) es) in
-    let d : ℕ → ℕ → Bool = λ m n. list_all (is_good_section m n) (map (section_of at segments s i cs) s) in
-    let e : ℕ → ℕ → Bool = λ m n. list_all (λ (x : Export). is_good_form m n x.form) es in
-    let f : ℕ → ℕ → Bool = λ m n. list_all (is_good_assert m n) ts in
+    let d : ℕ → ℕ → Bool = λ m n. list_all (is_well_formed_section m n) (map (section_of at segments s i cs) s) in
+    let e : ℕ → ℕ → Bool = λ m n. list_all (λ (x : Export). is_well_formed_form m n x.form) es in
+    let f : ℕ → ℕ → Bool = λ m n. list_all (is_well_formed_assert m n) ts in
     let whole : ℕ → ℕ → Bool = λ m n. a && b && c && d m n && e m n && f m n in
     let m = length s in
     let n = length i in
@@ -154,5 +154,5 @@ parts_are_good segments names cs sound =
     (λ j. whole (map_length (section_of at segments s i cs) s j) (map_length (name_of names) i j))
     ∙ and (a && b && c && d m n && e m n) (f m n) (and (a && b && c && d m n) (e m n) (and (a && b && c) (d m n) (and (a && b) c (and a b imports section_names) export_names) all_sections) all_exports) all_asserts
 
-pub good_object : (segments : List Segment) (names : List (List ℕ)) (cs : List Content) → AreSound segments names cs → is_good_object (object_with segments names cs) ≡ true
+pub good_object : (segments : List Segment) (names : List (List ℕ)) (cs : List Content) → AreSound segments names cs → is_well_formed_object (object_with segments names cs) ≡ true
 good_object segments names cs sound = search (rules, files_good, origins_good, and, parts_are_good)

@@ -6,14 +6,14 @@ use Rattle.std.specs.List.{AllByRecursion, filter, flat_map, list_all}
 use Rattle.std.proofs.lemmas.Bool.Decides.{nat_tests}
 use Rattle.std.proofs.lemmas.List.Folds.{list_all-append}
 use Rattle.std.proofs.lemmas.List.Sums.{sum_by-cons}
-use Rattle.syntax65.specs.declared.place.Place.{Place}
+use Rattle.syntax65.specs.declared.source_location.SourceLocation.{SourceLocation}
 use Rattle.object65.specs.declared.object.Origin.{Origin}
 use Rattle.object65.specs.declared.object.Fragment.{Fragment}
 use Rattle.object65.specs.declared.object.Fragment.TheVariants.{Literal, Fill}
-use Rattle.object65.specs.Objects.{are_apart, fragment_len, is_good_fragment, is_good_section, joins, section_limit}
+use Rattle.object65.specs.Objects.{are_apart, fragment_len, is_well_formed_fragment, is_well_formed_section, joins, section_limit}
 use Rattle.semantics65.specs.Contents.{Content, Part}
 use Rattle.semantics65.specs.declared.contents.Segment.{Segment}
-use Rattle.semantics65.specs.Numbering.{all_joined, content_imports, fragment_of, fragments_of, is_empty, joined, part_imports, parts_in, said_imports, section_of, segment_power, IsSoundContent, IsSoundPart, part_len}
+use Rattle.semantics65.specs.Numbering.{all_joined, content_imports, fragment_of, fragments_of, is_empty, merged_fragments, part_imports, parts_in, said_imports, section_of, segment_power, IsSoundContent, IsSoundPart, part_len}
 use Rattle.emit65.proofs.Renumbering.{HasAll, first_has, good_form, left, right, and, same_literal, second_has}
 
 -- ---- Neighbours that are joined.
@@ -25,31 +25,31 @@ more_fill : (m n : ℕ) → nat_lt 0 m ≡ true → nat_lt 0 (m + n) ≡ true
 more_fill m n h = grind (arith, nat_tests)
 
 abbrev AllGood : (s i : ℕ) → List Fragment → Type 0
-AllGood s i fs = list_all (is_good_fragment s i) fs ≡ true
+AllGood s i fs = list_all (is_well_formed_fragment s i) fs ≡ true
 
-pub joined_good : (s i : ℕ) (f : Fragment) (fs : List Fragment) → is_good_fragment s i f ≡ true → AllGood s i fs → AllGood s i (joined f fs)
-joined_good s i f [] h all = and (is_good_fragment s i f) true h refl
-joined_good s i (Literal a) (Literal b ∷ fs) h all = joined_good s i (Literal (a ++ b)) fs (more_bytes a b h) (right (is_good_fragment s i (Literal b)) (list_all (is_good_fragment s i) fs) all)
-joined_good s i (Fill m) (Fill n ∷ fs) h all = joined_good s i (Fill (m + n)) fs (more_fill m n h) (right (is_good_fragment s i (Fill n)) (list_all (is_good_fragment s i) fs) all)
+pub joined_good : (s i : ℕ) (f : Fragment) (fs : List Fragment) → is_well_formed_fragment s i f ≡ true → AllGood s i fs → AllGood s i (merged_fragments f fs)
+joined_good s i f [] h all = and (is_well_formed_fragment s i f) true h refl
+joined_good s i (Literal a) (Literal b ∷ fs) h all = joined_good s i (Literal (a ++ b)) fs (more_bytes a b h) (right (is_well_formed_fragment s i (Literal b)) (list_all (is_well_formed_fragment s i) fs) all)
+joined_good s i (Fill m) (Fill n ∷ fs) h all = joined_good s i (Fill (m + n)) fs (more_fill m n h) (right (is_well_formed_fragment s i (Fill n)) (list_all (is_well_formed_fragment s i) fs) all)
 joined_good s i f (g ∷ fs) h all =
-    and (is_good_fragment s i f) (list_all (is_good_fragment s i) (joined g fs)) h
-    (joined_good s i g fs (left (is_good_fragment s i g) (list_all (is_good_fragment s i) fs) all) (right (is_good_fragment s i g) (list_all (is_good_fragment s i) fs) all))
+    and (is_well_formed_fragment s i f) (list_all (is_well_formed_fragment s i) (merged_fragments g fs)) h
+    (joined_good s i g fs (left (is_well_formed_fragment s i g) (list_all (is_well_formed_fragment s i) fs) all) (right (is_well_formed_fragment s i g) (list_all (is_well_formed_fragment s i) fs) all))
 
 abbrev len_of : List Fragment → ℕ
 len_of fs = sum_by fragment_len fs
 
-pub joined_len : (f : Fragment) (fs : List Fragment) → len_of (joined f fs) ≡ fragment_len f + len_of fs
+pub joined_len : (f : Fragment) (fs : List Fragment) → len_of (merged_fragments f fs) ≡ fragment_len f + len_of fs
 joined_len f [] = sum_by-cons fragment_len f []
 joined_len (Literal a) (Literal b ∷ fs) =
-    let again : len_of (joined (Literal (a ++ b)) fs) ≡ length (a ++ b) + len_of fs = joined_len (Literal (a ++ b)) fs in
+    let again : len_of (merged_fragments (Literal (a ++ b)) fs) ≡ length (a ++ b) + len_of fs = joined_len (Literal (a ++ b)) fs in
     let more : len_of (Literal b ∷ fs) ≡ length b + len_of fs = sum_by-cons fragment_len (Literal b) fs in
     let both : length (a ++ b) ≡ length a + length b = length-append a b in
     omega (arith, again, more, both)
 joined_len (Fill m) (Fill n ∷ fs) =
-    let again : len_of (joined (Fill (m + n)) fs) ≡ (m + n) + len_of fs = joined_len (Fill (m + n)) fs in
+    let again : len_of (merged_fragments (Fill (m + n)) fs) ≡ (m + n) + len_of fs = joined_len (Fill (m + n)) fs in
     let more : len_of (Fill n ∷ fs) ≡ n + len_of fs = sum_by-cons fragment_len (Fill n) fs in
     omega (arith, again, more)
-joined_len f (g ∷ fs) = sum_by-cons fragment_len f (joined g fs) ∙ ap (λ n. fragment_len f + n) (joined_len g fs ∙ sym (sum_by-cons fragment_len g fs))
+joined_len f (g ∷ fs) = sum_by-cons fragment_len f (merged_fragments g fs) ∙ ap (λ n. fragment_len f + n) (joined_len g fs ∙ sym (sum_by-cons fragment_len g fs))
 
 literals_alike : (f : Fragment) (a b : List ℕ) → joins f (Literal a) ≡ joins f (Literal b)
 literals_alike x a b = grind (arith, common_steps)
@@ -58,27 +58,27 @@ fills_alike : (f : Fragment) (m n : ℕ) → joins f (Fill m) ≡ joins f (Fill 
 fills_alike x m n = grind (arith, common_steps)
 
 -- a fragment in front of joined ones, which doesn't join the first of them
-pub front_apart : (f g : Fragment) (fs : List Fragment) → joins f g ≡ false → are_apart (joined g fs) ≡ true → are_apart (f ∷ joined g fs) ≡ true
+pub front_apart : (f g : Fragment) (fs : List Fragment) → joins f g ≡ false → are_apart (merged_fragments g fs) ≡ true → are_apart (f ∷ merged_fragments g fs) ≡ true
 front_apart f g [] h all = and (not (joins f g)) true (ap not h) refl
 front_apart f (Literal a) (Literal b ∷ fs) h all = front_apart f (Literal (a ++ b)) fs (literals_alike f (a ++ b) a ∙ h) all
 front_apart f (Fill m) (Fill n ∷ fs) h all = front_apart f (Fill (m + n)) fs (fills_alike f (m + n) m ∙ h) all
-front_apart f g (e ∷ fs) h all = and (not (joins f g)) (are_apart (g ∷ joined e fs)) (ap not h) all
+front_apart f g (e ∷ fs) h all = and (not (joins f g)) (are_apart (g ∷ merged_fragments e fs)) (ap not h) all
 
-pub joined_apart : (f : Fragment) (fs : List Fragment) → are_apart (joined f fs) ≡ true
+pub joined_apart : (f : Fragment) (fs : List Fragment) → are_apart (merged_fragments f fs) ≡ true
 joined_apart f [] = refl
 joined_apart x (y ∷ fs) =
-    let again : (f : Fragment) → are_apart (joined f fs) ≡ true = λ f. joined_apart f fs in
+    let again : (f : Fragment) → are_apart (merged_fragments f fs) ≡ true = λ f. joined_apart f fs in
     grind (arith, common_steps, again, front_apart)
 
 -- ---- The fragments of parts.
 
-module _ (at : Place → Origin) (s i : List ℕ) where
+module _ (at : SourceLocation → Origin) (s i : List ℕ) where
   abbrev pub made : Part → Fragment
   made p = fragment_of at s i p
 
   -- a part of no byte is left out
   abbrev pub is_good_part : Part → Bool
-  is_good_part p = is_empty (made p) || is_good_fragment (length s) (length i) (made p)
+  is_good_part p = is_empty (made p) || is_well_formed_fragment (length s) (length i) (made p)
 
   made_len : (p : Part) → fragment_len (made p) ≡ part_len p
   made_len x = grind (arith, common_steps)
@@ -128,5 +128,5 @@ module _ (at : Place → Origin) (s i : List ℕ) where
   power_small : (o : Option Segment) → segment_power o ≤ 15
   power_small x = grind (arith, common_steps)
 
-  pub section_good : (segments : List Segment) (cs : List Content) (g : ℕ) → sum_by part_len (parts_in cs g) ≤ section_limit → list_all is_good_part (parts_in cs g) ≡ true → is_good_section (length s) (length i) (section_of at segments s i cs g) ≡ true
+  pub section_good : (segments : List Segment) (cs : List Content) (g : ℕ) → sum_by part_len (parts_in cs g) ≤ section_limit → list_all is_good_part (parts_in cs g) ≡ true → is_well_formed_section (length s) (length i) (section_of at segments s i cs g) ≡ true
   section_good segments cs g room good = grind (arith, common_steps, power_small, nat_tests, all_joined_len, fragments_len, and, all_joined_good, fragments_good, all_joined_apart)

@@ -7,13 +7,13 @@ use Rattle.std.proofs.lemmas.List.Folds.{list_all-append}
 use Rattle.std.proofs.lemmas.Bool.Decides.{nat_tests}
 use Rattle.semantics65.specs.Views.{place_in}
 use Rattle.semantics65.specs.Numbering.{name_of}
-use Rattle.emit65.specs.declared.entries.Entry.{Entry}
+use Rattle.emit65.specs.declared.entries.SectionEntry.{SectionEntry}
 use Rattle.emit65.specs.declared.entries.SourcePos.{SourcePos}
-use Rattle.emit65.specs.Fed.{Begins, StandIn, content_of, place_by, slot_of, so_far, stands_in}
+use Rattle.emit65.specs.SectionContents.{IsPrefix, StandIn, content_of, place_by, slot_of, so_far, stands_in}
 use Rattle.emit65.proofs.Renumbering.{and, left, right}
 
 -- what entries have so far, by their slots
-pub contents_of_slots : (files : List (List ℕ)) (es : List Entry) → map so_far (map (slot_of files) es) ≡ map (content_of files) es
+pub contents_of_slots : (files : List (List ℕ)) (es : List SectionEntry) → map so_far (map (slot_of files) es) ≡ map (content_of files) es
 contents_of_slots files [] = refl
 contents_of_slots files (x ∷ es) = grind (arith, common_steps, (contents_of_slots files es))
 
@@ -27,10 +27,10 @@ name_grown (n ∷ files) later (suc k) h = name_grown files later k (let lt : na
 pub place_grown : (files later : List (List ℕ)) (o : SourcePos) → nat_lt o.file (length files) ≡ true → place_by (files ++ later) o ≡ place_by files o
 place_grown files later o h = ap (λ n. place_in n o.line) (name_grown files later o.file h)
 
-pub slot_grown : (files later : List (List ℕ)) (e : Entry) → stands_in (length files) e ≡ true → slot_of (files ++ later) e ≡ slot_of files e
+pub slot_grown : (files later : List (List ℕ)) (e : SectionEntry) → stands_in (length files) e ≡ true → slot_of (files ++ later) e ≡ slot_of files e
 slot_grown files later x h = grind (arith, common_steps, place_grown)
 
-pub slots_grown : (files later : List (List ℕ)) (es : List Entry) → StandIn (length files) es → map (slot_of (files ++ later)) es ≡ map (slot_of files) es
+pub slots_grown : (files later : List (List ℕ)) (es : List SectionEntry) → StandIn (length files) es → map (slot_of (files ++ later)) es ≡ map (slot_of files) es
 slots_grown files later [] h = refl
 slots_grown files later (e ∷ es) h =
     let one = slot_grown files later e (left (stands_in (length files) e) (list_all (stands_in (length files)) es) h) in
@@ -39,16 +39,16 @@ slots_grown files later (e ∷ es) h =
 
 -- ---- Entries that stand in files.
 
-stands_grown : (m n : ℕ) (e : Entry) → m ≤ n → stands_in m e ≡ true → stands_in n e ≡ true
+stands_grown : (m n : ℕ) (e : SectionEntry) → m ≤ n → stands_in m e ≡ true → stands_in n e ≡ true
 stands_grown m n x le h = grind (arith, common_steps)
 
-pub standing_grown : (m n : ℕ) (es : List Entry) → m ≤ n → StandIn m es → StandIn n es
+pub standing_grown : (m n : ℕ) (es : List SectionEntry) → m ≤ n → StandIn m es → StandIn n es
 standing_grown m n [] le h = refl
 standing_grown m n (e ∷ es) le h = grind (arith, common_steps, (standing_grown m n es le (right (stands_in m e) (list_all (stands_in m) es) h)), and, stands_grown, left, right)
 
-pub standing_more : (n : ℕ) (es : List Entry) (e : Entry) → stands_in n e ≡ true → StandIn n es → StandIn n (es ++ e ∷ [])
+pub standing_more : (n : ℕ) (es : List SectionEntry) (e : SectionEntry) → stands_in n e ≡ true → StandIn n es → StandIn n (es ++ e ∷ [])
 standing_more n es e h all = list_all-append (stands_in n) es (e ∷ []) ∙ and (list_all (stands_in n) es) (list_all (stands_in n) (e ∷ [])) all (and (stands_in n e) true h refl)
 
 -- names with others behind them are as many or more
-pub begins_long : (names more : List (List ℕ)) → Begins names more → length names ≤ length more
+pub begins_long : (names more : List (List ℕ)) → IsPrefix names more → length names ≤ length more
 begins_long names more h = grind (arith, common_steps)

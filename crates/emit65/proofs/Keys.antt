@@ -8,14 +8,14 @@ use Rattle.std.specs.Global.{Vec}
 use Rattle.std.proofs.lemmas.Cmp.{nat_list_eq_equiv}
 use Rattle.indexmap.specs.IndexSet.{IndexSet}
 use Rattle.ast65.proofs.Lists.{position_mapped}
-use Rattle.syntax65.specs.declared.place.Place.{Place}
+use Rattle.syntax65.specs.declared.source_location.SourceLocation.{SourceLocation}
 use Rattle.semantics65.specs.declared.contents.Declaration as said
-use Rattle.semantics65.specs.Numbering.{content_imports, key_of, once, said_imports}
+use Rattle.semantics65.specs.Numbering.{content_imports, key_of, distinct_keys, said_imports}
 use Rattle.semantics65.specs.Views.{said_at}
-use Rattle.emit65.specs.declared.entries.Entry.{Entry}
-use Rattle.emit65.specs.Fed.{content_of, names_of}
+use Rattle.emit65.specs.declared.entries.SectionEntry.{SectionEntry}
+use Rattle.emit65.specs.SectionContents.{content_of, names_of}
 
-pub once_append : (ks found ls : List ℕ) → once (once found ks) ls ≡ once found (ks ++ ls)
+pub once_append : (ks found ls : List ℕ) → distinct_keys (distinct_keys found ks) ls ≡ distinct_keys found (ks ++ ls)
 once_append [] found ls = refl
 once_append (k ∷ ks) found ls = once_append ks (if list_any (nat_eq k) found then found else found ++ k ∷ []) ls
 
@@ -28,7 +28,7 @@ pub drop_item : {A : Type 0} (xs : List A) (i : ℕ) (x : A) → i < length xs �
 drop_item xs i x lt e = rw add-one (drop_at xs i x lt e)
 
 -- one item more of a list of which the rest is still to be added
-pub once_step : {A : Type 0} (f : A → List ℕ) (xs : List A) (i : ℕ) (x : A) (old all : List ℕ) → i < length xs → x ≡ get_or xs i x → once old (flat_map f (drop i xs)) ≡ all → once (once old (f x)) (flat_map f (drop (i + 1) xs)) ≡ all
+pub once_step : {A : Type 0} (f : A → List ℕ) (xs : List A) (i : ℕ) (x : A) (old all : List ℕ) → i < length xs → x ≡ get_or xs i x → distinct_keys old (flat_map f (drop i xs)) ≡ all → distinct_keys (distinct_keys old (f x)) (flat_map f (drop (i + 1) xs)) ≡ all
 once_step f xs i x old all lt at inv = grind (arith, common_steps, once_append, drop_item)
 
 -- ---- Keys by name.
@@ -39,10 +39,10 @@ key_found imports name = position_mapped (λ m. bytes_eq m name) (λ k. k.items)
 
 -- ---- Imports of what is said, wherever it stands.
 
-pub said_anywhere : (names : List (List ℕ)) (p q : Place) (x : said.Declaration) → said_imports names (said_at p x) ≡ said_imports names (said_at q x)
+pub said_anywhere : (names : List (List ℕ)) (p q : SourceLocation) (x : said.Declaration) → said_imports names (said_at p x) ≡ said_imports names (said_at q x)
 said_anywhere names p q x = grind (arith, common_steps)
 
 -- the imports of entries, whatever the files are
-pub imports_anyhow : (names files more : List (List ℕ)) (es : List Entry) → flat_map (content_imports names) (map (content_of files) es) ≡ flat_map (content_imports names) (map (content_of more) es)
+pub imports_anyhow : (names files more : List (List ℕ)) (es : List SectionEntry) → flat_map (content_imports names) (map (content_of files) es) ≡ flat_map (content_imports names) (map (content_of more) es)
 imports_anyhow names files more [] = refl
 imports_anyhow names files more (x ∷ es) = grind (arith, common_steps, (imports_anyhow names files more es), said_anywhere)

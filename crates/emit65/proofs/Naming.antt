@@ -7,12 +7,12 @@ use Rattle.std.proofs.lemmas.Bool.Decides.{nat_tests}
 use Rattle.std.proofs.lemmas.List.Sums.{passes_at_first}
 use Rattle.std.proofs.lemmas.Option.{slice_get-get_or, unwrap_or-slice_get}
 use Rattle.ast65.proofs.Lists.{same_bytes, bytes_swap, position_mapped}
-use Rattle.emit65.specs.Fed.{Begins}
+use Rattle.emit65.specs.SectionContents.{IsPrefix}
 use Rattle.std.proofs.lemmas.Grind.{common_steps}
 use Rattle.std.proofs.lemmas.List.{map-append}
 use Rattle.std.proofs.lemmas.Map.Keys.{IsDistinct-cons, IsDistinct-head, IsDistinct-tail, apart_from_distinct}
 use Rattle.std.proofs.lemmas.Slice.Eq.{bytes_eq-Decides}
-use Rattle.semantics65.specs.Numbering.{name_of, names_once, once}
+use Rattle.semantics65.specs.Numbering.{name_of, names_once, distinct_keys}
 use Rattle.emit65.proofs.Fitting.{all_more}
 
 -- ---- A table of files, in which each name stands once.
@@ -37,7 +37,7 @@ map_more f [] x = refl
 map_more f (y ∷ xs) x = ap (λ l. f y ∷ l) (map_more f xs x)
 
 -- a name is put in behind the others, or stands there already
-pub begins_inserted : {A : Type 0} (f : A → List ℕ) (known new : List A) (x : A) (b : Bool) → new ≡ (if b then known else known ++ x ∷ []) → Begins (map f known) (map f new)
+pub begins_inserted : {A : Type 0} (f : A → List ℕ) (known new : List A) (x : A) (b : Bool) → new ≡ (if b then known else known ++ x ∷ []) → IsPrefix (map f known) (map f new)
 begins_inserted f known new x true e = ([], ap (map f) e ∙ sym (append-nil (map f known)))
 begins_inserted f known new x false e = (f x ∷ [], ap (map f) e ∙ map_more f known x)
 
@@ -106,7 +106,7 @@ module _ (files : List (List ℕ)) (apart : IsDistinct bytes_eq files) where
   any_same k (j ∷ found) lt below = λ n. one_name k j lt below.0 n || any_same k found lt below.1 n
 
   -- names are taken once where their places are
-  pub once_named : (found ks : List ℕ) → AreBelow found → AreBelow ks → names_once (map (name_of files) found) (map (name_of files) ks) ≡ map (name_of files) (once found ks)
+  pub once_named : (found ks : List ℕ) → AreBelow found → AreBelow ks → names_once (map (name_of files) found) (map (name_of files) ks) ≡ map (name_of files) (distinct_keys found ks)
   once_named found [] f g = refl
   once_named found (k ∷ ks) f g =
       ap (λ b. names_once (if b then map (name_of files) found else map (name_of files) found ++ name_of files k ∷ []) (map (name_of files) ks)) (any_same k found g.0 f)
@@ -117,9 +117,9 @@ module _ (files : List (List ℕ)) (apart : IsDistinct bytes_eq files) where
       push = sym (map-append (name_of files) found (k ∷ []))
 
       by : (b : Bool) →
-          names_once (map (name_of files) found) (map (name_of files) ks) ≡ map (name_of files) (once found ks) →
-          names_once (map (name_of files) (found ++ k ∷ [])) (map (name_of files) ks) ≡ map (name_of files) (once (found ++ k ∷ []) ks) →
-          names_once (if b then map (name_of files) found else map (name_of files) found ++ name_of files k ∷ []) (map (name_of files) ks) ≡ map (name_of files) (once (if b then found else found ++ k ∷ []) ks)
+          names_once (map (name_of files) found) (map (name_of files) ks) ≡ map (name_of files) (distinct_keys found ks) →
+          names_once (map (name_of files) (found ++ k ∷ [])) (map (name_of files) ks) ≡ map (name_of files) (distinct_keys (found ++ k ∷ []) ks) →
+          names_once (if b then map (name_of files) found else map (name_of files) found ++ name_of files k ∷ []) (map (name_of files) ks) ≡ map (name_of files) (distinct_keys (if b then found else found ++ k ∷ []) ks)
       by true old new = old
       by false old new = ap (λ ns. names_once ns (map (name_of files) ks)) push ∙ new
 

@@ -12,8 +12,8 @@ use Rattle.base65.specs.declared.values.Op1.{Op1}
 use Rattle.base65.specs.declared.values.Op2.{Op2}
 use Rattle.object65.specs.Folding.{is_literal, is_normal, is_within, folds1, folds2, folds_sum, folds_difference}
 use Rattle.object65.specs.Form.{Form, lit, sec, imp, prefix, binary, nodes}
-use Rattle.object65.specs.Objects.{is_good_form}
-use Rattle.semantics65.specs.Numbering.{imports_in, number_of, numbered, once, sections_in, IsSoundForm}
+use Rattle.object65.specs.Objects.{is_well_formed_form}
+use Rattle.semantics65.specs.Numbering.{imports_in, number_of, renumbered_form, distinct_keys, sections_in, IsSoundForm}
 
 -- ---- Tests.
 
@@ -83,29 +83,29 @@ second_has keys a b h = right (list_all (has keys) a) (list_all (has keys) b) (s
 -- ---- Forms.
 
 module _ (s i : List ℕ) where
-  pub same_nodes : (f : Form) → nodes (numbered s i f) ≡ nodes f
+  pub same_nodes : (f : Form) → nodes (renumbered_form s i f) ≡ nodes f
   same_nodes (lit v) = refl
   same_nodes (sec k a) = refl
   same_nodes (imp k) = refl
   same_nodes (prefix op f) = ap (λ n. n + 1) (same_nodes f)
   same_nodes (binary op f g) = λ j. same_nodes f j + same_nodes g j + 1
 
-  pub same_literal : (f : Form) → is_literal (numbered s i f) ≡ is_literal f
+  pub same_literal : (f : Form) → is_literal (renumbered_form s i f) ≡ is_literal f
   same_literal x = grind (arith, common_steps)
 
-  same_prefix : (op : Op1) (f : Form) → folds1 op (numbered s i f) ≡ folds1 op f
+  same_prefix : (op : Op1) (f : Form) → folds1 op (renumbered_form s i f) ≡ folds1 op f
   same_prefix x f = grind (arith, common_steps)
 
-  same_sum : (f g : Form) → folds_sum (numbered s i f) (numbered s i g) ≡ folds_sum f g
+  same_sum : (f g : Form) → folds_sum (renumbered_form s i f) (renumbered_form s i g) ≡ folds_sum f g
   same_sum x y = grind (arith, common_steps)
 
-  same_difference : (f g : Form) → HasAll s (sections_in f) → HasAll s (sections_in g) → folds_difference (numbered s i f) (numbered s i g) ≡ folds_difference f g
+  same_difference : (f g : Form) → HasAll s (sections_in f) → HasAll s (sections_in g) → folds_difference (renumbered_form s i f) (renumbered_form s i g) ≡ folds_difference f g
   same_difference x y p q = grind (arith, common_steps, one_number, left)
 
-  same_binary : (op : Op2) (f g : Form) → HasAll s (sections_in f) → HasAll s (sections_in g) → folds2 op (numbered s i f) (numbered s i g) ≡ folds2 op f g
+  same_binary : (op : Op2) (f g : Form) → HasAll s (sections_in f) → HasAll s (sections_in g) → folds2 op (renumbered_form s i f) (renumbered_form s i g) ≡ folds2 op f g
   same_binary x f g p q = grind (arith, common_steps, same_literal, same_sum, same_difference)
 
-  pub same_normal : (f : Form) → HasAll s (sections_in f) → is_normal (numbered s i f) ≡ is_normal f
+  pub same_normal : (f : Form) → HasAll s (sections_in f) → is_normal (renumbered_form s i f) ≡ is_normal f
   same_normal (lit v) h = refl
   same_normal (sec k a) h = refl
   same_normal (imp k) h = refl
@@ -118,17 +118,17 @@ module _ (s i : List ℕ) where
   number_within : (keys : List ℕ) (k : ℕ) → has keys k ≡ true → nat_le (number_of keys k + 1) (length keys) ≡ true
   number_within keys k h = let below = number_below keys k h in grind (arith, nat_tests)
 
-  pub now_within : (f : Form) → HasAll s (sections_in f) → HasAll i (imports_in f) → is_within (length s) (length i) (numbered s i f) ≡ true
+  pub now_within : (f : Form) → HasAll s (sections_in f) → HasAll i (imports_in f) → is_within (length s) (length i) (renumbered_form s i f) ≡ true
   now_within (lit v) h g = refl
   now_within (sec k a) h g = number_within s k (left (has s k) true h)
   now_within (imp k) h g = number_within i k (left (has i k) true g)
   now_within (prefix op f) h g = now_within f h g
   now_within (binary op e f) h g =
-      and (is_within (length s) (length i) (numbered s i e)) (is_within (length s) (length i) (numbered s i f))
+      and (is_within (length s) (length i) (renumbered_form s i e)) (is_within (length s) (length i) (renumbered_form s i f))
       (now_within e (first_has s (sections_in e) (sections_in f) h) (first_has i (imports_in e) (imports_in f) g))
       (now_within f (second_has s (sections_in e) (sections_in f) h) (second_has i (imports_in e) (imports_in f) g))
 
-  pub good_form : (count : ℕ) (f : Form) → IsSoundForm s count f → HasAll i (imports_in f) → is_good_form (length s) (length i) (numbered s i f) ≡ true
+  pub good_form : (count : ℕ) (f : Form) → IsSoundForm s count f → HasAll i (imports_in f) → is_well_formed_form (length s) (length i) (renumbered_form s i f) ≡ true
   good_form count f sound has_imports = grind (arith, common_steps, same_nodes, nat_tests, and, now_within, same_normal)
 
 -- ---- Keys that are taken once.
@@ -136,7 +136,7 @@ module _ (s i : List ℕ) where
 abbrev with_key : List ℕ → ℕ → List ℕ
 with_key found k = if has found k then found else found ++ k ∷ []
 
-pub once_distinct : (found ks : List ℕ) → IsDistinct nat_eq found → IsDistinct nat_eq (once found ks)
+pub once_distinct : (found ks : List ℕ) → IsDistinct nat_eq found → IsDistinct nat_eq (distinct_keys found ks)
 once_distinct found [] d = d
 once_distinct found (k ∷ ks) d = once_distinct (with_key found k) ks (by (has found k) refl)
   where
@@ -145,7 +145,7 @@ once_distinct found (k ∷ ks) d = once_distinct (with_key found k) ks (by (has 
     by false e = IsDistinct-push nat_eq_equiv found k d e
 
 -- what holds of all keys holds of those that are kept
-pub once_all : (P : ℕ → Type 0) (found ks : List ℕ) → AllByRecursion P found → AllByRecursion P ks → AllByRecursion P (once found ks)
+pub once_all : (P : ℕ → Type 0) (found ks : List ℕ) → AllByRecursion P found → AllByRecursion P ks → AllByRecursion P (distinct_keys found ks)
 once_all P found [] f g = f
 once_all P found (k ∷ ks) f g = once_all P (with_key found k) ks (by (has found k)) g.1
   where
@@ -163,11 +163,11 @@ has_more found k m h = grind (arith, common_steps)
 has_it : (found : List ℕ) (k : ℕ) → has (with_key found k) k ≡ true
 has_it found k = grind (arith, common_steps)
 
-once_keeps : (found ks : List ℕ) (m : ℕ) → has found m ≡ true → has (once found ks) m ≡ true
+once_keeps : (found ks : List ℕ) (m : ℕ) → has found m ≡ true → has (distinct_keys found ks) m ≡ true
 once_keeps found [] m h = h
 once_keeps found (k ∷ ks) m h = once_keeps (with_key found k) ks m (has_more found k m h)
 
 -- each key is among those that are kept
-pub once_has : (found ks : List ℕ) → HasAll (once found ks) ks
+pub once_has : (found ks : List ℕ) → HasAll (distinct_keys found ks) ks
 once_has found [] = refl
-once_has found (k ∷ ks) = and (has (once (with_key found k) ks) k) (list_all (has (once (with_key found k) ks)) ks) (once_keeps (with_key found k) ks k (has_it found k)) (once_has (with_key found k) ks)
+once_has found (k ∷ ks) = and (has (distinct_keys (with_key found k) ks) k) (list_all (has (distinct_keys (with_key found k) ks)) ks) (once_keeps (with_key found k) ks k (has_it found k)) (once_has (with_key found k) ks)

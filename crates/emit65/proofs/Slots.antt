@@ -6,95 +6,95 @@ use Rattle.std.proofs.lemmas.List.{map-append}
 use Rattle.std.proofs.lemmas.List.Elements.{filter-append}
 use Rattle.base65.specs.Outcome.{◌>>=◌}
 use Rattle.ast65.specs.declared.fault.AsmFault.{AsmFault}
-use Rattle.syntax65.specs.declared.place.Place.{Place}
+use Rattle.syntax65.specs.declared.source_location.SourceLocation.{SourceLocation}
 use Rattle.semantics65.specs.Contents.{Content, exported_names}
-use Rattle.semantics65.specs.Module.{Made, made_of, Finished, Fixup, Slot, as_said, comes_behind, coming, followed_by, holds, is_repeated, quietly, resolved, waits, PlacedFault, at_place}
-use Rattle.semantics65.specs.Numbering.{all_said, once, section_keys, segments_asked}
+use Rattle.semantics65.specs.Module.{PieceResult, made_of, Resolution, Fixup, Slot, as_said, piece_result, slot_result, result_then, resolved, is_repeated, quietly, resolution_of, deferred, LocatedFault, at_place}
+use Rattle.semantics65.specs.Numbering.{all_said, distinct_keys, section_keys, segments_asked}
 use Rattle.semantics65.specs.Symbols.{Symbols}
 use Rattle.semantics65.proofs.Found.{AreFound, after, found_all, found_each, names_append, nothing_after, asks_none, made_asks}
-use Rattle.emit65.specs.Fed.{AreAlike, AreFoundAlike, AreSlotsAlike, ComeAlike, contents_so_far, so_far}
+use Rattle.emit65.specs.SectionContents.{AreAlike, AreFoundAlike, AreSlotsAlike, ComeAlike, contents_so_far, so_far}
 use Rattle.emit65.proofs.Alikes.{alike_back, alike_front, alike_same, alike_sym, alike_trans}
 use Rattle.emit65.proofs.Keys.{once_append}
 
 -- ---- What slots come to, one behind the other.
 
 -- contents that were found, and then what those behind them come to
-abbrev and_then : Result (List Content) PlacedFault → List ℕ → (List Content → Finished) → Finished
+abbrev and_then : Result (List Content) LocatedFault → List ℕ → (List Content → Resolution) → Resolution
 and_then (Ok cs) said rest = after (found_all cs said) (rest cs)
 and_then (Err e) said rest = record { found = Err e; warned = said }
 
-abbrev behind : Finished → (List Content → Finished) → Finished
-behind a rest = and_then a.found a.warned rest
+abbrev following : Resolution → (List Content → Resolution) → Resolution
+following a rest = and_then a.found a.warned rest
 
-found_behind : (m : Made) (cs : List Content) (said : List ℕ) (r : Finished) → followed_by (Ok m) (λ k. after (found_all cs said) r) ≡ after (found_all (m.content ∷ cs) (m.warning ++ said)) r
-found_behind m cs said r = by r.found
+found_after : (m : PieceResult) (cs : List Content) (said : List ℕ) (r : Resolution) → result_then (Ok m) (λ k. after (found_all cs said) r) ≡ after (found_all (m.content ∷ cs) (m.warning ++ said)) r
+found_after m cs said r = by r.found
   where
-    by : (f : Result (List Content) PlacedFault) → followed_by (Ok m) (λ k. after (found_all cs said) (record { found = f; warned = r.warned })) ≡ after (found_all (m.content ∷ cs) (m.warning ++ said)) (record { found = f; warned = r.warned })
+    by : (f : Result (List Content) LocatedFault) → result_then (Ok m) (λ k. after (found_all cs said) (record { found = f; warned = r.warned })) ≡ after (found_all (m.content ∷ cs) (m.warning ++ said)) (record { found = f; warned = r.warned })
     by (Ok ds) = ap (λ (w : List ℕ). found_all (m.content ∷ (cs ++ ds)) w) (sym (append_assoc m.warning said r.warned))
     by (Err e) = ap (λ (w : List ℕ). record { found = Err e; warned = w }) (sym (append_assoc m.warning said r.warned))
 
 -- slots with others behind them, which stand behind the exports that the first come to
-resolved_append : (y : Symbols) (names : List (List ℕ)) (xs zs : List Slot) → resolved y names (xs ++ zs) ≡ behind (resolved y names xs) (λ cs. resolved y (names ++ exported_names (all_said cs)) zs)
-resolved_append y names [] zs = sym (nothing_after (resolved y (names ++ []) zs) ∙ ap (λ ns. resolved y ns zs) (append-nil names))
-resolved_append y names (x ∷ xs) zs = by (coming y names x) (λ m. resolved_append y (more m) xs zs)
+resolved_append : (y : Symbols) (names : List (List ℕ)) (xs zs : List Slot) → resolution_of y names (xs ++ zs) ≡ following (resolution_of y names xs) (λ cs. resolution_of y (names ++ exported_names (all_said cs)) zs)
+resolved_append y names [] zs = sym (nothing_after (resolution_of y (names ++ []) zs) ∙ ap (λ ns. resolution_of y ns zs) (append-nil names))
+resolved_append y names (x ∷ xs) zs = by (slot_result y names x) (λ m. resolved_append y (more m) xs zs)
   where
-    rest : List Content → Finished
-    rest cs = resolved y (names ++ exported_names (all_said cs)) zs
+    rest : List Content → Resolution
+    rest cs = resolution_of y (names ++ exported_names (all_said cs)) zs
 
-    more : Made → List (List ℕ)
+    more : PieceResult → List (List ℕ)
     more m = names ++ exported_names m.content.said
 
-    joined : (m : Made) (f : Result (List Content) PlacedFault) (said : List ℕ) → followed_by (Ok m) (λ k. and_then f said (λ cs. resolved y (more m ++ exported_names (all_said cs)) zs)) ≡ behind (followed_by (Ok m) (λ k. record { found = f; warned = said })) rest
+    joined : (m : PieceResult) (f : Result (List Content) LocatedFault) (said : List ℕ) → result_then (Ok m) (λ k. and_then f said (λ cs. resolution_of y (more m ++ exported_names (all_said cs)) zs)) ≡ following (result_then (Ok m) (λ k. record { found = f; warned = said })) rest
     joined m (Err e) said = refl
     joined m (Ok cs) said =
-        found_behind m cs said (resolved y (more m ++ exported_names (all_said cs)) zs)
-        ∙ ap (λ ns. after (found_all (m.content ∷ cs) (m.warning ++ said)) (resolved y ns zs))
+        found_after m cs said (resolution_of y (more m ++ exported_names (all_said cs)) zs)
+        ∙ ap (λ ns. after (found_all (m.content ∷ cs) (m.warning ++ said)) (resolution_of y ns zs))
         (append_assoc names (exported_names m.content.said) (exported_names (all_said cs)) ∙ ap (λ ns. names ++ ns) (sym (names_append m.content.said (all_said cs))))
 
-    by : (r : Result Made PlacedFault) → ((m : Made) → resolved y (more m) (xs ++ zs) ≡ behind (resolved y (more m) xs) (λ cs. resolved y (more m ++ exported_names (all_said cs)) zs)) → followed_by r (λ m. resolved y (more m) (xs ++ zs)) ≡ behind (followed_by r (λ m. resolved y (more m) xs)) rest
+    by : (r : Result PieceResult LocatedFault) → ((m : PieceResult) → resolution_of y (more m) (xs ++ zs) ≡ following (resolution_of y (more m) xs) (λ cs. resolution_of y (more m ++ exported_names (all_said cs)) zs)) → result_then r (λ m. resolution_of y (more m) (xs ++ zs)) ≡ following (result_then r (λ m. resolution_of y (more m) xs)) rest
     by (Err e) one = refl
     by (Ok m) one =
-        let r = resolved y (more m) xs in
-        ap (λ a. followed_by (Ok m) (λ k. a)) (one m) ∙ joined m r.found r.warned
+        let r = resolution_of y (more m) xs in
+        ap (λ a. result_then (Ok m) (λ k. a)) (one m) ∙ joined m r.found r.warned
 
 -- ---- What is found alike.
 
-found_same : (r : Result (List Content) PlacedFault) → AreFoundAlike r r
+found_same : (r : Result (List Content) LocatedFault) → AreFoundAlike r r
 found_same x = grind (arith, common_steps, alike_same)
 
-found_trans : (p q r : Result (List Content) PlacedFault) → AreFoundAlike p q → AreFoundAlike q r → AreFoundAlike p r
+found_trans : (p q r : Result (List Content) LocatedFault) → AreFoundAlike p q → AreFoundAlike q r → AreFoundAlike p r
 found_trans x y z h k = grind (arith, common_steps, alike_trans)
 
-found_sym : (q r : Result (List Content) PlacedFault) → AreFoundAlike q r → AreFoundAlike r q
+found_sym : (q r : Result (List Content) LocatedFault) → AreFoundAlike q r → AreFoundAlike r q
 found_sym x y h = grind (arith, common_steps, alike_sym)
 
 -- with the same behind both
-come_front : (a b : Finished) (rest : List Content → Finished) → ((cs ds : List Content) → all_said cs ≡ all_said ds → rest cs ≡ rest ds) → ComeAlike a b → ComeAlike (behind a rest) (behind b rest)
+come_front : (a b : Resolution) (rest : List Content → Resolution) → ((cs ds : List Content) → all_said cs ≡ all_said ds → rest cs ≡ rest ds) → ComeAlike a b → ComeAlike (following a rest) (following b rest)
 come_front a b rest same h = by a.found b.found h.found
   where
-    one : (cs ds : List Content) → AreAlike cs ds → (f : Result (List Content) PlacedFault) → AreFoundAlike (f >>= (λ es. Ok (cs ++ es))) (f >>= (λ es. Ok (ds ++ es)))
+    one : (cs ds : List Content) → AreAlike cs ds → (f : Result (List Content) LocatedFault) → AreFoundAlike (f >>= (λ es. Ok (cs ++ es))) (f >>= (λ es. Ok (ds ++ es)))
     one cs ds k (Ok es) = alike_front cs ds es k
     one cs ds k (Err e) = refl
 
-    by : (q r : Result (List Content) PlacedFault) → AreFoundAlike q r → ComeAlike (and_then q a.warned rest) (and_then r b.warned rest)
+    by : (q r : Result (List Content) LocatedFault) → AreFoundAlike q r → ComeAlike (and_then q a.warned rest) (and_then r b.warned rest)
     by (Ok cs) (Ok ds) k =
-        subst (λ (x : Finished). ComeAlike (after (found_all cs a.warned) x) (after (found_all ds b.warned) (rest ds))) (sym (same cs ds k.said))
+        subst (λ (x : Resolution). ComeAlike (after (found_all cs a.warned) x) (after (found_all ds b.warned) (rest ds))) (sym (same cs ds k.said))
         (record { found = one cs ds k (rest ds).found; warned = ap (λ w. w ++ (rest ds).warned) h.warned })
     by (Ok cs) (Err e) k = absurd k
     by (Err e) (Ok ds) k = absurd k
     by (Err e) (Err f) k = record { found = k; warned = h.warned }
 
 -- with the same before both
-come_back : (a : Finished) (rest more : List Content → Finished) → ((cs : List Content) → ComeAlike (rest cs) (more cs)) → ComeAlike (behind a rest) (behind a more)
+come_back : (a : Resolution) (rest more : List Content → Resolution) → ((cs : List Content) → ComeAlike (rest cs) (more cs)) → ComeAlike (following a rest) (following a more)
 come_back a rest more h = by a.found
   where
-    one : (cs : List Content) (q r : Result (List Content) PlacedFault) → AreFoundAlike q r → AreFoundAlike (q >>= (λ es. Ok (cs ++ es))) (r >>= (λ es. Ok (cs ++ es)))
+    one : (cs : List Content) (q r : Result (List Content) LocatedFault) → AreFoundAlike q r → AreFoundAlike (q >>= (λ es. Ok (cs ++ es))) (r >>= (λ es. Ok (cs ++ es)))
     one cs (Ok ds) (Ok es) k = alike_back cs ds es k
     one cs (Ok ds) (Err e) k = absurd k
     one cs (Err e) (Ok es) k = absurd k
     one cs (Err e) (Err f) k = k
 
-    by : (f : Result (List Content) PlacedFault) → ComeAlike (and_then f a.warned rest) (and_then f a.warned more)
+    by : (f : Result (List Content) LocatedFault) → ComeAlike (and_then f a.warned rest) (and_then f a.warned more)
     by (Ok cs) = record { found = one cs (rest cs).found (more cs).found (h cs).found; warned = ap (λ w. a.warned ++ w) (h cs).warned }
     by (Err e) = record { found = refl; warned = refl }
 
@@ -103,14 +103,14 @@ come_back a rest more h = by a.found
 pub slots_same : (xs : List Slot) → AreSlotsAlike xs xs
 slots_same xs = record {
   held = alike_same (contents_so_far xs);
-  come = λ y names. record { found = found_same (resolved y names xs).found; warned = refl };
+  come = λ y names. record { found = found_same (resolution_of y names xs).found; warned = refl };
 }
 
 pub slots_trans : (xs ys zs : List Slot) → AreSlotsAlike xs ys → AreSlotsAlike ys zs → AreSlotsAlike xs zs
 slots_trans xs ys zs h k = record {
   held = alike_trans (contents_so_far xs) (contents_so_far ys) (contents_so_far zs) h.held k.held;
   come = λ y names. record {
-    found = found_trans (resolved y names xs).found (resolved y names ys).found (resolved y names zs).found (h.come y names).found (k.come y names).found;
+    found = found_trans (resolution_of y names xs).found (resolution_of y names ys).found (resolution_of y names zs).found (h.come y names).found (k.come y names).found;
     warned = (h.come y names).warned ∙ (k.come y names).warned;
   };
 }
@@ -119,7 +119,7 @@ pub slots_sym : (xs ys : List Slot) → AreSlotsAlike xs ys → AreSlotsAlike ys
 slots_sym xs ys h = record {
   held = alike_sym (contents_so_far xs) (contents_so_far ys) h.held;
   come = λ y names. record {
-    found = found_sym (resolved y names xs).found (resolved y names ys).found (h.come y names).found;
+    found = found_sym (resolution_of y names xs).found (resolution_of y names ys).found (h.come y names).found;
     warned = sym (h.come y names).warned;
   };
 }
@@ -133,10 +133,10 @@ slots_front xs ys zs h = record {
       (subst (λ (cs : List Content). AreAlike (contents_so_far xs ++ contents_so_far zs) cs) (sym (map-append so_far ys zs))
       (alike_front (contents_so_far xs) (contents_so_far ys) (contents_so_far zs) h.held));
   come = λ y names.
-      let rest : List Content → Finished = λ cs. resolved y (names ++ exported_names (all_said cs)) zs in
-      subst (λ (a : Finished). ComeAlike a (resolved y names (ys ++ zs))) (sym (resolved_append y names xs zs))
-      (subst (λ (b : Finished). ComeAlike (behind (resolved y names xs) rest) b) (sym (resolved_append y names ys zs))
-      (come_front (resolved y names xs) (resolved y names ys) rest (λ cs ds said. ap (λ ss. resolved y (names ++ exported_names ss) zs) said) (h.come y names)));
+      let rest : List Content → Resolution = λ cs. resolution_of y (names ++ exported_names (all_said cs)) zs in
+      subst (λ (a : Resolution). ComeAlike a (resolution_of y names (ys ++ zs))) (sym (resolved_append y names xs zs))
+      (subst (λ (b : Resolution). ComeAlike (following (resolution_of y names xs) rest) b) (sym (resolved_append y names ys zs))
+      (come_front (resolution_of y names xs) (resolution_of y names ys) rest (λ cs ds said. ap (λ ss. resolution_of y (names ++ exported_names ss) zs) said) (h.come y names)));
 }
 
 pub slots_back : (zs xs ys : List Slot) → AreSlotsAlike xs ys → AreSlotsAlike (zs ++ xs) (zs ++ ys)
@@ -146,10 +146,10 @@ slots_back zs xs ys h = record {
       (subst (λ (cs : List Content). AreAlike (contents_so_far zs ++ contents_so_far xs) cs) (sym (map-append so_far zs ys))
       (alike_back (contents_so_far zs) (contents_so_far xs) (contents_so_far ys) h.held));
   come = λ y names.
-      let rest : List Slot → List Content → Finished = λ us cs. resolved y (names ++ exported_names (all_said cs)) us in
-      subst (λ (a : Finished). ComeAlike a (resolved y names (zs ++ ys))) (sym (resolved_append y names zs xs))
-      (subst (λ (b : Finished). ComeAlike (behind (resolved y names zs) (rest xs)) b) (sym (resolved_append y names zs ys))
-      (come_back (resolved y names zs) (rest xs) (rest ys) (λ cs. h.come y (names ++ exported_names (all_said cs)))));
+      let rest : List Slot → List Content → Resolution = λ us cs. resolution_of y (names ++ exported_names (all_said cs)) us in
+      subst (λ (a : Resolution). ComeAlike a (resolution_of y names (zs ++ ys))) (sym (resolved_append y names zs xs))
+      (subst (λ (b : Resolution). ComeAlike (following (resolution_of y names zs) (rest xs)) b) (sym (resolved_append y names zs ys))
+      (come_back (resolution_of y names zs) (rest xs) (rest ys) (λ cs. h.come y (names ++ exported_names (all_said cs)))));
 }
 
 -- slots behind which others make no difference
@@ -158,33 +158,33 @@ slots_nothing xs zs h = slots_trans (xs ++ zs) (xs ++ []) xs (slots_back xs zs [
 
 -- ---- Contents that are held.
 
-pub held_contents : (cs : List Content) → contents_so_far (map holds cs) ≡ cs
+pub held_contents : (cs : List Content) → contents_so_far (map resolved cs) ≡ cs
 held_contents [] = refl
 held_contents (c ∷ cs) = ap (λ ds. c ∷ ds) (held_contents cs)
 
 -- they are found as they are
-held_found : (y : Symbols) (names : List (List ℕ)) (cs : List Content) → resolved y names (map holds cs) ≡ found_all cs []
+held_found : (y : Symbols) (names : List (List ℕ)) (cs : List Content) → resolution_of y names (map resolved cs) ≡ found_all cs []
 held_found y names [] = refl
-held_found y names (c ∷ cs) = ap (λ r. followed_by (Ok (quietly c)) (λ m. r)) (held_found y (names ++ exported_names c.said) cs)
+held_found y names (c ∷ cs) = ap (λ r. result_then (Ok (quietly c)) (λ m. r)) (held_found y (names ++ exported_names c.said) cs)
 
-pub held_alike : (cs ds : List Content) → AreAlike cs ds → AreSlotsAlike (map holds cs) (map holds ds)
+pub held_alike : (cs ds : List Content) → AreAlike cs ds → AreSlotsAlike (map resolved cs) (map resolved ds)
 held_alike cs ds h = record {
   held =
-      subst (λ (es : List Content). AreAlike es (contents_so_far (map holds ds))) (sym (held_contents cs))
+      subst (λ (es : List Content). AreAlike es (contents_so_far (map resolved ds))) (sym (held_contents cs))
       (subst (λ (es : List Content). AreAlike cs es) (sym (held_contents ds)) h);
   come = λ y names.
-      subst (λ (a : Finished). ComeAlike a (resolved y names (map holds ds))) (sym (held_found y names cs))
-      (subst (λ (b : Finished). ComeAlike (found_all cs []) b) (sym (held_found y names ds)) (record { found = h; warned = refl }));
+      subst (λ (a : Resolution). ComeAlike a (resolution_of y names (map resolved ds))) (sym (held_found y names cs))
+      (subst (λ (b : Resolution). ComeAlike (found_all cs []) b) (sym (held_found y names ds)) (record { found = h; warned = refl }));
 }
 
 -- ---- The sections that are asked for.
 
-pub asked_more : (cs ds : List Content) → section_keys (cs ++ ds) ≡ once (section_keys cs) (segments_asked ds)
+pub asked_more : (cs ds : List Content) → section_keys (cs ++ ds) ≡ distinct_keys (section_keys cs) (segments_asked ds)
 asked_more cs ds = grind (arith, common_steps, filter-append, map-append, once_append)
 
 -- what asks for no section
 pub asked_same : (cs : List Content) (c : Content) → c.asks ≡ false → section_keys (cs ++ c ∷ []) ≡ section_keys cs
-asked_same cs c quiet = asked_more cs (c ∷ []) ∙ ap (λ b. once (section_keys cs) (map (λ (d : Content). d.segment) (if b then c ∷ [] else []))) quiet
+asked_same cs c quiet = asked_more cs (c ∷ []) ∙ ap (λ b. distinct_keys (section_keys cs) (map (λ (d : Content). d.segment) (if b then c ∷ [] else []))) quiet
 
 one_asks : (c : Content) (cs ds : List Content) → segments_asked cs ≡ segments_asked ds → segments_asked (c ∷ cs) ≡ segments_asked (c ∷ ds)
 one_asks c cs ds same = grind (arith, common_steps)
@@ -193,13 +193,13 @@ one_asks c cs ds same = grind (arith, common_steps)
 unasked : (c : Content) (cs : List Content) → c.asks ≡ false → segments_asked (c ∷ cs) ≡ segments_asked cs
 unasked c cs quiet = ap (λ b. map (λ (d : Content). d.segment) (if b then c ∷ filter (λ (d : Content). d.asks) cs else filter (λ (d : Content). d.asks) cs)) quiet
 
-quiet_at : (place : Place) (r : Result Made AsmFault) (m : Made) → IfOk r asks_none → at_place place r ≡ Ok m → m.content.asks ≡ false
+quiet_at : (place : SourceLocation) (r : Result PieceResult AsmFault) (m : PieceResult) → IfOk r asks_none → at_place place r ≡ Ok m → m.content.asks ≡ false
 quiet_at place (Ok k) m h e = let same : k ≡ m = cc in subst asks_none same h
 quiet_at place (Err f) m h e = absurd cc
 
 -- what waits asks for none
-waits_quiet : (y : Symbols) (names : List (List ℕ)) (w : Fixup) (m : Made) → coming y names (waits w) ≡ Ok m → m.content.asks ≡ false
-waits_quiet y names w m = quiet_at w.place (comes_behind y names w.place w.context w.piece) m (by (is_repeated names w.piece))
+waits_quiet : (y : Symbols) (names : List (List ℕ)) (w : Fixup) (m : PieceResult) → slot_result y names (deferred w) ≡ Ok m → m.content.asks ≡ false
+waits_quiet y names w m = quiet_at w.place (piece_result y names w.place w.context w.piece) m (by (is_repeated names w.piece))
   where
     by : (b : Bool) → IfOk (if b then as_said [] else made_of y w.place w.context w.piece) asks_none
     by true = refl
@@ -209,42 +209,42 @@ asked_found : (y : Symbols) (names : List (List ℕ)) (xs : List Slot) (cs : Lis
 asked_found y names [] [] h = refl
 asked_found y names [] (c ∷ cs) h = absurd h
 asked_found y names (x ∷ xs) [] h = absurd h
-asked_found y names (holds d ∷ xs) (c ∷ cs) (warning, made, h) =
+asked_found y names (resolved d ∷ xs) (c ∷ cs) (warning, made, h) =
     let first : quietly d ≡ record { content = c; warning = warning } = cc in
-    let same : d ≡ c = ap (λ (m : Made). m.content) first in
+    let same : d ≡ c = ap (λ (m : PieceResult). m.content) first in
     one_asks c cs (contents_so_far xs) (asked_found y (names ++ exported_names c.said) xs cs h) ∙ ap (λ e. segments_asked (e ∷ contents_so_far xs)) (sym same)
-asked_found y names (waits w ∷ xs) (c ∷ cs) (warning, made, h) =
+asked_found y names (deferred w ∷ xs) (c ∷ cs) (warning, made, h) =
     unasked c cs (waits_quiet y names w (record { content = c; warning = warning }) made) ∙ asked_found y (names ++ exported_names c.said) xs cs h
 
 -- the sections of what slots come to are those that were asked for
-pub keys_found : (y : Symbols) (names : List (List ℕ)) (xs : List Slot) (cs : List Content) → (resolved y names xs).found ≡ Ok cs → section_keys cs ≡ section_keys (contents_so_far xs)
-keys_found y names xs cs h = ap (once []) (asked_found y names xs cs (found_each y names xs cs h))
+pub keys_found : (y : Symbols) (names : List (List ℕ)) (xs : List Slot) (cs : List Content) → (resolution_of y names xs).found ≡ Ok cs → section_keys cs ≡ section_keys (contents_so_far xs)
+keys_found y names xs cs h = ap (distinct_keys []) (asked_found y names xs cs (found_each y names xs cs h))
 
 -- ---- What slots come to, by what alike ones come to.
 
 -- contents like these, and the same is said
 pub record ComesAlike (y : Symbols) (names : List (List ℕ)) (xs : List Slot) (ds : List Content) (said : List ℕ) : Type 0 where
   pub contents : List Content
-  pub is : resolved y names xs ≡ found_all contents said
+  pub is : resolution_of y names xs ≡ found_all contents said
   pub alike : AreAlike contents ds
 
-pub comes_alike : (y : Symbols) (names : List (List ℕ)) (xs ys : List Slot) (ds : List Content) (said : List ℕ) → AreSlotsAlike xs ys → resolved y names ys ≡ found_all ds said → ComesAlike y names xs ds said
+pub comes_alike : (y : Symbols) (names : List (List ℕ)) (xs ys : List Slot) (ds : List Content) (said : List ℕ) → AreSlotsAlike xs ys → resolution_of y names ys ≡ found_all ds said → ComesAlike y names xs ds said
 comes_alike y names xs ys ds said alike is =
-    let come : ComeAlike (resolved y names xs) (found_all ds said) = subst (λ (b : Finished). ComeAlike (resolved y names xs) b) is (alike.come y names) in
-    by (resolved y names xs).found refl come.found come.warned
+    let come : ComeAlike (resolution_of y names xs) (found_all ds said) = subst (λ (b : Resolution). ComeAlike (resolution_of y names xs) b) is (alike.come y names) in
+    by (resolution_of y names xs).found refl come.found come.warned
   where
-    by : (f : Result (List Content) PlacedFault) → (resolved y names xs).found ≡ f → AreFoundAlike f (Ok ds) → (resolved y names xs).warned ≡ said → ComesAlike y names xs ds said
+    by : (f : Result (List Content) LocatedFault) → (resolution_of y names xs).found ≡ f → AreFoundAlike f (Ok ds) → (resolution_of y names xs).warned ≡ said → ComesAlike y names xs ds said
     by (Ok cs) found h warned = record { contents = cs; is = λ n. record { found = found n; warned = warned n }; alike = h }
     by (Err e) found h warned = absurd h
 
 -- the same fault
-pub faulty_alike : (y : Symbols) (names : List (List ℕ)) (xs ys : List Slot) (f : PlacedFault) (said : List ℕ) → AreSlotsAlike xs ys → resolved y names ys ≡ record { found = Err f; warned = said } → resolved y names xs ≡ record { found = Err f; warned = said }
+pub faulty_alike : (y : Symbols) (names : List (List ℕ)) (xs ys : List Slot) (f : LocatedFault) (said : List ℕ) → AreSlotsAlike xs ys → resolution_of y names ys ≡ record { found = Err f; warned = said } → resolution_of y names xs ≡ record { found = Err f; warned = said }
 faulty_alike y names xs ys f said alike is =
-    let come : ComeAlike (resolved y names xs) (record { found = Err f; warned = said }) = subst (λ (b : Finished). ComeAlike (resolved y names xs) b) is (alike.come y names) in
-    by (resolved y names xs).found refl come.found come.warned
+    let come : ComeAlike (resolution_of y names xs) (record { found = Err f; warned = said }) = subst (λ (b : Resolution). ComeAlike (resolution_of y names xs) b) is (alike.come y names) in
+    by (resolution_of y names xs).found refl come.found come.warned
   where
-    by : (r : Result (List Content) PlacedFault) → (resolved y names xs).found ≡ r → AreFoundAlike r (Err f) → (resolved y names xs).warned ≡ said → resolved y names xs ≡ record { found = Err f; warned = said }
+    by : (r : Result (List Content) LocatedFault) → (resolution_of y names xs).found ≡ r → AreFoundAlike r (Err f) → (resolution_of y names xs).warned ≡ said → resolution_of y names xs ≡ record { found = Err f; warned = said }
     by (Ok cs) found h warned = absurd h
     by (Err e) found h warned =
-        let lost : PlacedFault → List ℕ → Finished = λ g w. record { found = Err g; warned = w } in
+        let lost : LocatedFault → List ℕ → Resolution = λ g w. record { found = Err g; warned = w } in
         (λ n. record { found = found n; warned = warned n }) ∙ ap (λ g. lost g said) h

@@ -1,2 +1,2 @@
-pub mod Fed
-pub mod Inner
+pub mod SectionContents
+pub mod Internal

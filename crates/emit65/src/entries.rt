@@ -1,12 +1,12 @@
 //! What was fed, in the order of the source: parts of sections, what is said, and what waits.
 
 ghost use Rattle.std.specs.Prelude.{◌≡◌, ◌+◌, ℕ, List, [], ◌∷◌, length, map, true, OnOk, IfOk};
-ghost use Rattle.semantics65.specs.Contents.{Filled, Known, put};
-ghost use Rattle.semantics65.specs.Module.{holds};
-ghost use Rattle.emit65.specs.Fed.{AreSlotsAlike, slot_of, slots_in, stands_in, IsAdded, StandIn, Takes, TakesIn};
+ghost use Rattle.semantics65.specs.Contents.{Filled, Known, section_part};
+ghost use Rattle.semantics65.specs.Module.{resolved};
+ghost use Rattle.emit65.specs.SectionContents.{AreSlotsAlike, slot_of, slots_in, stands_in, IsAdded, StandIn, AppendsSlots, TakesIn};
 
 use crate::fixups::Fixup;
-use base65::Sequence;
+use base65::ListVec;
 use object65::{Norm, Width};
 use semantics65::Declaration;
 use std::alloc::{AllocError, Global};
@@ -21,7 +21,7 @@ pub struct SourcePos {
 
 /// One thing that a statement says, and where that stands.
 #[derive(Drop)]
-pub struct Saying {
+pub struct LocatedDeclaration {
     pub pos: SourcePos,
     pub said: Declaration,
 }
@@ -30,14 +30,14 @@ pub struct Saying {
 /// fields lie in memory in the order in which they stand here, and the width of a value fits in beside what tells the
 /// variants apart.
 #[derive(Drop)]
-pub enum Entry {
+pub enum SectionEntry {
     /// Bytes of the section of a segment.
     Bytes {
         segment: u32,
-        bytes: Sequence<u8>,
+        bytes: ListVec<u8>,
     },
     /// So many bytes there of the linker's fill value.
-    Room {
+    Reserve {
         segment: u32,
         count: u32,
     },
@@ -49,19 +49,19 @@ pub enum Entry {
         form: Norm,
     },
     /// What is said. It is large, and few entries say something.
-    Told(Box<Saying>),
+    DeclarationEntry(Box<LocatedDeclaration>),
     /// What waits. It is large, and few entries wait.
-    Waits(Box<Fixup>),
+    FixupEntry(Box<Fixup>),
 }
 
 /// Entries in the order of the source. Those put last, bytes and room behind them in one section, may still grow.
 #[derive(Drop)]
 pub struct Entries {
     pub alloc: Global,
-    pub done: Vec<Entry>,
+    pub done: Vec<SectionEntry>,
     /// The segment of what may grow.
     pub segment: u32,
-    pub bytes: Sequence<u8>,
+    pub bytes: ListVec<u8>,
     pub room: u32,
 }
 
@@ -84,13 +84,13 @@ impl Entries {
             alloc,
             done: Vec::new(alloc),
             segment: 0,
-            bytes: Sequence::new(alloc),
+            bytes: ListVec::new(alloc),
             room: 0,
         }
     }
 
     /// Adds an entry to those that no longer grow.
-    fn add(&mut self, entry: Entry) -> Result<(), AllocError>
+    fn add(&mut self, entry: SectionEntry) -> Result<(), AllocError>
         ensures { OnOk result (IsAdded self.old self.new entry) }
     {
         self.done.push(entry)?;
@@ -99,21 +99,21 @@ impl Entries {
 
     /// Ends the bytes that might have grown.
     fn close_bytes(&mut self) -> Result<(), AllocError>
-        ensures same { OnOk result (Takes self.old self.new []) }
+        ensures same { OnOk result (AppendsSlots self.old self.new []) }
         ensures none { OnOk result (self.new.bytes ≡ []) }
         ensures room { OnOk result (self.new.room ≡ self.old.room) }
     {
         if self.bytes.len() > 0 {
             let segment = self.segment;
-            let bytes = mem::replace(&mut self.bytes, Sequence::new(self.alloc));
-            self.add(Entry::Bytes { segment, bytes })?;
+            let bytes = mem::replace(&mut self.bytes, ListVec::new(self.alloc));
+            self.add(SectionEntry::Bytes { segment, bytes })?;
         }
         Ok(())
     }
 
     /// Ends what might have grown.
     fn close(&mut self) -> Result<(), AllocError>
-        ensures same { OnOk result (Takes self.old self.new []) }
+        ensures same { OnOk result (AppendsSlots self.old self.new []) }
         ensures bytes { OnOk result (self.new.bytes ≡ []) }
         ensures room { OnOk result (self.new.room ≡ 0) }
     {
@@ -122,14 +122,14 @@ impl Entries {
             let segment = self.segment;
             let count = self.room;
             self.room = 0;
-            self.add(Entry::Room { segment, count })?;
+            self.add(SectionEntry::Reserve { segment, count })?;
         }
         Ok(())
     }
 
     /// Lets what grows be of a segment.
     fn begin(&mut self, segment: u32) -> Result<(), AllocError>
-        ensures same { OnOk result (Takes self.old self.new []) }
+        ensures same { OnOk result (AppendsSlots self.old self.new []) }
         ensures segment { OnOk result (self.new.segment ≡ segment) }
         ensures room { OnOk result (self.old.room ≡ 0 → self.new.room ≡ 0) }
     {
@@ -143,7 +143,7 @@ impl Entries {
 
     /// Adds bytes to the section of a segment.
     pub fn add_bytes(&mut self, segment: u32, bytes: &[u8]) -> Result<(), AllocError>
-        ensures { OnOk result (Takes self.old self.new (holds (put segment (Known bytes.now)) ∷ [])) }
+        ensures { OnOk result (AppendsSlots self.old self.new (resolved (section_part segment (Known bytes.now)) ∷ [])) }
     {
         if self.room > 0 {
             self.close()?;
@@ -155,7 +155,7 @@ impl Entries {
 
     /// Adds room of so many bytes to the section of a segment.
     pub fn add_room(&mut self, segment: u32, count: u32) -> Result<(), AllocError>
-        ensures { OnOk result (Takes self.old self.new (holds (put segment (Filled count)) ∷ [])) }
+        ensures { OnOk result (AppendsSlots self.old self.new (resolved (section_part segment (Filled count)) ∷ [])) }
     {
         self.begin(segment)?;
         self.room = sum_of(self.room, count)?;
@@ -163,7 +163,7 @@ impl Entries {
     }
 
     /// Adds an entry.
-    pub fn push(&mut self, entry: Entry) -> Result<(), AllocError>
+    pub fn push(&mut self, entry: SectionEntry) -> Result<(), AllocError>
         ensures { OnOk result ((files : List (List ℕ)) → stands_in (length files) entry ≡ true →
             TakesIn files self.old self.new (slot_of files entry ∷ [])) }
     {
@@ -173,7 +173,7 @@ impl Entries {
     }
 
     /// All entries.
-    pub fn into_list(self) -> Result<Vec<Entry>, AllocError>
+    pub fn into_list(self) -> Result<Vec<SectionEntry>, AllocError>
         ensures alike { IfOk result (λ list. (files : List (List ℕ)) →
             AreSlotsAlike (slots_in files self) (map (slot_of files) list.items)) }
         ensures standing { IfOk result (λ list. (files : List (List ℕ)) →

@@ -3,7 +3,7 @@
 ghost use Rattle.std.specs.Prelude.{◌≡◌, IfOk, IfSome, Some, length, map, slice_get, string_bytes};
 ghost use Rattle.std.specs.List.{IsDistinct};
 ghost use Rattle.std.specs.Str.{bytes_eq};
-ghost use Rattle.emit65.specs.Fed.{Begins, names_in};
+ghost use Rattle.emit65.specs.SectionContents.{IsPrefix, names_in};
 
 use base65::Seed;
 use indexmap::IndexSet;
@@ -52,7 +52,7 @@ impl Files {
     /// The place of a file by its name, which is put in if it is new. It is mostly the one before, and then it isn't
     /// looked up.
     pub fn place_of(&mut self, alloc: Global, name: &str) -> Result<usize, AllocError>
-        ensures more { Begins (names_in self.old) (names_in self.new) }
+        ensures more { IsPrefix (names_in self.old) (names_in self.new) }
         ensures place { IfOk result (λ i. slice_get (names_in self.new) i ≡ Some name.now) }
     {
         if let Some(place) = self.same_place(name) {

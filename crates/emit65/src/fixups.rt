@@ -1,14 +1,14 @@
 //! What waits for the names of all statements.
 
 use crate::entries::SourcePos;
-use base65::Sequence;
+use base65::ListVec;
 use object65::{Action, Width};
 use semantics65::Context;
 use syntax65::Expr;
 
 /// What waits of a statement.
 #[derive(Drop)]
-pub enum Piece {
+pub enum FixupKind {
     /// A value of a list.
     Datum {
         width: Width,
@@ -23,17 +23,17 @@ pub enum Piece {
     Constant(Expr),
     Assertion {
         action: Action,
-        text: Sequence<u8>,
+        text: ListVec<u8>,
         value: Expr,
     },
     /// A name that the module may not define.
-    Import(Sequence<u8>),
+    Import(ListVec<u8>),
     /// A name that is imported though nothing may use it.
-    ForcedImport(Sequence<u8>),
+    ForcedImport(ListVec<u8>),
     /// A name that is exported where it is defined, or has to be.
     Export {
         must: bool,
-        name: Sequence<u8>,
+        name: ListVec<u8>,
     },
 }
 
@@ -42,5 +42,5 @@ pub enum Piece {
 pub struct Fixup {
     pub pos: SourcePos,
     pub context: Context,
-    pub piece: Piece,
+    pub piece: FixupKind,
 }

@@ -8,8 +8,8 @@ pub mod laws;
 mod numbering;
 mod sections;
 
-pub use entries::{Entry, Saying, SourcePos};
+pub use entries::{LocatedDeclaration, SectionEntry, SourcePos};
 pub use files::Files;
-pub use fixups::{Fixup, Piece};
+pub use fixups::{Fixup, FixupKind};
 pub use numbering::Imports;
-pub use sections::{Closed, Sections};
+pub use sections::{ClosedSections, Sections};

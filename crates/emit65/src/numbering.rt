@@ -3,8 +3,8 @@
 ghost use Rattle.std.specs.Prelude.{◌≡◌, map, string_bytes, IfOk};
 ghost use Rattle.std.specs.List.{AllByRecursion};
 ghost use Rattle.object65.specs.Objects.{ObjectFits};
-ghost use Rattle.emit65.specs.Inner.Drafts.{IsNumbered, object_of, section_of, SectionFits};
-ghost use Rattle.emit65.specs.Fed.{names_of};
+ghost use Rattle.emit65.specs.Internal.Drafts.{IsNumbered, object_of, section_of, SectionFits};
+ghost use Rattle.emit65.specs.SectionContents.{names_of};
 ghost use Rattle.semantics65.specs.Layout.{powers};
 ghost use Rattle.semantics65.specs.Numbering.{name_of, number_of};
 
@@ -14,9 +14,9 @@ mod fragments;
 mod keys;
 mod ordering;
 
-use crate::entries::Entry;
-use base65::Sequence;
-use drafts::{Draft, Parted, part};
+use crate::entries::SectionEntry;
+use base65::ListVec;
+use drafts::{EntriesBySection, SectionDraft, group_by_section};
 use exports::declared_by;
 use fragments::fragments_of;
 use indexmap::IndexSet;
@@ -56,21 +56,21 @@ fn finish_section(
     alloc: Global,
     segments: &[Segment],
     numbers: &Numbers,
-    draft: Draft,
+    draft: SectionDraft,
 ) -> Result<Section, AllocError>
     ensures section { IfOk result (λ s. s ≡ section_of segments.now numbers.now draft) }
     ensures fits { IfOk result SectionFits }
 {
-    let Draft { segment, entries } = draft;
+    let SectionDraft { segment, entries } = draft;
     let fragments = fragments_of(alloc, numbers, entries)?;
     match segments.get(segment as usize) {
         Some(segment) => Ok(Section {
-            name: Sequence::copy_of(alloc, segment.name.as_slice())?,
+            name: ListVec::copy_of(alloc, segment.name.as_slice())?,
             align: power_of(segment.align),
             fragments,
         }),
         None => Ok(Section {
-            name: Sequence::new(alloc),
+            name: ListVec::new(alloc),
             align: 0,
             fragments,
         }),
@@ -82,13 +82,13 @@ fn finish_sections(
     alloc: Global,
     segments: &[Segment],
     numbers: &Numbers,
-    drafts: Vec<Draft>,
-) -> Result<Sequence<Section>, AllocError>
+    drafts: Vec<SectionDraft>,
+) -> Result<ListVec<Section>, AllocError>
     ensures sections { IfOk result (λ sections. sections ≡
         map (section_of segments.now numbers.now) drafts.items) }
     ensures fits { IfOk result (AllByRecursion SectionFits) }
 {
-    let mut sections = Sequence::new(alloc);
+    let mut sections = ListVec::new(alloc);
     for draft in drafts {
         sections.push(finish_section(alloc, segments, numbers, draft)?)?;
     }
@@ -96,12 +96,12 @@ fn finish_sections(
 }
 
 /// The name of an import, empty where it has none.
-fn import_name(alloc: Global, imports: &Imports, key: u32) -> Result<Sequence<u8>, AllocError>
+fn import_name(alloc: Global, imports: &Imports, key: u32) -> Result<ListVec<u8>, AllocError>
     ensures { IfOk result (λ name. name ≡ name_of (names_of imports.now) key) }
 {
     match imports.get_index(key as usize) {
-        Some(name) => Sequence::copy_of(alloc, name.as_slice()),
-        None => Ok(Sequence::new(alloc)),
+        Some(name) => ListVec::copy_of(alloc, name.as_slice()),
+        None => Ok(ListVec::new(alloc)),
     }
 }
 
@@ -110,10 +110,10 @@ fn import_names(
     alloc: Global,
     imports: &Imports,
     keys: &[u32],
-) -> Result<Sequence<Sequence<u8>>, AllocError>
+) -> Result<ListVec<ListVec<u8>>, AllocError>
     ensures { IfOk result (λ found. found ≡ map (name_of (names_of imports.now)) keys.now) }
 {
-    let mut found = Sequence::new(alloc);
+    let mut found = ListVec::new(alloc);
     for key in keys {
         found.push(import_name(alloc, imports, *key)?)?;
     }
@@ -124,7 +124,7 @@ fn import_names(
 #[derive(Drop)]
 pub struct Numbered {
     pub numbers: Numbers,
-    pub parted: Parted,
+    pub parted: EntriesBySection,
 }
 
 /// Entries by the sections that were asked for, and the numbers of what they name.
@@ -132,12 +132,12 @@ pub fn number(
     alloc: Global,
     imports: &Imports,
     asked: IndexSet<u32>,
-    entries: Vec<Entry>,
+    entries: Vec<SectionEntry>,
 ) -> Result<Numbered, AllocError>
     ensures { IfOk result (IsNumbered (names_of imports.now) asked.keys entries.items) }
 {
     let keys = import_keys(alloc, imports, entries.as_slice())?;
-    let parted = part(alloc, &asked, entries)?;
+    let parted = group_by_section(alloc, &asked, entries)?;
     let files = order_of(alloc, &parted)?;
     Ok(Numbered {
         numbers: Numbers {
@@ -162,8 +162,11 @@ pub fn object_of(
     ensures fits { IfOk result ObjectFits }
 {
     let Numbered { numbers, parted } = numbered;
-    let Parted { drafts, told } = parted;
-    let declared = declared_by(alloc, &numbers, told)?;
+    let EntriesBySection {
+        drafts,
+        declarations,
+    } = parted;
+    let declared = declared_by(alloc, &numbers, declarations)?;
     Ok(Object {
         version: 2,
         files: file_names(alloc, files, numbers.files.as_slice())?,

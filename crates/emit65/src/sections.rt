@@ -1,27 +1,27 @@
 //! Sections that are fed.
 
 ghost use Rattle.std.specs.Prelude.{◌≡◌, ◌<◌, length, IfOk, map, [], List, replicate, true, OnOk};
-ghost use Rattle.semantics65.specs.Contents.{put, Content, Filled, Known, Waiting, asking};
-ghost use Rattle.semantics65.specs.Module.{Slot, holds};
+ghost use Rattle.semantics65.specs.Contents.{section_part, Content, Filled, Known, Waiting, section_request};
+ghost use Rattle.semantics65.specs.Module.{Slot, resolved};
 ghost use Rattle.semantics65.specs.Views.{place_in};
-ghost use Rattle.emit65.specs.Fed.{place_by, Begins, names_in, names_of, waiting, Feeds, HasSlots, Stands};
-ghost use Rattle.object65.specs.Objects.{is_good_object, ObjectFits};
+ghost use Rattle.emit65.specs.SectionContents.{place_by, IsPrefix, names_in, names_of, waiting, AppendsSlot, HasSlots, RepresentsSlots};
+ghost use Rattle.object65.specs.Objects.{is_well_formed_object, ObjectFits};
 ghost use Rattle.semantics65.specs.Numbering.{object_with, AreSound};
 
-use crate::entries::{Entries, Entry, SourcePos};
+use crate::entries::{Entries, SectionEntry, SourcePos};
 use crate::files::Files;
-use crate::fixups::{Fixup, Piece};
+use crate::fixups::{Fixup, FixupKind};
 use crate::numbering::{Imports, narrow, number, object_of};
 use base65::Seed;
 use indexmap::IndexSet;
 use object65::{Norm, Object, Width};
-use semantics65::{At, Context, Segment};
+use semantics65::{Context, LocationRef, Segment};
 use std::alloc::{AllocError, Global};
 
 impl Files {
     /// Where something stands, by its file's place.
-    fn pos_of(&mut self, alloc: Global, at: At<'_>) -> Result<SourcePos, AllocError>
-        ensures more { Begins (names_in self.old) (names_in self.new) }
+    fn pos_of(&mut self, alloc: Global, at: LocationRef<'_>) -> Result<SourcePos, AllocError>
+        ensures more { IsPrefix (names_in self.old) (names_in self.new) }
         ensures listed { IfOk result (λ o. o.file < length (names_in self.new)) }
         ensures place { IfOk result (λ o. place_by (names_in self.new) o
             ≡ place_in at.entry.file.now at.entry.line) }
@@ -50,7 +50,7 @@ pub struct Sections {
 impl Sections {
     /// No section, and nothing said.
     pub fn new(alloc: Global, seed: Seed) -> Self
-        ensures { Stands [] result }
+        ensures { RepresentsSlots [] result }
     {
         Sections {
             asked: IndexSet::new(alloc),
@@ -61,8 +61,8 @@ impl Sections {
     }
 
     /// Asks for a section of a segment. Sections have the order in which they are first asked for.
-    pub fn ask(&mut self, segment: u32) -> Result<(), AllocError>
-        ensures { OnOk result (Feeds self.old self.new (holds (asking segment))) }
+    pub fn request_section(&mut self, segment: u32) -> Result<(), AllocError>
+        ensures { OnOk result (AppendsSlot self.old self.new (resolved (section_request segment))) }
     {
         if let Some(latest) = self.latest {
             if latest == segment {
@@ -76,7 +76,7 @@ impl Sections {
 
     /// Puts bytes into the section of a segment.
     pub fn append(&mut self, segment: u32, bytes: &[u8]) -> Result<(), AllocError>
-        ensures { OnOk result (Feeds self.old self.new (holds (put segment (Known bytes.now)))) }
+        ensures { OnOk result (AppendsSlot self.old self.new (resolved (section_part segment (Known bytes.now)))) }
     {
         self.entries.add_bytes(segment, bytes)?;
         Ok(())
@@ -84,8 +84,8 @@ impl Sections {
 
     /// Puts so many bytes of one value into the section of a segment.
     pub fn fill(&mut self, segment: u32, count: u32, byte: u8) -> Result<(), AllocError>
-        ensures { OnOk result (Feeds self.old self.new
-            (holds (put segment (Known (replicate count byte))))) }
+        ensures { OnOk result (AppendsSlot self.old self.new
+            (resolved (section_part segment (Known (replicate count byte))))) }
     {
         let mut bytes = Vec::new(self.entries.alloc);
         bytes.resize(count as usize, byte)?;
@@ -94,8 +94,8 @@ impl Sections {
     }
 
     /// Puts room of so many bytes into the section of a segment, which the linker fills.
-    pub fn room(&mut self, segment: u32, count: u32) -> Result<(), AllocError>
-        ensures { OnOk result (Feeds self.old self.new (holds (put segment (Filled count)))) }
+    pub fn reserve_bytes(&mut self, segment: u32, count: u32) -> Result<(), AllocError>
+        ensures { OnOk result (AppendsSlot self.old self.new (resolved (section_part segment (Filled count)))) }
     {
         self.entries.add_room(segment, count)?;
         Ok(())
@@ -106,14 +106,14 @@ impl Sections {
         &mut self,
         segment: u32,
         width: Width,
-        at: At<'_>,
+        at: LocationRef<'_>,
         form: Norm,
     ) -> Result<(), AllocError>
-        ensures { OnOk result (Feeds self.old self.new (holds
-            (put segment (Waiting width (place_in at.entry.file.now at.entry.line) form)))) }
+        ensures { OnOk result (AppendsSlot self.old self.new (resolved
+            (section_part segment (Waiting width (place_in at.entry.file.now at.entry.line) form)))) }
     {
         let pos = self.files.pos_of(self.entries.alloc, at)?;
-        self.entries.push(Entry::Value {
+        self.entries.push(SectionEntry::Value {
             width,
             segment,
             pos,
@@ -123,8 +123,13 @@ impl Sections {
     }
 
     /// Leaves room for what a piece of a statement comes to, which waits here. The statement stands at this place.
-    pub fn wait(&mut self, at: At<'_>, context: Context, piece: Piece) -> Result<(), AllocError>
-        ensures { OnOk result (Feeds self.old self.new
+    pub fn defer(
+        &mut self,
+        at: LocationRef<'_>,
+        context: Context,
+        piece: FixupKind,
+    ) -> Result<(), AllocError>
+        ensures { OnOk result (AppendsSlot self.old self.new
             (waiting (place_in at.entry.file.now at.entry.line) context piece)) }
     {
         let pos = self.files.pos_of(self.entries.alloc, at)?;
@@ -134,13 +139,13 @@ impl Sections {
             piece,
         };
         let fixup = Box::new(self.entries.alloc, fixup)?;
-        self.entries.push(Entry::Waits(fixup))?;
+        self.entries.push(SectionEntry::FixupEntry(fixup))?;
         Ok(())
     }
 
     /// What was fed, behind the last statement.
-    pub fn close(self) -> Result<Closed, AllocError>
-        ensures { IfOk result (λ t. (xs : List Slot) → Stands xs self → HasSlots xs t) }
+    pub fn close(self) -> Result<ClosedSections, AllocError>
+        ensures { IfOk result (λ t. (xs : List Slot) → RepresentsSlots xs self → HasSlots xs t) }
     {
         let Sections {
             asked,
@@ -149,7 +154,7 @@ impl Sections {
             entries,
         } = self;
         let entries = entries.into_list()?;
-        Ok(Closed {
+        Ok(ClosedSections {
             asked,
             files,
             entries,
@@ -159,15 +164,15 @@ impl Sections {
 
 /// What was fed, behind the last statement, where entries no longer grow.
 #[derive(Drop)]
-pub struct Closed {
+pub struct ClosedSections {
     /// The segments of which a section was asked for.
     pub asked: IndexSet<u32>,
     /// The files in which entries stand.
     pub files: Files,
-    pub entries: Vec<Entry>,
+    pub entries: Vec<SectionEntry>,
 }
 
-impl Closed {
+impl ClosedSections {
     /// The object of a module: of its segments, the names of its imports in the order of their keys, and what was fed, of
     /// which nothing waits any more.
     pub fn finish(
@@ -176,13 +181,13 @@ impl Closed {
         segments: &[Segment],
         imports: &Imports,
     ) -> Result<Object, AllocError>
-        ensures object { IfOk result (λ o. (cs : List Content) → HasSlots (map holds cs) self →
+        ensures object { IfOk result (λ o. (cs : List Content) → HasSlots (map resolved cs) self →
             o ≡ object_with segments.now (names_of imports.now) cs) }
         ensures numbers { IfOk result ObjectFits }
-        ensures good { IfOk result (λ o. (cs : List Content) → HasSlots (map holds cs) self →
-            AreSound segments.now (names_of imports.now) cs → is_good_object o ≡ true) }
+        ensures good { IfOk result (λ o. (cs : List Content) → HasSlots (map resolved cs) self →
+            AreSound segments.now (names_of imports.now) cs → is_well_formed_object o ≡ true) }
     {
-        let Closed {
+        let ClosedSections {
             asked,
             files,
             entries,

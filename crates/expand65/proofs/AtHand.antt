@@ -6,28 +6,28 @@ use Rattle.std.proofs.Math.Seq.{drop-append_seam, take-append_seam}
 use Rattle.base65.specs.Store.{Files}
 use Rattle.syntax65.specs.Tokens.{Lexeme}
 use Rattle.expand65.specs.Fronts.{front_directive, is_mislabelled, label_len, line_directive}
-use Rattle.expand65.specs.Standing.{left_of, state_of, FollowsFrom, fronted, measure_of, place_of, state_in, stated}
-use Rattle.expand65.specs.Lines.{labelled, Takes}
-use Rattle.expand65.specs.Playing.{tokens_in}
+use Rattle.expand65.specs.Representation.{remaining_of, state_of, FollowsFrom, with_pending, measure_of, place_of, state_in, statement_of}
+use Rattle.expand65.specs.Lines.{labelled, TakesNextLine}
+use Rattle.expand65.specs.Replay.{tokens_in}
 use Rattle.expand65.specs.declared.fronts.Directive.{Directive}
-use Rattle.expand65.specs.declared.line.Line.{Line}
-use Rattle.expand65.specs.declared.line.Word.{Word}
-use Rattle.expand65.specs.declared.reader.Reader.{Reader}
-use Rattle.expand65.specs.Failing.{CallsNone, Gives, IsGivenAs, given_behind, given_parts, none, one_more, Goes, no_step, one_more as goes_once}
+use Rattle.expand65.specs.declared.line.StoredLine.{StoredLine}
+use Rattle.expand65.specs.declared.line.StoredToken.{StoredToken}
+use Rattle.expand65.specs.declared.input_stack.InputStack.{InputStack}
+use Rattle.expand65.specs.Failing.{CallsNone, YieldsStatements, IsGivenAs, given_after, given_parts, none, one_more, SilentSteps, no_step, one_more as goes_once}
 use Rattle.expand65.specs.Macros.{ordinary}
-use Rattle.expand65.specs.Expansion.{Leads, Next, Reaches, acted, unless_mislabelled, split, further, given, statement, IsStep}
-use Rattle.expand65.specs.State.{Meaning, State, leads, Stated, Stepped, label, plain, goes, gives, with_items}
+use Rattle.expand65.specs.Expansion.{StepReaches, Next, ReachesNext, line_step, unless_mislabelled, label_step, further, given, statement, IsStep}
+use Rattle.expand65.specs.State.{EnvironmentView, State, leads, ExpandedStatement, StepResult, label, plain, goes, gives, with_items}
 use Rattle.expand65.specs.declared.expander.Expander.{Expander}
-use Rattle.expand65.specs.declared.expander.Front.{Front}
-use Rattle.expand65.specs.declared.expander.Front.TheVariants.{Nothing, Rest}
+use Rattle.expand65.specs.declared.expander.PendingLine.{PendingLine}
+use Rattle.expand65.specs.declared.expander.PendingLine.TheVariants.{Nothing, Rest}
 use Rattle.expand65.specs.declared.expander.Statement.{Statement}
 use Rattle.expand65.specs.declared.expander.Statement.TheVariants.{Label, Plain}
-use Rattle.expand65.specs.declared.rewriter.Rewriter.{Rewriter}
+use Rattle.expand65.specs.declared.preprocessor.Preprocessor.{Preprocessor}
 use Rattle.expand65.proofs.Going.{no_call, step_rest, step_taken, unlabelled}
 
 -- ---- A line of given tokens.
 
-abbrev words_of : List Lexeme → List Word
+abbrev words_of : List Lexeme → List StoredToken
 words_of [] = []
 words_of (t ∷ ts) = record { kind = t.0; blanks = 0; len = length t.1 } ∷ words_of ts
 
@@ -35,113 +35,113 @@ abbrev bytes_of : List Lexeme → List ℕ
 bytes_of [] = []
 bytes_of (t ∷ ts) = t.1 ++ bytes_of ts
 
-abbrev line_of : List Lexeme → Line
+abbrev line_of : List Lexeme → StoredLine
 line_of ts = record { words = words_of ts; bytes = bytes_of ts }
 
 line_kept : (ts : List Lexeme) → tokens_in (line_of ts) ≡ ts
 line_kept [] = refl
 line_kept (t ∷ ts) =
     let own : take (length t.1) (t.1 ++ bytes_of ts) ≡ t.1 = take-append_seam t.1 (bytes_of ts) in
-    let behind : drop (length t.1) (t.1 ++ bytes_of ts) ≡ bytes_of ts = drop-append_seam t.1 (bytes_of ts) in
-    rw (own, behind) (ap (λ l. t ∷ l) (line_kept ts))
+    let following : drop (length t.1) (t.1 ++ bytes_of ts) ≡ bytes_of ts = drop-append_seam t.1 (bytes_of ts) in
+    rw (own, following) (ap (λ l. t ∷ l) (line_kept ts))
 
 -- ---- The steps of a line that is taken.
 
 -- a rewriter, and an expander, whose reader has read on
-abbrev with_reader : Rewriter → Reader → Rewriter
+abbrev with_reader : Preprocessor → InputStack → Preprocessor
 with_reader r reader = record { alloc = r.alloc; reader = reader; macros = r.macros; conditions = r.conditions; expansions = r.expansions; folders = r.folders }
 
-abbrev pub behind : Expander → Reader → Front → Expander
-behind e reader f = record { rewriter = with_reader e.rewriter reader; front = f; failed = e.failed }
+abbrev pub following : Expander → InputStack → PendingLine → Expander
+following e reader f = record { rewriter = with_reader e.rewriter reader; pending = f; failed = e.failed }
 
 not_both : (b : Bool) → b && false ≡ false
 not_both true = refl
 not_both false = refl
 
-module _ (m : Files) (k : Meaning) (old : Rewriter) (reader : Reader) (ts : List Lexeme) (taken : Takes (left_of m old.reader) (Ok (Some ts, left_of m reader))) where
+module _ (m : Files) (k : EnvironmentView) (old : Preprocessor) (reader : InputStack) (ts : List Lexeme) (taken : TakesNextLine (remaining_of m old.reader) (Ok (Some ts, remaining_of m reader))) where
   abbrev t : State
   t = state_of m (with_reader old reader)
 
-  step_acted : (x : Stepped) → label_len ts ≡ 0 → front_directive ts ≡ None → x ≡ ordinary t ts → IsStep m k (state_of m old) x
+  step_acted : (x : StepResult) → label_len ts ≡ 0 → front_directive ts ≡ None → x ≡ ordinary t ts → IsStep m k (state_of m old) x
   step_acted x e d is =
-      let step : unless_mislabelled k t ts (is_mislabelled ts) ≡ leads (ordinary t ts) = unlabelled k t ts e ∙ ap (acted k t ts) d in
-      step_taken m k old (Ok (Some ts, left_of m reader)) x taken (subst (λ z. Leads m z x) (sym step) is)
+      let step : unless_mislabelled k t ts (is_mislabelled ts) ≡ leads (ordinary t ts) = unlabelled k t ts e ∙ ap (line_step k t ts) d in
+      step_taken m k old (Ok (Some ts, remaining_of m reader)) x taken (subst (λ z. StepReaches m z x) (sym step) is)
 
   step_labelled : (n : ℕ) → label_len ts ≡ suc n → front_directive (drop (suc n) ts) ≡ None → IsStep m k (state_of m old) (gives (label (take (suc n) ts)) (with_items t (labelled (drop (suc n) ts) ∷ t.left.items)))
   step_labelled n e d =
       let x = gives (label (take (suc n) ts)) (with_items t (labelled (drop (suc n) ts) ∷ t.left.items)) in
       let right : is_mislabelled ts ≡ false = rw e (rw d (not_both (nat_lt 0 (suc n)))) in
-      let P : Bool → Type 0 = λ b. Leads m (unless_mislabelled k t ts b) x in
-      let Q : ℕ → Type 0 = λ j. Leads m (split k t ts (line_directive ts) j) x in
-      step_taken m k old (Ok (Some ts, left_of m reader)) x taken (subst P (sym right) (subst Q (sym e) refl))
+      let P : Bool → Type 0 = λ b. StepReaches m (unless_mislabelled k t ts b) x in
+      let Q : ℕ → Type 0 = λ j. StepReaches m (label_step k t ts (line_directive ts) j) x in
+      step_taken m k old (Ok (Some ts, remaining_of m reader)) x taken (subst P (sym right) (subst Q (sym e) refl))
 
-step_nothing : (m : Files) (k : Meaning) (s : State) → IsStep m k (fronted (Rest (line_of [])) s) (goes (fronted Nothing s))
+step_nothing : (m : Files) (k : EnvironmentView) (s : State) → IsStep m k (with_pending (Rest (line_of [])) s) (goes (with_pending Nothing s))
 unfolding IsStep
 step_nothing m k s = refl
 
-pub reaches_behind : (m : Files) (k : Meaning) (s t : State) (n : Next) → Goes m k s t → Reaches m k t n → Reaches m k s n
-reaches_behind m k s _ n (no_step t) r = r
-reaches_behind m k s _ n (goes_once _ t u h step) r = reaches_behind m k s t n h (further t u n step r)
+pub reaches_after : (m : Files) (k : EnvironmentView) (s t : State) (n : Next) → SilentSteps m k s t → ReachesNext m k t n → ReachesNext m k s n
+reaches_after m k s _ n (no_step t) r = r
+reaches_after m k s _ n (goes_once _ t u h step) r = reaches_after m k s t n h (further t u n step r)
 
 -- ---- The statements of a line that is taken.
 
-follows_given : (m : Files) (k : Meaning) (old new : Expander) (x : Statement) (y : Stated) → stated x ≡ y → old.failed ≡ false → new.failed ≡ old.failed → Reaches m k (state_in m old) (statement y (state_in m new)) → FollowsFrom m k old (Ok (Some x)) new
+follows_given : (m : Files) (k : EnvironmentView) (old new : Expander) (x : Statement) (y : ExpandedStatement) → statement_of x ≡ y → old.failed ≡ false → new.failed ≡ old.failed → ReachesNext m k (state_in m old) (statement y (state_in m new)) → FollowsFrom m k old (Ok (Some x)) new
 follows_given m k old new x y is right same h = grind (arith, common_steps)
 
 -- one statement more
-more : (old mid new : Expander) (x : Statement) (y : Stated) (ys : List Stated) → stated x ≡ y → old.failed ≡ false → mid.failed ≡ old.failed → ((m : Files) (k : Meaning) → Reaches m k (state_in m old) (statement y (state_in m mid))) → measure_of mid < measure_of old → place_of mid ≡ place_of new → Gives mid ys new → Gives old (y ∷ ys) new
+more : (old mid new : Expander) (x : Statement) (y : ExpandedStatement) (ys : List ExpandedStatement) → statement_of x ≡ y → old.failed ≡ false → mid.failed ≡ old.failed → ((m : Files) (k : EnvironmentView) → ReachesNext m k (state_in m old) (statement y (state_in m mid))) → measure_of mid < measure_of old → place_of mid ≡ place_of new → YieldsStatements mid ys new → YieldsStatements old (y ∷ ys) new
 more old mid new x y ys is right same reaches less at rest =
-    let P : Stated → Type 0 = λ z. Gives old (z ∷ ys) new in
+    let P : ExpandedStatement → Type 0 = λ z. YieldsStatements old (z ∷ ys) new in
     subst P is (one_more old mid new x ys (record { next = λ m k. follows_given m k old mid x y is right same (reaches m k); less = less }) at rest)
 
-none_more : (e : Expander) → Gives e [] e
+none_more : (e : Expander) → YieldsStatements e [] e
 none_more e = none e e (record { goes = λ m k. no_step (state_in m e); failed = refl; size = omega arith })
 
 -- what stands behind a label
-rest_given : (old : Expander) (reader : Reader) (ts : List Lexeme) → old.failed ≡ false → front_directive ts ≡ None → CallsNone old.rewriter ts → Gives (behind old reader (Rest (line_of ts))) (given_behind ts) (behind old reader Nothing)
+rest_given : (old : Expander) (reader : InputStack) (ts : List Lexeme) → old.failed ≡ false → front_directive ts ≡ None → CallsNone old.rewriter ts → YieldsStatements (following old reader (Rest (line_of ts))) (given_after ts) (following old reader Nothing)
 rest_given old reader [] right d calls =
-    let mid = behind old reader (Rest (line_of [])) in
-    let new = behind old reader Nothing in
+    let mid = following old reader (Rest (line_of [])) in
+    let new = following old reader Nothing in
     none mid new (record { goes = λ m k. goes_once (state_in m mid) (state_in m mid) (state_in m new) (no_step (state_in m mid)) (step_nothing m k (state_of m new.rewriter)); failed = refl; size = omega arith })
 rest_given old reader (t ∷ ts) right d calls =
-    let mid = behind old reader (Rest (line_of (t ∷ ts))) in
-    let new = behind old reader Nothing in
+    let mid = following old reader (Rest (line_of (t ∷ ts))) in
+    let new = following old reader Nothing in
     let kept = line_kept (t ∷ ts) in
     more mid new new (Plain (line_of (t ∷ ts))) (plain (t ∷ ts)) [] (ap plain kept) right refl (λ m k.
     let s = state_of m new.rewriter in
-    let P : Option Directive → Type 0 = λ o. Leads m (acted k s (t ∷ ts) o) (gives (plain (t ∷ ts)) s) in
-    let Q : List Lexeme → Type 0 = λ l. Leads m (acted k s l (front_directive l)) (gives (plain (t ∷ ts)) s) in
+    let P : Option Directive → Type 0 = λ o. StepReaches m (line_step k s (t ∷ ts) o) (gives (plain (t ∷ ts)) s) in
+    let Q : List Lexeme → Type 0 = λ l. StepReaches m (line_step k s l (front_directive l)) (gives (plain (t ∷ ts)) s) in
     given (state_in m mid) s (plain (t ∷ ts)) (step_rest m k mid (line_of (t ∷ ts)) (gives (plain (t ∷ ts)) s) refl (subst Q (sym kept) (subst P (sym d) (no_call m new.rewriter t ts calls))))) (omega arith) refl (none_more new)
 
-module _ (old : Expander) (reader : Reader) (right : old.failed ≡ false) (bare : old.front ≡ Nothing) (some : 0 < old.rewriter.reader.room) (fewer : reader.room ≡ old.rewriter.reader.room - 1) (outer : reader.outer ≡ old.rewriter.reader.outer) where
+module _ (old : Expander) (reader : InputStack) (right : old.failed ≡ false) (bare : old.pending ≡ Nothing) (some : 0 < old.rewriter.reader.room) (fewer : reader.room ≡ old.rewriter.reader.room - 1) (outer : reader.outer ≡ old.rewriter.reader.outer) where
   as_many : length reader.outer.items ≡ length old.rewriter.reader.outer.items
   as_many = ap (λ x. length x.items) outer
 
-  pub less_behind : measure_of (behind old reader Nothing) < measure_of old
-  less_behind = rw bare (omega (arith, some, fewer, as_many))
+  pub less_after : measure_of (following old reader Nothing) < measure_of old
+  less_after = rw bare (omega (arith, some, fewer, as_many))
 
-  less_labelled : (ts : List Lexeme) → measure_of (behind old reader (Rest (line_of ts))) < measure_of old
+  less_labelled : (ts : List Lexeme) → measure_of (following old reader (Rest (line_of ts))) < measure_of old
   less_labelled ts = rw bare (omega (arith, some, fewer, as_many))
 
   from : (m : Files) (P : State → Type 0) → P (state_of m old.rewriter) → P (state_in m old)
   from m P h = rw bare h
 
-  pub line_given : (n : ℕ) (ts : List Lexeme) → IsGivenAs n old.rewriter ts → ((m : Files) → Takes (left_of m old.rewriter.reader) (Ok (Some ts, left_of m reader))) → Gives old (given_parts (take n ts) (drop n ts)) (behind old reader Nothing)
+  pub line_given : (n : ℕ) (ts : List Lexeme) → IsGivenAs n old.rewriter ts → ((m : Files) → TakesNextLine (remaining_of m old.rewriter.reader) (Ok (Some ts, remaining_of m reader))) → YieldsStatements old (given_parts (take n ts) (drop n ts)) (following old reader Nothing)
   line_given zero [] (e, d, calls) taken =
-      let new = behind old reader Nothing in
-      none old new (record { goes = λ m k. goes_once (state_in m old) (state_in m old) (state_in m new) (no_step (state_in m old)) (from m (λ s. IsStep m k s (goes (state_in m new))) (step_acted m k old.rewriter reader [] (taken m) (goes (state_in m new)) e d refl)); failed = refl; size = omega (arith, less_behind) })
+      let new = following old reader Nothing in
+      none old new (record { goes = λ m k. goes_once (state_in m old) (state_in m old) (state_in m new) (no_step (state_in m old)) (from m (λ s. IsStep m k s (goes (state_in m new))) (step_acted m k old.rewriter reader [] (taken m) (goes (state_in m new)) e d refl)); failed = refl; size = omega (arith, less_after) })
   line_given zero (t ∷ ts) (e, d, calls) taken =
-      let new = behind old reader Nothing in
+      let new = following old reader Nothing in
       more old new new (Plain (line_of (t ∷ ts))) (plain (t ∷ ts)) [] (ap plain (line_kept (t ∷ ts))) right refl (λ m k.
       let s = state_in m new in
-      given (state_in m old) s (plain (t ∷ ts)) (from m (λ z. IsStep m k z (gives (plain (t ∷ ts)) s)) (step_acted m k old.rewriter reader (t ∷ ts) (taken m) (gives (plain (t ∷ ts)) s) e d (no_call m new.rewriter t ts calls)))) less_behind refl (none_more new)
+      given (state_in m old) s (plain (t ∷ ts)) (from m (λ z. IsStep m k z (gives (plain (t ∷ ts)) s)) (step_acted m k old.rewriter reader (t ∷ ts) (taken m) (gives (plain (t ∷ ts)) s) e d (no_call m new.rewriter t ts calls)))) less_after refl (none_more new)
   line_given (suc n) [] (e, d, calls) taken = absurd cc
   line_given (suc n) (t ∷ us) (e, d, calls) taken =
       let ts = t ∷ us in
       let rest = drop (suc n) ts in
-      let mid = behind old reader (Rest (line_of rest)) in
-      more old mid (behind old reader Nothing) (Label (line_of (take (suc n) ts))) (label (take (suc n) ts)) (given_behind rest) (ap label (line_kept (take (suc n) ts))) right refl (λ m k.
+      let mid = following old reader (Rest (line_of rest)) in
+      more old mid (following old reader Nothing) (Label (line_of (take (suc n) ts))) (label (take (suc n) ts)) (given_after rest) (ap label (line_kept (take (suc n) ts))) right refl (λ m k.
       let s = state_of m mid.rewriter in
-      let P : List Lexeme → Type 0 = λ l. Reaches m k (state_in m old) (statement (label (take (suc n) ts)) (with_items s (labelled l ∷ s.left.items))) in
+      let P : List Lexeme → Type 0 = λ l. ReachesNext m k (state_in m old) (statement (label (take (suc n) ts)) (with_items s (labelled l ∷ s.left.items))) in
       let to = with_items s (labelled rest ∷ s.left.items) in
       subst P (sym (line_kept rest)) (given (state_in m old) to (label (take (suc n) ts)) (from m (λ z. IsStep m k z (gives (label (take (suc n) ts)) to)) (step_labelled m k old.rewriter reader ts (taken m) n e d)))) (less_labelled rest) refl (rest_given old reader rest right d calls)

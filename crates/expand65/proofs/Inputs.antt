@@ -6,21 +6,21 @@ use Rattle.std.proofs.lemmas.Bool.Decides.{nat_tests}
 use Rattle.std.proofs.lemmas.List.{append-nil}
 use Rattle.base65.specs.Store.{Files}
 use Rattle.syntax65.specs.Tokens.{Lexeme}
-use Rattle.expand65.specs.Lines.{pushed, closed, IsOpened, Takes, TakesFrom, lines_of, rest_of, numbered, turns, Item, written, played, labelled, branch, mark, Mark, left, marks, innermost, outside_macro, come_back, moved, in_turn, Replacing}
-use Rattle.expand65.specs.Standing.{left_in, mark_of, own, outside, left_of, is_call, ComesNext, TakesLine, moved_by}
-use Rattle.expand65.specs.Playing.{tokens_in, left_to_play, replacing_of, TakesWritten}
+use Rattle.expand65.specs.Lines.{with_lines, without_end_mark, IsOpened, TakesNextLine, TakesFrom, lines_of, rest_of, file_lines_after, iterations, Item, written, played, labelled, branch, mark, InputEnd, remaining_input, marks, innermost, outside_macro, come_back, location_at, in_iteration, Substitution}
+use Rattle.expand65.specs.Representation.{remaining_in, mark_of, input_items, outer_items, remaining_of, is_call, ComesNext, TakesLine, moved_by}
+use Rattle.expand65.specs.Replay.{tokens_in, left_to_play, replacing_of, TakesWritten}
 use Rattle.syntax65.specs.declared.fault.ExpandFault.TheVariants.{Nested, NotClosed}
-use Rattle.expand65.specs.declared.input.Source.{Source}
-use Rattle.expand65.specs.declared.input.Source.TheVariants as source
-use Rattle.expand65.specs.declared.reader.Input.{Input}
-use Rattle.expand65.specs.declared.reader.Reader.{Reader}
-use Rattle.syntax65.specs.declared.place.Place.{Place}
+use Rattle.expand65.specs.declared.input.LineSource.{LineSource}
+use Rattle.expand65.specs.declared.input.LineSource.TheVariants as source
+use Rattle.expand65.specs.declared.input_stack.Input.{Input}
+use Rattle.expand65.specs.declared.input_stack.InputStack.{InputStack}
+use Rattle.syntax65.specs.declared.source_location.SourceLocation.{SourceLocation}
 use Rattle.base65.specs.Outcome.{Unless}
-use Rattle.syntax65.specs.Faults.{is_outside}
+use Rattle.syntax65.specs.Faults.{is_system_error}
 use Rattle.syntax65.specs.declared.fault.ExpandFault.{ExpandFault}
 use Rattle.expand65.specs.declared.input.NextLine.{NextLine}
 use Rattle.expand65.specs.declared.input.NextLine.TheVariants.{AtEnd, Numbered, Replayed}
-use Rattle.expand65.specs.declared.line.Line.{Line}
+use Rattle.expand65.specs.declared.line.StoredLine.{StoredLine}
 
 -- ---- End marks among the inputs' lines.
 
@@ -38,22 +38,22 @@ lines_append (labelled ts ∷ is) js h k = absurd h
 lines_append (branch ts ∷ is) js h k = absurd h
 lines_append (mark x ∷ is) js h k = absurd h
 
-lines_numbered : (n : ℕ) (ls : List (List ℕ)) → AreLines (numbered n ls)
+lines_numbered : (n : ℕ) (ls : List (List ℕ)) → AreLines (file_lines_after n ls)
 lines_numbered n [] = tt
 lines_numbered n (l ∷ ls) = lines_numbered (n + 1) ls
 
-lines_played : (e : Replacing) (ls : List (List Lexeme)) → AreLines (map (played e) ls)
+lines_played : (e : Substitution) (ls : List (List Lexeme)) → AreLines (map (played e) ls)
 lines_played e [] = tt
 lines_played e (l ∷ ls) = lines_played e ls
 
-lines_turns : (e : Replacing) (body : List (List Lexeme)) (t n : ℕ) → AreLines (turns e body t n)
+lines_turns : (e : Substitution) (body : List (List Lexeme)) (t n : ℕ) → AreLines (iterations e body t n)
 lines_turns e body t zero = tt
-lines_turns e body t (suc n) = lines_append (map (played (in_turn e t)) body) (turns e body (t + 1) n) (lines_played (in_turn e t) body) (lines_turns e body (t + 1) n)
+lines_turns e body t (suc n) = lines_append (map (played (in_iteration e t)) body) (iterations e body (t + 1) n) (lines_played (in_iteration e t) body) (lines_turns e body (t + 1) n)
 
-pub lines_left : (m : Files) (s : Source) → AreLines (left_in m s)
+pub lines_left : (m : Files) (s : LineSource) → AreLines (remaining_in m s)
 lines_left m (source.File f) = lines_numbered f.line (lines_of (rest_of m f))
 lines_left m (source.Call r) = lines_played (replacing_of r) (drop r.at (map tokens_in r.body.value.lines))
-lines_left m (source.Repeat r next count) = lines_append (left_to_play r) (turns (replacing_of r) (map tokens_in r.body.value.lines) next (count - next)) (lines_played (replacing_of r) (drop r.at (map tokens_in r.body.value.lines))) (lines_turns (replacing_of r) (map tokens_in r.body.value.lines) next (count - next))
+lines_left m (source.Repeat r next count) = lines_append (left_to_play r) (iterations (replacing_of r) (map tokens_in r.body.value.lines) next (count - next)) (lines_played (replacing_of r) (drop r.at (map tokens_in r.body.value.lines))) (lines_turns (replacing_of r) (map tokens_in r.body.value.lines) next (count - next))
 
 marks_lines : (is js : List Item) → AreLines is → marks (is ++ js) ≡ marks js
 marks_lines [] js h = refl
@@ -63,7 +63,7 @@ marks_lines (labelled ts ∷ is) js h = absurd h
 marks_lines (branch ts ∷ is) js h = absurd h
 marks_lines (mark x ∷ is) js h = absurd h
 
-innermost_lines : (is js : List Item) (k : Mark) → AreLines is → innermost (is ++ mark k ∷ js) ≡ Some k
+innermost_lines : (is js : List Item) (k : InputEnd) → AreLines is → innermost (is ++ mark k ∷ js) ≡ Some k
 innermost_lines [] js k h = refl
 innermost_lines (written n b ∷ is) js k h = innermost_lines is js k h
 innermost_lines (played e ts ∷ is) js k h = innermost_lines is js k h
@@ -71,13 +71,13 @@ innermost_lines (labelled ts ∷ is) js k h = absurd h
 innermost_lines (branch ts ∷ is) js k h = absurd h
 innermost_lines (mark x ∷ is) js k h = absurd h
 
-pub own_split : (m : Files) (i : Input) (js : List Item) → own m i ++ js ≡ left_in m i.source ++ mark (mark_of i) ∷ js
-own_split m i js = append_assoc (left_in m i.source) (mark (mark_of i) ∷ []) js
+pub own_split : (m : Files) (i : Input) (js : List Item) → input_items m i ++ js ≡ remaining_in m i.source ++ mark (mark_of i) ∷ js
+own_split m i js = append_assoc (remaining_in m i.source) (mark (mark_of i) ∷ []) js
 
 -- the innermost of the inputs outside comes first
-pub outside_push : (m : Files) (is : List Input) (i : Input) → outside m (is ++ i ∷ []) ≡ own m i ++ outside m is
-outside_push m [] i = sym (append-nil (own m i))
-outside_push m (j ∷ is) i = ap (λ l. l ++ own m j) (outside_push m is i) ∙ append_assoc (own m i) (outside m is) (own m j)
+pub outside_push : (m : Files) (is : List Input) (i : Input) → outer_items m (is ++ i ∷ []) ≡ input_items m i ++ outer_items m is
+outside_push m [] i = sym (append-nil (input_items m i))
+outside_push m (j ∷ is) i = ap (λ l. l ++ input_items m j) (outside_push m is i) ∙ append_assoc (input_items m i) (outer_items m is) (input_items m j)
 
 marks_append : (is js : List Item) → marks (is ++ js) ≡ marks is + marks js
 marks_append [] js = omega arith
@@ -87,52 +87,52 @@ marks_append (labelled ts ∷ is) js = marks_append is js
 marks_append (branch ts ∷ is) js = marks_append is js
 marks_append (mark x ∷ is) js = let e : marks (is ++ js) ≡ marks is + marks js = marks_append is js in omega arith
 
-marks_own : (m : Files) (i : Input) (js : List Item) → marks (own m i ++ js) ≡ marks js + 1
-marks_own m i js = ap marks (own_split m i js) ∙ marks_lines (left_in m i.source) (mark (mark_of i) ∷ js) (lines_left m i.source)
+marks_own : (m : Files) (i : Input) (js : List Item) → marks (input_items m i ++ js) ≡ marks js + 1
+marks_own m i js = ap marks (own_split m i js) ∙ marks_lines (remaining_in m i.source) (mark (mark_of i) ∷ js) (lines_left m i.source)
 
-marks_outside : (m : Files) (is : List Input) → marks (outside m is) ≡ length is
+marks_outside : (m : Files) (is : List Input) → marks (outer_items m is) ≡ length is
 marks_outside m [] = refl
 marks_outside m (i ∷ is) =
-    let a : marks (outside m is ++ own m i) ≡ marks (outside m is) + marks (own m i) = marks_append (outside m is) (own m i) in
-    let b : marks (outside m is) ≡ length is = marks_outside m is in
-    let c : marks (own m i) ≡ 1 = marks_lines (left_in m i.source) (mark (mark_of i) ∷ []) (lines_left m i.source) in
+    let a : marks (outer_items m is ++ input_items m i) ≡ marks (outer_items m is) + marks (input_items m i) = marks_append (outer_items m is) (input_items m i) in
+    let b : marks (outer_items m is) ≡ length is = marks_outside m is in
+    let c : marks (input_items m i) ≡ 1 = marks_lines (remaining_in m i.source) (mark (mark_of i) ∷ []) (lines_left m i.source) in
     let d : length (i ∷ is) ≡ suc (length is) = refl in
     omega (arith, a, b, c, d)
 
-pub marks_all : (m : Files) (r : Reader) → marks (left_of m r).items ≡ length r.outer.items + 1
-marks_all m r = marks_own m r.top (outside m r.outer.items) ∙ ap (λ n. n + 1) (marks_outside m r.outer.items)
+pub marks_all : (m : Files) (r : InputStack) → marks (remaining_of m r).items ≡ length r.outer.items + 1
+marks_all m r = marks_own m r.top (outer_items m r.outer.items) ∙ ap (λ n. n + 1) (marks_outside m r.outer.items)
 
 -- the innermost end mark is that of the innermost input
-pub innermost_is : (m : Files) (r : Reader) → innermost (left_of m r).items ≡ Some (mark_of r.top)
-innermost_is m r = ap innermost (own_split m r.top (outside m r.outer.items)) ∙ innermost_lines (left_in m r.top.source) (outside m r.outer.items) (mark_of r.top) (lines_left m r.top.source)
+pub innermost_is : (m : Files) (r : InputStack) → innermost (remaining_of m r).items ≡ Some (mark_of r.top)
+innermost_is m r = ap innermost (own_split m r.top (outer_items m r.outer.items)) ∙ innermost_lines (remaining_in m r.top.source) (outer_items m r.outer.items) (mark_of r.top) (lines_left m r.top.source)
 
-pub entered_one : (m : Files) (old new : Reader) (i : Input) → length old.outer.items < 256 → new.top ≡ i → new.outer.items ≡ old.outer.items ++ old.top ∷ [] → new.room ≡ old.room → new.place ≡ old.place → Ok (left_of m new) ≡ pushed (left_in m i.source) (mark_of i) (left_of m old)
+pub entered_one : (m : Files) (old new : InputStack) (i : Input) → length old.outer.items < 256 → new.top ≡ i → new.outer.items ≡ old.outer.items ++ old.top ∷ [] → new.room ≡ old.room → new.place ≡ old.place → Ok (remaining_of m new) ≡ with_lines (remaining_in m i.source) (mark_of i) (remaining_of m old)
 entered_one m old new i h t u r p = grind (arith, common_steps, nat_tests, marks_all, outside_push, own_split)
 
-pub entered_none : (m : Files) (old : Reader) (i : Input) → 256 ≤ length old.outer.items → Err (Nested, old.place) ≡ pushed (left_in m i.source) (mark_of i) (left_of m old)
+pub entered_none : (m : Files) (old : InputStack) (i : Input) → 256 ≤ length old.outer.items → Err (Nested, old.place) ≡ with_lines (remaining_in m i.source) (mark_of i) (remaining_of m old)
 entered_none m old i h = grind (arith, common_steps, nat_tests, marks_all)
 
 -- ---- Inputs that are left.
 
 -- the innermost of the inputs outside comes next
-pub dropped : (m : Files) (old new : List Input) (g top : Input) → old ≡ new ++ g ∷ [] → top ≡ g → own m top ++ outside m new ≡ outside m old
-dropped m old new g top e t = ap (λ x. own m x ++ outside m new) t ∙ sym (ap (outside m) e ∙ outside_push m new g)
+pub dropped : (m : Files) (old new : List Input) (g top : Input) → old ≡ new ++ g ∷ [] → top ≡ g → input_items m top ++ outer_items m new ≡ outer_items m old
+dropped m old new g top e t = ap (λ x. input_items m x ++ outer_items m new) t ∙ sym (ap (outer_items m) e ∙ outside_push m new g)
 
 -- ---- At the end of the innermost input.
 
-pub not_closed : (m : Files) (r : Reader) (n : ℕ) → left_in m r.top.source ≡ [] → r.top.conditions ≢ n → Err (NotClosed, r.place) ≡ closed n r.place (left_of m r).items
+pub not_closed : (m : Files) (r : InputStack) (n : ℕ) → remaining_in m r.top.source ≡ [] → r.top.conditions ≢ n → Err (NotClosed, r.place) ≡ without_end_mark n r.place (remaining_of m r).items
 not_closed m r n e h = grind (arith, common_steps)
 
-pub closes : (m : Files) (old new : Reader) (n : ℕ) (more : Bool) → left_in m old.top.source ≡ [] → old.top.conditions ≡ n → (if more then (left_of m new).items else []) ≡ outside m old.outer.items → new.place ≡ come_back old.place old.top.back → Ok ((if more then (left_of m new).items else []), new.place) ≡ closed n old.place (left_of m old).items
+pub closes : (m : Files) (old new : InputStack) (n : ℕ) (more : Bool) → remaining_in m old.top.source ≡ [] → old.top.conditions ≡ n → (if more then (remaining_of m new).items else []) ≡ outer_items m old.outer.items → new.place ≡ come_back old.place old.top.back → Ok ((if more then (remaining_of m new).items else []), new.place) ≡ without_end_mark n old.place (remaining_of m old).items
 closes m old new n more e h i p = grind (arith, common_steps)
 
 -- the place that a reader goes back to doesn't change what is left
-pub same_items : (m : Files) (a b : Reader) (more : Bool) (is : List Item) → b.top ≡ a.top → b.outer ≡ a.outer → (if more then (left_of m a).items else []) ≡ is → (if more then (left_of m b).items else []) ≡ is
-same_items m a b more is t o h = ap (λ x. if more then own m x ++ outside m b.outer.items else []) t ∙ ap (λ x. if more then own m a.top ++ outside m x.items else []) o ∙ h
+pub same_items : (m : Files) (a b : InputStack) (more : Bool) (is : List Item) → b.top ≡ a.top → b.outer ≡ a.outer → (if more then (remaining_of m a).items else []) ≡ is → (if more then (remaining_of m b).items else []) ≡ is
+same_items m a b more is t o h = ap (λ x. if more then input_items m x ++ outer_items m b.outer.items else []) t ∙ ap (λ x. if more then input_items m a.top ++ outer_items m x.items else []) o ∙ h
 
 -- ---- Out of the innermost expansion.
 
-outside_lines : (is js : List Item) (p : Place) → AreLines is → outside_macro (is ++ js) p ≡ outside_macro js p
+outside_lines : (is js : List Item) (p : SourceLocation) → AreLines is → outside_macro (is ++ js) p ≡ outside_macro js p
 outside_lines [] js p h = refl
 outside_lines (written n b ∷ is) js p h = outside_lines is js p h
 outside_lines (played e ts ∷ is) js p h = outside_lines is js p h
@@ -141,39 +141,39 @@ outside_lines (branch ts ∷ is) js p h = absurd h
 outside_lines (mark x ∷ is) js p h = absurd h
 
 abbrev Out : Type 0
-Out = Option (ℕ × List Item × Place)
+Out = Option (ℕ × List Item × SourceLocation)
 
-one_out : (m : Files) (r : Reader) (p : Place) (b : Bool) → is_call r.top.source ≡ b → outside_macro (left_of m r).items p ≡ (if b then Some (r.top.conditions, outside m r.outer.items, come_back p r.top.back) else outside_macro (outside m r.outer.items) (come_back p r.top.back))
+one_out : (m : Files) (r : InputStack) (p : SourceLocation) (b : Bool) → is_call r.top.source ≡ b → outside_macro (remaining_of m r).items p ≡ (if b then Some (r.top.conditions, outer_items m r.outer.items, come_back p r.top.back) else outside_macro (outer_items m r.outer.items) (come_back p r.top.back))
 one_out m r p b e = grind (arith, common_steps, own_split, outside_lines, lines_left)
 
 -- an input that is no expansion is left, and others are outside
-pub goes_out : (m : Files) (old new : Reader) (p q : Place) (x : Out) → is_call old.top.source ≡ false → (if true then (left_of m new).items else []) ≡ outside m old.outer.items → q ≡ come_back p old.top.back → outside_macro (left_of m old).items p ≡ x → outside_macro (left_of m new).items q ≡ x
-goes_out m old new p q x c i e h = ap (λ l. outside_macro l q) i ∙ ap (outside_macro (outside m old.outer.items)) e ∙ sym (one_out m old p false c) ∙ h
+pub goes_out : (m : Files) (old new : InputStack) (p q : SourceLocation) (x : Out) → is_call old.top.source ≡ false → (if true then (remaining_of m new).items else []) ≡ outer_items m old.outer.items → q ≡ come_back p old.top.back → outside_macro (remaining_of m old).items p ≡ x → outside_macro (remaining_of m new).items q ≡ x
+goes_out m old new p q x c i e h = ap (λ l. outside_macro l q) i ∙ ap (outside_macro (outer_items m old.outer.items)) e ∙ sym (one_out m old p false c) ∙ h
 
 -- none is outside
-pub none_out : (m : Files) (old : Reader) (p : Place) (x : Out) → is_call old.top.source ≡ false → [] ≡ outside m old.outer.items → outside_macro (left_of m old).items p ≡ x → x ≡ None
+pub none_out : (m : Files) (old : InputStack) (p : SourceLocation) (x : Out) → is_call old.top.source ≡ false → [] ≡ outer_items m old.outer.items → outside_macro (remaining_of m old).items p ≡ x → x ≡ None
 none_out m old p x c i h = sym h ∙ one_out m old p false c ∙ ap (λ l. outside_macro l (come_back p old.top.back)) (sym i)
 
 -- an expansion is left
-pub is_out : (m : Files) (old new : Reader) (p : Place) (x : Out) (more : Bool) → is_call old.top.source ≡ true → (if more then (left_of m new).items else []) ≡ outside m old.outer.items → new.place ≡ come_back p old.top.back → outside_macro (left_of m old).items p ≡ x → x ≡ Some (old.top.conditions, (if more then (left_of m new).items else []), new.place)
+pub is_out : (m : Files) (old new : InputStack) (p : SourceLocation) (x : Out) (more : Bool) → is_call old.top.source ≡ true → (if more then (remaining_of m new).items else []) ≡ outer_items m old.outer.items → new.place ≡ come_back p old.top.back → outside_macro (remaining_of m old).items p ≡ x → x ≡ Some (old.top.conditions, (if more then (remaining_of m new).items else []), new.place)
 is_out m old new p x more c i e h =
-    sym h ∙ one_out m old p true c ∙ ap (λ l. Some (old.top.conditions, l, come_back p old.top.back)) (sym i) ∙ ap (λ q. Some (old.top.conditions, (if more then (left_of m new).items else []), q)) (sym e)
+    sym h ∙ one_out m old p true c ∙ ap (λ l. Some (old.top.conditions, l, come_back p old.top.back)) (sym i) ∙ ap (λ q. Some (old.top.conditions, (if more then (remaining_of m new).items else []), q)) (sym e)
 
 -- ---- The next line of the innermost input, as a line that is taken of all that is left.
 
-pub one_taken : (before after tail : List Item) (n : NextLine) (r : ℕ) (p : Place) (line : Line) → ComesNext before n → (n ≡ AtEnd → ⊥) → TakesLine before (Ok line) after → TakesFrom (before ++ tail) (suc r) p (Ok (Some (tokens_in line), left (after ++ tail) r (moved_by n p)))
+pub one_taken : (before after tail : List Item) (n : NextLine) (r : ℕ) (p : SourceLocation) (line : StoredLine) → ComesNext before n → (n ≡ AtEnd → ⊥) → TakesLine before (Ok line) after → TakesFrom (before ++ tail) (suc r) p (Ok (Some (tokens_in line), remaining_input (after ++ tail) r (moved_by n p)))
 one_taken before after tail AtEnd r p line c h t = absurd (h refl)
 one_taken before after tail (Numbered n) r p line (bytes, (others, e)) h (i, f, o) =
     let same : i ∷ after ≡ written n bytes ∷ others = sym f ∙ e in
     let item : i ≡ written n bytes = cc in
     let rest : others ≡ after = cc in
     let O : Item → Type 0 = λ x. IsOpened x (Ok (tokens_in line)) in
-    let P : List Item → Type 0 = λ l. TakesFrom (l ++ tail) (suc r) p (Ok (Some (tokens_in line), left (after ++ tail) r (moved p n))) in
-    subst P (sym e) (Ok (tokens_in line), subst O item o, ap (λ l. Ok (Some (tokens_in line), left (l ++ tail) r (moved p n))) (sym rest))
+    let P : List Item → Type 0 = λ l. TakesFrom (l ++ tail) (suc r) p (Ok (Some (tokens_in line), remaining_input (after ++ tail) r (location_at p n))) in
+    subst P (sym e) (Ok (tokens_in line), subst O item o, ap (λ l. Ok (Some (tokens_in line), remaining_input (l ++ tail) r (location_at p n))) (sym rest))
 one_taken before after tail Replayed r p line (x, (ts, (others, e))) h (i, f, o) = grind (arith, common_steps)
 
-pub one_refused : (before after tail : List Item) (n : NextLine) (r : ℕ) (p : Place) (f : ExpandFault) → ComesNext before n → (n ≡ AtEnd → ⊥) → TakesLine before (Err f) after → Unless (is_outside f) (TakesFrom (before ++ tail) (suc r) p (Err (f, moved_by n p)))
-one_refused before after tail n r p f c h t = by (is_outside f) t
+pub one_refused : (before after tail : List Item) (n : NextLine) (r : ℕ) (p : SourceLocation) (f : ExpandFault) → ComesNext before n → (n ≡ AtEnd → ⊥) → TakesLine before (Err f) after → Unless (is_system_error f) (TakesFrom (before ++ tail) (suc r) p (Err (f, moved_by n p)))
+one_refused before after tail n r p f c h t = by (is_system_error f) t
   where
     go : (n : NextLine) → ComesNext before n → (n ≡ AtEnd → ⊥) → ((i : Item) × ((others : List Item) × (before ≡ i ∷ others) × IsOpened i (Err f))) → TakesFrom (before ++ tail) (suc r) p (Err (f, moved_by n p))
     go AtEnd c h t = absurd (h refl)
@@ -181,7 +181,7 @@ one_refused before after tail n r p f c h t = by (is_outside f) t
         let same : i ∷ rest ≡ written n bytes ∷ others = sym g ∙ e in
         let item : i ≡ written n bytes = cc in
         let O : Item → Type 0 = λ x. IsOpened x (Err f) in
-        let P : List Item → Type 0 = λ l. TakesFrom (l ++ tail) (suc r) p (Err (f, moved p n)) in
+        let P : List Item → Type 0 = λ l. TakesFrom (l ++ tail) (suc r) p (Err (f, location_at p n)) in
         subst P (sym e) (Err f, subst O item o, refl)
     go Replayed (x, (ts, (others, e))) h (i, (rest, g, o)) =
         let same : i ∷ rest ≡ played x ts ∷ others = sym g ∙ e in
@@ -197,33 +197,33 @@ one_refused before after tail n r p f c h t = by (is_outside f) t
 -- ---- Of a reader.
 
 -- all that is left, the innermost input's lines first
-pub parted : (m : Files) (r : Reader) → own m r.top ++ outside m r.outer.items ≡ left_in m r.top.source ++ (mark (mark_of r.top) ∷ outside m r.outer.items)
-parted m r = append_assoc (left_in m r.top.source) (mark (mark_of r.top) ∷ []) (outside m r.outer.items)
+pub parted : (m : Files) (r : InputStack) → input_items m r.top ++ outer_items m r.outer.items ≡ remaining_in m r.top.source ++ (mark (mark_of r.top) ∷ outer_items m r.outer.items)
+parted m r = append_assoc (remaining_in m r.top.source) (mark (mark_of r.top) ∷ []) (outer_items m r.outer.items)
 
-pub told_taken : (o : Option Files) (old new : Reader) (mid : Source) (n : NextLine) (line : Line) → IfSome o (λ m. ComesNext (left_in m mid) n) → IfSome o (λ m. left_in m mid ≡ left_in m old.top.source) → (n ≡ AtEnd → ⊥) → IfSome o (λ m. TakesLine (left_in m mid) (Ok line) (left_in m new.top.source)) → mark_of new.top ≡ mark_of old.top → new.outer ≡ old.outer → new.place ≡ moved_by n old.place → suc new.room ≡ old.room → IfSome o (λ m. Takes (left_of m old) (Ok (Some (tokens_in line), left_of m new)))
+pub told_taken : (o : Option Files) (old new : InputStack) (mid : LineSource) (n : NextLine) (line : StoredLine) → IfSome o (λ m. ComesNext (remaining_in m mid) n) → IfSome o (λ m. remaining_in m mid ≡ remaining_in m old.top.source) → (n ≡ AtEnd → ⊥) → IfSome o (λ m. TakesLine (remaining_in m mid) (Ok line) (remaining_in m new.top.source)) → mark_of new.top ≡ mark_of old.top → new.outer ≡ old.outer → new.place ≡ moved_by n old.place → suc new.room ≡ old.room → IfSome o (λ m. TakesNextLine (remaining_of m old) (Ok (Some (tokens_in line), remaining_of m new)))
 told_taken x old new mid n line c s h t k u p r = grind (arith, common_steps, one_taken, parted)
 
-pub told_refused : (o : Option Files) (old : Reader) (mid last : Source) (place : Place) (room : ℕ) (n : NextLine) (f : ExpandFault) → IfSome o (λ m. ComesNext (left_in m mid) n) → IfSome o (λ m. left_in m mid ≡ left_in m old.top.source) → (n ≡ AtEnd → ⊥) → IfSome o (λ m. TakesLine (left_in m mid) (Err f) (left_in m last)) → place ≡ moved_by n old.place → suc room ≡ old.room → IfSome o (λ m. Unless (is_outside f) (Takes (left_of m old) (Err (f, place))))
+pub told_refused : (o : Option Files) (old : InputStack) (mid last : LineSource) (place : SourceLocation) (room : ℕ) (n : NextLine) (f : ExpandFault) → IfSome o (λ m. ComesNext (remaining_in m mid) n) → IfSome o (λ m. remaining_in m mid ≡ remaining_in m old.top.source) → (n ≡ AtEnd → ⊥) → IfSome o (λ m. TakesLine (remaining_in m mid) (Err f) (remaining_in m last)) → place ≡ moved_by n old.place → suc room ≡ old.room → IfSome o (λ m. Unless (is_system_error f) (TakesNextLine (remaining_of m old) (Err (f, place))))
 told_refused None old mid last place room n f c s h t p r = tt
 told_refused (Some m) old mid last place room n f c s h t p r =
-    let tail = mark (mark_of old.top) ∷ outside m old.outer.items in
-    let one = one_refused (left_in m mid) (left_in m last) tail n room old.place f c h t in
-    let before : left_in m mid ++ tail ≡ (left_of m old).items = ap (λ l. l ++ tail) s ∙ sym (parted m old) in
-    let P : List Item → Type 0 = λ l. Unless (is_outside f) (TakesFrom l (suc room) old.place (Err (f, moved_by n old.place))) in
-    let Q : ℕ → Type 0 = λ x. Unless (is_outside f) (TakesFrom (left_of m old).items x old.place (Err (f, moved_by n old.place))) in
-    let S : Place → Type 0 = λ q. Unless (is_outside f) (TakesFrom (left_of m old).items old.room old.place (Err (f, q))) in
+    let tail = mark (mark_of old.top) ∷ outer_items m old.outer.items in
+    let one = one_refused (remaining_in m mid) (remaining_in m last) tail n room old.place f c h t in
+    let before : remaining_in m mid ++ tail ≡ (remaining_of m old).items = ap (λ l. l ++ tail) s ∙ sym (parted m old) in
+    let P : List Item → Type 0 = λ l. Unless (is_system_error f) (TakesFrom l (suc room) old.place (Err (f, moved_by n old.place))) in
+    let Q : ℕ → Type 0 = λ x. Unless (is_system_error f) (TakesFrom (remaining_of m old).items x old.place (Err (f, moved_by n old.place))) in
+    let S : SourceLocation → Type 0 = λ q. Unless (is_system_error f) (TakesFrom (remaining_of m old).items old.room old.place (Err (f, q))) in
     subst S (sym p) (subst Q r (subst P before one))
 
 -- a line of a file
-pub written_taken : (m : Files) (old new : Reader) (n : ℕ) (ts : List Lexeme) → TakesWritten (left_in m old.top.source) n ts (left_in m new.top.source) → mark_of new.top ≡ mark_of old.top → new.outer ≡ old.outer → new.place ≡ moved old.place n → suc new.room ≡ old.room → Takes (left_of m old) (Ok (Some ts, left_of m new))
+pub written_taken : (m : Files) (old new : InputStack) (n : ℕ) (ts : List Lexeme) → TakesWritten (remaining_in m old.top.source) n ts (remaining_in m new.top.source) → mark_of new.top ≡ mark_of old.top → new.outer ≡ old.outer → new.place ≡ location_at old.place n → suc new.room ≡ old.room → TakesNextLine (remaining_of m old) (Ok (Some ts, remaining_of m new))
 written_taken m old new n ts (bytes, e, read) k u p r =
-    let tail = mark (mark_of old.top) ∷ outside m old.outer.items in
-    let after = left_in m new.top.source in
-    let one : TakesFrom ((written n bytes ∷ after) ++ tail) (suc new.room) old.place (Ok (Some ts, left (after ++ tail) new.room (moved old.place n))) = (Ok ts, (Ok ts, read, refl), refl) in
-    let items : after ++ tail ≡ (left_of m new).items = ap (λ x. after ++ (mark x ∷ outside m old.outer.items)) (sym k) ∙ ap (λ x. after ++ (mark (mark_of new.top) ∷ outside m x.items)) (sym u) ∙ sym (parted m new) in
-    let before : (written n bytes ∷ after) ++ tail ≡ (left_of m old).items = ap (λ l. l ++ tail) (sym e) ∙ sym (parted m old) in
-    let P : List Item → Type 0 = λ l. TakesFrom l (suc new.room) old.place (Ok (Some ts, left (after ++ tail) new.room (moved old.place n))) in
-    let Q : ℕ → Type 0 = λ x. TakesFrom (left_of m old).items x old.place (Ok (Some ts, left (after ++ tail) new.room (moved old.place n))) in
-    let R : List Item → Type 0 = λ l. TakesFrom (left_of m old).items old.room old.place (Ok (Some ts, left l new.room (moved old.place n))) in
-    let S : Place → Type 0 = λ q. TakesFrom (left_of m old).items old.room old.place (Ok (Some ts, left (left_of m new).items new.room q)) in
+    let tail = mark (mark_of old.top) ∷ outer_items m old.outer.items in
+    let after = remaining_in m new.top.source in
+    let one : TakesFrom ((written n bytes ∷ after) ++ tail) (suc new.room) old.place (Ok (Some ts, remaining_input (after ++ tail) new.room (location_at old.place n))) = (Ok ts, (Ok ts, read, refl), refl) in
+    let items : after ++ tail ≡ (remaining_of m new).items = ap (λ x. after ++ (mark x ∷ outer_items m old.outer.items)) (sym k) ∙ ap (λ x. after ++ (mark (mark_of new.top) ∷ outer_items m x.items)) (sym u) ∙ sym (parted m new) in
+    let before : (written n bytes ∷ after) ++ tail ≡ (remaining_of m old).items = ap (λ l. l ++ tail) (sym e) ∙ sym (parted m old) in
+    let P : List Item → Type 0 = λ l. TakesFrom l (suc new.room) old.place (Ok (Some ts, remaining_input (after ++ tail) new.room (location_at old.place n))) in
+    let Q : ℕ → Type 0 = λ x. TakesFrom (remaining_of m old).items x old.place (Ok (Some ts, remaining_input (after ++ tail) new.room (location_at old.place n))) in
+    let R : List Item → Type 0 = λ l. TakesFrom (remaining_of m old).items old.room old.place (Ok (Some ts, remaining_input l new.room (location_at old.place n))) in
+    let S : SourceLocation → Type 0 = λ q. TakesFrom (remaining_of m old).items old.room old.place (Ok (Some ts, remaining_input (remaining_of m new).items new.room q)) in
     subst S (sym p) (subst R items (subst Q r (subst P before one)))

@@ -24,7 +24,7 @@ within_limit bs at k n h =
     ap (λ l. l ++ drop (at + n) (take (at + k) bs)) (sym front) ∙ ap (λ l. take n (take k (drop at bs)) ++ l) back ∙ take-append-drop n (take k (drop at bs)) ∙ sym all
 
 pub next_piece : (bs : List ℕ) (limit at want n : ℕ) (piece : List ℕ) → want ≤ limit - at → IsPiece (drop at bs) want n piece → piece ++ drop (at + n) (take limit bs) ≡ drop at (take limit bs)
-next_piece bs limit at want n piece h p = rw p.front (by (nat_le at limit) refl)
+next_piece bs limit at want n piece h p = rw p.pending (by (nat_le at limit) refl)
   where
     by : (b : Bool) → nat_le at limit ≡ b → take n (drop at bs) ++ drop (at + n) (take limit bs) ≡ drop at (take limit bs)
     by true e =
@@ -115,8 +115,8 @@ return_alone b r = rw r refl
 no_return_alone : (b : ℕ) → is_return b ≡ false → without_return (b ∷ []) ≡ b ∷ []
 no_return_alone b r = rw r refl
 
-return_behind : (b c : ℕ) (bs : List ℕ) → without_return (b ∷ c ∷ bs) ≡ b ∷ without_return (c ∷ bs)
-return_behind b c bs = grind (arith, common_steps)
+return_after : (b c : ℕ) (bs : List ℕ) → without_return (b ∷ c ∷ bs) ≡ b ∷ without_return (c ∷ bs)
+return_after b c bs = grind (arith, common_steps)
 
 -- ---- The first line's end.
 
@@ -150,7 +150,7 @@ one_more b c bs e next = go (is_line_end c) (is_return b) refl refl
     go : (t r : Bool) → is_line_end c ≡ t → is_return b ≡ r → lines_of (b ∷ c ∷ bs) ≡ without_return (b ∷ front (c ∷ bs)) ∷ lines_of (rest (c ∷ bs))
     go true true f g = lines_return b (c ∷ bs) e g f ∙ next ∙ rw (front_end c bs f, return_alone b g) refl
     go true false f g = lines_more b (c ∷ bs) e g ∙ ap (put_before b) next ∙ rw (front_end c bs f, no_return_alone b g) refl
-    go false r f g = lines_inside b c bs e f ∙ ap (put_before b) next ∙ rw (front_more c bs f, return_behind b c (front bs)) refl
+    go false r f g = lines_inside b c bs e f ∙ ap (put_before b) next ∙ rw (front_more c bs f, return_after b c (front bs)) refl
 
 -- a line that ends
 ended : (bs : List ℕ) → prefix_len is_inside bs < length bs → lines_of bs ≡ without_return (front bs) ∷ lines_of (rest bs)
@@ -241,16 +241,16 @@ front_is_part (b ∷ bs) = grind (arith, common_steps, (front_is_part bs), prefi
 -- ---- A piece of a line at hand.
 
 -- it is too much
-pub piece_too_long : (line here behind : List ℕ) (n : ℕ) → IsPart line → n ≡ prefix_len is_inside here → n ≤ length here → 4097 < length line + n → BeginsLong (lines_of (line ++ (here ++ behind)))
-piece_too_long line here behind n h e le long =
+pub piece_too_long : (line here following : List ℕ) (n : ℕ) → IsPart line → n ≡ prefix_len is_inside here → n ≤ length here → 4097 < length line + n → BeginsLong (lines_of (line ++ (here ++ following)))
+piece_too_long line here following n h e le long =
     let P : ℕ → Type 0 = λ k. IsPart (take k here) in
     let piece : IsPart (take n here) = subst P (sym e) (front_is_part here) in
     let len : length (take n here) ≡ n = omega (arith, length-take n here) in
     let more : 4097 < length (line ++ take n here) = omega (arith, length-append line (take n here), len, long) in
-    let whole : (line ++ take n here) ++ (drop n here ++ behind) ≡ line ++ (here ++ behind) =
-    append_assoc line (take n here) (drop n here ++ behind) ∙ ap (λ l. line ++ l) (sym (append_assoc (take n here) (drop n here) behind) ∙ ap (λ l. l ++ behind) (take-append-drop n here)) in
+    let whole : (line ++ take n here) ++ (drop n here ++ following) ≡ line ++ (here ++ following) =
+    append_assoc line (take n here) (drop n here ++ following) ∙ ap (λ l. line ++ l) (sym (append_assoc (take n here) (drop n here) following) ∙ ap (λ l. l ++ following) (take-append-drop n here)) in
     let Q : List ℕ → Type 0 = λ l. BeginsLong (lines_of l) in
-    subst Q whole (part_is_long (line ++ take n here) (drop n here ++ behind) (part_append line (take n here) h piece) more)
+    subst Q whole (part_is_long (line ++ take n here) (drop n here ++ following) (part_append line (take n here) h piece) more)
 
 -- what stands behind the bytes before a line's end
 pub stops : (bs : List ℕ) (b : ℕ) (cs : List ℕ) → drop (prefix_len is_inside bs) bs ≡ b ∷ cs → is_line_end b ≡ true
@@ -258,11 +258,11 @@ stops [] b cs e = absurd cc
 stops (a ∷ bs) b cs e = grind (arith, common_steps, (stops bs b cs), prefix_end, prefix_more)
 
 -- it ends the line
-pub piece_ends : (line here behind : List ℕ) (n : ℕ) → IsPart line → n ≡ prefix_len is_inside here → n < length here → lines_of (line ++ (here ++ behind)) ≡ without_return (line ++ take n here) ∷ lines_of (drop (n + 1) here ++ behind)
-piece_ends line here behind n h e lt =
+pub piece_ends : (line here following : List ℕ) (n : ℕ) → IsPart line → n ≡ prefix_len is_inside here → n < length here → lines_of (line ++ (here ++ following)) ≡ without_return (line ++ take n here) ∷ lines_of (drop (n + 1) here ++ following)
+piece_ends line here following n h e lt =
     by (drop n here) refl
   where
-    by : (l : List ℕ) → drop n here ≡ l → lines_of (line ++ (here ++ behind)) ≡ without_return (line ++ take n here) ∷ lines_of (drop (n + 1) here ++ behind)
+    by : (l : List ℕ) → drop n here ≡ l → lines_of (line ++ (here ++ following)) ≡ without_return (line ++ take n here) ∷ lines_of (drop (n + 1) here ++ following)
     by [] f = absurd (omega (arith, length-drop n here, ap length f))
     by (b ∷ bs) f =
         let Q : ℕ → Type 0 = λ k. drop k here ≡ b ∷ bs in
@@ -271,9 +271,9 @@ piece_ends line here behind n h e lt =
         let gone : drop (n + 1) here ≡ bs = sym (drop-drop 1 n here) ∙ ap (drop 1) f in
         let P : ℕ → Type 0 = λ k. IsPart (take k here) in
         let piece : IsPart (take n here) = subst P (sym e) (front_is_part here) in
-        let all : line ++ (here ++ behind) ≡ (line ++ take n here) ++ b ∷ (bs ++ behind) =
-        ap (λ l. line ++ (l ++ behind)) split ∙ ap (λ l. line ++ l) (append_assoc (take n here) (b ∷ bs) behind) ∙ sym (append_assoc line (take n here) (b ∷ (bs ++ behind))) in
-        ap lines_of all ∙ part_ends (line ++ take n here) (bs ++ behind) b (part_append line (take n here) h piece) at_end ∙ ap (λ l. without_return (line ++ take n here) ∷ lines_of (l ++ behind)) (sym gone)
+        let all : line ++ (here ++ following) ≡ (line ++ take n here) ++ b ∷ (bs ++ following) =
+        ap (λ l. line ++ (l ++ following)) split ∙ ap (λ l. line ++ l) (append_assoc (take n here) (b ∷ bs) following) ∙ sym (append_assoc line (take n here) (b ∷ (bs ++ following))) in
+        ap lines_of all ∙ part_ends (line ++ take n here) (bs ++ following) b (part_append line (take n here) h piece) at_end ∙ ap (λ l. without_return (line ++ take n here) ∷ lines_of (l ++ following)) (sym gone)
 
 pub piece_is_part : (line here : List ℕ) (n : ℕ) → IsPart line → n ≡ prefix_len is_inside here → IsPart (line ++ take n here)
 piece_is_part line here n h e = let P : ℕ → Type 0 = λ k. IsPart (take k here) in part_append line (take n here) h (subst P (sym e) (front_is_part here))

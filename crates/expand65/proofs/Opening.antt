@@ -3,25 +3,25 @@ use Rattle.std.proofs.lemmas.Grind.{common_steps}
 use Rattle.std.proofs.Common.{◌≡◌, ℕ, ◌+◌, ◌<◌, ◌≤◌, Bool, true, false, List, [], ◌∷◌, ◌++◌, length, map, take, drop, refl, sym, ap, ◌∙◌, arith, Option, Some, None, IfSome, Result, Ok, Err, get_or, length-append}
 use Rattle.std.proofs.lemmas.List.{drop-map, drop-drop, length-drop, take_all}
 use Rattle.std.specs.List.{prefix_len}
-use Rattle.syntax65.specs.Faults.{is_lex_outside, fault_of_lexing, is_outside}
-use Rattle.base65.specs.Outcome.{Unless, Refuses}
+use Rattle.syntax65.specs.Faults.{is_lex_system_error, fault_of_lexing, is_system_error}
+use Rattle.base65.specs.Outcome.{Unless, RefinesErr}
 use Rattle.base65.specs.Store.{Files}
 use Rattle.syntax65.specs.Tokens.{Lexeme, IsRead}
 use Rattle.syntax65.specs.declared.lexing.tokens.LexFault.{LexFault}
 use Rattle.syntax65.specs.declared.lexing.tokens.LexFault.TheVariants as lex
-use Rattle.expand65.specs.Lines.{numbered, Item, written, played, Replacing, replaced, lines_of, ReadsLine, BeginsLong, content, is_inside, left_in_file, rest_of, without_return, bytes_of, IsOpened, fitted, lexed}
-use Rattle.expand65.specs.Standing.{ComesNext, TakesLine}
-use Rattle.expand65.specs.Playing.{tokens_in, left_to_play, replacing_of, IsFirstLine, TakesWritten}
+use Rattle.expand65.specs.Lines.{file_lines_after, Item, written, played, Substitution, substituted_line, lines_of, ReadsLine, BeginsLong, content, is_inside, left_in_file, rest_of, without_return, bytes_of, IsOpened, body_line_tokens, file_line_tokens}
+use Rattle.expand65.specs.Representation.{ComesNext, TakesLine}
+use Rattle.expand65.specs.Replay.{tokens_in, left_to_play, replacing_of, IsFirstLine, TakesWritten}
 use Rattle.syntax65.specs.declared.fault.ExpandFault.{ExpandFault}
 use Rattle.syntax65.specs.declared.fault.ExpandFault.TheVariants.{Syntax}
 use Rattle.expand65.specs.declared.file.OpenFile.{OpenFile}
 use Rattle.expand65.specs.declared.input.NextLine.TheVariants.{Numbered}
-use Rattle.expand65.specs.declared.line.Line.{Line}
-use Rattle.expand65.specs.declared.playing.Replay.{Replay}
+use Rattle.expand65.specs.declared.line.StoredLine.{StoredLine}
+use Rattle.expand65.specs.declared.macro_replay.Replay.{Replay}
 use Rattle.expand65.proofs.Lines.{piece_ends, some_line}
 
 -- a line without tokens
-pub not_read : (bytes : List ℕ) (e : LexFault) → Unless (is_lex_outside e) (IsRead bytes (Err e)) → Unless (is_outside (fault_of_lexing e)) ((q : Result (List Lexeme) LexFault) × IsRead bytes q × (Err (fault_of_lexing e) ≡ lexed q))
+pub not_read : (bytes : List ℕ) (e : LexFault) → Unless (is_lex_system_error e) (IsRead bytes (Err e)) → Unless (is_system_error (fault_of_lexing e)) ((q : Result (List Lexeme) LexFault) × IsRead bytes q × (Err (fault_of_lexing e) ≡ file_line_tokens q))
 not_read bytes lex.OutOfMemory h = tt
 not_read bytes lex.BadCharacter h = (Err lex.BadCharacter, h, refl)
 not_read bytes lex.BadNumber h = (Err lex.BadNumber, h, refl)
@@ -35,65 +35,65 @@ pub file_begins : (o : Option Files) (f : OpenFile) (n : ℕ) → f.at < length 
 file_begins None f n h e = tt
 file_begins (Some m) f n h e = by (rest_of m f) refl
   where
-    by : (bs : List ℕ) → rest_of m f ≡ bs → ComesNext (numbered f.line (lines_of (rest_of m f))) (Numbered n)
+    by : (bs : List ℕ) → rest_of m f ≡ bs → ComesNext (file_lines_after f.line (lines_of (rest_of m f))) (Numbered n)
     by [] g = absurd (omega (arith, length-drop f.at f.buffer.items, ap length g, length-append (drop f.at f.buffer.items) (drop f.next (content m f.name))))
     by (b ∷ bs) g =
         let l = some_line b bs in
-        (l.0, (numbered (f.line + 1) l.1.0, ap (λ x. numbered f.line (lines_of x)) g ∙ ap (numbered f.line) l.1.1 ∙ ap (λ k. written k l.0 ∷ numbered (f.line + 1) l.1.0) (sym e)))
+        (l.0, (file_lines_after (f.line + 1) l.1.0, ap (λ x. file_lines_after f.line (lines_of x)) g ∙ ap (file_lines_after f.line) l.1.1 ∙ ap (λ k. written k l.0 ∷ file_lines_after (f.line + 1) l.1.0) (sym e)))
 
 pub file_too_long : (o : Option Files) (old new : OpenFile) (f : ExpandFault) → IfSome o (λ m. ReadsLine (lines_of (rest_of m old)) (Err f) (lines_of (rest_of m new))) → IfSome o (λ m. TakesLine (left_in_file m old) (Err f) (left_in_file m new))
 file_too_long None old new f h = tt
-file_too_long (Some m) old new f h = by (is_outside f) h
+file_too_long (Some m) old new f h = by (is_system_error f) h
   where
     by : (b : Bool) → Unless b ((f ≡ Syntax lex.LineTooLong) × BeginsLong (lines_of (rest_of m old))) → Unless b ((i : Item) × ((others : List Item) × (left_in_file m old ≡ i ∷ others) × IsOpened i (Err f)))
     by true k = tt
-    by false (e, (line, (others, is, long))) = (written (old.line + 1) line, (numbered (old.line + 1) others, ap (numbered old.line) is, (Err lex.LineTooLong, long, ap Err e)))
+    by false (e, (line, (others, is, long))) = (written (old.line + 1) line, (file_lines_after (old.line + 1) others, ap (file_lines_after old.line) is, (Err lex.LineTooLong, long, ap Err e)))
 
-pub file_taken : (o : Option Files) (old new : OpenFile) (bytes : List ℕ) (line : Line) (n : ℕ) → IfSome o (λ m. ReadsLine (lines_of (rest_of m old)) (Ok bytes) (lines_of (rest_of m new))) → new.line ≡ n → n ≡ old.line + 1 → ((q : Result (List Lexeme) LexFault) × IsRead bytes q × (Ok (tokens_in line) ≡ lexed q)) → IfSome o (λ m. TakesLine (left_in_file m old) (Ok line) (left_in_file m new))
+pub file_taken : (o : Option Files) (old new : OpenFile) (bytes : List ℕ) (line : StoredLine) (n : ℕ) → IfSome o (λ m. ReadsLine (lines_of (rest_of m old)) (Ok bytes) (lines_of (rest_of m new))) → new.line ≡ n → n ≡ old.line + 1 → ((q : Result (List Lexeme) LexFault) × IsRead bytes q × (Ok (tokens_in line) ≡ file_line_tokens q)) → IfSome o (λ m. TakesLine (left_in_file m old) (Ok line) (left_in_file m new))
 file_taken None old new bytes line n h e g t = tt
 file_taken (Some m) old new bytes line n h e g t =
-    (written (old.line + 1) bytes, ap (numbered old.line) h ∙ ap (λ k. written (old.line + 1) bytes ∷ numbered k (lines_of (rest_of m new))) (sym (e ∙ g)), t)
+    (written (old.line + 1) bytes, ap (file_lines_after old.line) h ∙ ap (λ k. written (old.line + 1) bytes ∷ file_lines_after k (lines_of (rest_of m new))) (sym (e ∙ g)), t)
 
-pub file_refused : (o : Option Files) (old new last : OpenFile) (bytes : List ℕ) (f : ExpandFault) → IfSome o (λ m. ReadsLine (lines_of (rest_of m old)) (Ok bytes) (lines_of (rest_of m new))) → Unless (is_outside f) ((q : Result (List Lexeme) LexFault) × IsRead bytes q × (Err f ≡ lexed q)) → IfSome o (λ m. TakesLine (left_in_file m old) (Err f) (left_in_file m last))
+pub file_refused : (o : Option Files) (old new last : OpenFile) (bytes : List ℕ) (f : ExpandFault) → IfSome o (λ m. ReadsLine (lines_of (rest_of m old)) (Ok bytes) (lines_of (rest_of m new))) → Unless (is_system_error f) ((q : Result (List Lexeme) LexFault) × IsRead bytes q × (Err f ≡ file_line_tokens q)) → IfSome o (λ m. TakesLine (left_in_file m old) (Err f) (left_in_file m last))
 file_refused None old new last bytes f h t = tt
-file_refused (Some m) old new last bytes f h t = by (is_outside f) t
+file_refused (Some m) old new last bytes f h t = by (is_system_error f) t
   where
-    by : (b : Bool) → Unless b ((q : Result (List Lexeme) LexFault) × IsRead bytes q × (Err f ≡ lexed q)) → Unless b ((i : Item) × ((others : List Item) × (left_in_file m old ≡ i ∷ others) × IsOpened i (Err f)))
+    by : (b : Bool) → Unless b ((q : Result (List Lexeme) LexFault) × IsRead bytes q × (Err f ≡ file_line_tokens q)) → Unless b ((i : Item) × ((others : List Item) × (left_in_file m old ≡ i ∷ others) × IsOpened i (Err f)))
     by true k = tt
-    by false k = (written (old.line + 1) bytes, (numbered (old.line + 1) (lines_of (rest_of m new)), ap (numbered old.line) h, k))
+    by false k = (written (old.line + 1) bytes, (file_lines_after (old.line + 1) (lines_of (rest_of m new)), ap (file_lines_after old.line) h, k))
 
 -- a line that ends in what is at hand is the first
 pub first_at_hand : (m : Files) (f : OpenFile) (n k : ℕ) → n ≡ prefix_len is_inside (drop f.at f.buffer.items) → n < length (drop f.at f.buffer.items) → lines_of (rest_of m f) ≡ without_return (take n (drop f.at f.buffer.items)) ∷ lines_of (rest_of m (record { name = f.name; buffer = f.buffer; at = f.at + (n + 1); next = f.next; line = k; spare = f.spare }))
 first_at_hand m f n k e lt =
     let here = drop f.at f.buffer.items in
-    let behind = drop f.next (content m f.name) in
+    let following = drop f.next (content m f.name) in
     let gone : drop (n + 1) here ≡ drop (f.at + (n + 1)) f.buffer.items = drop-drop (n + 1) f.at f.buffer.items in
-    piece_ends [] here behind n refl e lt ∙ ap (λ l. without_return (take n here) ∷ lines_of (l ++ behind)) gone
+    piece_ends [] here following n refl e lt ∙ ap (λ l. without_return (take n here) ∷ lines_of (l ++ following)) gone
 
 -- a line that is read where it stands
 pub file_peeked : (m : Files) (f : OpenFile) (n k : ℕ) (ts : List Lexeme) → IsFirstLine (drop f.at f.buffer.items) n ts → k ≡ f.line + 1 → TakesWritten (left_in_file m f) k ts (left_in_file m (record { name = f.name; buffer = f.buffer; at = f.at + (n + 1); next = f.next; line = k; spare = f.spare }))
 file_peeked m f n k ts (e, lt, read) number =
-    let behind = drop f.next (content m f.name) in
+    let following = drop f.next (content m f.name) in
     let line = without_return (take n (drop f.at f.buffer.items)) in
-    (line, ap (numbered f.line) (first_at_hand m f n k e lt) ∙ ap (λ j. written j line ∷ numbered j (lines_of (drop (f.at + (n + 1)) f.buffer.items ++ behind))) (sym number), read)
+    (line, ap (file_lines_after f.line) (first_at_hand m f n k e lt) ∙ ap (λ j. written j line ∷ file_lines_after j (lines_of (drop (f.at + (n + 1)) f.buffer.items ++ following))) (sym number), read)
 
 -- ---- Lines of bodies.
 
 -- what is left of a body begins with the line at its place
-played_at : (e : Replacing) (lines : List Line) (at : ℕ) (x : Line) → at < length lines → x ≡ get_or lines at x → map (played e) (drop at (map tokens_in lines)) ≡ played e (tokens_in x) ∷ map (played e) (drop (at + 1) (map tokens_in lines))
+played_at : (e : Substitution) (lines : List StoredLine) (at : ℕ) (x : StoredLine) → at < length lines → x ≡ get_or lines at x → map (played e) (drop at (map tokens_in lines)) ≡ played e (tokens_in x) ∷ map (played e) (drop (at + 1) (map tokens_in lines))
 played_at e lines at x h same = grind (arith, common_steps, drop-map)
 
-pub body_taken : (r : Replay) (x line : Line) → r.at < length r.body.value.lines → x ≡ get_or r.body.value.lines r.at x → fitted (replaced (replacing_of r) (tokens_in x)) ≡ Ok (tokens_in line) → TakesLine (left_to_play r) (Ok line) (map (played (replacing_of r)) (drop (r.at + 1) (map tokens_in r.body.value.lines)))
+pub body_taken : (r : Replay) (x line : StoredLine) → r.at < length r.body.value.lines → x ≡ get_or r.body.value.lines r.at x → body_line_tokens (substituted_line (replacing_of r) (tokens_in x)) ≡ Ok (tokens_in line) → TakesLine (left_to_play r) (Ok line) (map (played (replacing_of r)) (drop (r.at + 1) (map tokens_in r.body.value.lines)))
 body_taken r x line h same e = (played (replacing_of r) (tokens_in x), played_at (replacing_of r) r.body.value.lines r.at x h same, sym e)
 
-pub body_refused : (r : Replay) (x : Line) (f : ExpandFault) (after : List Item) → r.at < length r.body.value.lines → x ≡ get_or r.body.value.lines r.at x → Refuses is_outside f (fitted (replaced (replacing_of r) (tokens_in x))) → TakesLine (left_to_play r) (Err f) after
-body_refused r x f after h same e = by (is_outside f) e
+pub body_refused : (r : Replay) (x : StoredLine) (f : ExpandFault) (after : List Item) → r.at < length r.body.value.lines → x ≡ get_or r.body.value.lines r.at x → RefinesErr is_system_error f (body_line_tokens (substituted_line (replacing_of r) (tokens_in x))) → TakesLine (left_to_play r) (Err f) after
+body_refused r x f after h same e = by (is_system_error f) e
   where
-    by : (b : Bool) → Unless b (fitted (replaced (replacing_of r) (tokens_in x)) ≡ Err f) → Unless b ((i : Item) × ((others : List Item) × (left_to_play r ≡ i ∷ others) × IsOpened i (Err f)))
+    by : (b : Bool) → Unless b (body_line_tokens (substituted_line (replacing_of r) (tokens_in x)) ≡ Err f) → Unless b ((i : Item) × ((others : List Item) × (left_to_play r ≡ i ∷ others) × IsOpened i (Err f)))
     by true k = tt
     by false k = (played (replacing_of r) (tokens_in x), (map (played (replacing_of r)) (drop (r.at + 1) (map tokens_in r.body.value.lines)), played_at (replacing_of r) r.body.value.lines r.at x h same, sym k))
 
 -- ---- A file before its first line.
 
-pub opens : (m : Files) (name buffer : List ℕ) → buffer ≡ [] → length (bytes_of m name) ≤ 16777216 → numbered 0 (lines_of (buffer ++ content m name)) ≡ numbered 0 (lines_of (bytes_of m name))
-opens m name buffer b h = ap (λ x. numbered 0 (lines_of (x ++ content m name))) b ∙ ap (λ l. numbered 0 (lines_of l)) (take_all 16777216 (bytes_of m name) h)
+pub opens : (m : Files) (name buffer : List ℕ) → buffer ≡ [] → length (bytes_of m name) ≤ 16777216 → file_lines_after 0 (lines_of (buffer ++ content m name)) ≡ file_lines_after 0 (lines_of (bytes_of m name))
+opens m name buffer b h = ap (λ x. file_lines_after 0 (lines_of (x ++ content m name))) b ∙ ap (λ l. file_lines_after 0 (lines_of l)) (take_all 16777216 (bytes_of m name) h)

@@ -10,8 +10,8 @@ use Rattle.std.proofs.lemmas.List.{length-drop, take_more}
 use Rattle.std.proofs.lemmas.List.Folds.{list_any-append}
 use Rattle.std.proofs.lemmas.Str.{IsUtf8-from_is_utf8}
 use Rattle.base65.specs.Outcome.{Unless}
-use Rattle.base65.specs.Store.{Files, IsBlamedAt, ReadsAt, Blamed}
-use Rattle.syntax65.specs.Faults.{is_outside}
+use Rattle.base65.specs.Store.{Files, FailedAt, ReadsAt, LastFailure}
+use Rattle.syntax65.specs.Faults.{is_system_error}
 use Rattle.expand65.specs.Failing.{IsAmong}
 use Rattle.expand65.specs.Expansion.{file_named, first_file, folder_of, found_or, is_slash}
 use Rattle.expand65.specs.Lines.{bytes_of}
@@ -97,12 +97,12 @@ is_found m name found others u h e = grind (arith, common_steps)
 pub is_missing : (m : Files) (name : List ℕ) (others : Result (List ℕ × List ℕ) ExpandFault) → is_utf8 name ≡ true → is_there (fmap.get m name) ≡ Ok false → found_or name (file_named m name) others ≡ others
 is_missing m name others u h = grind (arith, common_steps)
 
-pub is_refused : (m : Files) (name : List ℕ) (others : Result (List ℕ × List ℕ) ExpandFault) (f : ExpandFault) → is_utf8 name ≡ true → Unless (is_outside f) (is_there (fmap.get m name) ≡ Err f) → Unless (is_outside f) (found_or name (file_named m name) others ≡ Err f)
+pub is_refused : (m : Files) (name : List ℕ) (others : Result (List ℕ × List ℕ) ExpandFault) (f : ExpandFault) → is_utf8 name ≡ true → Unless (is_system_error f) (is_there (fmap.get m name) ≡ Err f) → Unless (is_system_error f) (found_or name (file_named m name) others ≡ Err f)
 is_refused m name others f u h = grind (arith, common_steps)
 
 -- ---- The name that was asked for.
 
-pub among_at : (blamed : Blamed) (f : List ℕ → List ℕ) (l : List (List ℕ)) (i : ℕ) (d : List ℕ) → i < length l → IsBlamedAt blamed (f (get_or l i d)) 16777216 → IsAmong blamed (map f l)
-among_at blamed f [] i d h k = absurd (omega (arith, h))
-among_at blamed f (x ∷ l) zero d h k = inl k
-among_at blamed f (x ∷ l) (suc i) d h k = inr (among_at blamed f l i d (omega (arith, h)) k)
+pub among_at : (last_failure : LastFailure) (f : List ℕ → List ℕ) (l : List (List ℕ)) (i : ℕ) (d : List ℕ) → i < length l → FailedAt last_failure (f (get_or l i d)) 16777216 → IsAmong last_failure (map f l)
+among_at last_failure f [] i d h k = absurd (omega (arith, h))
+among_at last_failure f (x ∷ l) zero d h k = inl k
+among_at last_failure f (x ∷ l) (suc i) d h k = inr (among_at last_failure f l i d (omega (arith, h)) k)

@@ -1,17 +1,17 @@
 -- Of lines and end marks a line is taken, and a block, or there is a fault of their own; less is left behind.
 use Rattle.std.proofs.Common.{◌≡◌, ℕ, zero, suc, ◌<◌, ◌≤◌, Bool, true, false, List, [], ◌∷◌, Option, Some, None, refl, arith, if◌then◌else◌}
 use Rattle.std.specs.Prelude.{Result, Ok, Err, ⊤, length, drop, nat_le, ◌==◌}
-use Rattle.base65.proofs.Own.{Own, bad, choice, good}
-use Rattle.syntax65.specs.Faults.{is_lex_outside, is_outside}
+use Rattle.base65.proofs.SystemErrors.{Own, bad, choice, good}
+use Rattle.syntax65.specs.Faults.{is_lex_system_error, is_system_error}
 use Rattle.syntax65.specs.Tokens.{Lexeme}
 use Rattle.syntax65.specs.declared.lexing.tokens.LexFault.{LexFault}
 use Rattle.syntax65.specs.declared.lexing.tokens.LexFault.TheVariants as lex
-use Rattle.syntax65.specs.declared.place.Place.{Place}
+use Rattle.syntax65.specs.declared.source_location.SourceLocation.{SourceLocation}
 use Rattle.syntax65.proofs.SomeReading.{some_reading}
-use Rattle.expand65.specs.Blocks.{Branch, Verdict, on, closed, refused, closed_alone, judge, judged, with_line, Whole, Block, a_fault, a_mark, a_refusal, the_last, one_more}
+use Rattle.expand65.specs.Blocks.{Branch, Verdict, on, closed, refused, closed_alone, judge, block_verdict, with_line, CompleteBlock, Block, a_fault, a_mark, a_refusal, the_last, one_more}
 use Rattle.expand65.specs.Fronts.{is_mislabelled, line_directive}
 use Rattle.expand65.specs.Laws.{AreLines, weight}
-use Rattle.expand65.specs.Lines.{Item, written, played, labelled, branch, mark, Left, left, Stop, moved, replaced, Taken, Takes, TakesFrom, taken_as, lexed, fitted, token_limit}
+use Rattle.expand65.specs.Lines.{Item, written, played, labelled, branch, mark, RemainingInput, remaining_input, LocatedError, location_at, substituted_line, LineAndRest, TakesNextLine, TakesFrom, taken_as, file_line_tokens, body_line_tokens, token_limit}
 use Rattle.expand65.specs.Types.{ExpandFault, NotClosed, NotUnderstood, TooManyLines, Directive, Macro, EndMacro, Repeat, EndRepeat, If, ElseIf, Else, EndIf}
 use Rattle.expand65.specs.declared.blocks.BlockKind.{BlockKind}
 use Rattle.expand65.specs.declared.blocks.BlockKind.TheVariants as kind
@@ -19,50 +19,50 @@ use Rattle.expand65.specs.declared.blocks.BlockKind.TheVariants as kind
 -- ---- One line.
 
 -- lines alone, of which less are left
-pub record AreFewer (is : List Item) (r : ℕ) (x : Left) : Type 0 where
+pub record AreFewer (is : List Item) (r : ℕ) (x : RemainingInput) : Type 0 where
   pub lines : AreLines x.items
   pub room : x.room < r
   pub light : weight x.items ≤ weight is
 
 -- what is left behind a line that was taken, or that none was
-abbrev pub IsTakenOf : List Item → ℕ → Taken → Type 0
+abbrev pub IsTakenOf : List Item → ℕ → LineAndRest → Type 0
 IsTakenOf is room (Ok (Some ts, x)) = AreFewer is room x
 IsTakenOf is room (Ok (None, x)) = (x.items ≡ is) × (x.room ≡ room)
-IsTakenOf is room (Err e) = is_outside e.0 ≡ false
+IsTakenOf is room (Err e) = is_system_error e.0 ≡ false
 
-lexed_own : (q : Result (List Lexeme) LexFault) → Own is_lex_outside q → Own is_outside (lexed q)
+lexed_own : (q : Result (List Lexeme) LexFault) → Own is_lex_system_error q → Own is_system_error (file_line_tokens q)
 lexed_own (Ok ts) h = good ts
 lexed_own (Err lex.OutOfMemory) h = absurd (let e : true ≡ false = h.own in cc)
 lexed_own (Err _) h = bad _ refl
 
-fitted_own : (ts : List Lexeme) → Own is_outside (fitted ts)
+fitted_own : (ts : List Lexeme) → Own is_system_error (body_line_tokens ts)
 fitted_own ts = choice (nat_le (length ts) token_limit) _ _ (good ts) (bad _ refl)
 
-behind_taken : (i : Item) (is : List Item) (room : ℕ) (p : Place) (q : Result (List Lexeme) ExpandFault) → weight is ≤ weight (i ∷ is) → AreLines is → Own is_outside q → IsTakenOf (i ∷ is) (suc room) (taken_as q (left is room p))
-behind_taken i is room p (Ok ts) le lines h = record { lines = lines; room = omega arith; light = le }
-behind_taken i is room p (Err f) le lines h = h.own
+following_taken : (i : Item) (is : List Item) (room : ℕ) (p : SourceLocation) (q : Result (List Lexeme) ExpandFault) → weight is ≤ weight (i ∷ is) → AreLines is → Own is_system_error q → IsTakenOf (i ∷ is) (suc room) (taken_as q (remaining_input is room p))
+following_taken i is room p (Ok ts) le lines h = record { lines = lines; room = omega arith; light = le }
+following_taken i is room p (Err f) le lines h = h.own
 
-abbrev pub HasTaken : List Item → ℕ → Place → Type 0
-HasTaken is room p = (t : Taken) × TakesFrom is room p t × IsTakenOf is room t
+abbrev pub HasTaken : List Item → ℕ → SourceLocation → Type 0
+HasTaken is room p = (t : LineAndRest) × TakesFrom is room p t × IsTakenOf is room t
 
-pub some_taken : (is : List Item) (room : ℕ) (p : Place) → AreLines is → HasTaken is room p
-some_taken [] room p lines = (Ok (None, left [] room p), refl, (refl, refl))
-some_taken (mark k ∷ is) room p lines = (Ok (None, left (mark k ∷ is) room p), refl, (refl, refl))
+pub some_taken : (is : List Item) (room : ℕ) (p : SourceLocation) → AreLines is → HasTaken is room p
+some_taken [] room p lines = (Ok (None, remaining_input [] room p), refl, (refl, refl))
+some_taken (mark k ∷ is) room p lines = (Ok (None, remaining_input (mark k ∷ is) room p), refl, (refl, refl))
 some_taken (labelled ts ∷ is) room p lines = absurd lines
 some_taken (branch ts ∷ is) room p lines = absurd lines
-some_taken (written n bytes ∷ is) zero p lines = (Err (TooManyLines, moved p n), refl, refl)
+some_taken (written n bytes ∷ is) zero p lines = (Err (TooManyLines, location_at p n), refl, refl)
 some_taken (played e ts ∷ is) zero p lines = (Err (TooManyLines, p), refl, refl)
 some_taken (written n bytes ∷ is) (suc room) p lines =
     let q = some_reading bytes in
-    let own : Own is_outside (lexed q.0) = lexed_own q.0 (record { own = q.2 }) in
-    (taken_as (lexed q.0) (left is room (moved p n)), (lexed q.0, (q.0, q.1, refl), refl), behind_taken (written n bytes) is room (moved p n) (lexed q.0) (omega arith) lines own)
+    let own : Own is_system_error (file_line_tokens q.0) = lexed_own q.0 (record { own = q.2 }) in
+    (taken_as (file_line_tokens q.0) (remaining_input is room (location_at p n)), (file_line_tokens q.0, (q.0, q.1, refl), refl), following_taken (written n bytes) is room (location_at p n) (file_line_tokens q.0) (omega arith) lines own)
 some_taken (played e ts ∷ is) (suc room) p lines =
-    (taken_as (fitted (replaced e ts)) (left is room p), (fitted (replaced e ts), refl, refl), behind_taken (played e ts) is room p (fitted (replaced e ts)) (omega arith) lines (fitted_own (replaced e ts)))
+    (taken_as (body_line_tokens (substituted_line e ts)) (remaining_input is room p), (body_line_tokens (substituted_line e ts), refl, refl), following_taken (played e ts) is room p (body_line_tokens (substituted_line e ts)) (omega arith) lines (fitted_own (substituted_line e ts)))
 
 -- ---- What a line does to its block.
 
 abbrev RefusesOwn : Verdict → Type 0
-RefusesOwn (refused f) = is_outside f ≡ false
+RefusesOwn (refused f) = is_system_error f ≡ false
 RefusesOwn _ = ⊤
 
 alone_own : (b : Branch) (ts : List Lexeme) → RefusesOwn (closed_alone b ts)
@@ -72,7 +72,7 @@ alone_own b ts = by (length ts == 0)
     by true = tt
     by false = refl
 
-judged_own : (k : BlockKind) (d : ℕ) (ts : List Lexeme) (o : Option Directive) → RefusesOwn (judged k d ts o)
+judged_own : (k : BlockKind) (d : ℕ) (ts : List Lexeme) (o : Option Directive) → RefusesOwn (block_verdict k d ts o)
 judged_own kind.Macro d ts (Some EndMacro) = alone_own _ (drop 1 ts)
 judged_own kind.Macro d ts (Some Macro) = refl
 judged_own kind.Repeat zero ts (Some EndRepeat) = alone_own _ (drop 1 ts)
@@ -83,44 +83,44 @@ judged_own kind.Skipped zero ts (Some ElseIf) = tt
 judged_own kind.Skipped zero ts (Some Else) = alone_own _ (drop 1 ts)
 judged_own kind.Skipped zero ts (Some EndIf) = alone_own _ (drop 1 ts)
 judged_own kind.Skipped (suc d) ts (Some EndIf) = tt
-judged_own kind.Passed d ts (Some (If test)) = tt
-judged_own kind.Passed zero ts (Some EndIf) = tt
-judged_own kind.Passed (suc d) ts (Some EndIf) = tt
+judged_own kind.RemainingBranches d ts (Some (If test)) = tt
+judged_own kind.RemainingBranches zero ts (Some EndIf) = tt
+judged_own kind.RemainingBranches (suc d) ts (Some EndIf) = tt
 judged_own k d ts _ = tt
 
 judge_own : (k : BlockKind) (d : ℕ) (ts : List Lexeme) → RefusesOwn (judge k d ts)
 judge_own k d ts = by (is_mislabelled ts)
   where
-    by : (b : Bool) → RefusesOwn (if b then refused NotUnderstood else judged k d ts (line_directive ts))
+    by : (b : Bool) → RefusesOwn (if b then refused NotUnderstood else block_verdict k d ts (line_directive ts))
     by true = refl
     by false = judged_own k d ts (line_directive ts)
 
 -- ---- Blocks.
 
 -- what is left behind a block
-abbrev pub IsBlockOf : Left → Result (Whole × Left) Stop → Type 0
+abbrev pub IsBlockOf : RemainingInput → Result (CompleteBlock × RemainingInput) LocatedError → Type 0
 IsBlockOf l (Ok (b, x)) = AreFewer l.items l.room x
-IsBlockOf l (Err e) = is_outside e.0 ≡ false
+IsBlockOf l (Err e) = is_system_error e.0 ≡ false
 
-fewer_still : (l x : Left) (q : Result (Whole × Left) Stop) → AreFewer l.items l.room x → IsBlockOf x q → IsBlockOf l q
+fewer_still : (l x : RemainingInput) (q : Result (CompleteBlock × RemainingInput) LocatedError) → AreFewer l.items l.room x → IsBlockOf x q → IsBlockOf l q
 fewer_still l x (Ok (b, y)) h j = let less = h.room in let more = j.room in let light = h.light in let lighter = j.light in record { lines = j.lines; room = omega arith; light = omega arith }
 fewer_still l x (Err e) h j = j
 
-abbrev pub HasBlock : BlockKind → ℕ → List (List Lexeme) → Left → Type 0
-HasBlock k d body l = (q : Result (Whole × Left) Stop) × Block k d body l q × IsBlockOf l q
+abbrev pub HasBlock : BlockKind → ℕ → List (List Lexeme) → RemainingInput → Type 0
+HasBlock k d body l = (q : Result (CompleteBlock × RemainingInput) LocatedError) × Block k d body l q × IsBlockOf l q
 
-module _ (k : BlockKind) (d : ℕ) (body : List (List Lexeme)) (l : Left) (more : (c : ℕ) (lines : List (List Lexeme)) (x : Left) → AreFewer l.items l.room x → HasBlock k c lines x) where
-  behind_line : (ts : List Lexeme) (x : Left) → Takes l (Ok (Some ts, x)) → AreFewer l.items l.room x → (v : Verdict) → judge k d ts ≡ v → RefusesOwn v → HasBlock k d body l
-  behind_line ts x t h (on c) e own = let q = more c (with_line k body ts) x h in (q.0, one_more d c body l x ts q.0 t e q.1, fewer_still l x q.0 h q.2)
-  behind_line ts x t h (closed b) e own = (Ok ((body, b), x), the_last d body l x ts b t e, h)
-  behind_line ts x t h (refused f) e own = (Err (f, x.place), a_refusal d body l x ts f t e, own)
+module _ (k : BlockKind) (d : ℕ) (body : List (List Lexeme)) (l : RemainingInput) (more : (c : ℕ) (lines : List (List Lexeme)) (x : RemainingInput) → AreFewer l.items l.room x → HasBlock k c lines x) where
+  after_line : (ts : List Lexeme) (x : RemainingInput) → TakesNextLine l (Ok (Some ts, x)) → AreFewer l.items l.room x → (v : Verdict) → judge k d ts ≡ v → RefusesOwn v → HasBlock k d body l
+  after_line ts x t h (on c) e own = let q = more c (with_line k body ts) x h in (q.0, one_more d c body l x ts q.0 t e q.1, fewer_still l x q.0 h q.2)
+  after_line ts x t h (closed b) e own = (Ok ((body, b), x), the_last d body l x ts b t e, h)
+  after_line ts x t h (refused f) e own = (Err (f, x.place), a_refusal d body l x ts f t e, own)
 
-  by_line : (t : Taken) → Takes l t → IsTakenOf l.items l.room t → HasBlock k d body l
-  by_line (Ok (Some ts, x)) t h = behind_line ts x t h (judge k d ts) refl (judge_own k d ts)
+  by_line : (t : LineAndRest) → TakesNextLine l t → IsTakenOf l.items l.room t → HasBlock k d body l
+  by_line (Ok (Some ts, x)) t h = after_line ts x t h (judge k d ts) refl (judge_own k d ts)
   by_line (Ok (None, x)) t h = (Err (NotClosed, x.place), a_mark d body l x t, refl)
   by_line (Err e) t h = (Err e, a_fault d body l e t, h)
 
-block_within : (n : ℕ) (k : BlockKind) (d : ℕ) (body : List (List Lexeme)) (l : Left) → l.room ≤ n → AreLines l.items → HasBlock k d body l
+block_within : (n : ℕ) (k : BlockKind) (d : ℕ) (body : List (List Lexeme)) (l : RemainingInput) → l.room ≤ n → AreLines l.items → HasBlock k d body l
 block_within zero k d body l le lines =
     let t = some_taken l.items l.room l.place lines in
     by_line k d body l (λ c bs x h. (let less = h.room in absurd (omega arith))) t.0 t.1 t.2
@@ -128,5 +128,5 @@ block_within (suc n) k d body l le lines =
     let t = some_taken l.items l.room l.place lines in
     by_line k d body l (λ c bs x h. block_within n k c bs x (let less = h.room in omega arith) h.lines) t.0 t.1 t.2
 
-pub some_block : (k : BlockKind) (l : Left) → AreLines l.items → HasBlock k 0 [] l
+pub some_block : (k : BlockKind) (l : RemainingInput) → AreLines l.items → HasBlock k 0 [] l
 some_block k l lines = block_within l.room k 0 [] l (omega arith) lines

@@ -4,23 +4,23 @@ use Rattle.std.specs.Prelude.{Result, Ok, Err, ⊤, length, drop, nat_le, ◌==�
 use Rattle.std.specs.Option.{option_map_or}
 use Rattle.base65.specs.Outcome.{◌>>=◌}
 use Rattle.base65.specs.Store.{Files}
-use Rattle.base65.proofs.Own.{Own, bad, choice, good, next, Has}
-use Rattle.syntax65.specs.Faults.{is_outside}
+use Rattle.base65.proofs.SystemErrors.{Own, bad, choice, good, next, Has}
+use Rattle.syntax65.specs.Faults.{is_system_error}
 use Rattle.syntax65.specs.Tokens.{Lexeme}
 use Rattle.syntax65.specs.Trees.{Tree, name}
 use Rattle.syntax65.specs.declared.fault.ExpandFault.TheVariants as faults
-use Rattle.syntax65.specs.declared.place.Place.{Place}
+use Rattle.syntax65.specs.declared.source_location.SourceLocation.{SourceLocation}
 use Rattle.syntax65.proofs.SomeParse.{some_parse}
-use Rattle.expand65.specs.Blocks.{Branch, at_elseif, at_else, at_end, Whole}
+use Rattle.expand65.specs.Blocks.{Branch, at_elseif, at_else, at_end, CompleteBlock}
 use Rattle.expand65.specs.declared.blocks.BlockKind.{BlockKind}
 use Rattle.expand65.specs.declared.blocks.BlockKind.TheVariants as kind
-use Rattle.expand65.specs.Expansion.{acted, at_mark, bytes_in, directed, first_file, first_left, found_or, file_named, include_file, IsStep, last_condition, Leads, Next, statement, nothing, fault, not_opened, Reaches, further, given, ended, stopped, split, step_behind, step_from, unless_mislabelled}
-use Rattle.expand65.specs.Fronts.{front_directive, is_mislabelled, label_len, line_directive, string_of, understood, begins, opens_parenthesis}
-use Rattle.expand65.specs.Laws.{AreLines, IsOrdered, LeavesLess, size_left, SomeNextLaw, StandsBefore, weight}
-use Rattle.expand65.specs.Lines.{Definition, file_limit, Item, written, played, labelled, branch, mark, innermost, in_turn, Left, left, lines_of, localised, Mark, marks, nesting_limit, numbered, outside_macro, come_back, repeating, Replacing, Stop, Taken, turns}
-use Rattle.expand65.specs.Macros.{arguments_of, called, called_or_given, counted, defined, entered, exit_macro, exited, given_to, header_of, local_line, local_named, macro_at, macro_line, macro_of, mark_from, new_names, ordinary, outermost, repeat_header, repeat_line, repeat_of, repeated, turn_limit, turns_of, variable_of}
-use Rattle.expand65.specs.State.{decided, defined_in, defined_tree, else_line, ended_if, found, goes, gives, ends, stops, if_alone, if_line, IsCondition, leads, parses, decides, takes, takes_block, searches, Meaning, State, Stated, plain, Step, Stepped, truth, unless_refused, unless_stopped, whole, with_conditions, with_items, with_left}
-use Rattle.expand65.specs.Types.{ExprFault, ExpandFault, Nested, NotClosed, NotUnderstood, Directive, Macro, EndMacro, ExitMacro, Local, Repeat, EndRepeat, If, ElseIf, Else, EndIf, Include, Error, End, Test, True, Defined, NotDefined, Blank, NotBlank}
+use Rattle.expand65.specs.Expansion.{line_step, at_mark, bytes_in, directive_step, first_file, first_left, found_or, file_named, include_file, IsStep, last_condition, StepReaches, Next, statement, nothing, fault, not_opened, ReachesNext, further, given, ended, stopped, label_step, step_after, step_from, unless_mislabelled}
+use Rattle.expand65.specs.Fronts.{front_directive, is_mislabelled, label_len, line_directive, string_of, ok_or_unknown, begins, opens_parenthesis}
+use Rattle.expand65.specs.Laws.{AreLines, IsOrdered, LeavesLess, size_left, NextExists, StandsBefore, weight}
+use Rattle.expand65.specs.Lines.{Definition, file_limit, Item, written, played, labelled, branch, mark, innermost, in_iteration, RemainingInput, remaining_input, lines_of, with_local_names, InputEnd, marks, nesting_limit, file_lines_after, outside_macro, come_back, repeat_substitution, Substitution, LocatedError, LineAndRest, iterations}
+use Rattle.expand65.specs.Macros.{arguments_of, call_result, called_or_given, with_one_more_call, definition_step, with_input, exit_macro, exit_result, given_to, header_of, local_line, local_named, macro_at, macro_line, macro_of, mark_from, new_names, ordinary, outermost, repeat_header, repeat_line, repeat_of, iterations_step, iteration_limit, iterations_of, variable_of}
+use Rattle.expand65.specs.State.{condition_step, defined_in, defined_tree, else_line, ended_if, after_false_condition, goes, gives, ends, stops, if_alone, if_line, IsCondition, leads, parses, decides, takes, takes_block, searches, EnvironmentView, State, ExpandedStatement, plain, ExpansionStep, StepResult, truth, unless_refused, unless_stopped, complete_expression, with_conditions, with_items, with_remaining}
+use Rattle.expand65.specs.Types.{ExprFault, ExpandFault, Nested, NotClosed, NotUnderstood, Directive, Macro, EndMacro, ExitMacro, Local, Repeat, EndRepeat, If, ElseIf, Else, EndIf, Include, Error, End, ConditionKind, True, Defined, NotDefined, Blank, NotBlank}
 use Rattle.expand65.proofs.SomeBlock.{AreFewer, IsBlockOf, IsTakenOf, some_block, some_taken}
 
 -- ---- Lines that are put in front.
@@ -32,11 +32,11 @@ AreOpen (written n bytes ∷ is) = AreOpen is
 AreOpen (played e ts ∷ is) = AreOpen is
 AreOpen (_ ∷ is) = ⊥
 
-numbered_open : (n : ℕ) (lines : List (List ℕ)) → AreOpen (numbered n lines)
+numbered_open : (n : ℕ) (lines : List (List ℕ)) → AreOpen (file_lines_after n lines)
 numbered_open n [] = tt
 numbered_open n (line ∷ lines) = numbered_open (n + 1) lines
 
-played_open : (e : Replacing) (body : List (List Lexeme)) → AreOpen (map (played e) body)
+played_open : (e : Substitution) (body : List (List Lexeme)) → AreOpen (map (played e) body)
 played_open e [] = tt
 played_open e (ts ∷ body) = played_open e body
 
@@ -48,9 +48,9 @@ both_open (labelled ts ∷ is) js h j = absurd h
 both_open (branch ts ∷ is) js h j = absurd h
 both_open (mark k ∷ is) js h j = absurd h
 
-turns_open : (e : Replacing) (body : List (List Lexeme)) (t n : ℕ) → AreOpen (turns e body t n)
+turns_open : (e : Substitution) (body : List (List Lexeme)) (t n : ℕ) → AreOpen (iterations e body t n)
 turns_open e body t zero = tt
-turns_open e body t (suc n) = both_open (map (played (in_turn e t)) body) (turns e body (t + 1) n) (played_open (in_turn e t) body) (turns_open e body (t + 1) n)
+turns_open e body t (suc n) = both_open (map (played (in_iteration e t)) body) (iterations e body (t + 1) n) (played_open (in_iteration e t) body) (turns_open e body (t + 1) n)
 
 in_front : (is js : List Item) → AreOpen is → AreLines js → AreLines (is ++ js)
 in_front [] js h j = j
@@ -70,7 +70,7 @@ no_weight (mark k ∷ is) js h = absurd h
 
 -- ---- What is left behind an expansion, and with names of its own.
 
-localised_lines : (names : List (List ℕ)) (is : List Item) → AreLines is → AreLines (localised names is)
+localised_lines : (names : List (List ℕ)) (is : List Item) → AreLines is → AreLines (with_local_names names is)
 localised_lines names [] h = tt
 localised_lines names (written n bytes ∷ is) h = localised_lines names is h
 localised_lines names (played e ts ∷ is) h = localised_lines names is h
@@ -78,7 +78,7 @@ localised_lines names (labelled ts ∷ is) h = absurd h
 localised_lines names (branch ts ∷ is) h = absurd h
 localised_lines names (mark k ∷ is) h = h
 
-localised_weight : (names : List (List ℕ)) (is : List Item) → weight (localised names is) ≡ weight is
+localised_weight : (names : List (List ℕ)) (is : List Item) → weight (with_local_names names is) ≡ weight is
 localised_weight names [] = refl
 localised_weight names (written n bytes ∷ is) = localised_weight names is
 localised_weight names (played e ts ∷ is) = localised_weight names is
@@ -86,15 +86,15 @@ localised_weight names (labelled ts ∷ is) = ap (λ n. n + 2) (localised_weight
 localised_weight names (branch ts ∷ is) = ap (λ n. n + 2) (localised_weight names is)
 localised_weight names (mark k ∷ is) = refl
 
-abbrev IsOutside : List Item → Option (ℕ × List Item × Place) → Type 0
+abbrev IsOutside : List Item → Option (ℕ × List Item × SourceLocation) → Type 0
 IsOutside is None = ⊤
 IsOutside is (Some (n, js, p)) = AreLines js × (weight js ≤ weight is)
 
-outside_more : (is js : List Item) (o : Option (ℕ × List Item × Place)) → weight is ≤ weight js → IsOutside is o → IsOutside js o
+outside_more : (is js : List Item) (o : Option (ℕ × List Item × SourceLocation)) → weight is ≤ weight js → IsOutside is o → IsOutside js o
 outside_more is js None le h = tt
 outside_more is js (Some (n, ks, p)) le (lines, light) = (lines, omega arith)
 
-outside_lines : (is : List Item) (p : Place) → AreLines is → IsOutside is (outside_macro is p)
+outside_lines : (is : List Item) (p : SourceLocation) → AreLines is → IsOutside is (outside_macro is p)
 outside_lines [] p h = tt
 outside_lines (written n bytes ∷ is) p h = outside_lines is p h
 outside_lines (played e ts ∷ is) p h = outside_lines is p h
@@ -116,29 +116,29 @@ stands (mark k ∷ is) h = h
 
 -- ---- What is read.
 
-understood_own : {A : Type 0} (o : Option A) → Own is_outside (understood o)
+understood_own : {A : Type 0} (o : Option A) → Own is_system_error (ok_or_unknown o)
 understood_own None = bad _ refl
 understood_own (Some x) = good x
 
-whole_own : (count : ℕ) (q : Result (Tree × ℕ) ExprFault) → Own is_outside (whole count q)
+whole_own : (count : ℕ) (q : Result (Tree × ℕ) ExprFault) → Own is_system_error (complete_expression count q)
 whole_own count (Ok (e, n)) = choice (n == count) _ _ (good e) (bad _ refl)
 whole_own count (Err f) = bad _ refl
 
-truth_own : (o : Option ℤ) → Own is_outside (truth o)
+truth_own : (o : Option ℤ) → Own is_system_error (truth o)
 truth_own None = bad _ refl
 truth_own (Some v) = good _
 
-defined_own : (k : Meaning) (e : Tree) → Own is_outside (defined_tree k e)
+defined_own : (k : EnvironmentView) (e : Tree) → Own is_system_error (defined_tree k e)
 defined_own k (name is_global parts) = good _
 defined_own k _ = bad _ refl
 
-defined_in_own : (k : Meaning) (ts : List Lexeme) (q : Result (Tree × ℕ) ExprFault) → Own is_outside (defined_in k ts q)
-defined_in_own k ts q = choice (begins opens_parenthesis ts) _ _ (bad _ refl) (next (whole (length ts) q) _ (whole_own (length ts) q) (λ e. defined_own k e))
+defined_in_own : (k : EnvironmentView) (ts : List Lexeme) (q : Result (Tree × ℕ) ExprFault) → Own is_system_error (defined_in k ts q)
+defined_in_own k ts q = choice (begins opens_parenthesis ts) _ _ (bad _ refl) (next (complete_expression (length ts) q) _ (whole_own (length ts) q) (λ e. defined_own k e))
 
-some_condition : (k : Meaning) (test : Test) (ts : List Lexeme) → Has is_outside (IsCondition k test ts)
+some_condition : (k : EnvironmentView) (test : ConditionKind) (ts : List Lexeme) → Has is_system_error (IsCondition k test ts)
 some_condition k True ts =
     let q = some_parse ts in
-    (whole (length ts) q.0 >>= (λ e. truth (k.value e)), (q.0, q.1, refl), next (whole (length ts) q.0) _ (whole_own (length ts) q.0) (λ e. truth_own (k.value e)))
+    (complete_expression (length ts) q.0 >>= (λ e. truth (k.value e)), (q.0, q.1, refl), next (complete_expression (length ts) q.0) _ (whole_own (length ts) q.0) (λ e. truth_own (k.value e)))
 some_condition k Defined ts = let q = some_parse ts in (defined_in k ts q.0, (q.0, q.1, refl), defined_in_own k ts q.0)
 some_condition k NotDefined ts =
     let q = some_parse ts in
@@ -146,47 +146,47 @@ some_condition k NotDefined ts =
 some_condition k Blank ts = (Ok (length ts == 0), refl, good _)
 some_condition k NotBlank ts = (Ok (not (length ts == 0)), refl, good _)
 
-found_own : (n : List ℕ) (o : Option (List ℕ)) (others : Result (List ℕ × List ℕ) ExpandFault) → Own is_outside others → Own is_outside (found_or n o others)
+found_own : (n : List ℕ) (o : Option (List ℕ)) (others : Result (List ℕ × List ℕ) ExpandFault) → Own is_system_error others → Own is_system_error (found_or n o others)
 found_own n None others h = h
 found_own n (Some bytes) others h = choice (nat_le (length bytes) file_limit) _ _ (good _) (bad _ refl)
 
-file_own : (m : Files) (names : List (List ℕ)) → Own is_outside (first_file m names)
+file_own : (m : Files) (names : List (List ℕ)) → Own is_system_error (first_file m names)
 file_own m [] = bad _ refl
 file_own m (n ∷ names) = found_own n (file_named m n) (first_file m names) (file_own m names)
 
-bytes_own : (o : Option (List ℕ)) → Own is_outside (bytes_in o)
+bytes_own : (o : Option (List ℕ)) → Own is_system_error (bytes_in o)
 bytes_own None = bad _ refl
 bytes_own (Some bytes) = choice (nat_le (length bytes) file_limit) _ _ (good _) (bad _ refl)
 
-turns_own : (o : Option ℤ) → Own is_outside (turns_of o)
+turns_own : (o : Option ℤ) → Own is_system_error (iterations_of o)
 turns_own None = bad _ refl
-turns_own (Some (pos n)) = choice (nat_le n turn_limit) _ _ (good _) (bad _ refl)
+turns_own (Some (pos n)) = choice (nat_le n iteration_limit) _ _ (good _) (bad _ refl)
 turns_own (Some (negsuc n)) = bad _ refl
 
-header_own : (ts : List Lexeme) (q : Result (Tree × ℕ) ExprFault) → Own is_outside (repeat_header ts q)
+header_own : (ts : List Lexeme) (q : Result (Tree × ℕ) ExprFault) → Own is_system_error (repeat_header ts q)
 header_own ts (Err f) = bad _ refl
-header_own ts (Ok (e, n)) = next (understood (variable_of (drop n ts))) _ (understood_own (variable_of (drop n ts))) (λ v. good _)
+header_own ts (Ok (e, n)) = next (ok_or_unknown (variable_of (drop n ts))) _ (understood_own (variable_of (drop n ts))) (λ v. good _)
 
-repeat_own : (k : Meaning) (ts : List Lexeme) (q : Result (Tree × ℕ) ExprFault) → Own is_outside (repeat_of k ts q)
-repeat_own k ts q = next (repeat_header ts q) _ (header_own ts q) (λ h. next (turns_of (k.value h.0)) _ (turns_own (k.value h.0)) (λ n. good _))
+repeat_own : (k : EnvironmentView) (ts : List Lexeme) (q : Result (Tree × ℕ) ExprFault) → Own is_system_error (repeat_of k ts q)
+repeat_own k ts q = next (repeat_header ts q) _ (header_own ts q) (λ h. next (iterations_of (k.value h.0)) _ (turns_own (k.value h.0)) (λ n. good _))
 
 -- ---- A step that leads to less than this, whatever it reads.
 
-abbrev IsLess : ℕ → Stepped → Type 0
+abbrev IsLess : ℕ → StepResult → Type 0
 IsLess n (goes t) = IsOrdered t × (size_left t < n)
 IsLess n (gives x t) = IsOrdered t × (size_left t < n)
 IsLess n (ends t) = ⊤
-IsLess n (stops e) = is_outside e.0 ≡ false
+IsLess n (stops e) = is_system_error e.0 ≡ false
 
-abbrev LeadsOn : ℕ → Step → Type 0
+abbrev LeadsOn : ℕ → ExpansionStep → Type 0
 LeadsOn n (leads x) = IsLess n x
 LeadsOn n (parses ts next) = (q : Result (Tree × ℕ) ExprFault) → LeadsOn n (next q)
-LeadsOn n (decides k test ts next) = (c : Result Bool ExpandFault) → Own is_outside c → LeadsOn n (next c)
-LeadsOn n (takes l next) = AreLines l.items × ((t : Taken) → IsTakenOf l.items l.room t → LeadsOn n (next t))
-LeadsOn n (takes_block k l next) = AreLines l.items × ((q : Result (Whole × Left) Stop) → IsBlockOf l q → IsLess n (unless_stopped q (λ b. next b.0 b.1)))
-LeadsOn n (searches l names next) = (q : Result (List ℕ × List ℕ) ExpandFault) → Own is_outside q → LeadsOn n (next q)
+LeadsOn n (decides k test ts next) = (c : Result Bool ExpandFault) → Own is_system_error c → LeadsOn n (next c)
+LeadsOn n (takes l next) = AreLines l.items × ((t : LineAndRest) → IsTakenOf l.items l.room t → LeadsOn n (next t))
+LeadsOn n (takes_block k l next) = AreLines l.items × ((q : Result (CompleteBlock × RemainingInput) LocatedError) → IsBlockOf l q → IsLess n (unless_stopped q (λ b. next b.0 b.1)))
+LeadsOn n (searches l names next) = (q : Result (List ℕ × List ℕ) ExpandFault) → Own is_system_error q → LeadsOn n (next q)
 
-some_led : (m : Files) (n : ℕ) (step : Step) → LeadsOn n step → (r : Stepped) × Leads m step r × IsLess n r
+some_led : (m : Files) (n : ℕ) (step : ExpansionStep) → LeadsOn n step → (r : StepResult) × StepReaches m step r × IsLess n r
 some_led m n (leads x) h = (x, refl, h)
 some_led m n (parses ts next) h = let q = some_parse ts in let r = some_led m n (next q.0) (h q.0) in (r.0, (q.0, q.1, r.1), r.2)
 some_led m n (decides k test ts next) h = let c = some_condition k test ts in let r = some_led m n (next c.0) (h c.0 c.2) in (r.0, (c.0, c.1, r.1), r.2)
@@ -200,50 +200,50 @@ module _ (n : ℕ) where
   goes_on : (t : State) → AreLines t.left.items → size_left t < n → IsLess n (goes t)
   goes_on t lines lt = (stands t.left.items lines, lt)
 
-  gives_on : (x : Stated) (t : State) → AreLines t.left.items → size_left t < n → IsLess n (gives x t)
+  gives_on : (x : ExpandedStatement) (t : State) → AreLines t.left.items → size_left t < n → IsLess n (gives x t)
   gives_on x t lines lt = (stands t.left.items lines, lt)
 
-  enters : (s : State) (is : List Item) (k : Mark) (p : Place) → AreOpen is → AreLines s.left.items → size_left s + 2 ≤ n → IsLess n (entered s is k p)
+  enters : (s : State) (is : List Item) (k : InputEnd) (p : SourceLocation) → AreOpen is → AreLines s.left.items → size_left s + 2 ≤ n → IsLess n (with_input s is k p)
   enters s is k p open_lines lines le = by (nat_le (marks s.left.items) nesting_limit)
     where
-      by : (b : Bool) → IsLess n (unless_stopped (if b then Ok (left (is ++ mark k ∷ s.left.items) s.left.room s.left.place) else Err (Nested, s.left.place)) (λ l. goes (with_left s (left l.items l.room p))))
+      by : (b : Bool) → IsLess n (unless_stopped (if b then Ok (remaining_input (is ++ mark k ∷ s.left.items) s.left.room s.left.place) else Err (Nested, s.left.place)) (λ l. goes (with_remaining s (remaining_input l.items l.room p))))
       by true = let same = no_weight is (mark k ∷ s.left.items) open_lines in (stands (is ++ mark k ∷ s.left.items) (in_front is (mark k ∷ s.left.items) open_lines lines), omega (arith, same))
       by false = refl
 
-  unless : {A : Type 0} (s : State) (q : Result A ExpandFault) (after : A → Step) → Own is_outside q → ((x : A) → LeadsOn n (after x)) → LeadsOn n (unless_refused s q after)
+  unless : {A : Type 0} (s : State) (q : Result A ExpandFault) (after : A → ExpansionStep) → Own is_system_error q → ((x : A) → LeadsOn n (after x)) → LeadsOn n (unless_refused s q after)
   unless s (Ok x) after own h = h x
   unless s (Err f) after own h = own.own
 
-  alone : (s : State) (ts : List Lexeme) (after : Step) → LeadsOn n after → LeadsOn n (if_alone s ts after)
+  alone : (s : State) (ts : List Lexeme) (after : ExpansionStep) → LeadsOn n after → LeadsOn n (if_alone s ts after)
   alone s [] after h = h
   alone s (t ∷ ts) after h = refl
 
-  block : (k : BlockKind) (l : Left) (after : Whole → Left → Stepped) → AreLines l.items → ((b : Whole) (x : Left) → AreFewer l.items l.room x → IsLess n (after b x)) → LeadsOn n (takes_block k l after)
+  block : (k : BlockKind) (l : RemainingInput) (after : CompleteBlock → RemainingInput → StepResult) → AreLines l.items → ((b : CompleteBlock) (x : RemainingInput) → AreFewer l.items l.room x → IsLess n (after b x)) → LeadsOn n (takes_block k l after)
   block k l after lines h = (lines, by)
     where
-      by : (q : Result (Whole × Left) Stop) → IsBlockOf l q → IsLess n (unless_stopped q (λ b. after b.0 b.1))
+      by : (q : Result (CompleteBlock × RemainingInput) LocatedError) → IsBlockOf l q → IsLess n (unless_stopped q (λ b. after b.0 b.1))
       by (Ok (b, x)) j = h b x j
       by (Err e) j = j
 
   module _ (s : State) (lines : AreLines s.left.items) (le : size_left s + 2 ≤ n) where
     -- fewer lines leave less, even with what stands before them
-    fewer : (x : Left) → AreFewer s.left.items s.left.room x → 3 * x.room + weight x.items + 5 ≤ n
+    fewer : (x : RemainingInput) → AreFewer s.left.items s.left.room x → 3 * x.room + weight x.items + 5 ≤ n
     fewer x h = let less = h.room in let light = h.light in omega arith
 
-    finds : (b : Branch) (x : Left) → AreFewer s.left.items s.left.room x → IsLess n (found s b x)
-    finds at_end x h = goes_on (with_left s x) h.lines (let few = fewer x h in omega arith)
+    finds : (b : Branch) (x : RemainingInput) → AreFewer s.left.items s.left.room x → IsLess n (after_false_condition s b x)
+    finds at_end x h = goes_on (with_remaining s x) h.lines (let few = fewer x h in omega arith)
     finds at_else x h = goes_on (with_conditions s (true ∷ s.conditions) x) h.lines (let few = fewer x h in omega arith)
     finds (at_elseif ts) x h = (h.lines, (let few = fewer x h in omega arith))
 
-    decides_on : (b : Bool) → LeadsOn n (decided s b)
+    decides_on : (b : Bool) → LeadsOn n (condition_step s b)
     decides_on true = goes_on (with_conditions s (false ∷ s.conditions) s.left) lines (omega arith)
-    decides_on false = block kind.Skipped s.left (λ b l. found s b.1 l) lines (λ b x h. finds b.1 x h)
+    decides_on false = block kind.Skipped s.left (λ b l. after_false_condition s b.1 l) lines (λ b x h. finds b.1 x h)
 
-    if_on : (k : Meaning) (test : Test) (ts : List Lexeme) → LeadsOn n (if_line k s test ts)
-    if_on k test ts = λ c own. unless s c (decided s) own decides_on
+    if_on : (k : EnvironmentView) (test : ConditionKind) (ts : List Lexeme) → LeadsOn n (if_line k s test ts)
+    if_on k test ts = λ c own. unless s c (condition_step s) own decides_on
 
     else_on : (o : Option (Bool × List Bool)) → LeadsOn n (else_line s o)
-    else_on (Some (false, bs)) = block kind.Passed s.left (λ b l. goes (with_conditions s bs l)) lines (λ b x h. goes_on (with_conditions s bs x) h.lines (let few = fewer x h in omega arith))
+    else_on (Some (false, bs)) = block kind.RemainingBranches s.left (λ b l. goes (with_conditions s bs l)) lines (λ b x h. goes_on (with_conditions s bs x) h.lines (let few = fewer x h in omega arith))
     else_on (Some (true, bs)) = refl
     else_on None = refl
 
@@ -251,20 +251,20 @@ module _ (n : ℕ) where
     end_if_on None = refl
     end_if_on (Some (b, bs)) = goes_on (with_conditions s bs s.left) lines (omega arith)
 
-    defines_on : (title : List ℕ) (params : List (List ℕ)) (o : Option Definition) → LeadsOn n (defined s title params o)
+    defines_on : (title : List ℕ) (params : List (List ℕ)) (o : Option Definition) → LeadsOn n (definition_step s title params o)
     defines_on title params (Some d) = refl
     defines_on title params None = block kind.Macro s.left _ lines (λ b x h. (stands x.items h.lines, (let few = fewer x h in omega arith)))
 
     macro_on : (ts : List Lexeme) → LeadsOn n (macro_line s ts)
-    macro_on ts = unless s (understood (header_of ts)) _ (understood_own (header_of ts)) (λ h. defines_on h.0 h.1 (macro_of s.macros h.0))
+    macro_on ts = unless s (ok_or_unknown (header_of ts)) _ (understood_own (header_of ts)) (λ h. defines_on h.0 h.1 (macro_of s.macros h.0))
 
-    exits_on : (o : Option (ℕ × List Item × Place)) → IsOutside s.left.items o → IsLess n (exited s o)
+    exits_on : (o : Option (ℕ × List Item × SourceLocation)) → IsOutside s.left.items o → IsLess n (exit_result s o)
     exits_on None h = refl
-    exits_on (Some (c, is, p)) (some, light) = goes_on (with_conditions s (outermost c s.conditions) (left is s.left.room p)) some (omega arith)
+    exits_on (Some (c, is, p)) (some, light) = goes_on (with_conditions s (outermost c s.conditions) (remaining_input is s.left.room p)) some (omega arith)
 
     names_on : (o : Option (List (List ℕ))) → IsLess n (local_named s o)
     names_on None = refl
-    names_on (Some names) = goes_on (with_items s (localised names s.left.items)) (localised_lines names s.left.items lines) (let same = localised_weight names s.left.items in omega (arith, same))
+    names_on (Some names) = goes_on (with_items s (with_local_names names s.left.items)) (localised_lines names s.left.items lines) (let same = localised_weight names s.left.items in omega (arith, same))
 
     local_on : (ts : List Lexeme) → IsLess n (local_line s ts)
     local_on ts = by (option_map_or (λ k. k.is_macro) (innermost s.left.items) false)
@@ -273,20 +273,20 @@ module _ (n : ℕ) where
         by true = names_on (new_names ts)
         by false = refl
 
-    repeats_on : (count : ℕ) (variable : List (List ℕ)) → LeadsOn n (repeated s count variable)
-    repeats_on count variable = block kind.Repeat s.left _ lines (λ b x h. enters (with_left s x) (turns (repeating variable) b.0 0 count) (mark_from s false None) x.place (turns_open (repeating variable) b.0 0 count) h.lines (let few = fewer x h in omega arith))
+    repeats_on : (count : ℕ) (variable : List (List ℕ)) → LeadsOn n (iterations_step s count variable)
+    repeats_on count variable = block kind.Repeat s.left _ lines (λ b x h. enters (with_remaining s x) (iterations (repeat_substitution variable) b.0 0 count) (mark_from s false None) x.place (turns_open (repeat_substitution variable) b.0 0 count) h.lines (let few = fewer x h in omega arith))
 
-    repeat_on : (k : Meaning) (ts : List Lexeme) → LeadsOn n (repeat_line k s ts)
+    repeat_on : (k : EnvironmentView) (ts : List Lexeme) → LeadsOn n (repeat_line k s ts)
     repeat_on k ts = λ q. unless s (repeat_of k ts q) _ (repeat_own k ts q) (λ h. repeats_on h.0 h.1)
 
     include_on : (file : List ℕ) → LeadsOn n (include_file s file)
-    include_on file = λ q own. unless s q _ own (λ f. enters s (numbered 0 (lines_of f.1)) (mark_from s false (Some s.left.place)) (record { file = f.0; line = 0 }) (numbered_open 0 (lines_of f.1)) lines le)
+    include_on file = λ q own. unless s q _ own (λ f. enters s (file_lines_after 0 (lines_of f.1)) (mark_from s false (Some s.left.place)) (record { file = f.0; line = 0 }) (numbered_open 0 (lines_of f.1)) lines le)
 
-    calls_on : (d : Definition) (arguments : List (List Lexeme)) → IsLess n (called s d arguments)
+    calls_on : (d : Definition) (arguments : List (List Lexeme)) → IsLess n (call_result s d arguments)
     calls_on d arguments = by (nat_le (length arguments) (length d.params))
       where
-        by : (b : Bool) → IsLess n (if b then entered (counted s) (map (played (given_to d arguments (s.expansions + 1))) d.body) (mark_from s true None) s.left.place else stops (faults.TooManyArguments, s.left.place))
-        by true = enters (counted s) (map (played (given_to d arguments (s.expansions + 1))) d.body) (mark_from s true None) s.left.place (played_open (given_to d arguments (s.expansions + 1)) d.body) lines le
+        by : (b : Bool) → IsLess n (if b then with_input (with_one_more_call s) (map (played (given_to d arguments (s.expansions + 1))) d.body) (mark_from s true None) s.left.place else stops (faults.TooManyArguments, s.left.place))
+        by true = enters (with_one_more_call s) (map (played (given_to d arguments (s.expansions + 1))) d.body) (mark_from s true None) s.left.place (played_open (given_to d arguments (s.expansions + 1)) d.body) lines le
         by false = refl
 
     ordinary_on : (ts : List Lexeme) → IsLess n (ordinary s ts)
@@ -297,7 +297,7 @@ module _ (n : ℕ) where
         by None = gives_on (plain (t ∷ ts)) s lines (omega arith)
         by (Some d) = calls_on d (arguments_of ts)
 
-    directed_on : (k : Meaning) (d : Directive) (ts : List Lexeme) → LeadsOn n (directed k s d ts)
+    directed_on : (k : EnvironmentView) (d : Directive) (ts : List Lexeme) → LeadsOn n (directive_step k s d ts)
     directed_on k Macro ts = macro_on ts
     directed_on k EndMacro ts = alone s ts (leads (not_opened s)) refl
     directed_on k ExitMacro ts = alone s ts (leads (exit_macro s)) (exits_on (outside_macro s.left.items s.left.place) (outside_lines s.left.items s.left.place lines))
@@ -308,21 +308,21 @@ module _ (n : ℕ) where
     directed_on k ElseIf ts = else_on (last_condition s)
     directed_on k Else ts = alone s ts (else_line s (last_condition s)) (else_on (last_condition s))
     directed_on k EndIf ts = alone s ts (leads (ended_if s (last_condition s))) (end_if_on (last_condition s))
-    directed_on k Include ts = unless s (understood (string_of ts)) (include_file s) (understood_own (string_of ts)) include_on
-    directed_on k Error ts = unless s (understood (string_of ts)) (λ text. leads (stops (faults.Error text, s.left.place))) (understood_own (string_of ts)) (λ text. refl)
+    directed_on k Include ts = unless s (ok_or_unknown (string_of ts)) (include_file s) (understood_own (string_of ts)) include_on
+    directed_on k Error ts = unless s (ok_or_unknown (string_of ts)) (λ text. leads (stops (faults.Error text, s.left.place))) (understood_own (string_of ts)) (λ text. refl)
     directed_on k End ts = alone s ts (leads (goes (with_items s []))) (tt, omega arith)
 
-    acted_on : (k : Meaning) (ts : List Lexeme) (o : Option Directive) → LeadsOn n (acted k s ts o)
+    acted_on : (k : EnvironmentView) (ts : List Lexeme) (o : Option Directive) → LeadsOn n (line_step k s ts o)
     acted_on k ts (Some d) = directed_on k d (drop 1 ts)
     acted_on k ts None = ordinary_on ts
 
   -- ---- A line, or an end mark.
 
-  split_on : (k : Meaning) (s : State) (ts : List Lexeme) (d : Option Directive) (len : ℕ) → AreLines s.left.items → size_left s + 3 ≤ n → LeadsOn n (split k s ts d len)
+  split_on : (k : EnvironmentView) (s : State) (ts : List Lexeme) (d : Option Directive) (len : ℕ) → AreLines s.left.items → size_left s + 3 ≤ n → LeadsOn n (label_step k s ts d len)
   split_on k s ts d zero lines le = acted_on s lines (omega arith) k ts d
   split_on k s ts d (suc len) lines le = (lines, omega arith)
 
-  line_on : (k : Meaning) (s : State) (ts : List Lexeme) (b : Bool) → AreLines s.left.items → size_left s + 3 ≤ n → LeadsOn n (unless_mislabelled k s ts b)
+  line_on : (k : EnvironmentView) (s : State) (ts : List Lexeme) (b : Bool) → AreLines s.left.items → size_left s + 3 ≤ n → LeadsOn n (unless_mislabelled k s ts b)
   line_on k s ts true lines le = refl
   line_on k s ts false lines le = split_on k s ts (line_directive ts) (label_len ts) lines le
 
@@ -334,19 +334,19 @@ module _ (n : ℕ) where
   mark_on s (branch ts ∷ is) lines le = tt
   mark_on s (mark k ∷ is) lines le = by (k.conditions == length s.conditions)
     where
-      by : (b : Bool) → IsLess n (if b then goes (with_left s (left is s.left.room (come_back s.left.place k.back))) else stops (NotClosed, s.left.place))
-      by true = goes_on (with_left s (left is s.left.room (come_back s.left.place k.back))) lines (omega arith)
+      by : (b : Bool) → IsLess n (if b then goes (with_remaining s (remaining_input is s.left.room (come_back s.left.place k.back))) else stops (NotClosed, s.left.place))
+      by true = goes_on (with_remaining s (remaining_input is s.left.room (come_back s.left.place k.back))) lines (omega arith)
       by false = refl
 
-  behind_on : (k : Meaning) (s : State) → AreLines s.left.items → size_left s ≤ n → (t : Taken) → IsTakenOf s.left.items s.left.room t → LeadsOn n (step_behind k s t)
-  behind_on k s lines le (Ok (Some ts, x)) h = line_on k (with_left s x) ts (is_mislabelled ts) h.lines (let less = h.room in let light = h.light in omega arith)
-  behind_on k s lines le (Ok (None, x)) (items, room) = mark_on (with_left s x) x.items (subst AreLines (sym items) lines) (let same = ap weight items in omega (arith, same, room))
-  behind_on k s lines le (Err e) h = h
+  after_on : (k : EnvironmentView) (s : State) → AreLines s.left.items → size_left s ≤ n → (t : LineAndRest) → IsTakenOf s.left.items s.left.room t → LeadsOn n (step_after k s t)
+  after_on k s lines le (Ok (Some ts, x)) h = line_on k (with_remaining s x) ts (is_mislabelled ts) h.lines (let less = h.room in let light = h.light in omega arith)
+  after_on k s lines le (Ok (None, x)) (items, room) = mark_on (with_remaining s x) x.items (subst AreLines (sym items) lines) (let same = ap weight items in omega (arith, same, room))
+  after_on k s lines le (Err e) h = h
 
-  taken_on : (k : Meaning) (s : State) → AreLines s.left.items → size_left s ≤ n → LeadsOn n (takes s.left (step_behind k s))
-  taken_on k s lines le = (lines, λ t h. behind_on k s lines le t h)
+  taken_on : (k : EnvironmentView) (s : State) → AreLines s.left.items → size_left s ≤ n → LeadsOn n (takes s.left (step_after k s))
+  taken_on k s lines le = (lines, λ t h. after_on k s lines le t h)
 
-from_on : (k : Meaning) (s : State) (is : List Item) → s.left.items ≡ is → StandsBefore is → LeadsOn (3 * s.left.room + weight is) (step_from k s is)
+from_on : (k : EnvironmentView) (s : State) (is : List Item) → s.left.items ≡ is → StandsBefore is → LeadsOn (3 * s.left.room + weight is) (step_from k s is)
 from_on k s (labelled ts ∷ is) e h = acted_on _ (with_items s is) h (omega arith) k ts (front_directive ts)
 from_on k s (branch ts ∷ is) e h = if_on _ (with_items s is) h (omega arith) k True ts
 from_on k s [] e h = taken_on _ k s (subst AreLines (sym e) h) (let same = ap weight e in omega (arith, same))
@@ -354,28 +354,28 @@ from_on k s (written i bytes ∷ is) e h = taken_on _ k s (subst AreLines (sym e
 from_on k s (played r ts ∷ is) e h = taken_on _ k s (subst AreLines (sym e) h) (let same = ap weight e in omega (arith, same))
 from_on k s (mark i ∷ is) e h = taken_on _ k s (subst AreLines (sym e) h) (let same = ap weight e in omega (arith, same))
 
-some_step : (m : Files) (k : Meaning) (s : State) → IsOrdered s → (r : Stepped) × IsStep m k s r × IsLess (size_left s) r
+some_step : (m : Files) (k : EnvironmentView) (s : State) → IsOrdered s → (r : StepResult) × IsStep m k s r × IsLess (size_left s) r
 unfolding IsStep
 some_step m k s h = some_led m (size_left s) (step_from k s s.left.items) (from_on k s s.left.items refl h)
 
 -- ---- What comes next.
 
-abbrev HasNext : Files → Meaning → State → Type 0
-HasNext m k s = (n : Next) × Reaches m k s n × LeavesLess s n
+abbrev HasNext : Files → EnvironmentView → State → Type 0
+HasNext m k s = (n : Next) × ReachesNext m k s n × LeavesLess s n
 
 less_still : (s t : State) (n : Next) → size_left t < size_left s → LeavesLess t n → LeavesLess s n
 less_still s t (statement x u) lt h = (h.0, (let less = h.1 in omega arith))
 less_still s t (nothing u) lt h = tt
 less_still s t (fault e) lt h = h
 
-next_within : (n : ℕ) (m : Files) (k : Meaning) (s : State) → size_left s < n → IsOrdered s → HasNext m k s
+next_within : (n : ℕ) (m : Files) (k : EnvironmentView) (s : State) → size_left s < n → IsOrdered s → HasNext m k s
 next_within zero m k s lt h = absurd (omega arith)
 next_within (suc n) m k s lt h = let r = some_step m k s h in led r.0 r.1 r.2 (λ t less j. next_within n m k t less j)
   where
     on : (t : State) → IsStep m k s (goes t) → size_left t < size_left s → HasNext m k t → HasNext m k s
     on t step less r = (r.0, further s t r.0 step r.1, less_still s t r.0 less r.2)
 
-    led : (r : Stepped) → IsStep m k s r → IsLess (size_left s) r → ((t : State) → size_left t < n → IsOrdered t → HasNext m k t) → HasNext m k s
+    led : (r : StepResult) → IsStep m k s r → IsLess (size_left s) r → ((t : State) → size_left t < n → IsOrdered t → HasNext m k t) → HasNext m k s
     led (goes t) step j more = on t step j.1 (more t (let less = j.1 in omega arith) j.0)
     led (gives x t) step j more = (statement x t, given s t x step, j)
     led (ends t) step j more = (nothing t, ended s t step, tt)
@@ -383,13 +383,13 @@ next_within (suc n) m k s lt h = let r = some_step m k s h in led r.0 r.1 r.2 (�
 
 -- ---- A source's first state.
 
-abbrev last : Mark
+abbrev last : InputEnd
 last = record { is_macro = false; conditions = 0; back = None }
 
-lines_marked : (lines : List (List ℕ)) → AreLines (numbered 0 lines ++ mark last ∷ [])
-lines_marked lines = in_front (numbered 0 lines) (mark last ∷ []) (numbered_open 0 lines) tt
+lines_marked : (lines : List (List ℕ)) → AreLines (file_lines_after 0 lines ++ mark last ∷ [])
+lines_marked lines = in_front (file_lines_after 0 lines) (mark last ∷ []) (numbered_open 0 lines) tt
 
-pub some_next : SomeNextLaw
+pub some_next : NextExists
 some_next = record {
   opened = λ m file folders. (next (bytes_in (file_named m file)) _ (bytes_own (file_named m file)) (λ bytes. good _)).own;
   first = λ file folders bytes. stands (first_left file bytes).items (lines_marked (lines_of bytes));

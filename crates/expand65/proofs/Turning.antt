@@ -5,39 +5,39 @@ use Rattle.std.proofs.lemmas.List.{length-map}
 use Rattle.syntax65.specs.declared.fault.ExpandFault.{ExpandFault}
 use Rattle.expand65.specs.declared.input.NextLine.TheVariants.{Replayed}
 use Rattle.syntax65.specs.Tokens.{Lexeme}
-use Rattle.expand65.specs.Standing.{ComesNext, TakesLine, turns_left}
-use Rattle.expand65.specs.Playing.{tokens_in, left_to_play, replacing_of}
-use Rattle.expand65.specs.Lines.{in_turn, Replacing, turns, Item, played}
-use Rattle.expand65.specs.declared.line.Line.{Line}
-use Rattle.expand65.specs.declared.playing.Replay.{Replay}
+use Rattle.expand65.specs.Representation.{ComesNext, TakesLine, iterations_left}
+use Rattle.expand65.specs.Replay.{tokens_in, left_to_play, replacing_of}
+use Rattle.expand65.specs.Lines.{in_iteration, Substitution, iterations, Item, played}
+use Rattle.expand65.specs.declared.line.StoredLine.{StoredLine}
+use Rattle.expand65.specs.declared.macro_replay.Replay.{Replay}
 
 -- turns of no lines
-pub no_lines : (e : Replacing) (t n : ℕ) → turns e [] t n ≡ []
+pub no_lines : (e : Substitution) (t n : ℕ) → iterations e [] t n ≡ []
 no_lines e t zero = refl
 no_lines e t (suc n) = no_lines e (t + 1) n
 
 -- turns don't look at the number of the turn before
-pub same_turns : (e : Replacing) (s : ℕ) (body : List (List Lexeme)) (t n : ℕ) → turns (in_turn e s) body t n ≡ turns e body t n
+pub same_turns : (e : Substitution) (s : ℕ) (body : List (List Lexeme)) (t n : ℕ) → iterations (in_iteration e s) body t n ≡ iterations e body t n
 same_turns e s body t zero = refl
-same_turns e s body t (suc n) = ap (λ l. map (played (in_turn e t)) body ++ l) (same_turns e s body (t + 1) n)
+same_turns e s body t (suc n) = ap (λ l. map (played (in_iteration e t)) body ++ l) (same_turns e s body (t + 1) n)
 
-pub turns_over : (r : Replay) (next count : ℕ) → left_to_play r ≡ [] → (length r.body.value.lines ≡ 0) ⊎ (count ≤ next) → turns_left r next count ≡ []
+pub turns_over : (r : Replay) (next count : ℕ) → left_to_play r ≡ [] → (length r.body.value.lines ≡ 0) ⊎ (count ≤ next) → iterations_left r next count ≡ []
 turns_over r next count e x = grind (arith, common_steps, no_lines)
 
-pub next_turn : (old new : Replay) (next count : ℕ) → left_to_play old ≡ [] → next < count → new.body ≡ old.body → new.at ≡ 0 → replacing_of new ≡ in_turn (replacing_of old) next → turns_left new (next + 1) count ≡ turns_left old next count
+pub next_turn : (old new : Replay) (next count : ℕ) → left_to_play old ≡ [] → next < count → new.body ≡ old.body → new.at ≡ 0 → replacing_of new ≡ in_iteration (replacing_of old) next → iterations_left new (next + 1) count ≡ iterations_left old next count
 next_turn old new next count e lt body at r =
     let lines = map tokens_in old.body.value.lines in
     let more : count - next ≡ suc (count - (next + 1)) = omega arith in
-    let front : left_to_play new ≡ map (played (in_turn (replacing_of old) next)) lines =
+    let pending : left_to_play new ≡ map (played (in_iteration (replacing_of old) next)) lines =
     ap (λ z. map (played z) (drop new.at (map tokens_in new.body.value.lines))) r
-    ∙ ap (λ b. map (played (in_turn (replacing_of old) next)) (drop new.at (map tokens_in b.value.lines))) body
-    ∙ ap (λ a. map (played (in_turn (replacing_of old) next)) (drop a lines)) at in
-    let behind : turns (replacing_of new) (map tokens_in new.body.value.lines) (next + 1) (count - (next + 1)) ≡ turns (replacing_of old) lines (next + 1) (count - (next + 1)) =
-    ap (λ b. turns (replacing_of new) (map tokens_in b.value.lines) (next + 1) (count - (next + 1))) body ∙ ap (λ z. turns z lines (next + 1) (count - (next + 1))) r ∙ same_turns (replacing_of old) next lines (next + 1) (count - (next + 1)) in
-    ap (λ l. l ++ turns (replacing_of new) (map tokens_in new.body.value.lines) (next + 1) (count - (next + 1))) front
-    ∙ ap (λ l. map (played (in_turn (replacing_of old) next)) lines ++ l) behind
-    ∙ ap (turns (replacing_of old) lines next) (sym more)
-    ∙ ap (λ l. l ++ turns (replacing_of old) lines next (count - next)) (sym e)
+    ∙ ap (λ b. map (played (in_iteration (replacing_of old) next)) (drop new.at (map tokens_in b.value.lines))) body
+    ∙ ap (λ a. map (played (in_iteration (replacing_of old) next)) (drop a lines)) at in
+    let following : iterations (replacing_of new) (map tokens_in new.body.value.lines) (next + 1) (count - (next + 1)) ≡ iterations (replacing_of old) lines (next + 1) (count - (next + 1)) =
+    ap (λ b. iterations (replacing_of new) (map tokens_in b.value.lines) (next + 1) (count - (next + 1))) body ∙ ap (λ z. iterations z lines (next + 1) (count - (next + 1))) r ∙ same_turns (replacing_of old) next lines (next + 1) (count - (next + 1)) in
+    ap (λ l. l ++ iterations (replacing_of new) (map tokens_in new.body.value.lines) (next + 1) (count - (next + 1))) pending
+    ∙ ap (λ l. map (played (in_iteration (replacing_of old) next)) lines ++ l) following
+    ∙ ap (iterations (replacing_of old) lines next) (sym more)
+    ∙ ap (λ l. l ++ iterations (replacing_of old) lines next (count - next)) (sym e)
 
 -- ---- What comes next.
 
@@ -54,19 +54,19 @@ body_begins r h =
     let one = some_at (map tokens_in r.body.value.lines) r.at (omega (arith, h, length-map r.body.value.lines tokens_in)) in
     (replacing_of r, (one.0, (map (played (replacing_of r)) (drop (r.at + 1) (map tokens_in r.body.value.lines)), ap (map (played (replacing_of r))) one.1)))
 
-pub turn_begins : (r : Replay) (next count : ℕ) → r.at < length r.body.value.lines → ComesNext (turns_left r next count) Replayed
+pub turn_begins : (r : Replay) (next count : ℕ) → r.at < length r.body.value.lines → ComesNext (iterations_left r next count) Replayed
 turn_begins r next count h =
     let c = body_begins r h in
-    let more = turns (replacing_of r) (map tokens_in r.body.value.lines) next (count - next) in
+    let more = iterations (replacing_of r) (map tokens_in r.body.value.lines) next (count - next) in
     (c.0, (c.1.0, (c.1.1.0 ++ more, ap (λ l. l ++ more) c.1.1.1)))
 
 -- a line that is taken before others
-pub takes_before : (before after more rest : List Item) (r : Result Line ExpandFault) → TakesLine before r after → more ≡ rest → TakesLine (before ++ more) r (after ++ rest)
+pub takes_before : (before after more rest : List Item) (r : Result StoredLine ExpandFault) → TakesLine before r after → more ≡ rest → TakesLine (before ++ more) r (after ++ rest)
 takes_before before after more rest x y same = grind (arith, common_steps)
 
 -- a line of a turn is taken
-pub takes_in_turn : (old new : Replay) (next count : ℕ) (r : Result Line ExpandFault) → TakesLine (left_to_play old) r (left_to_play new) → new.body ≡ old.body → replacing_of new ≡ replacing_of old → TakesLine (turns_left old next count) r (turns_left new next count)
+pub takes_in_turn : (old new : Replay) (next count : ℕ) (r : Result StoredLine ExpandFault) → TakesLine (left_to_play old) r (left_to_play new) → new.body ≡ old.body → replacing_of new ≡ replacing_of old → TakesLine (iterations_left old next count) r (iterations_left new next count)
 takes_in_turn old new next count r h body same =
     let n = count - next in
-    let rest = ap (λ e. turns e (map tokens_in old.body.value.lines) next n) (sym same) ∙ ap (λ b. turns (replacing_of new) (map tokens_in b.value.lines) next n) (sym body) in
-    takes_before (left_to_play old) (left_to_play new) (turns (replacing_of old) (map tokens_in old.body.value.lines) next n) (turns (replacing_of new) (map tokens_in new.body.value.lines) next n) r h rest
+    let rest = ap (λ e. iterations e (map tokens_in old.body.value.lines) next n) (sym same) ∙ ap (λ b. iterations (replacing_of new) (map tokens_in b.value.lines) next n) (sym body) in
+    takes_before (left_to_play old) (left_to_play new) (iterations (replacing_of old) (map tokens_in old.body.value.lines) next n) (iterations (replacing_of new) (map tokens_in new.body.value.lines) next n) r h rest

@@ -1,7 +1,7 @@
 -- Blocks: lines are taken one after another up to the one that closes the block.
 use Rattle.std.specs.Prelude.{◌≡◌, List, Some, None, Result, Ok, Err, ℕ, zero, suc, [], ◌∷◌, ◌++◌, drop, length, ◌==◌, Bool, true, false, Option, if◌then◌else◌}
 use Rattle.syntax65.specs.Tokens.{Lexeme}
-use Rattle.expand65.specs.Lines.{Left, Stop, Taken, Takes}
+use Rattle.expand65.specs.Lines.{RemainingInput, LocatedError, LineAndRest, TakesNextLine}
 use Rattle.expand65.specs.Types.{NotClosed, MacroInside, NotUnderstood, Directive, Macro, EndMacro, Repeat, EndRepeat, If, ElseIf, Else, EndIf, ExpandFault}
 use Rattle.expand65.specs.Fronts.{is_mislabelled, line_directive}
 use Rattle.expand65.specs.declared.blocks.BlockKind.{BlockKind}
@@ -10,13 +10,13 @@ use Rattle.expand65.specs.declared.blocks.BlockKind.TheVariants as kind
 -- ---- The next line of a block.
 
 -- a block has to be closed before an end mark
-abbrev pub within_block : Taken → Result (List Lexeme × Left) Stop
+abbrev pub within_block : LineAndRest → Result (List Lexeme × RemainingInput) LocatedError
 within_block (Ok (Some ts, l)) = Ok (ts, l)
 within_block (Ok (None, l)) = Err (NotClosed, l.place)
 within_block (Err e) = Err e
 
-abbrev pub TakesInBlock : Left → Result (List Lexeme × Left) Stop → Type 0
-TakesInBlock l r = (t : Taken) × Takes l t × (r ≡ within_block t)
+abbrev pub TakesInBlock : RemainingInput → Result (List Lexeme × RemainingInput) LocatedError → Type 0
+TakesInBlock l r = (t : LineAndRest) × TakesNextLine l t × (r ≡ within_block t)
 
 -- ---- What a line does to the block that it stands in.
 
@@ -41,24 +41,24 @@ closed_alone end ts = if length ts == 0 then closed end else refused NotUndersto
 -- What a line does by its directive, so many other blocks being open. The body of a macro ends at its `.endmacro`, and that
 -- of a repeat at its `.endrepeat`. The lines that go with a false condition end at the next `.elseif`, `.else` or `.endif`
 -- of its level, and those that go with an `.elseif` or `.else` behind a true one at its `.endif`.
-abbrev pub judged : BlockKind → ℕ → List Lexeme → Option Directive → Verdict
-judged kind.Macro d ts (Some EndMacro) = closed_alone at_end (drop 1 ts)
-judged kind.Macro d ts (Some Macro) = refused MacroInside
-judged kind.Repeat zero ts (Some EndRepeat) = closed_alone at_end (drop 1 ts)
-judged kind.Repeat (suc d) ts (Some EndRepeat) = on d
-judged kind.Repeat d ts (Some Repeat) = on (suc d)
-judged kind.Skipped d ts (Some (If test)) = on (suc d)
-judged kind.Skipped zero ts (Some ElseIf) = closed (at_elseif (drop 1 ts))
-judged kind.Skipped zero ts (Some Else) = closed_alone at_else (drop 1 ts)
-judged kind.Skipped zero ts (Some EndIf) = closed_alone at_end (drop 1 ts)
-judged kind.Skipped (suc d) ts (Some EndIf) = on d
-judged kind.Passed d ts (Some (If test)) = on (suc d)
-judged kind.Passed zero ts (Some EndIf) = closed at_end
-judged kind.Passed (suc d) ts (Some EndIf) = on d
-judged k d ts _ = on d
+abbrev pub block_verdict : BlockKind → ℕ → List Lexeme → Option Directive → Verdict
+block_verdict kind.Macro d ts (Some EndMacro) = closed_alone at_end (drop 1 ts)
+block_verdict kind.Macro d ts (Some Macro) = refused MacroInside
+block_verdict kind.Repeat zero ts (Some EndRepeat) = closed_alone at_end (drop 1 ts)
+block_verdict kind.Repeat (suc d) ts (Some EndRepeat) = on d
+block_verdict kind.Repeat d ts (Some Repeat) = on (suc d)
+block_verdict kind.Skipped d ts (Some (If test)) = on (suc d)
+block_verdict kind.Skipped zero ts (Some ElseIf) = closed (at_elseif (drop 1 ts))
+block_verdict kind.Skipped zero ts (Some Else) = closed_alone at_else (drop 1 ts)
+block_verdict kind.Skipped zero ts (Some EndIf) = closed_alone at_end (drop 1 ts)
+block_verdict kind.Skipped (suc d) ts (Some EndIf) = on d
+block_verdict kind.RemainingBranches d ts (Some (If test)) = on (suc d)
+block_verdict kind.RemainingBranches zero ts (Some EndIf) = closed at_end
+block_verdict kind.RemainingBranches (suc d) ts (Some EndIf) = on d
+block_verdict k d ts _ = on d
 
 abbrev pub judge : BlockKind → ℕ → List Lexeme → Verdict
-judge k d ts = if is_mislabelled ts then refused NotUnderstood else judged k d ts (line_directive ts)
+judge k d ts = if is_mislabelled ts then refused NotUnderstood else block_verdict k d ts (line_directive ts)
 
 -- ---- Blocks.
 
@@ -73,14 +73,14 @@ abbrev pub with_line : BlockKind → List (List Lexeme) → List Lexeme → List
 with_line k body ts = if is_kept k then body ++ ts ∷ [] else body
 
 -- what a block comes to: the lines that are kept, and what closes it
-abbrev pub Whole : Type 0
-Whole = List (List Lexeme) × Branch
+abbrev pub CompleteBlock : Type 0
+CompleteBlock = List (List Lexeme) × Branch
 
 -- A block in which so many others are open, behind the lines that are kept so far. It has to be closed before the next
 -- end mark.
-pub data Block (k : BlockKind) : ℕ → List (List Lexeme) → Left → Result (Whole × Left) Stop → Type 0 where
-  a_fault : (d : ℕ) (body : List (List Lexeme)) (l : Left) (e : Stop) → Takes l (Err e) → Block k d body l (Err e)
-  a_mark : (d : ℕ) (body : List (List Lexeme)) (l m : Left) → Takes l (Ok (None, m)) → Block k d body l (Err (NotClosed, m.place))
-  a_refusal : (d : ℕ) (body : List (List Lexeme)) (l m : Left) (ts : List Lexeme) (f : ExpandFault) → Takes l (Ok (Some ts, m)) → judge k d ts ≡ refused f → Block k d body l (Err (f, m.place))
-  the_last : (d : ℕ) (body : List (List Lexeme)) (l m : Left) (ts : List Lexeme) (b : Branch) → Takes l (Ok (Some ts, m)) → judge k d ts ≡ closed b → Block k d body l (Ok ((body, b), m))
-  one_more : (d c : ℕ) (body : List (List Lexeme)) (l m : Left) (ts : List Lexeme) (r : Result (Whole × Left) Stop) → Takes l (Ok (Some ts, m)) → judge k d ts ≡ on c → Block k c (with_line k body ts) m r → Block k d body l r
+pub data Block (k : BlockKind) : ℕ → List (List Lexeme) → RemainingInput → Result (CompleteBlock × RemainingInput) LocatedError → Type 0 where
+  a_fault : (d : ℕ) (body : List (List Lexeme)) (l : RemainingInput) (e : LocatedError) → TakesNextLine l (Err e) → Block k d body l (Err e)
+  a_mark : (d : ℕ) (body : List (List Lexeme)) (l m : RemainingInput) → TakesNextLine l (Ok (None, m)) → Block k d body l (Err (NotClosed, m.place))
+  a_refusal : (d : ℕ) (body : List (List Lexeme)) (l m : RemainingInput) (ts : List Lexeme) (f : ExpandFault) → TakesNextLine l (Ok (Some ts, m)) → judge k d ts ≡ refused f → Block k d body l (Err (f, m.place))
+  the_last : (d : ℕ) (body : List (List Lexeme)) (l m : RemainingInput) (ts : List Lexeme) (b : Branch) → TakesNextLine l (Ok (Some ts, m)) → judge k d ts ≡ closed b → Block k d body l (Ok ((body, b), m))
+  one_more : (d c : ℕ) (body : List (List Lexeme)) (l m : RemainingInput) (ts : List Lexeme) (r : Result (CompleteBlock × RemainingInput) LocatedError) → TakesNextLine l (Ok (Some ts, m)) → judge k d ts ≡ on c → Block k c (with_line k body ts) m r → Block k d body l r

@@ -8,11 +8,11 @@ use Rattle.base65.specs.Store.{Files}
 use Rattle.syntax65.specs.Tokens.{Lexeme}
 use Rattle.syntax65.specs.Expressions.{IsParsed}
 use Rattle.syntax65.specs.Trees.{Tree}
-use Rattle.expand65.specs.Blocks.{Block, Whole}
-use Rattle.expand65.specs.Fronts.{begins, string_of, front_directive, is_mislabelled, label_len, line_directive, understood}
-use Rattle.expand65.specs.Lines.{lines_of, file_limit, Taken, Takes, line_limit, numbered, Item, labelled, branch, mark, left, innermost, come_back, Left, Stop}
-use Rattle.expand65.specs.Macros.{entered, exit_macro, local_line, macro_line, mark_from, ordinary, repeat_line}
-use Rattle.expand65.specs.State.{State, Step, leads, parses, decides, takes, takes_block, searches, Stepped, stops, Meaning, label, goes, gives, ends, with_left, with_items, Stated, IsCondition, else_line, ended_if, if_alone, if_line, popped, unless_refused, unless_stopped}
+use Rattle.expand65.specs.Blocks.{Block, CompleteBlock}
+use Rattle.expand65.specs.Fronts.{begins, string_of, front_directive, is_mislabelled, label_len, line_directive, ok_or_unknown}
+use Rattle.expand65.specs.Lines.{lines_of, file_limit, LineAndRest, TakesNextLine, line_limit, file_lines_after, Item, labelled, branch, mark, remaining_input, innermost, come_back, RemainingInput, LocatedError}
+use Rattle.expand65.specs.Macros.{with_input, exit_macro, local_line, macro_line, mark_from, ordinary, repeat_line}
+use Rattle.expand65.specs.State.{State, ExpansionStep, leads, parses, decides, takes, takes_block, searches, StepResult, stops, EnvironmentView, label, goes, gives, ends, with_remaining, with_items, ExpandedStatement, IsCondition, else_line, ended_if, if_alone, if_line, without_last_condition, unless_refused, unless_stopped}
 use Rattle.expand65.specs.Types.{ExprFault, ExpandFault, FileNotFound, FileTooLong, Directive, Macro, EndMacro, ExitMacro, Local, Repeat, EndRepeat, If, ElseIf, Else, EndIf, Include, Error, End, True}
 use Rattle.syntax65.specs.declared.fault.ExpandFault.TheVariants as faults
 use Rattle.base65.specs.Outcome.{◌>>=◌}
@@ -39,12 +39,12 @@ folder_of [] = []
 folder_of (b ∷ bs) = if list_any is_slash (b ∷ bs) then b ∷ folder_of bs else []
 
 -- a name in a folder
-abbrev pub within : List ℕ → List ℕ → List ℕ
-within name folder = folder ++ 47 ∷ name
+abbrev pub path_in : List ℕ → List ℕ → List ℕ
+path_in name folder = folder ++ 47 ∷ name
 
 -- the names that are tried in turn, in a file and with these folders
-abbrev pub tried : List ℕ → List (List ℕ) → List ℕ → List (List ℕ)
-tried file folders name = if begins is_slash name then name ∷ [] else (folder_of file ++ name) ∷ map (within name) folders
+abbrev pub candidate_names : List ℕ → List (List ℕ) → List ℕ → List (List ℕ)
+candidate_names file folders name = if begins is_slash name then name ∷ [] else (folder_of file ++ name) ∷ map (path_in name) folders
 
 -- the one name that is tried where only a file's own folder is
 abbrev pub beside : List ℕ → List ℕ → List ℕ
@@ -67,105 +67,105 @@ first_file m (name ∷ names) = found_or name (file_named m name) (first_file m 
 -- ---- `.include`.
 
 -- a file that was found, by its name and its bytes
-abbrev pub included : State → List ℕ × List ℕ → Stepped
-included s (name, bytes) =
-    entered s (numbered 0 (lines_of bytes)) (mark_from s false (Some s.left.place)) (record { file = name; line = 0 })
+abbrev pub file_step : State → List ℕ × List ℕ → StepResult
+file_step s (name, bytes) =
+    with_input s (file_lines_after 0 (lines_of bytes)) (mark_from s false (Some s.left.place)) (record { file = name; line = 0 })
 
 -- a file that is looked for
-abbrev pub include_file : State → List ℕ → Step
+abbrev pub include_file : State → List ℕ → ExpansionStep
 include_file s name =
-    searches s.left (tried s.left.place.file s.folders name) (λ q. unless_refused s q (λ file. leads (included s file)))
+    searches s.left (candidate_names s.left.place.file s.folders name) (λ q. unless_refused s q (λ file. leads (file_step s file)))
 
 -- ---- One step of expansion, by the first line that is left.
 
 -- a block is closed, or left, that isn't open
-abbrev pub not_opened : State → Stepped
+abbrev pub not_opened : State → StepResult
 not_opened s = stops (faults.NotOpened, s.left.place)
 
 -- the last open condition, where the innermost file, expansion or repeat opened it
 abbrev pub last_condition : State → Option (Bool × List Bool)
-last_condition s = popped s.conditions (option_map_or (λ k. k.conditions) (innermost s.left.items) 0)
+last_condition s = without_last_condition s.conditions (option_map_or (λ k. k.conditions) (innermost s.left.items) 0)
 
 -- a directive and what stands behind it
-abbrev pub directed : Meaning → State → Directive → List Lexeme → Step
-directed k s Macro ts = macro_line s ts
-directed k s EndMacro ts = if_alone s ts (leads (not_opened s))
-directed k s ExitMacro ts = if_alone s ts (leads (exit_macro s))
-directed k s Local ts = leads (local_line s ts)
-directed k s Repeat ts = repeat_line k s ts
-directed k s EndRepeat ts = if_alone s ts (leads (not_opened s))
-directed k s (If test) ts = if_line k s test ts
-directed k s ElseIf ts = else_line s (last_condition s)
-directed k s Else ts = if_alone s ts (else_line s (last_condition s))
-directed k s EndIf ts = if_alone s ts (leads (ended_if s (last_condition s)))
-directed k s Include ts = unless_refused s (understood (string_of ts)) (include_file s)
-directed k s Error ts = unless_refused s (understood (string_of ts)) (λ text. leads (stops (faults.Error text, s.left.place)))
-directed k s End ts = if_alone s ts (leads (goes (with_items s [])))
+abbrev pub directive_step : EnvironmentView → State → Directive → List Lexeme → ExpansionStep
+directive_step k s Macro ts = macro_line s ts
+directive_step k s EndMacro ts = if_alone s ts (leads (not_opened s))
+directive_step k s ExitMacro ts = if_alone s ts (leads (exit_macro s))
+directive_step k s Local ts = leads (local_line s ts)
+directive_step k s Repeat ts = repeat_line k s ts
+directive_step k s EndRepeat ts = if_alone s ts (leads (not_opened s))
+directive_step k s (If test) ts = if_line k s test ts
+directive_step k s ElseIf ts = else_line s (last_condition s)
+directive_step k s Else ts = if_alone s ts (else_line s (last_condition s))
+directive_step k s EndIf ts = if_alone s ts (leads (ended_if s (last_condition s)))
+directive_step k s Include ts = unless_refused s (ok_or_unknown (string_of ts)) (include_file s)
+directive_step k s Error ts = unless_refused s (ok_or_unknown (string_of ts)) (λ text. leads (stops (faults.Error text, s.left.place)))
+directive_step k s End ts = if_alone s ts (leads (goes (with_items s [])))
 
 -- a line without a label, which begins with a directive of expansion or with none
-abbrev pub acted : Meaning → State → List Lexeme → Option Directive → Step
-acted k s ts (Some directive) = directed k s directive (drop 1 ts)
-acted k s ts None = leads (ordinary s ts)
+abbrev pub line_step : EnvironmentView → State → List Lexeme → Option Directive → ExpansionStep
+line_step k s ts (Some directive) = directive_step k s directive (drop 1 ts)
+line_step k s ts None = leads (ordinary s ts)
 
 -- a line whose label has so many tokens
-abbrev pub split : Meaning → State → List Lexeme → Option Directive → ℕ → Step
-split k s ts directive zero = acted k s ts directive
-split k s ts directive (suc n) = leads (gives (label (take (suc n) ts)) (with_items s (labelled (drop (suc n) ts) ∷ s.left.items)))
+abbrev pub label_step : EnvironmentView → State → List Lexeme → Option Directive → ℕ → ExpansionStep
+label_step k s ts directive zero = line_step k s ts directive
+label_step k s ts directive (suc n) = leads (gives (label (take (suc n) ts)) (with_items s (labelled (drop (suc n) ts) ∷ s.left.items)))
 
 -- a label comes first, and the rest of its line stands
-abbrev pub unless_mislabelled : Meaning → State → List Lexeme → Bool → Step
+abbrev pub unless_mislabelled : EnvironmentView → State → List Lexeme → Bool → ExpansionStep
 unless_mislabelled k s ts true = leads (stops (faults.NotUnderstood, s.left.place))
-unless_mislabelled k s ts false = split k s ts (line_directive ts) (label_len ts)
+unless_mislabelled k s ts false = label_step k s ts (line_directive ts) (label_len ts)
 
 -- an end mark is taken off where as many conditions are open as it says; behind the last one nothing is left
-abbrev pub at_mark : State → List Item → Stepped
+abbrev pub at_mark : State → List Item → StepResult
 at_mark s [] = ends s
-at_mark s (mark k ∷ is) = if k.conditions == length s.conditions then goes (with_left s (left is s.left.room (come_back s.left.place k.back))) else stops (faults.NotClosed, s.left.place)
+at_mark s (mark k ∷ is) = if k.conditions == length s.conditions then goes (with_remaining s (remaining_input is s.left.room (come_back s.left.place k.back))) else stops (faults.NotClosed, s.left.place)
 at_mark s (_ ∷ is) = ends s
 
-abbrev pub step_behind : Meaning → State → Taken → Step
-step_behind k s (Err e) = leads (stops e)
-step_behind k s (Ok (Some ts, l)) = unless_mislabelled k (with_left s l) ts (is_mislabelled ts)
-step_behind k s (Ok (None, l)) = leads (at_mark (with_left s l) l.items)
+abbrev pub step_after : EnvironmentView → State → LineAndRest → ExpansionStep
+step_after k s (Err e) = leads (stops e)
+step_after k s (Ok (Some ts, l)) = unless_mislabelled k (with_remaining s l) ts (is_mislabelled ts)
+step_after k s (Ok (None, l)) = leads (at_mark (with_remaining s l) l.items)
 
 -- what stands behind a label is acted on, and a branch is decided; otherwise a line is taken
-abbrev pub step_from : Meaning → State → List Item → Step
-step_from k s (labelled ts ∷ is) = acted k (with_items s is) ts (front_directive ts)
+abbrev pub step_from : EnvironmentView → State → List Item → ExpansionStep
+step_from k s (labelled ts ∷ is) = line_step k (with_items s is) ts (front_directive ts)
 step_from k s (branch ts ∷ is) = if_line k (with_items s is) True ts
-step_from k s _ = takes s.left (step_behind k s)
+step_from k s _ = takes s.left (step_after k s)
 
 -- where a step leads to once all that it reads is read
-abbrev pub Leads : Files → Step → Stepped → Type 0
-Leads m (leads x) r = r ≡ x
-Leads m (parses ts next) r = (q : Result (Tree × ℕ) ExprFault) × IsParsed ts q × Leads m (next q) r
-Leads m (decides k test ts next) r = (c : Result Bool ExpandFault) × IsCondition k test ts c × Leads m (next c) r
-Leads m (takes l next) r = (t : Taken) × Takes l t × Leads m (next t) r
-Leads m (takes_block k l next) r = (q : Result (Whole × Left) Stop) × Block k 0 [] l q × (r ≡ unless_stopped q (λ b. next b.0 b.1))
-Leads m (searches l names next) r = Leads m (next (first_file m names)) r
+abbrev pub StepReaches : Files → ExpansionStep → StepResult → Type 0
+StepReaches m (leads x) r = r ≡ x
+StepReaches m (parses ts next) r = (q : Result (Tree × ℕ) ExprFault) × IsParsed ts q × StepReaches m (next q) r
+StepReaches m (decides k test ts next) r = (c : Result Bool ExpandFault) × IsCondition k test ts c × StepReaches m (next c) r
+StepReaches m (takes l next) r = (t : LineAndRest) × TakesNextLine l t × StepReaches m (next t) r
+StepReaches m (takes_block k l next) r = (q : Result (CompleteBlock × RemainingInput) LocatedError) × Block k 0 [] l q × (r ≡ unless_stopped q (λ b. next b.0 b.1))
+StepReaches m (searches l names next) r = StepReaches m (next (first_file m names)) r
 
 -- what the step from a state leads to
-unfoldable pub IsStep : Files → Meaning → State → Stepped → Type 0
-IsStep m k s r = Leads m (step_from k s s.left.items) r
+unfoldable pub IsStep : Files → EnvironmentView → State → StepResult → Type 0
+IsStep m k s r = StepReaches m (step_from k s s.left.items) r
 
 -- ---- Expansion: from a state to the next statement, and from a source to its first state.
 
 -- what comes next: a statement and the state behind it, the end, or a fault
 pub data Next : Type 0 where
-  statement : Stated → State → Next
+  statement : ExpandedStatement → State → Next
   nothing : State → Next
-  fault : Stop → Next
+  fault : LocatedError → Next
 
 -- steps lead on to it
-pub data Reaches (m : Files) (k : Meaning) : State → Next → Type 0 where
-  further : (s t : State) (n : Next) → IsStep m k s (goes t) → Reaches m k t n → Reaches m k s n
-  given : (s t : State) (x : Stated) → IsStep m k s (gives x t) → Reaches m k s (statement x t)
-  ended : (s t : State) → IsStep m k s (ends t) → Reaches m k s (nothing t)
-  stopped : (s : State) (e : Stop) → IsStep m k s (stops e) → Reaches m k s (fault e)
+pub data ReachesNext (m : Files) (k : EnvironmentView) : State → Next → Type 0 where
+  further : (s t : State) (n : Next) → IsStep m k s (goes t) → ReachesNext m k t n → ReachesNext m k s n
+  given : (s t : State) (x : ExpandedStatement) → IsStep m k s (gives x t) → ReachesNext m k s (statement x t)
+  ended : (s t : State) → IsStep m k s (ends t) → ReachesNext m k s (nothing t)
+  stopped : (s : State) (e : LocatedError) → IsStep m k s (stops e) → ReachesNext m k s (fault e)
 
 -- all the lines of a source
-abbrev pub first_left : List ℕ → List ℕ → Left
+abbrev pub first_left : List ℕ → List ℕ → RemainingInput
 first_left file bytes =
-    left (numbered 0 (lines_of bytes) ++ mark (record { is_macro = false; conditions = 0; back = None }) ∷ []) line_limit
+    remaining_input (file_lines_after 0 (lines_of bytes) ++ mark (record { is_macro = false; conditions = 0; back = None }) ∷ []) line_limit
     (record { file = file; line = 0 })
 
 -- the state before the first line of a source
@@ -185,5 +185,5 @@ opened_in m file folders = bytes_in (file_named m file) >>= (λ bytes. Ok (first
 -- ---- What is proved of the definitions.
 
 -- from a state one thing at most comes next: one statement with the state behind it, the end, or one fault with its place
-abbrev pub OneNext : Type 0
-OneNext = (m : Files) (k : Meaning) (s : State) (a b : Next) → Reaches m k s a → Reaches m k s b → a ≡ b
+abbrev pub NextIsUnique : Type 0
+NextIsUnique = (m : Files) (k : EnvironmentView) (s : State) (a b : Next) → ReachesNext m k s a → ReachesNext m k s b → a ≡ b

@@ -5,7 +5,7 @@ use Rattle.std.specs.Str.{str_eq_ignore_ascii_case}
 use Rattle.expand65.specs.Types.{True, Defined, NotDefined, Blank, NotBlank, Directive, Macro, EndMacro, ExitMacro, Local, Repeat, EndRepeat, If, ElseIf, Else, EndIf, Include, Error, End, ExpandFault, NotUnderstood}
 use Rattle.syntax65.specs.Tokens.{Lexeme}
 use Rattle.syntax65.specs.Expressions.{is_reserved}
-use Rattle.syntax65.specs.declared.lexing.tokens.Mark.TheVariants.{Colon, Comma, OpenBrace, CloseBrace, OpenParenthesis}
+use Rattle.syntax65.specs.declared.lexing.tokens.Punctuation.TheVariants.{Colon, Comma, OpenBrace, CloseBrace, OpenParenthesis}
 use Rattle.syntax65.specs.declared.lexing.tokens.TokenKind.TheVariants as token
 
 -- ---- The words of the directives of expansion.
@@ -55,12 +55,12 @@ directive_of word = option_or (among condition_words word) (option_or (among mac
 -- ---- What isn't understood, or isn't there.
 
 -- what isn't understood
-abbrev pub unknown : {A : Type 0} → Result A ExpandFault
-unknown = Err NotUnderstood
+abbrev pub not_understood : {A : Type 0} → Result A ExpandFault
+not_understood = Err NotUnderstood
 
-abbrev pub understood : {A : Type 0} → Option A → Result A ExpandFault
-understood None = unknown
-understood (Some x) = Ok x
+abbrev pub ok_or_unknown : {A : Type 0} → Option A → Result A ExpandFault
+ok_or_unknown None = not_understood
+ok_or_unknown (Some x) = Ok x
 
 -- this, and then what follows from it, where both are there
 infixl 10 ◌>=>◌
@@ -97,7 +97,7 @@ name_in _ = None
 
 -- the bytes between the quotes of a string
 abbrev pub quoted_in : Lexeme → Option (List ℕ)
-quoted_in (token.Text, text) = Some (take (length text - 2) (drop 1 text))
+quoted_in (token.StringLiteral, text) = Some (take (length text - 2) (drop 1 text))
 quoted_in _ = None
 
 -- ---- Lists of tokens.

@@ -1,11 +1,11 @@
 -- That something comes next, whatever is left of a source, and that less is left behind each statement.
 use Rattle.std.specs.Prelude.{◌≡◌, ℕ, ◌+◌, ◌*◌, ◌<◌, false, List, [], ◌∷◌, ⊤}
-use Rattle.base65.specs.Own.{IsOwn}
+use Rattle.base65.specs.SystemErrors.{IsNoSystemError}
 use Rattle.base65.specs.Store.{Files}
-use Rattle.syntax65.specs.Faults.{is_outside}
-use Rattle.expand65.specs.Expansion.{Next, statement, nothing, fault, Reaches, first_state, opened_in}
+use Rattle.syntax65.specs.Faults.{is_system_error}
+use Rattle.expand65.specs.Expansion.{Next, statement, nothing, fault, ReachesNext, first_state, opened_in}
 use Rattle.expand65.specs.Lines.{Item, labelled, branch, mark}
-use Rattle.expand65.specs.State.{Meaning, State}
+use Rattle.expand65.specs.State.{EnvironmentView, State}
 
 -- ---- What is left of a source.
 
@@ -45,19 +45,19 @@ size_left s = 3 * s.left.room + weight s.left.items
 abbrev pub LeavesLess : State → Next → Type 0
 LeavesLess s (statement x t) = IsOrdered t × (size_left t < size_left s)
 LeavesLess s (nothing t) = ⊤
-LeavesLess s (fault e) = is_outside e.0 ≡ false
+LeavesLess s (fault e) = is_system_error e.0 ≡ false
 
 -- ---- What is proved of the definitions.
 
 -- A source is opened, or there is a fault of its own. From its first state on, and then from the state behind each
 -- statement, something comes next: whatever the files are, and whatever names and expressions mean.
-pub record SomeNextLaw : Type 0 where
+pub record NextExists : Type 0 where
   pub opened :
       (m : Files) (file : List ℕ) (folders : List (List ℕ)) →
-      IsOwn is_outside (opened_in m file folders)
+      IsNoSystemError is_system_error (opened_in m file folders)
   pub first :
       (file : List ℕ) (folders : List (List ℕ)) (bytes : List ℕ) →
       IsOrdered (first_state file folders bytes)
   pub next :
-      (m : Files) (k : Meaning) (s : State) → IsOrdered s →
-      (n : Next) × Reaches m k s n × LeavesLess s n
+      (m : Files) (k : EnvironmentView) (s : State) → IsOrdered s →
+      (n : Next) × ReachesNext m k s n × LeavesLess s n

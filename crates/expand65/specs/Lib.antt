@@ -5,7 +5,7 @@ pub mod Fronts
 pub mod Laws
 pub mod Lines
 pub mod Macros
-pub mod Playing
-pub mod Standing
+pub mod Replay
+pub mod Representation
 pub mod State
 pub mod Types

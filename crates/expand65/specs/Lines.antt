@@ -4,12 +4,12 @@ use Rattle.std.specs.Prelude.{ℕ, Bool, List, [], ◌∷◌, ◌++◌, codes, d
 use Rattle.std.specs.Map.{lookup}
 use Rattle.std.specs.Option.{option_or}
 use Rattle.std.specs.Str.{bytes_eq, str_eq_ignore_ascii_case}
-use Rattle.base65.specs.Store.{Files, IsBlamedAt, Passes, Blamed}
-use Rattle.syntax65.specs.Faults.{is_failure, is_outside, fault_of_lexing}
+use Rattle.base65.specs.Store.{Files, FailedAt, PropagatesIoError, LastFailure}
+use Rattle.syntax65.specs.Faults.{is_failure, is_system_error, fault_of_lexing}
 use Rattle.syntax65.specs.Tokens.{Lexeme, IsRead}
 use Rattle.syntax65.specs.declared.lexing.tokens.TokenKind.TheVariants as token
 use Rattle.expand65.specs.Fronts.{begins}
-use Rattle.expand65.specs.Types.{ExpandFault, FileError, Syntax, Nested, NotClosed, TooManyLines, LineTooLong, Place, OpenFile}
+use Rattle.expand65.specs.Types.{ExpandFault, FileError, Syntax, Nested, NotClosed, TooManyLines, LineTooLong, SourceLocation, OpenFile}
 use Rattle.std.specs.FinMap as fmap
 use Rattle.base65.specs.Outcome.{Unless}
 use Rattle.syntax65.specs.declared.lexing.tokens.LexFault.TheVariants as lex
@@ -18,7 +18,7 @@ use Rattle.syntax65.specs.declared.lexing.tokens.LexFault.{LexFault}
 -- ---- What stands in place of names in the lines of a body.
 
 -- what is put into the lines of an expansion, or of a turn of a repeat
-pub record Replacing : Type 0 where
+pub record Substitution : Type 0 where
   -- the parameters of a macro, or the variable of a repeat
   pub params : List (List ℕ)
   -- what is given for them in their order
@@ -44,26 +44,26 @@ argument_at arguments None = None
 argument_at arguments (Some i) = Some (unwrap_or (slice_get arguments i) [])
 
 -- what stands for a name: what is given for a parameter, or else a name of the expansion's own
-abbrev pub for_name : Replacing → List ℕ → Option (List Lexeme)
+abbrev pub for_name : Substitution → List ℕ → Option (List Lexeme)
 for_name r name = option_or (argument_at r.arguments (position (bytes_eq name) r.params)) (lookup (bytes_eq name) r.locals)
 
 abbrev pub is_count_word : List ℕ → Bool
 is_count_word text = str_eq_ignore_ascii_case text (codes ".paramcount")
 
 -- what stands for a directive
-abbrev pub for_word : Replacing → List ℕ → Option (List Lexeme)
+abbrev pub for_word : Substitution → List ℕ → Option (List Lexeme)
 for_word r text = if is_count_word text then r.count else None
 
 -- what stands for a token, if it is not itself
-abbrev pub stand_in : Replacing → Lexeme → Option (List Lexeme)
-stand_in r (token.Identifier, text) = for_name r text
-stand_in r (token.Directive, text) = for_word r text
-stand_in r _ = None
+abbrev pub replacement_for : Substitution → Lexeme → Option (List Lexeme)
+replacement_for r (token.Identifier, text) = for_name r text
+replacement_for r (token.Directive, text) = for_word r text
+replacement_for r _ = None
 
 -- The line with what stands for its tokens, in one pass: what is put in isn't looked at again.
-abbrev pub replaced : Replacing → List Lexeme → List Lexeme
-replaced r [] = []
-replaced r (t ∷ ts) = unwrap_or (stand_in r t) (t ∷ []) ++ replaced r ts
+abbrev pub substituted_line : Substitution → List Lexeme → List Lexeme
+substituted_line r [] = []
+substituted_line r (t ∷ ts) = unwrap_or (replacement_for r t) (t ∷ []) ++ substituted_line r ts
 
 -- ---- Macros and repeats.
 
@@ -73,12 +73,12 @@ pub record Definition : Type 0 where
   pub body : List (List Lexeme)
 
 -- what a repeat puts into its lines, but for the number of the turn
-abbrev pub repeating : List (List ℕ) → Replacing
-repeating variable = record { params = variable; arguments = []; count = None; locals = []; number = 0 }
+abbrev pub repeat_substitution : List (List ℕ) → Substitution
+repeat_substitution variable = record { params = variable; arguments = []; count = None; locals = []; number = 0 }
 
 -- and in a turn, the first one being 0
-abbrev pub in_turn : Replacing → ℕ → Replacing
-in_turn e t = record { params = e.params; arguments = (number_token t ∷ []) ∷ []; count = e.count; locals = e.locals; number = e.number }
+abbrev pub in_iteration : Substitution → ℕ → Substitution
+in_iteration e t = record { params = e.params; arguments = (number_token t ∷ []) ∷ []; count = e.count; locals = e.locals; number = e.number }
 
 -- ---- An expansion's own names.
 
@@ -92,52 +92,52 @@ all_local number [] locals = locals
 all_local number (name ∷ names) locals = all_local number names (with_local locals name (own_token number name ∷ []))
 
 -- more names of its own, each of which is followed by `?` and the expansion's number
-abbrev pub with_locals : List (List ℕ) → Replacing → Replacing
+abbrev pub with_locals : List (List ℕ) → Substitution → Substitution
 with_locals names r = record { params = r.params; arguments = r.arguments; count = r.count; locals = all_local r.number names r.locals; number = r.number }
 
 -- ---- The lines that are left, and the end marks among them.
 
 -- where a file, an expansion or a repeat ends
-pub record Mark : Type 0 where
+pub record InputEnd : Type 0 where
   -- whether it is a macro's expansion
   pub is_macro : Bool
   -- how many conditions were open where it began
   pub conditions : ℕ
   -- the place of the line that a file was included from
-  pub back : Option Place
+  pub back : Option SourceLocation
 
 -- what is left of a line, or an end mark
 pub data Item : Type 0 where
   -- a line of a file: its number and its bytes
   written : ℕ → List ℕ → Item
   -- a line of a body, and what stands for names in it
-  played : Replacing → List Lexeme → Item
+  played : Substitution → List Lexeme → Item
   -- what stands behind the label of a line
   labelled : List Lexeme → Item
   -- what stands behind an `.elseif` that has to be decided
   branch : List Lexeme → Item
-  mark : Mark → Item
+  mark : InputEnd → Item
 
 -- the lines that are left, how many more may be taken, and the place of the last one that was
-pub record Left : Type 0 where
+pub record RemainingInput : Type 0 where
   pub items : List Item
   pub room : ℕ
-  pub place : Place
+  pub place : SourceLocation
 
-abbrev pub left : List Item → ℕ → Place → Left
-left is r p = record { items = is; room = r; place = p }
+abbrev pub remaining_input : List Item → ℕ → SourceLocation → RemainingInput
+remaining_input is r p = record { items = is; room = r; place = p }
 
 -- a fault and its place
-abbrev pub Stop : Type 0
-Stop = ExpandFault × Place
+abbrev pub LocatedError : Type 0
+LocatedError = ExpandFault × SourceLocation
 
 -- ---- Places.
 
-abbrev pub moved : Place → ℕ → Place
-moved p n = record { file = p.file; line = n }
+abbrev pub location_at : SourceLocation → ℕ → SourceLocation
+location_at p n = record { file = p.file; line = n }
 
 -- the place behind an end mark
-abbrev pub come_back : Place → Option Place → Place
+abbrev pub come_back : SourceLocation → Option SourceLocation → SourceLocation
 come_back p None = p
 come_back p (Some q) = q
 
@@ -150,13 +150,13 @@ marks (mark k ∷ is) = marks is + 1
 marks (_ ∷ is) = marks is
 
 -- the first end mark, that of the innermost file, expansion or repeat
-abbrev pub innermost : List Item → Option Mark
+abbrev pub innermost : List Item → Option InputEnd
 innermost [] = None
 innermost (mark k ∷ is) = Some k
 innermost (_ ∷ is) = innermost is
 
 -- how many conditions stay open behind the innermost expansion, what is left behind it, and the place there
-abbrev pub outside_macro : List Item → Place → Option (ℕ × List Item × Place)
+abbrev pub outside_macro : List Item → SourceLocation → Option (ℕ × List Item × SourceLocation)
 outside_macro [] p = None
 outside_macro (mark k ∷ is) p = if k.is_macro then Some (k.conditions, is, come_back p k.back) else outside_macro is (come_back p k.back)
 outside_macro (_ ∷ is) p = outside_macro is p
@@ -164,34 +164,34 @@ outside_macro (_ ∷ is) p = outside_macro is p
 -- ---- Lines.
 
 -- the lines of a file behind the first n
-abbrev pub numbered : ℕ → List (List ℕ) → List Item
-numbered n [] = []
-numbered n (line ∷ lines) = written (n + 1) line ∷ numbered (n + 1) lines
+abbrev pub file_lines_after : ℕ → List (List ℕ) → List Item
+file_lines_after n [] = []
+file_lines_after n (line ∷ lines) = written (n + 1) line ∷ file_lines_after (n + 1) lines
 
 -- the lines of so many turns from turn t on
-abbrev pub turns : Replacing → List (List Lexeme) → ℕ → ℕ → List Item
-turns e body t zero = []
-turns e body t (suc n) = map (played (in_turn e t)) body ++ turns e body (t + 1) n
+abbrev pub iterations : Substitution → List (List Lexeme) → ℕ → ℕ → List Item
+iterations e body t zero = []
+iterations e body t (suc n) = map (played (in_iteration e t)) body ++ iterations e body (t + 1) n
 
 -- what is left of an expansion, with more names of its own
-abbrev pub localised : List (List ℕ) → List Item → List Item
-localised names [] = []
-localised names (played r ts ∷ is) = played (with_locals names r) ts ∷ localised names is
-localised names (mark k ∷ is) = mark k ∷ is
-localised names (i ∷ is) = i ∷ localised names is
+abbrev pub with_local_names : List (List ℕ) → List Item → List Item
+with_local_names names [] = []
+with_local_names names (played r ts ∷ is) = played (with_locals names r) ts ∷ with_local_names names is
+with_local_names names (mark k ∷ is) = mark k ∷ is
+with_local_names names (i ∷ is) = i ∷ with_local_names names is
 
 -- ---- What a call that may ask a store leaves of it.
 
 -- its files as before, and its count of failures, a failure passed on as a file error
-pub record LeavesStore {X T : Type 0} (files_of : X → Option Files) (failures_of : X → ℕ) (old new : X) (result : Result T ExpandFault) : Type 0 where
+pub record ReadFrame {X T : Type 0} (files_of : X → Option Files) (failures_of : X → ℕ) (old new : X) (result : Result T ExpandFault) : Type 0 where
   pub files : files_of new ≡ files_of old
-  pub count : Passes FileError (failures_of old) (failures_of new) result
+  pub count : PropagatesIoError FileError (failures_of old) (failures_of new) result
 
 -- the same of a call that is told so which call of the store failed
-pub record LeavesBlamed {X T : Type 0} (files_of : X → Option Files) (failures_of : X → ℕ) (blamed_of : X → Blamed) (IsTold : Blamed → Type 0) (old new : X) (result : Result T ExpandFault) : Type 0 where
-  pub blamed : IfErr result (λ e. is_failure e ≡ true → IsTold (blamed_of new))
+pub record FailedReadFrame {X T : Type 0} (files_of : X → Option Files) (failures_of : X → ℕ) (last_failure_of : X → LastFailure) (IsTold : LastFailure → Type 0) (old new : X) (result : Result T ExpandFault) : Type 0 where
+  pub last_failure : IfErr result (λ e. is_failure e ≡ true → IsTold (last_failure_of new))
   pub files : files_of new ≡ files_of old
-  pub count : Passes FileError (failures_of old) (failures_of new) result
+  pub count : PropagatesIoError FileError (failures_of old) (failures_of new) result
 
 -- ---- The lines of a file.
 
@@ -245,7 +245,7 @@ content m name = take file_limit (bytes_of m name)
 
 -- so many bytes are the first of what is left of a file; there are none only at its end, or where none are wanted
 pub record IsPiece (rest : List ℕ) (want n : ℕ) (piece : List ℕ) : Type 0 where
-  pub front : piece ≡ take n rest
+  pub pending : piece ≡ take n rest
   pub few : n ≤ want
   pub ends : n ≡ 0 → 0 < want → rest ≡ []
 
@@ -255,44 +255,44 @@ rest_of m f = drop f.at f.buffer.items ++ drop f.next (content m f.name)
 
 -- the lines that it still has
 abbrev pub left_in_file : Files → OpenFile → List Item
-left_in_file m f = numbered f.line (lines_of (rest_of m f))
+left_in_file m f = file_lines_after f.line (lines_of (rest_of m f))
 
 -- It reads on behind all that was at hand, and doesn't ask for more than is read of a file.
-abbrev pub IsReadOn : OpenFile → Blamed → Type 0
-IsReadOn f blamed = IsBlamedAt blamed f.name f.next × (f.next < file_limit) × (length f.buffer.items ≤ f.at)
+abbrev pub IsReadOn : OpenFile → LastFailure → Type 0
+IsReadOn f last_failure = FailedAt last_failure f.name f.next × (f.next < file_limit) × (length f.buffer.items ≤ f.at)
 
 -- These are left of some bytes behind their first n lines: each front of the bytes that goes some way into them begins n
 -- lines more than that way does.
-pub record IsBehind (bytes rest : List ℕ) (n : ℕ) : Type 0 where
+pub record ComesAfter (bytes rest : List ℕ) (n : ℕ) : Type 0 where
   pub taken : List ℕ
   pub whole : bytes ≡ taken ++ rest
-  pub count : (front behind : List ℕ) → rest ≡ front ++ behind → length (lines_of (taken ++ front)) ≡ n + length (lines_of front)
+  pub count : (pending following : List ℕ) → rest ≡ pending ++ following → length (lines_of (taken ++ pending)) ≡ n + length (lines_of pending)
 
 -- so is what an open file still has
-abbrev pub IsFileBehind : Files → OpenFile → ℕ → Type 0
-IsFileBehind m f n = IsBehind (content m f.name) (rest_of m f) n
+abbrev pub IsFileAfter : Files → OpenFile → ℕ → Type 0
+IsFileAfter m f n = ComesAfter (content m f.name) (rest_of m f) n
 
 -- a file is open at the place of the line that was taken last of it
-pub record IsFileAt (m : Files) (f : OpenFile) (p : Place) : Type 0 where
+pub record IsFileAt (m : Files) (f : OpenFile) (p : SourceLocation) : Type 0 where
   pub name : f.name ≡ p.file
   pub line : p.line ≡ f.line
-  pub behind : IsFileBehind m f f.line
+  pub following : IsFileAfter m f f.line
 
-abbrev pub in_line : List ℕ → ℕ → Place
+abbrev pub in_line : List ℕ → ℕ → SourceLocation
 in_line file n = record { file = file; line = n }
 
 -- The last failed call was a reading of a place's file, where the store tells which it was. The place's line is the one
 -- in which it came or, where that was before its first byte, the line before: as many lines begin in the bytes before
 -- the place where it began to read.
-pub record IsReadingAt (m : Files) (blamed : Blamed) (p : Place) : Type 0 where
+pub record IsReadingAt (m : Files) (last_failure : LastFailure) (p : SourceLocation) : Type 0 where
   pub at : ℕ
-  pub asked : IsBlamedAt blamed p.file at
+  pub asked : FailedAt last_failure p.file at
   pub within : at < file_limit
   pub line : p.line ≡ length (lines_of (take at (bytes_of m p.file)))
 
 -- a line's end stands between these
 abbrev pub IsEndedLine : List ℕ → List ℕ → List ℕ → Type 0
-IsEndedLine all line behind = (b : ℕ) × (is_line_end b ≡ true) × (all ≡ line ++ b ∷ behind)
+IsEndedLine all line following = (b : ℕ) × (is_line_end b ≡ true) × (all ≡ line ++ b ∷ following)
 
 -- a byte within a line
 abbrev pub is_inside : ℕ → Bool
@@ -313,62 +313,62 @@ BeginsLong lines = (line : List ℕ) × ((others : List (List ℕ)) × (lines �
 -- the first of the lines is read
 abbrev pub ReadsLine : List (List ℕ) → Result (List ℕ) ExpandFault → List (List ℕ) → Type 0
 ReadsLine before (Ok line) after = before ≡ line ∷ after
-ReadsLine before (Err f) after = Unless (is_outside f) ((f ≡ Syntax lex.LineTooLong) × BeginsLong before)
+ReadsLine before (Err f) after = Unless (is_system_error f) ((f ≡ Syntax lex.LineTooLong) × BeginsLong before)
 
 -- More of a line is taken from what is left of its file, whatever stands behind what is at hand: up to its end, or all
 -- that is at hand.
 abbrev pub TakesPiece : List ℕ → List ℕ → List ℕ → Result Bool ExpandFault → List ℕ → List ℕ → Type 0
-TakesPiece line here behind (Ok true) after left = lines_of (line ++ (here ++ behind)) ≡ without_return after ∷ lines_of (left ++ behind)
-TakesPiece line here behind (Ok false) after left = line ++ (here ++ behind) ≡ after ++ (left ++ behind)
-TakesPiece line here behind (Err f) after left = Unless (is_outside f) ((f ≡ Syntax lex.LineTooLong) × BeginsLong (lines_of (line ++ (here ++ behind))))
+TakesPiece line here following (Ok true) after remaining_input = lines_of (line ++ (here ++ following)) ≡ without_return after ∷ lines_of (remaining_input ++ following)
+TakesPiece line here following (Ok false) after remaining_input = line ++ (here ++ following) ≡ after ++ (remaining_input ++ following)
+TakesPiece line here following (Err f) after remaining_input = Unless (is_system_error f) ((f ≡ Syntax lex.LineTooLong) × BeginsLong (lines_of (line ++ (here ++ following))))
 
 -- ---- An input put inside the innermost one, and one that is left.
 
 -- lines and an end mark in front of what is left
-abbrev pub pushed : List Item → Mark → Left → Result Left Stop
-pushed is k l = if nat_le (marks l.items) nesting_limit then Ok (left (is ++ mark k ∷ l.items) l.room l.place) else Err (Nested, l.place)
+abbrev pub with_lines : List Item → InputEnd → RemainingInput → Result RemainingInput LocatedError
+with_lines is k l = if nat_le (marks l.items) nesting_limit then Ok (remaining_input (is ++ mark k ∷ l.items) l.room l.place) else Err (Nested, l.place)
 
 -- An end mark, at which so many conditions have to be open, is taken off; what is left behind it, and the place there.
-abbrev pub closed : ℕ → Place → List Item → Result (List Item × Place) Stop
-closed n p (mark k ∷ is) = if k.conditions == n then Ok (is, come_back p k.back) else Err (NotClosed, p)
-closed n p is = Ok (is, p)
+abbrev pub without_end_mark : ℕ → SourceLocation → List Item → Result (List Item × SourceLocation) LocatedError
+without_end_mark n p (mark k ∷ is) = if k.conditions == n then Ok (is, come_back p k.back) else Err (NotClosed, p)
+without_end_mark n p is = Ok (is, p)
 
 -- ---- The first of the lines that are left, read as tokens.
 
 -- the tokens of a line of a file, or its fault
-abbrev pub lexed : Result (List Lexeme) LexFault → Result (List Lexeme) ExpandFault
-lexed (Ok ts) = Ok ts
-lexed (Err fault) = Err (fault_of_lexing fault)
+abbrev pub file_line_tokens : Result (List Lexeme) LexFault → Result (List Lexeme) ExpandFault
+file_line_tokens (Ok ts) = Ok ts
+file_line_tokens (Err fault) = Err (fault_of_lexing fault)
 
 -- the tokens of a line of a body, unless they are too many once names are replaced
-abbrev pub fitted : List Lexeme → Result (List Lexeme) ExpandFault
-fitted ts = if nat_le (length ts) token_limit then Ok ts else Err LineTooLong
+abbrev pub body_line_tokens : List Lexeme → Result (List Lexeme) ExpandFault
+body_line_tokens ts = if nat_le (length ts) token_limit then Ok ts else Err LineTooLong
 
 -- what a line is read as; what stands behind a label, and an end mark, are no lines
 abbrev pub IsOpened : Item → Result (List Lexeme) ExpandFault → Type 0
-IsOpened (written n bytes) t = (q : Result (List Lexeme) LexFault) × IsRead bytes q × (t ≡ lexed q)
-IsOpened (played e ts) t = t ≡ fitted (replaced e ts)
+IsOpened (written n bytes) t = (q : Result (List Lexeme) LexFault) × IsRead bytes q × (t ≡ file_line_tokens q)
+IsOpened (played e ts) t = t ≡ body_line_tokens (substituted_line e ts)
 IsOpened _ t = ⊥
 
 -- a line of a file moves the place
-abbrev pub reached : Place → Item → Place
-reached p (written n bytes) = moved p n
-reached p _ = p
+abbrev pub location_after : SourceLocation → Item → SourceLocation
+location_after p (written n bytes) = location_at p n
+location_after p _ = p
 
 -- a line's tokens, or none where an end mark or nothing is left; and what is left behind it
-abbrev pub Taken : Type 0
-Taken = Result (Option (List Lexeme) × Left) Stop
+abbrev pub LineAndRest : Type 0
+LineAndRest = Result (Option (List Lexeme) × RemainingInput) LocatedError
 
-abbrev pub taken_as : Result (List Lexeme) ExpandFault → Left → Taken
+abbrev pub taken_as : Result (List Lexeme) ExpandFault → RemainingInput → LineAndRest
 taken_as (Ok ts) l = Ok (Some ts, l)
 taken_as (Err fault) l = Err (fault, l.place)
 
 -- each line that is taken is counted, and one too many is refused before it is looked at
-abbrev pub TakesFrom : List Item → ℕ → Place → Taken → Type 0
-TakesFrom [] r p t = t ≡ Ok (None, left [] r p)
-TakesFrom (mark k ∷ is) r p t = t ≡ Ok (None, left (mark k ∷ is) r p)
-TakesFrom (i ∷ is) zero p t = t ≡ Err (TooManyLines, reached p i)
-TakesFrom (i ∷ is) (suc r) p t = (q : Result (List Lexeme) ExpandFault) × IsOpened i q × (t ≡ taken_as q (left is r (reached p i)))
+abbrev pub TakesFrom : List Item → ℕ → SourceLocation → LineAndRest → Type 0
+TakesFrom [] r p t = t ≡ Ok (None, remaining_input [] r p)
+TakesFrom (mark k ∷ is) r p t = t ≡ Ok (None, remaining_input (mark k ∷ is) r p)
+TakesFrom (i ∷ is) zero p t = t ≡ Err (TooManyLines, location_after p i)
+TakesFrom (i ∷ is) (suc r) p t = (q : Result (List Lexeme) ExpandFault) × IsOpened i q × (t ≡ taken_as q (remaining_input is r (location_after p i)))
 
-abbrev pub Takes : Left → Taken → Type 0
-Takes l t = TakesFrom l.items l.room l.place t
+abbrev pub TakesNextLine : RemainingInput → LineAndRest → Type 0
+TakesNextLine l t = TakesFrom l.items l.room l.place t

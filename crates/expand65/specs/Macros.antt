@@ -1,26 +1,26 @@
 -- Macros and repeats: their headers, bodies, calls and names; and files that are looked for.
 use Rattle.std.specs.Prelude.{ℕ, ◌+◌, ◌-◌, ◌==◌, ◌&&◌, Bool, false, List, [], ◌∷◌, length, take, drop, map, if◌then◌else◌, ◌≡◌, nat_le, true, ◌++◌, Option, Some, None, Result, Ok, Err, ℤ, pos, negsuc, slice_get}
 use Rattle.syntax65.specs.Tokens.{Lexeme}
-use Rattle.expand65.specs.Fronts.{is_comma, opens_brace, closes_brace, name_in, names_of, ◌>=>◌, understood, unknown}
+use Rattle.expand65.specs.Fronts.{is_comma, opens_brace, closes_brace, name_in, names_of, ◌>=>◌, ok_or_unknown, not_understood}
 use Rattle.std.specs.List.{list_any}
 use Rattle.std.specs.Map.{lookup}
 use Rattle.std.specs.Str.{bytes_eq}
 use Rattle.syntax65.specs.declared.lexing.tokens.TokenKind.TheVariants as token
 use Rattle.expand65.specs.declared.blocks.BlockKind.TheVariants as kind
 use Rattle.std.specs.Option.{option_map_or}
-use Rattle.expand65.specs.Lines.{file_limit, bytes_of, Definition, Replacing, number_token, repeating, Item, played, Mark, left, innermost, localised, outside_macro, pushed, turns}
-use Rattle.expand65.specs.State.{State, plain, Step, leads, parses, takes_block, Stepped, goes, gives, stops, unless_refused, unless_stopped, with_conditions, with_left, with_items, Meaning}
-use Rattle.expand65.specs.Types.{TooManyArguments, MacroTwice, NotOpened, NotUnderstood, NotConstant, CountOutOfRange, FileTooLong, Place, ExprFault, ExpandFault}
+use Rattle.expand65.specs.Lines.{file_limit, bytes_of, Definition, Substitution, number_token, repeat_substitution, Item, played, InputEnd, remaining_input, innermost, with_local_names, outside_macro, with_lines, iterations}
+use Rattle.expand65.specs.State.{State, plain, ExpansionStep, leads, parses, takes_block, StepResult, goes, gives, stops, unless_refused, unless_stopped, with_conditions, with_remaining, with_items, EnvironmentView}
+use Rattle.expand65.specs.Types.{TooManyArguments, MacroTwice, NotOpened, NotUnderstood, NotConstant, CountOutOfRange, FileTooLong, SourceLocation, ExprFault, ExpandFault}
 use Rattle.base65.specs.Outcome.{◌>>=◌, Unless}
 use Rattle.syntax65.specs.Trees.{Tree}
 use Rattle.base65.specs.Store.{Files}
-use Rattle.syntax65.specs.Faults.{is_outside}
+use Rattle.syntax65.specs.Faults.{is_system_error}
 
 -- ---- The arguments of a macro's call.
 
 -- how many braces are open behind a token; one that closes none is a token like others
-abbrev pub braces_behind : ℕ → Lexeme → ℕ
-braces_behind d t = if opens_brace t then d + 1 else if closes_brace t then d - 1 else d
+abbrev pub braces_after : ℕ → Lexeme → ℕ
+braces_after d t = if opens_brace t then d + 1 else if closes_brace t then d - 1 else d
 
 -- a token at the front of the first part
 abbrev pub put_in_first : Lexeme → List (List Lexeme) → List (List Lexeme)
@@ -33,7 +33,7 @@ parts_within d [] = [] ∷ []
 parts_within d (t ∷ ts) =
     if is_comma t && (d == 0)
     then [] ∷ parts_within 0 ts
-    else put_in_first t (parts_within (braces_behind d t) ts)
+    else put_in_first t (parts_within (braces_after d t) ts)
 
 -- whether the brace that was open before these tokens, so many others within it, is closed by the last of them
 abbrev pub closes_last : ℕ → List Lexeme → Bool
@@ -41,7 +41,7 @@ closes_last d [] = false
 closes_last d (t ∷ ts) =
     if closes_brace t && (d == 0)
     then length ts == 0
-    else closes_last (braces_behind d t) ts
+    else closes_last (braces_after d t) ts
 
 -- whether one pair of braces stands round all the tokens
 abbrev pub is_braced : List Lexeme → Bool
@@ -49,23 +49,23 @@ is_braced [] = false
 is_braced (t ∷ ts) = opens_brace t && closes_last 0 ts
 
 -- an argument without the pair of braces round it
-abbrev pub unbraced : List Lexeme → List Lexeme
-unbraced ts = if is_braced ts then take (length ts - 2) (drop 1 ts) else ts
+abbrev pub without_braces : List Lexeme → List Lexeme
+without_braces ts = if is_braced ts then take (length ts - 2) (drop 1 ts) else ts
 
 -- the arguments in the tokens behind a macro's name; where there is no token there is none
 abbrev pub arguments_of : List Lexeme → List (List Lexeme)
 arguments_of [] = []
-arguments_of ts = map unbraced (parts_within 0 ts)
+arguments_of ts = map without_braces (parts_within 0 ts)
 
 -- ---- What stands in front of the lines that are left.
 
 -- the end mark of what begins here
-abbrev pub mark_from : State → Bool → Option Place → Mark
+abbrev pub mark_from : State → Bool → Option SourceLocation → InputEnd
 mark_from s is_macro back = record { is_macro = is_macro; conditions = length s.conditions; back = back }
 
 -- lines and their end mark in front of what is left, from this place on, where files, expansions and repeats leave room
-abbrev pub entered : State → List Item → Mark → Place → Stepped
-entered s is k p = unless_stopped (pushed is k s.left) (λ l. goes (with_left s (left l.items l.room p)))
+abbrev pub with_input : State → List Item → InputEnd → SourceLocation → StepResult
+with_input s is k p = unless_stopped (with_lines is k s.left) (λ l. goes (with_remaining s (remaining_input l.items l.room p)))
 
 -- ---- Definitions.
 
@@ -92,9 +92,9 @@ abbrev pub macro_of : List (List ℕ × Definition) → List ℕ → Option Defi
 macro_of ms name = lookup (bytes_eq name) ms
 
 -- a macro is added, with the lines of its body, unless its name has one
-abbrev pub defined : State → List ℕ → List (List ℕ) → Option Definition → Step
-defined s name params (Some m) = leads (stops (MacroTwice, s.left.place))
-defined s name params None = takes_block kind.Macro s.left (λ b l. goes (record {
+abbrev pub definition_step : State → List ℕ → List (List ℕ) → Option Definition → ExpansionStep
+definition_step s name params (Some m) = leads (stops (MacroTwice, s.left.place))
+definition_step s name params None = takes_block kind.Macro s.left (λ b l. goes (record {
   left = l;
   macros = s.macros ++ (name, record { params = params; body = b.0 }) ∷ [];
   conditions = s.conditions;
@@ -103,23 +103,23 @@ defined s name params None = takes_block kind.Macro s.left (λ b l. goes (record
 }))
 
 -- `.macro` and what stands behind it
-abbrev pub macro_line : State → List Lexeme → Step
-macro_line s ts = unless_refused s (understood (header_of ts)) (λ h. defined s h.0 h.1 (macro_of s.macros h.0))
+abbrev pub macro_line : State → List Lexeme → ExpansionStep
+macro_line s ts = unless_refused s (ok_or_unknown (header_of ts)) (λ h. definition_step s h.0 h.1 (macro_of s.macros h.0))
 
 -- ---- Calls.
 
 -- what an expansion puts into the macro's lines at first
-abbrev pub given_to : Definition → List (List Lexeme) → ℕ → Replacing
+abbrev pub given_to : Definition → List (List Lexeme) → ℕ → Substitution
 given_to m arguments number = record { params = m.params; arguments = arguments; count = Some (number_token (length arguments) ∷ []); locals = []; number = number }
 
 -- one more macro was called
-abbrev pub counted : State → State
-counted s = record { left = s.left; macros = s.macros; conditions = s.conditions; expansions = s.expansions + 1; folders = s.folders }
+abbrev pub with_one_more_call : State → State
+with_one_more_call s = record { left = s.left; macros = s.macros; conditions = s.conditions; expansions = s.expansions + 1; folders = s.folders }
 
-abbrev pub called : State → Definition → List (List Lexeme) → Stepped
-called s m arguments =
+abbrev pub call_result : State → Definition → List (List Lexeme) → StepResult
+call_result s m arguments =
     if nat_le (length arguments) (length m.params)
-    then entered (counted s) (map (played (given_to m arguments (s.expansions + 1))) m.body) (mark_from s true None) s.left.place
+    then with_input (with_one_more_call s) (map (played (given_to m arguments (s.expansions + 1))) m.body) (mark_from s true None) s.left.place
     else stops (TooManyArguments, s.left.place)
 
 -- the macro that a token names
@@ -128,12 +128,12 @@ macro_at ms (token.Identifier, text) = macro_of ms text
 macro_at ms _ = None
 
 -- a call of this macro, or a statement
-abbrev pub called_or_given : State → Lexeme → List Lexeme → Option Definition → Stepped
+abbrev pub called_or_given : State → Lexeme → List Lexeme → Option Definition → StepResult
 called_or_given s t ts None = gives (plain (t ∷ ts)) s
-called_or_given s t ts (Some m) = called s m (arguments_of ts)
+called_or_given s t ts (Some m) = call_result s m (arguments_of ts)
 
 -- a line without a directive of expansion: nothing, a call or a statement
-abbrev pub ordinary : State → List Lexeme → Stepped
+abbrev pub ordinary : State → List Lexeme → StepResult
 ordinary s [] = goes s
 ordinary s (t ∷ ts) = called_or_given s t ts (macro_at s.macros t)
 
@@ -150,12 +150,12 @@ unmade names = if list_any is_made names then None else Some names
 abbrev pub new_names : List Lexeme → Option (List (List ℕ))
 new_names ts = names_of ts >=> unmade
 
-abbrev pub local_named : State → Option (List (List ℕ)) → Stepped
+abbrev pub local_named : State → Option (List (List ℕ)) → StepResult
 local_named s None = stops (NotUnderstood, s.left.place)
-local_named s (Some names) = goes (with_items s (localised names s.left.items))
+local_named s (Some names) = goes (with_items s (with_local_names names s.left.items))
 
 -- `.local` stands in the body of a macro itself
-abbrev pub local_line : State → List Lexeme → Stepped
+abbrev pub local_line : State → List Lexeme → StepResult
 local_line s ts =
     if option_map_or (λ k. k.is_macro) (innermost s.left.items) false
     then local_named s (new_names ts)
@@ -167,18 +167,18 @@ local_line s ts =
 abbrev pub outermost : ℕ → List Bool → List Bool
 outermost n conditions = drop (length conditions - n) conditions
 
-abbrev pub exited : State → Option (ℕ × List Item × Place) → Stepped
-exited s None = stops (NotOpened, s.left.place)
-exited s (Some (n, is, p)) = goes (with_conditions s (outermost n s.conditions) (left is s.left.room p))
+abbrev pub exit_result : State → Option (ℕ × List Item × SourceLocation) → StepResult
+exit_result s None = stops (NotOpened, s.left.place)
+exit_result s (Some (n, is, p)) = goes (with_conditions s (outermost n s.conditions) (remaining_input is s.left.room p))
 
-abbrev pub exit_macro : State → Stepped
-exit_macro s = exited s (outside_macro s.left.items s.left.place)
+abbrev pub exit_macro : State → StepResult
+exit_macro s = exit_result s (outside_macro s.left.items s.left.place)
 
 -- ---- Repeats.
 
 -- how many turns a repeat has at most
-abbrev pub turn_limit : ℕ
-turn_limit = 65536
+abbrev pub iteration_limit : ℕ
+iteration_limit = 65536
 
 -- nothing, or a comma and a name
 abbrev pub variable_of : List Lexeme → Option (List (List ℕ))
@@ -188,26 +188,26 @@ variable_of _ = None
 
 -- the expression of a count, and the variable, if it has one
 abbrev pub repeat_header : List Lexeme → Result (Tree × ℕ) ExprFault → Result (Tree × List (List ℕ)) ExpandFault
-repeat_header ts (Err fault) = unknown
-repeat_header ts (Ok (e, n)) = understood (variable_of (drop n ts)) >>= (λ v. Ok (e, v))
+repeat_header ts (Err fault) = not_understood
+repeat_header ts (Ok (e, n)) = ok_or_unknown (variable_of (drop n ts)) >>= (λ v. Ok (e, v))
 
-abbrev pub turns_of : Option ℤ → Result ℕ ExpandFault
-turns_of None = Err NotConstant
-turns_of (Some (pos n)) = if nat_le n turn_limit then Ok n else Err CountOutOfRange
-turns_of (Some (negsuc n)) = Err CountOutOfRange
+abbrev pub iterations_of : Option ℤ → Result ℕ ExpandFault
+iterations_of None = Err NotConstant
+iterations_of (Some (pos n)) = if nat_le n iteration_limit then Ok n else Err CountOutOfRange
+iterations_of (Some (negsuc n)) = Err CountOutOfRange
 
 -- how many turns there are, and the variable, if it has one
-abbrev pub repeat_of : Meaning → List Lexeme → Result (Tree × ℕ) ExprFault → Result (ℕ × List (List ℕ)) ExpandFault
-repeat_of k ts q = repeat_header ts q >>= (λ h. turns_of (k.value h.0) >>= (λ n. Ok (n, h.1)))
+abbrev pub repeat_of : EnvironmentView → List Lexeme → Result (Tree × ℕ) ExprFault → Result (ℕ × List (List ℕ)) ExpandFault
+repeat_of k ts q = repeat_header ts q >>= (λ h. iterations_of (k.value h.0) >>= (λ n. Ok (n, h.1)))
 
 -- so many turns of the lines that follow
-abbrev pub repeated : State → ℕ → List (List ℕ) → Step
-repeated s n variable = takes_block kind.Repeat s.left (λ b l.
-    entered (with_left s l) (turns (repeating variable) b.0 0 n) (mark_from s false None) l.place)
+abbrev pub iterations_step : State → ℕ → List (List ℕ) → ExpansionStep
+iterations_step s n variable = takes_block kind.Repeat s.left (λ b l.
+    with_input (with_remaining s l) (iterations (repeat_substitution variable) b.0 0 n) (mark_from s false None) l.place)
 
 -- `.repeat` and what stands behind it
-abbrev pub repeat_line : Meaning → State → List Lexeme → Step
-repeat_line k s ts = parses ts (λ q. unless_refused s (repeat_of k ts q) (λ h. repeated s h.0 h.1))
+abbrev pub repeat_line : EnvironmentView → State → List Lexeme → ExpansionStep
+repeat_line k s ts = parses ts (λ q. unless_refused s (repeat_of k ts q) (λ h. iterations_step s h.0 h.1))
 
 -- ---- What stands at a place of a list of tokens, and how far the first argument goes.
 
@@ -222,7 +222,7 @@ is_comma_at ts at = option_map_or is_comma (slice_get ts at) false
 -- how many tokens stand before the first comma that isn't within braces, so many braces being open
 abbrev pub part_len : ℕ → List Lexeme → ℕ
 part_len d [] = 0
-part_len d (t ∷ ts) = if is_comma t && (d == 0) then 0 else 1 + part_len (braces_behind d t) ts
+part_len d (t ∷ ts) = if is_comma t && (d == 0) then 0 else 1 + part_len (braces_after d t) ts
 
 -- ---- Names under which files are looked for, one after another.
 
@@ -236,7 +236,7 @@ abbrev pub file_of : Files → List ℕ → List ℕ × List ℕ
 file_of m name = (name, bytes_of m name)
 
 -- what was found under one name, and otherwise the others
-abbrev pub Tries : Files → Result (Option (List ℕ)) ExpandFault → Result (List ℕ × List ℕ) ExpandFault → Result (List ℕ × List ℕ) ExpandFault → Type 0
-Tries m (Ok None) others r = r ≡ others
-Tries m (Ok (Some name)) others r = r ≡ Ok (file_of m name)
-Tries m (Err f) others r = Unless (is_outside f) (r ≡ Err f)
+abbrev pub IsFirstFound : Files → Result (Option (List ℕ)) ExpandFault → Result (List ℕ × List ℕ) ExpandFault → Result (List ℕ × List ℕ) ExpandFault → Type 0
+IsFirstFound m (Ok None) others r = r ≡ others
+IsFirstFound m (Ok (Some name)) others r = r ≡ Ok (file_of m name)
+IsFirstFound m (Err f) others r = Unless (is_system_error f) (r ≡ Err f)

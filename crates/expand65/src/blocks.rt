@@ -4,15 +4,15 @@ ghost use Rattle.std.specs.Prelude.{◌≡◌, ◌==◌, if◌then◌else◌, le
 ghost use Rattle.base65.specs.Store.{Files};
 ghost use Rattle.syntax65.specs.Tokens.{Lexeme, lexemes};
 ghost use Rattle.syntax65.specs.Faults.{is_failure};
-ghost use Rattle.expand65.specs.Blocks.{Block, is_kept, judge, judged, with_line};
-ghost use Rattle.expand65.specs.Standing.{Stays, Answers, branch_of, left_of, IsPassedOver, Judges, FailsInBlock, IsInPlace, StandsIn, StopsAt};
-ghost use Rattle.expand65.specs.Playing.{tokens_in};
-ghost use Rattle.expand65.specs.Lines.{LeavesStore};
+ghost use Rattle.expand65.specs.Blocks.{Block, is_kept, judge, block_verdict, with_line};
+ghost use Rattle.expand65.specs.Representation.{KeepsInnermost, RefinesLocated, branch_of, remaining_of, IsPassedOver, RefinesVerdict, FailsInBlock, IsInPlace, StandsIn, StopsAt};
+ghost use Rattle.expand65.specs.Replay.{tokens_in};
+ghost use Rattle.expand65.specs.Lines.{ReadFrame};
 
-use crate::fronts::{Directive, behind_first, is_mislabelled, line_directive};
-use crate::line::Line;
-use crate::reader::Reader;
-use base65::{Sequence, Store};
+use crate::fronts::{Directive, after_first, is_mislabelled, line_directive};
+use crate::input_stack::InputStack;
+use crate::line::StoredLine;
+use base65::{ListVec, Store};
 use std::alloc::{AllocError, Global};
 use syntax65::{ExpandFault, Token};
 
@@ -26,14 +26,14 @@ pub enum BlockKind {
     /// The lines that go with a false condition, up to the next branch of its level.
     Skipped,
     /// The branches behind a true condition, through its `.endif`.
-    Passed,
+    RemainingBranches,
 }
 
 /// What closes a block.
 #[derive(Drop)]
 pub enum BlockEnd {
     /// `.elseif`, with what stands behind it.
-    ElseIf(Line),
+    ElseIf(StoredLine),
     Else,
     /// The end of a macro, a repeat or a condition.
     End,
@@ -42,7 +42,7 @@ pub enum BlockEnd {
 /// The lines of a body, and what closed the block.
 #[derive(Drop)]
 pub struct WholeBlock {
-    pub lines: Sequence<Line>,
+    pub lines: ListVec<StoredLine>,
     pub end: BlockEnd,
 }
 
@@ -50,7 +50,7 @@ pub struct WholeBlock {
 #[derive(Drop)]
 pub enum BlockStep {
     /// The block goes on, with so many others open in it.
-    On(u32),
+    Open(u32),
     Closed(BlockEnd),
 }
 
@@ -71,7 +71,7 @@ fn deeper(depth: u32) -> Result<BlockStep, ExpandFault>
     ensures outside { IfErr result (λ f. f ≡ ExpandFault.OutOfMemory) }
 {
     match depth.checked_add(1) {
-        Some(depth) => Ok(BlockStep::On(depth)),
+        Some(depth) => Ok(BlockStep::Open(depth)),
         None => Err(ExpandFault::OutOfMemory),
     }
 }
@@ -82,14 +82,14 @@ fn macro_step(
     tokens: &[Token<'_>],
     depth: u32,
 ) -> Result<BlockStep, ExpandFault>
-    ensures step { Judges result
-        (judged BlockKind.Macro depth (lexemes tokens.now) (Some directive)) }
+    ensures step { RefinesVerdict result
+        (block_verdict BlockKind.Macro depth (lexemes tokens.now) (Some directive)) }
     ensures inside { IfErr result (λ e. is_failure e ≡ false) }
 {
     match directive {
         Directive::EndMacro => closed_alone(tokens, BlockEnd::End),
         Directive::Macro => Err(ExpandFault::MacroInside),
-        _ => Ok(BlockStep::On(depth)),
+        _ => Ok(BlockStep::Open(depth)),
     }
 }
 
@@ -99,29 +99,29 @@ fn repeat_step(
     tokens: &[Token<'_>],
     depth: u32,
 ) -> Result<BlockStep, ExpandFault>
-    ensures step { Judges result
-        (judged BlockKind.Repeat depth (lexemes tokens.now) (Some directive)) }
+    ensures step { RefinesVerdict result
+        (block_verdict BlockKind.Repeat depth (lexemes tokens.now) (Some directive)) }
     ensures inside { IfErr result (λ e. is_failure e ≡ false) }
 {
     match directive {
         Directive::Repeat => deeper(depth),
-        Directive::EndRepeat if depth > 0 => Ok(BlockStep::On(depth - 1)),
+        Directive::EndRepeat if depth > 0 => Ok(BlockStep::Open(depth - 1)),
         Directive::EndRepeat => closed_alone(tokens, BlockEnd::End),
-        _ => Ok(BlockStep::On(depth)),
+        _ => Ok(BlockStep::Open(depth)),
     }
 }
 
 /// What a directive does to lines through an `.endif` with so many conditions open in them.
 fn passed_step(directive: Directive, depth: u32) -> Result<BlockStep, ExpandFault>
     ensures step { (ts : List Lexeme) →
-        Judges result (judged BlockKind.Passed depth ts (Some directive)) }
+        RefinesVerdict result (block_verdict BlockKind.Passed depth ts (Some directive)) }
     ensures inside { IfErr result (λ e. is_failure e ≡ false) }
 {
     match directive {
         Directive::If(_) => deeper(depth),
-        Directive::EndIf if depth > 0 => Ok(BlockStep::On(depth - 1)),
+        Directive::EndIf if depth > 0 => Ok(BlockStep::Open(depth - 1)),
         Directive::EndIf => Ok(BlockStep::Closed(BlockEnd::End)),
-        _ => Ok(BlockStep::On(depth)),
+        _ => Ok(BlockStep::Open(depth)),
     }
 }
 
@@ -131,19 +131,19 @@ fn branch_step(
     directive: Directive,
     tokens: &[Token<'_>],
 ) -> Result<BlockStep, ExpandFault>
-    ensures step { Judges result
-        (judged BlockKind.Skipped 0 (lexemes tokens.now) (Some directive)) }
+    ensures step { RefinesVerdict result
+        (block_verdict BlockKind.Skipped 0 (lexemes tokens.now) (Some directive)) }
     ensures inside { IfErr result (λ e. is_failure e ≡ false) }
 {
     match directive {
-        Directive::If(_) => Ok(BlockStep::On(1)),
+        Directive::If(_) => Ok(BlockStep::Open(1)),
         Directive::ElseIf => {
-            let behind = Line::copy_of(alloc, behind_first(tokens))?;
-            Ok(BlockStep::Closed(BlockEnd::ElseIf(behind)))
+            let following = StoredLine::copy_of(alloc, after_first(tokens))?;
+            Ok(BlockStep::Closed(BlockEnd::ElseIf(following)))
         }
         Directive::Else => closed_alone(tokens, BlockEnd::Else),
         Directive::EndIf => closed_alone(tokens, BlockEnd::End),
-        _ => Ok(BlockStep::On(0)),
+        _ => Ok(BlockStep::Open(0)),
     }
 }
 
@@ -154,8 +154,8 @@ fn skipped_step(
     tokens: &[Token<'_>],
     depth: u32,
 ) -> Result<BlockStep, ExpandFault>
-    ensures step { Judges result
-        (judged BlockKind.Skipped depth (lexemes tokens.now) (Some directive)) }
+    ensures step { RefinesVerdict result
+        (block_verdict BlockKind.Skipped depth (lexemes tokens.now) (Some directive)) }
     ensures inside { IfErr result (λ e. is_failure e ≡ false) }
 {
     if depth == 0 {
@@ -163,8 +163,8 @@ fn skipped_step(
     }
     match directive {
         Directive::If(_) => deeper(depth),
-        Directive::EndIf => Ok(BlockStep::On(depth - 1)),
-        _ => Ok(BlockStep::On(depth)),
+        Directive::EndIf => Ok(BlockStep::Open(depth - 1)),
+        _ => Ok(BlockStep::Open(depth)),
     }
 }
 
@@ -183,37 +183,37 @@ impl BlockKind {
         tokens: &[Token<'_>],
         depth: u32,
     ) -> Result<BlockStep, ExpandFault>
-        ensures step { Judges result (judge self depth (lexemes tokens.now)) }
+        ensures step { RefinesVerdict result (judge self depth (lexemes tokens.now)) }
         ensures inside { IfErr result (λ e. is_failure e ≡ false) }
     {
         if is_mislabelled(tokens) {
             return Err(ExpandFault::NotUnderstood);
         }
         let Some(directive) = line_directive(tokens) else {
-            return Ok(BlockStep::On(depth));
+            return Ok(BlockStep::Open(depth));
         };
         match self {
             BlockKind::Macro => macro_step(directive, tokens, depth),
             BlockKind::Repeat => repeat_step(directive, tokens, depth),
             BlockKind::Skipped => skipped_step(alloc, directive, tokens, depth),
-            BlockKind::Passed => passed_step(directive, depth),
+            BlockKind::RemainingBranches => passed_step(directive, depth),
         }
     }
 
     /// What a line does to the block with so many others open in it.
-    fn step(self, alloc: Global, line: &Line, depth: u32) -> Result<BlockStep, ExpandFault>
-        ensures step { Judges result (judge self depth (tokens_in line.now)) }
+    fn step(self, alloc: Global, line: &StoredLine, depth: u32) -> Result<BlockStep, ExpandFault>
+        ensures step { RefinesVerdict result (judge self depth (tokens_in line.now)) }
         ensures inside { IfErr result (λ e. is_failure e ≡ false) }
     {
         if line.is_plain() {
-            return Ok(BlockStep::On(depth));
+            return Ok(BlockStep::Open(depth));
         }
         let tokens = line.tokens(alloc)?;
         self.token_step(alloc, tokens.as_slice(), depth)
     }
 
     /// Puts a line behind the others, where they are kept.
-    fn keep(self, lines: &mut Sequence<Line>, line: Line) -> Result<(), AllocError>
+    fn keep(self, lines: &mut ListVec<StoredLine>, line: StoredLine) -> Result<(), AllocError>
         ensures { OnOk result (map tokens_in lines.new ≡
             with_line self (map tokens_in lines.old) (tokens_in line)) }
     {
@@ -224,12 +224,12 @@ impl BlockKind {
     }
 }
 
-impl Reader {
+impl InputStack {
     /// Passes over plain lines where lines aren't kept.
     fn pass_unkept(&mut self, kind: BlockKind)
-        ensures passed { (m : Files) → IsPassedOver (is_kept kind) (left_of m self.old) (left_of m self.new) }
+        ensures passed { (m : Files) → IsPassedOver (is_kept kind) (remaining_of m self.old) (remaining_of m self.new) }
         ensures room { self.new.room ≤ self.old.room }
-        ensures stays { Stays self.old self.new }
+        ensures stays { KeepsInnermost self.old self.new }
         ensures stands { (m : Files) → IsInPlace m self.old → IsInPlace m self.new }
     {
         if !kind.is_kept() {
@@ -245,25 +245,25 @@ impl Reader {
         kind: BlockKind,
     ) -> Result<WholeBlock, ExpandFault>
         ensures read { IfSome (S.files store.old) (λ m.
-            Answers (λ b. ((map tokens_in b.lines, branch_of b.end), left_of m self.new))
-            self.new.place result (Block kind 0 [] (left_of m self.old))) }
+            RefinesLocated (λ b. ((map tokens_in b.lines, branch_of b.end), remaining_of m self.new))
+            self.new.place result (Block kind 0 [] (remaining_of m self.old))) }
         ensures room { OnOk result (self.new.room < self.old.room) }
-        ensures stays { Stays self.old self.new }
+        ensures stays { KeepsInnermost self.old self.new }
         ensures stands { StandsIn (S.files store.old) self.old →
             OnOk result (StandsIn (S.files store.old) self.new) }
-        ensures leaves { LeavesStore S.files S.failures store.old store.new result }
+        ensures frame { ReadFrame S.files S.failures store.old store.new result }
         ensures stopped { StandsIn (S.files store.old) self.old → IfSome (S.files store.old) (λ m.
-            StopsAt (FailsInBlock m (S.blamed store.new) kind 0 (left_of m self.old))
+            StopsAt (FailsInBlock m (S.last_failure store.new) kind 0 (remaining_of m self.old))
             self.old self.new result) }
     {
-        let mut lines = Sequence::new(alloc);
+        let mut lines = ListVec::new(alloc);
         let mut depth = 0;
         'lines: loop {
             self.pass_unkept(kind);
             let line = self.block_line(alloc, store)?;
             match kind.step(alloc, &line, depth)? {
                 BlockStep::Closed(end) => return Ok(WholeBlock { lines, end }),
-                BlockStep::On(deeper) => {
+                BlockStep::Open(deeper) => {
                     depth = deeper;
                     kind.keep(&mut lines, line)?;
                 }

@@ -2,17 +2,17 @@
 
 ghost use Rattle.std.specs.Prelude.{◌≡◌, ◌∷◌, option_map, [], false, length, IfErr, IfNone, List, OnOk, ℕ, Result};
 ghost use Rattle.syntax65.specs.Expressions.{IsParsed};
-ghost use Rattle.base65.specs.Outcome.{Gives};
-ghost use Rattle.base65.specs.Relations.{Answers};
+ghost use Rattle.base65.specs.Outcome.{Refines};
+ghost use Rattle.base65.specs.Relations.{RefinesRel};
 ghost use Rattle.syntax65.specs.Tokens.{lexemes};
 ghost use Rattle.syntax65.specs.Trees.{Tree};
 ghost use Rattle.syntax65.specs.declared.expressions.words.ExprFault.{ExprFault};
 ghost use Rattle.expand65.specs.Fronts.{begins, opens_parenthesis};
-ghost use Rattle.expand65.specs.State.{IsCondition, defined_tree, popped, whole};
-ghost use Rattle.syntax65.specs.Faults.{is_failure, is_outside};
+ghost use Rattle.expand65.specs.State.{IsCondition, defined_tree, without_last_condition, complete_expression};
+ghost use Rattle.syntax65.specs.Faults.{is_failure, is_system_error};
 ghost use Rattle.expand65.specs.Macros.{outermost};
 
-use crate::fronts::{Test, opens_parenthesis};
+use crate::fronts::{ConditionKind, opens_parenthesis};
 use crate::knows::Knows;
 use std::alloc::{AllocError, Global};
 use std::marker::Model;
@@ -20,9 +20,9 @@ use syntax65::{ExpandFault, Expr, ExprKind, Name, Token, read_expr};
 
 /// An expression of all the tokens.
 pub fn expression(alloc: Global, tokens: &[Token<'_>]) -> Result<Expr, ExpandFault>
-    ensures value { Answers is_outside (λ x. x) result
+    ensures value { RefinesRel is_system_error (λ x. x) result
         (λ r. (q : Result (Tree × ℕ) ExprFault) × IsParsed (lexemes tokens.now) q ×
-        (r ≡ whole (length (lexemes tokens.now)) q)) }
+        (r ≡ complete_expression (length (lexemes tokens.now)) q)) }
     ensures inside { IfErr result (λ e. is_failure e ≡ false) }
 {
     let (value, count) = read_expr(alloc, tokens)?;
@@ -34,8 +34,8 @@ pub fn expression(alloc: Global, tokens: &[Token<'_>]) -> Result<Expr, ExpandFau
 
 /// Whether an expression of all the tokens isn't 0.
 fn holds<K: Knows>(alloc: Global, knows: &K, tokens: &[Token<'_>]) -> Result<bool, ExpandFault>
-    ensures value { Answers is_outside (λ b. b) result
-        (IsCondition (K.meaning knows.now) Test.True (lexemes tokens.now)) }
+    ensures value { RefinesRel is_system_error (λ b. b) result
+        (IsCondition (K.meaning knows.now) ConditionKind.True (lexemes tokens.now)) }
     ensures inside { IfErr result (λ e. is_failure e ≡ false) }
 {
     let value = expression(alloc, tokens)?;
@@ -54,7 +54,7 @@ fn begins_parenthesis(tokens: &[Token<'_>]) -> bool
 
 /// Whether a name is that of a label or constant; another expression isn't understood.
 fn is_name_defined<K: Knows>(alloc: Global, knows: &K, expr: &Expr) -> Result<bool, ExpandFault>
-    ensures value { Gives is_outside (λ b. b) result (defined_tree (K.meaning knows.now) expr.now) }
+    ensures value { Refines is_system_error (λ b. b) result (defined_tree (K.meaning knows.now) expr.now) }
     ensures inside { IfErr result (λ e. is_failure e ≡ false) }
 {
     match expr.kind() {
@@ -66,8 +66,8 @@ fn is_name_defined<K: Knows>(alloc: Global, knows: &K, expr: &Expr) -> Result<bo
 
 /// Whether a name, which all the tokens are, is that of a label or constant.
 fn is_defined<K: Knows>(alloc: Global, knows: &K, tokens: &[Token<'_>]) -> Result<bool, ExpandFault>
-    ensures value { Answers is_outside (λ b. b) result
-        (IsCondition (K.meaning knows.now) Test.Defined (lexemes tokens.now)) }
+    ensures value { RefinesRel is_system_error (λ b. b) result
+        (IsCondition (K.meaning knows.now) ConditionKind.Defined (lexemes tokens.now)) }
     ensures inside { IfErr result (λ e. is_failure e ≡ false) }
 {
     let name = expression(alloc, tokens)?;
@@ -81,19 +81,19 @@ fn is_defined<K: Knows>(alloc: Global, knows: &K, tokens: &[Token<'_>]) -> Resul
 pub fn condition<K: Knows>(
     alloc: Global,
     knows: &K,
-    test: Test,
+    test: ConditionKind,
     tokens: &[Token<'_>],
 ) -> Result<bool, ExpandFault>
-    ensures value { Answers is_outside (λ b. b) result
+    ensures value { RefinesRel is_system_error (λ b. b) result
         (IsCondition (K.meaning knows.now) test (lexemes tokens.now)) }
     ensures inside { IfErr result (λ e. is_failure e ≡ false) }
 {
     match test {
-        Test::True => holds(alloc, knows, tokens),
-        Test::Defined => is_defined(alloc, knows, tokens),
-        Test::NotDefined => Ok(!is_defined(alloc, knows, tokens)?),
-        Test::Blank => Ok(tokens.is_empty()),
-        Test::NotBlank => Ok(!tokens.is_empty()),
+        ConditionKind::True => holds(alloc, knows, tokens),
+        ConditionKind::Defined => is_defined(alloc, knows, tokens),
+        ConditionKind::NotDefined => Ok(!is_defined(alloc, knows, tokens)?),
+        ConditionKind::Blank => Ok(tokens.is_empty()),
+        ConditionKind::NotBlank => Ok(!tokens.is_empty()),
     }
 }
 
@@ -134,7 +134,7 @@ impl Conditions {
 
     /// Takes the innermost away where more than so many are open.
     pub fn pop_above(&mut self, bound: usize) -> Option<bool>
-        ensures pops { popped self.old bound ≡ option_map (λ b. (b, self.new)) result }
+        ensures pops { without_last_condition self.old bound ≡ option_map (λ b. (b, self.new)) result }
         ensures same { IfNone result (self.new ≡ self.old) }
     {
         if self.flags.len() <= bound {

@@ -1,30 +1,30 @@
 //! The statements of a source, one after another.
 
 ghost use Rattle.std.specs.Prelude.{◌≡◌, ◌≤◌, IfSome, length, ◌<◌, ◌+◌, ◌*◌, true, false, take, drop, Err, IfOk, IsErrOf, List, OnErr, OnOk, ℕ};
-ghost use Rattle.syntax65.specs.Tokens.{lexemes, Lexeme, HoldsNothing, held};
-ghost use Rattle.expand65.specs.Failing.{IsGivenAs, Gives, IsAhead, given_parts, StopsOnItsWay, StopsReading};
-ghost use Rattle.expand65.specs.Standing.{Comes, FollowsFrom, IsPlaced, Opens, StandsFor, is_end, led, measure_of, place_of, state_in, Turns, size_of, state_of, turned, weight_of, IsInPlace, StandsIn, left_of, mark_of};
-ghost use Rattle.base65.specs.Store.{Asks, Files, IsBlamedAt, Passes};
-ghost use Rattle.syntax65.specs.Faults.{is_outside};
+ghost use Rattle.syntax65.specs.Tokens.{lexemes, Lexeme, HoldsNothing, stored_lexemes};
+ghost use Rattle.expand65.specs.Failing.{IsGivenAs, YieldsStatements, IsAhead, given_parts, StopsBetweenStatements, StopsReading};
+ghost use Rattle.expand65.specs.Representation.{RefinesNext, FollowsFrom, IsPositioned, RepresentsFirstState, RepresentsState, is_end, step_of, measure_of, place_of, state_in, RefinesLineOutcome, size_of, state_of, outcome_of_line, weight_of, IsInPlace, StandsIn, remaining_of, mark_of};
+ghost use Rattle.base65.specs.Store.{FailsAtLastCount, Files, FailedAt, PropagatesIoError};
+ghost use Rattle.syntax65.specs.Faults.{is_system_error};
 ghost use Rattle.expand65.specs.Expansion.{first_left, opened_in, IsStep};
 ghost use Rattle.expand65.specs.State.{State};
-ghost use Rattle.expand65.specs.Lines.{LeavesStore, moved, bytes_of};
+ghost use Rattle.expand65.specs.Lines.{ReadFrame, location_at, bytes_of};
 
 use crate::conditions::Conditions;
 use crate::file::OpenFile;
-use crate::fronts::{Test, front_directive, label_len};
+use crate::fronts::{ConditionKind, front_directive, label_len};
 use crate::includes::is_there;
-use crate::input::Source;
+use crate::input::LineSource;
+use crate::input_stack::{Input, InputStack};
 use crate::knows::Knows;
-use crate::line::Line;
-use crate::passing::Peeked;
-use crate::reader::{Input, Reader};
-use crate::rewriter::{Rewriter, Turn};
-use base65::{Sequence, Store, Text};
+use crate::line::StoredLine;
+use crate::preprocessor::{LineOutcome, Preprocessor};
+use crate::skipping::Peeked;
+use base65::{ListVec, PathString, Store};
 use indexmap::IndexMap;
 use std::alloc::{AllocError, Global};
 use std::mem;
-use syntax65::{ExpandFault, LineTokens, Place, Token};
+use syntax65::{ExpandFault, LineTokens, SourceLocation, Token};
 
 /// How many lines are read, skipped, collected and replayed at most, all together.
 const MAX_LINES: u32 = 1_048_576;
@@ -33,43 +33,43 @@ const MAX_LINES: u32 = 1_048_576;
 #[derive(Drop)]
 pub struct Options {
     /// The folders in which an included file is looked for behind that of the file that includes it.
-    pub include: Sequence<Text>,
+    pub include: ListVec<PathString>,
 }
 
 /// A statement of a source.
 #[derive(Drop)]
 pub enum Statement {
     /// A label with its colon. It comes before the rest of its line.
-    Label(Line),
+    Label(StoredLine),
     /// Anything else. It begins with no label.
-    Plain(Line),
+    Plain(StoredLine),
 }
 
 /// What stands in front of the lines that are left.
 #[derive(Drop)]
-pub enum Front {
+pub enum PendingLine {
     Nothing,
     /// What stands behind a label.
-    Rest(Line),
+    Rest(StoredLine),
     /// What stands behind an `.elseif` that has to be decided.
-    Branch(Line),
+    Branch(StoredLine),
     /// The end, whatever is left.
     End,
 }
 
-impl Front {
+impl PendingLine {
     fn is_end(&self) -> bool
         ensures { result ≡ is_end self.now }
     {
-        matches!(self, Front::End)
+        matches!(self, PendingLine::End)
     }
 }
 
 /// The statements of a source that are left.
 #[derive(Drop)]
 pub struct Expander {
-    pub rewriter: Rewriter,
-    pub front: Front,
+    pub rewriter: Preprocessor,
+    pub pending: PendingLine,
     pub failed: bool,
 }
 
@@ -86,14 +86,14 @@ impl Expander {
         options: &Options,
     ) -> Result<Expander, ExpandFault>
         ensures opened { IfSome (S.files store.old) (λ m.
-            Opens m result (opened_in m file.now options.now.include)) }
+            RepresentsFirstState m result (opened_in m file.now options.now.include)) }
         ensures files { S.files store.new ≡ S.files store.old }
         ensures size { IfOk result (λ e. measure_of e ≤ 3145729) }
-        ensures count { Passes ExpandFault.FileError (S.failures store.old) (S.failures store.new) result }
-        ensures blamed { IsErrOf result ExpandFault.FileError →
-            IsBlamedAt (S.blamed store.new) file.now 16777216 }
-        ensures asked { Asks is_outside (S.failures store.old) result }
-        ensures placed { IfSome (S.files store.old) (λ m. IfOk result (IsPlaced m)) }
+        ensures count { PropagatesIoError ExpandFault.FileError (S.failures store.old) (S.failures store.new) result }
+        ensures last_failure { IsErrOf result ExpandFault.FileError →
+            FailedAt (S.last_failure store.new) file.now 16777216 }
+        ensures at_last_count { FailsAtLastCount is_system_error (S.failures store.old) result }
+        ensures placed { IfSome (S.files store.old) (λ m. IfOk result (IsPositioned m)) }
     {
         if !is_there(store, file)? {
             return Err(ExpandFault::FileNotFound);
@@ -101,7 +101,7 @@ impl Expander {
         let folders = copy_of(alloc, options.include.as_slice())?;
         let reader = reader_of(alloc, file)?;
         Ok(Expander {
-            rewriter: Rewriter {
+            rewriter: Preprocessor {
                 alloc,
                 reader,
                 macros: IndexMap::with_hasher(alloc, store.seed()),
@@ -109,7 +109,7 @@ impl Expander {
                 expansions: 0,
                 folders,
             },
-            front: Front::Nothing,
+            pending: PendingLine::Nothing,
             failed: false,
         })
     }
@@ -128,16 +128,16 @@ impl Expander {
         ensures next { IfSome (S.files store.old) (λ m.
             FollowsFrom m (K.meaning knows.now) self.old result self.new) }
         ensures placed { IfSome (S.files store.old) (λ m.
-            IsPlaced m self.old → OnOk result (IsPlaced m self.new)) }
+            IsPositioned m self.old → OnOk result (IsPositioned m self.new)) }
         // Where the store fails: the place is that of the line that was read last.
         ensures stopped { IfSome (S.files store.old) (λ m.
-            StopsOnItsWay m (S.blamed store.new) (K.meaning knows.now) self.old result self.new) }
+            StopsBetweenStatements m (S.last_failure store.new) (K.meaning knows.now) self.old result self.new) }
         ensures failed { OnErr result (self.new.failed ≡ true) }
         ensures before { self.old.failed ≡ true → result ≡ Err ExpandFault.FailedBefore }
         // Statements end.
         ensures size { IfOk result (λ o. IfSome o (λ _. measure_of self.new < measure_of self.old)) }
         ensures files { S.files store.new ≡ S.files store.old }
-        ensures count { Passes ExpandFault.FileError (S.failures store.old) (S.failures store.new) result }
+        ensures count { PropagatesIoError ExpandFault.FileError (S.failures store.old) (S.failures store.new) result }
     {
         if self.failed {
             return Err(ExpandFault::FailedBefore);
@@ -154,10 +154,10 @@ impl Expander {
     #[inline(always)]
     pub fn peek<'a>(&'a self, tokens: &mut LineTokens<'a>) -> Option<Peeked>
         requires { HoldsNothing tokens.old }
-        ensures ahead { IfSome result (λ p. IsAhead self.now p (held tokens.new)) }
+        ensures ahead { IfSome result (λ p. IsAhead self.now p (stored_lexemes tokens.new)) }
         ensures within { tokens.new.few.count ≤ 8 }
     {
-        if self.failed || !matches!(self.front, Front::Nothing) {
+        if self.failed || !matches!(self.pending, PendingLine::Nothing) {
             return None;
         }
         self.rewriter.reader.peek(self.rewriter.alloc, tokens)
@@ -186,12 +186,12 @@ impl Expander {
     pub fn take_peeked(&mut self, line: Peeked)
         ensures given { (n : ℕ) (ts : List Lexeme) → IsAhead self.old line ts →
             IsGivenAs n self.old.rewriter ts →
-            Gives self.old (given_parts (take n ts) (drop n ts)) self.new }
-        ensures place { place_of self.new ≡ moved (place_of self.old) line.number }
+            YieldsStatements self.old (given_parts (take n ts) (drop n ts)) self.new }
+        ensures place { place_of self.new ≡ location_at (place_of self.old) line.number }
         ensures less { (ts : List Lexeme) → IsAhead self.old line ts →
             measure_of self.new < measure_of self.old }
         ensures placed { (m : Files) (ts : List Lexeme) → IsAhead self.old line ts →
-            IsPlaced m self.old → IsPlaced m self.new }
+            IsPositioned m self.old → IsPositioned m self.new }
     {
         self.rewriter.reader.take_peeked(line);
     }
@@ -201,7 +201,7 @@ impl Expander {
     pub fn place(&self) -> (&str, u32)
         ensures place { (result.0.now ≡ (place_of self.now).file) × (result.1 ≡ (place_of self.now).line) }
         ensures stands { (m : Files) (s : State) →
-            StandsFor m self.now s → (result.0.now ≡ s.left.place.file) ×
+            RepresentsState m self.now s → (result.0.now ≡ s.left.place.file) ×
             (result.1 ≡ s.left.place.line) }
     {
         let place = &self.rewriter.reader.place;
@@ -216,17 +216,17 @@ impl Expander {
         knows: &K,
     ) -> Result<Option<Statement>, ExpandFault>
         ensures comes { IfSome (S.files store.old) (λ m.
-            Comes m (K.meaning knows.now) (state_in m self.old) result (state_in m self.new)) }
+            RefinesNext m (K.meaning knows.now) (state_in m self.old) result (state_in m self.new)) }
         ensures stands { StandsIn (S.files store.old) self.old.rewriter.reader →
             OnOk result (StandsIn (S.files store.old) self.new.rewriter.reader) }
         ensures stopped { StandsIn (S.files store.old) self.old.rewriter.reader → IfSome (S.files store.old) (λ m.
-            StopsReading m (S.blamed store.new) (K.meaning knows.now) (state_in m self.old) result
+            StopsReading m (S.last_failure store.new) (K.meaning knows.now) (state_in m self.old) result
             (mark_of self.new.rewriter.reader.top) (place_of self.new)) }
         ensures size { IfOk result (λ o. IfSome o (λ _. measure_of self.new < measure_of self.old)) }
-        ensures leaves { LeavesStore S.files S.failures store.old store.new result }
+        ensures frame { ReadFrame S.files S.failures store.old store.new result }
     {
         'steps: loop {
-            if self.front.is_end() {
+            if self.pending.is_end() {
                 return Ok(None);
             }
             let turn = self.turn(store, knows)?;
@@ -238,70 +238,77 @@ impl Expander {
 
     /// Rewrites what comes first.
     #[inline(always)]
-    fn turn<S: Store, K: Knows>(&mut self, store: &mut S, knows: &K) -> Result<Turn, ExpandFault>
-        requires { is_end self.old.front ≡ false }
+    fn turn<S: Store, K: Knows>(
+        &mut self,
+        store: &mut S,
+        knows: &K,
+    ) -> Result<LineOutcome, ExpandFault>
+        requires { is_end self.old.pending ≡ false }
         ensures turns { IfSome (S.files store.old) (λ m.
-            Turns result (state_of m self.new.rewriter)
+            RefinesLineOutcome result (state_of m self.new.rewriter)
             (IsStep m (K.meaning knows.now) (state_in m self.old))) }
         ensures stands { StandsIn (S.files store.old) self.old.rewriter.reader →
             OnOk result (StandsIn (S.files store.old) self.new.rewriter.reader) }
         ensures stopped { StandsIn (S.files store.old) self.old.rewriter.reader → IfSome (S.files store.old) (λ m.
-            StopsReading m (S.blamed store.new) (K.meaning knows.now) (state_in m self.old) result
+            StopsReading m (S.last_failure store.new) (K.meaning knows.now) (state_in m self.old) result
             (mark_of self.new.rewriter.reader.top) (place_of self.new)) }
         ensures size { IfOk result (λ t. size_of self.new.rewriter + weight_of t < measure_of self.old) }
-        ensures front { OnErr result (self.new.front ≡ Front.Nothing) }
-        ensures leaves { LeavesStore S.files S.failures store.old store.new result }
+        ensures front { OnErr result (self.new.pending ≡ PendingLine.Nothing) }
+        ensures frame { ReadFrame S.files S.failures store.old store.new result }
     {
-        match mem::replace(&mut self.front, Front::Nothing) {
-            Front::Nothing => self.rewriter.take(store, knows),
-            Front::Rest(line) => self.rewriter.act(store, knows, line),
-            Front::Branch(line) => {
+        match mem::replace(&mut self.pending, PendingLine::Nothing) {
+            PendingLine::Nothing => self.rewriter.take(store, knows),
+            PendingLine::Rest(line) => self.rewriter.execute_line(store, knows, line),
+            PendingLine::Branch(line) => {
                 let tokens = line.tokens(self.rewriter.alloc)?;
                 self.rewriter
-                    .begin_if(store, knows, Test::True, tokens.as_slice())
+                    .begin_if(store, knows, ConditionKind::True, tokens.as_slice())
             }
-            Front::End => unreachable!(),
+            PendingLine::End => unreachable!(),
         }
     }
 
     /// Puts what a turn leads to in front of the lines; the statement that it gives, if it gives one.
     #[inline(always)]
-    fn follow(&mut self, turn: Turn) -> Option<Statement>
+    fn follow(&mut self, turn: LineOutcome) -> Option<Statement>
         ensures led { (m : Files) →
-            turned (state_of m self.old.rewriter) turn ≡ led (state_in m self.new) result }
+            outcome_of_line (state_of m self.old.rewriter) turn ≡ step_of (state_in m self.new) result }
         ensures stands { self.new.rewriter ≡ self.old.rewriter }
         ensures size { measure_of self.new ≡ size_of self.old.rewriter + weight_of turn }
     {
-        let (front, statement) = match turn {
-            Turn::Goes => (Front::Nothing, None),
-            Turn::Gives(line) => (Front::Nothing, Some(Statement::Plain(line))),
-            Turn::Parts(label, rest) => (Front::Rest(rest), Some(Statement::Label(label))),
-            Turn::Decides(line) => (Front::Branch(line), None),
-            Turn::Ends => (Front::End, None),
+        let (pending, statement) = match turn {
+            LineOutcome::Continue => (PendingLine::Nothing, None),
+            LineOutcome::Yield(line) => (PendingLine::Nothing, Some(Statement::Plain(line))),
+            LineOutcome::LabelAndRest(label, rest) => (
+                PendingLine::Rest(rest),
+                Some(Statement::Label(label)),
+            ),
+            LineOutcome::DecideElseIf(line) => (PendingLine::Branch(line), None),
+            LineOutcome::EndOfInput => (PendingLine::End, None),
         };
-        self.front = front;
+        self.pending = pending;
         statement
     }
 }
 
 /// The lines of a source, before the first.
-fn reader_of(alloc: Global, file: &str) -> Result<Reader, AllocError>
+fn reader_of(alloc: Global, file: &str) -> Result<InputStack, AllocError>
     ensures lines { IfOk result (λ r. (m : Files) →
-        length (bytes_of m file.now) ≤ 16777216 → left_of m r ≡ first_left file.now
+        length (bytes_of m file.now) ≤ 16777216 → remaining_of m r ≡ first_left file.now
         (bytes_of m file.now)) }
     ensures stands { (m : Files) → IfOk result (IsInPlace m) }
     ensures size { IfOk result (λ r. 3 * r.room + length r.outer.items ≤ 3145728) }
 {
     let top = Input {
-        source: Source::File(OpenFile::new(alloc, Text::copy_of(alloc, file)?)),
+        source: LineSource::File(OpenFile::new(alloc, PathString::copy_of(alloc, file)?)),
         conditions: 0,
         back: None,
     };
-    let place = Place {
-        file: Text::copy_of(alloc, file)?,
+    let place = SourceLocation {
+        file: PathString::copy_of(alloc, file)?,
         line: 0,
     };
-    Ok(Reader {
+    Ok(InputStack {
         top,
         outer: Vec::new(alloc),
         room: MAX_LINES,
@@ -310,12 +317,12 @@ fn reader_of(alloc: Global, file: &str) -> Result<Reader, AllocError>
 }
 
 /// A copy of texts.
-fn copy_of(alloc: Global, texts: &[Text]) -> Result<Sequence<Text>, AllocError>
+fn copy_of(alloc: Global, texts: &[PathString]) -> Result<ListVec<PathString>, AllocError>
     ensures { IfOk result (λ copy. copy ≡ texts.now) }
 {
-    let mut copy = Sequence::new(alloc);
+    let mut copy = ListVec::new(alloc);
     for text in texts {
-        copy.push(Text::copy_of(alloc, text.as_str())?)?;
+        copy.push(PathString::copy_of(alloc, text.as_str())?)?;
     }
     Ok(copy)
 }

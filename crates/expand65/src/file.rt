@@ -2,11 +2,11 @@
 
 ghost use Rattle.std.specs.Prelude.{◌≡◌, ◌<◌, ◌≤◌, ◌+◌, ◌-◌, ◌++◌, [], min, length, drop, true, false, IsTrue, IfErr, IfOk, IfSome, List, OnOk, ℕ};
 ghost use Rattle.std.specs.List.{prefix_len};
-ghost use Rattle.base65.specs.Store.{Files, IsBlamedAt};
-ghost use Rattle.syntax65.specs.Faults.{is_failure, is_outside};
-ghost use Rattle.expand65.specs.Lines.{IsEndedLine, IsFileBehind, IsReadOn, IsReadingAt, LeavesBlamed, LeavesStore, in_line, numbered, lines_of, IsPiece, ReadsLine, TakesPiece, bytes_of, is_inside, left_in_file, rest_of, without_return};
+ghost use Rattle.base65.specs.Store.{Files, FailedAt};
+ghost use Rattle.syntax65.specs.Faults.{is_failure, is_system_error};
+ghost use Rattle.expand65.specs.Lines.{IsEndedLine, IsFileAfter, IsReadOn, IsReadingAt, FailedReadFrame, ReadFrame, in_line, file_lines_after, lines_of, IsPiece, ReadsLine, TakesPiece, bytes_of, is_inside, left_in_file, rest_of, without_return};
 
-use base65::{Sequence, Store, StoreFault, Text};
+use base65::{ListVec, PathString, Store, StoreFault};
 use memchr::memchr;
 use std::alloc::Global;
 use std::mem;
@@ -22,7 +22,7 @@ const SHORTEST: usize = 32;
 /// read.
 #[derive(Drop)]
 pub struct OpenFile {
-    pub name: Text,
+    pub name: PathString,
     pub buffer: Vec<u8>,
     pub at: usize,
     pub next: u64,
@@ -45,8 +45,8 @@ fn read_piece<S: Store>(
     ensures read { IfSome (S.files store.old) (λ m.
         IfOk result (λ n. IsPiece (drop at (bytes_of m name.now)) want n bytes.new.items)) }
     ensures few { IfOk result (λ n. (n ≤ want) × (length bytes.new.items ≡ n)) }
-    ensures outside { IfErr result (λ e. is_outside e ≡ true) }
-    ensures leaves { LeavesBlamed S.files S.failures S.blamed (λ b. IsBlamedAt b name.now at)
+    ensures outside { IfErr result (λ e. is_system_error e ≡ true) }
+    ensures frame { FailedReadFrame S.files S.failures S.last_failure (λ b. FailedAt b name.now at)
         store.old store.new result }
 {
     // Where as many were read before, there is nothing to fill.
@@ -75,13 +75,13 @@ fn wanted(at: u64, last: usize) -> usize
 
 impl OpenFile {
     /// A file that is there, before its first line.
-    pub fn new(alloc: Global, name: Text) -> Self
+    pub fn new(alloc: Global, name: PathString) -> Self
         ensures name { result.name ≡ name }
         ensures lines { (m : Files) →
-            length (bytes_of m name) ≤ 16777216 → left_in_file m result ≡ numbered 0
+            length (bytes_of m name) ≤ 16777216 → left_in_file m result ≡ file_lines_after 0
             (lines_of (bytes_of m name)) }
         ensures line { result.line ≡ 0 }
-        ensures behind { (m : Files) → IsFileBehind m result 0 }
+        ensures following { (m : Files) → IsFileAfter m result 0 }
     {
         OpenFile {
             name,
@@ -101,10 +101,10 @@ impl OpenFile {
         ensures front { OnOk result (self.new.at ≡ 0) }
         ensures none { IfSome (S.files store.old) (λ m.
             OnOk result (self.new.buffer.items ≡ [] → rest_of m self.new ≡ [])) }
-        ensures outside { IfErr result (λ e. is_outside e ≡ true) }
+        ensures outside { IfErr result (λ e. is_system_error e ≡ true) }
         ensures line { self.new.line ≡ self.old.line }
         ensures name { self.new.name ≡ self.old.name }
-        ensures leaves { LeavesBlamed S.files S.failures S.blamed (IsReadOn self.old)
+        ensures frame { FailedReadFrame S.files S.failures S.last_failure (IsReadOn self.old)
             store.old store.new result }
     {
         let want = wanted(self.next, self.buffer.len());
@@ -121,10 +121,10 @@ impl OpenFile {
         ensures more { IfOk result (λ b. IsTrue b → self.new.at < length self.new.buffer.items) }
         ensures none { IfSome (S.files store.old) (λ m.
             IfOk result (λ b. b ≡ false → rest_of m self.new ≡ [])) }
-        ensures outside { IfErr result (λ e. is_outside e ≡ true) }
+        ensures outside { IfErr result (λ e. is_system_error e ≡ true) }
         ensures line { self.new.line ≡ self.old.line }
         ensures name { self.new.name ≡ self.old.name }
-        ensures leaves { LeavesBlamed S.files S.failures S.blamed (IsReadOn self.old)
+        ensures frame { FailedReadFrame S.files S.failures S.last_failure (IsReadOn self.old)
             store.old store.new result }
     {
         if self.at < self.buffer.len() {
@@ -143,8 +143,8 @@ impl OpenFile {
         requires more { self.old.at < length self.old.buffer.items }
         requires part { prefix_len is_inside line.old.items ≡ length line.old.items }
         requires few { length line.old.items ≤ 4097 }
-        ensures read { (behind : List ℕ) →
-            TakesPiece line.old.items (drop self.old.at self.old.buffer.items) behind result
+        ensures read { (following : List ℕ) →
+            TakesPiece line.old.items (drop self.old.at self.old.buffer.items) following result
             line.new.items (drop self.new.at self.new.buffer.items) }
         ensures part { OnOk result (prefix_len is_inside line.new.items ≡ length line.new.items) }
         ensures few { OnOk result (length line.new.items ≤ 4097) }
@@ -161,9 +161,9 @@ impl OpenFile {
         if line.len() + len > MAX_LINE + 1 {
             return Err(ExpandFault::Syntax(LexFault::LineTooLong));
         }
-        let (piece, behind) = rest.split_at(len);
+        let (piece, following) = rest.split_at(len);
         line.extend_from_slice(piece)?;
-        if behind.is_empty() {
+        if following.is_empty() {
             self.at += len;
             return Ok(false);
         }
@@ -177,28 +177,28 @@ impl OpenFile {
         &mut self,
         alloc: Global,
         store: &mut S,
-    ) -> Result<Sequence<u8>, ExpandFault>
+    ) -> Result<ListVec<u8>, ExpandFault>
         requires { self.old.at < length self.old.buffer.items }
         ensures read { IfSome (S.files store.old) (λ m.
             ReadsLine (lines_of (rest_of m self.old)) result (lines_of (rest_of m self.new))) }
-        ensures behind { IfSome (S.files store.old) (λ m. IsFileBehind m self.old self.old.line →
-            OnOk result (IsFileBehind m self.new (self.old.line + 1))) }
-        ensures blamed { IfSome (S.files store.old) (λ m. IsFileBehind m self.old self.old.line →
-            IfErr result (λ e. is_failure e ≡ true → IsReadingAt m (S.blamed store.new)
+        ensures following { IfSome (S.files store.old) (λ m. IsFileAfter m self.old self.old.line →
+            OnOk result (IsFileAfter m self.new (self.old.line + 1))) }
+        ensures last_failure { IfSome (S.files store.old) (λ m. IsFileAfter m self.old self.old.line →
+            IfErr result (λ e. is_failure e ≡ true → IsReadingAt m (S.last_failure store.new)
             (in_line self.old.name (self.old.line + 1)))) }
         ensures line { self.new.line ≡ self.old.line }
         ensures name { self.new.name ≡ self.old.name }
-        ensures leaves { LeavesStore S.files S.failures store.old store.new result }
+        ensures frame { ReadFrame S.files S.failures store.old store.new result }
     {
         let mut line = mem::replace(&mut self.spare, Vec::new(alloc));
         line.clear();
         'pieces: loop {
             if self.take_piece(&mut line)? {
                 drop_return(&mut line);
-                return Ok(Sequence::from_vec(line));
+                return Ok(ListVec::from_vec(line));
             }
             if !self.has_more(store)? {
-                return Ok(Sequence::from_vec(line));
+                return Ok(ListVec::from_vec(line));
             }
         }
     }

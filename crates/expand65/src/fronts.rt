@@ -4,11 +4,11 @@ ghost use Rattle.std.specs.Prelude.{◌≡◌, None, false, ◌≤◌, drop, len
 ghost use Rattle.expand65.specs.Fronts.{among, block_words, condition_words, directive_of, macro_words, closes_brace, directive_in, front_directive, is_colon, is_comma, is_label_name, is_mislabelled, label_len, line_directive, may_follow_label, name_in, opens_brace, opens_parenthesis, quoted_in, string_of};
 ghost use Rattle.syntax65.specs.Tokens.{lexeme_of, lexemes};
 
-use syntax65::{Mark, Token, TokenKind, is_reserved};
+use syntax65::{Punctuation, Token, TokenKind, is_reserved};
 
 /// What a condition asks for.
 #[derive(Clone, Copy)]
-pub enum Test {
+pub enum ConditionKind {
     /// `.if`
     True,
     /// `.ifdef`
@@ -30,7 +30,7 @@ pub enum Directive {
     Local,
     Repeat,
     EndRepeat,
-    If(Test),
+    If(ConditionKind),
     ElseIf,
     Else,
     EndIf,
@@ -43,15 +43,15 @@ fn condition_word(word: &[u8]) -> Option<Directive>
     ensures { result ≡ among condition_words word.now }
 {
     if word.eq_ignore_ascii_case(b".if") {
-        Some(Directive::If(Test::True))
+        Some(Directive::If(ConditionKind::True))
     } else if word.eq_ignore_ascii_case(b".ifdef") {
-        Some(Directive::If(Test::Defined))
+        Some(Directive::If(ConditionKind::Defined))
     } else if word.eq_ignore_ascii_case(b".ifndef") {
-        Some(Directive::If(Test::NotDefined))
+        Some(Directive::If(ConditionKind::NotDefined))
     } else if word.eq_ignore_ascii_case(b".ifblank") {
-        Some(Directive::If(Test::Blank))
+        Some(Directive::If(ConditionKind::Blank))
     } else if word.eq_ignore_ascii_case(b".ifnblank") {
-        Some(Directive::If(Test::NotBlank))
+        Some(Directive::If(ConditionKind::NotBlank))
     } else if word.eq_ignore_ascii_case(b".elseif") {
         Some(Directive::ElseIf)
     } else if word.eq_ignore_ascii_case(b".else") {
@@ -116,34 +116,34 @@ pub fn directive_of(word: &[u8]) -> Option<Directive>
 pub fn is_colon(token: &Token<'_>) -> bool
     ensures { result ≡ is_colon (lexeme_of token.now) }
 {
-    matches!(token.kind, TokenKind::Symbol(Mark::Colon))
+    matches!(token.kind, TokenKind::Symbol(Punctuation::Colon))
 }
 
 pub fn is_comma(token: &Token<'_>) -> bool
     ensures { result ≡ is_comma (lexeme_of token.now) }
 {
-    matches!(token.kind, TokenKind::Symbol(Mark::Comma))
+    matches!(token.kind, TokenKind::Symbol(Punctuation::Comma))
 }
 
 /// Whether a token is a `{`.
 pub fn opens_brace(token: &Token<'_>) -> bool
     ensures { result ≡ opens_brace (lexeme_of token.now) }
 {
-    matches!(token.kind, TokenKind::Symbol(Mark::OpenBrace))
+    matches!(token.kind, TokenKind::Symbol(Punctuation::OpenBrace))
 }
 
 /// Whether a token is a `}`.
 pub fn closes_brace(token: &Token<'_>) -> bool
     ensures { result ≡ closes_brace (lexeme_of token.now) }
 {
-    matches!(token.kind, TokenKind::Symbol(Mark::CloseBrace))
+    matches!(token.kind, TokenKind::Symbol(Punctuation::CloseBrace))
 }
 
 /// Whether a token is a `(`.
 pub fn opens_parenthesis(token: &Token<'_>) -> bool
     ensures { result ≡ opens_parenthesis (lexeme_of token.now) }
 {
-    matches!(token.kind, TokenKind::Symbol(Mark::OpenParenthesis))
+    matches!(token.kind, TokenKind::Symbol(Punctuation::OpenParenthesis))
 }
 
 /// The bytes of an identifier that is neither a mnemonic nor a register.
@@ -161,8 +161,8 @@ fn quoted_in<'a>(token: &Token<'a>) -> Option<&'a [u8]>
     ensures { option_map (λ s. s.now) result ≡ quoted_in (lexeme_of token.now) }
 {
     match token.kind {
-        TokenKind::Text if token.text.len() < 2 => Some(b""),
-        TokenKind::Text => Some(&token.text[1..token.text.len() - 1]),
+        TokenKind::StringLiteral if token.text.len() < 2 => Some(b""),
+        TokenKind::StringLiteral => Some(&token.text[1..token.text.len() - 1]),
         _ => None,
     }
 }
@@ -246,11 +246,11 @@ pub fn is_mislabelled(tokens: &[Token<'_>]) -> bool
 }
 
 /// What stands behind the first token.
-pub fn behind_first<'a, 'b>(tokens: &'b [Token<'a>]) -> &'b [Token<'a>]
+pub fn after_first<'a, 'b>(tokens: &'b [Token<'a>]) -> &'b [Token<'a>]
     ensures { lexemes result.now ≡ drop 1 (lexemes tokens.now) }
 {
     match tokens {
         [] => tokens,
-        [_, behind @ ..] => behind,
+        [_, following @ ..] => following,
     }
 }

@@ -3,16 +3,16 @@
 ghost use Rattle.std.specs.Prelude.{◌≡◌, ◌<◌, ◌+◌, ◌^◌, ◌++◌, if◌then◌else◌, true, false, map, IfNone, IfOk, IfSome, IsErrOf, List, ℕ, Result};
 ghost use Rattle.std.specs.FinMap as fmap;
 ghost use Rattle.std.specs.Str.{is_utf8};
-ghost use Rattle.base65.specs.Outcome.{Gives};
-ghost use Rattle.base65.specs.Store.{Asks, IsBlamedAt};
-ghost use Rattle.syntax65.specs.Faults.{is_outside};
+ghost use Rattle.base65.specs.Outcome.{Refines};
+ghost use Rattle.base65.specs.Store.{FailsAtLastCount, FailedAt};
+ghost use Rattle.syntax65.specs.Faults.{is_system_error};
 ghost use Rattle.expand65.specs.Failing.{IsAmong};
 ghost use Rattle.expand65.specs.Fronts.{begins};
-ghost use Rattle.expand65.specs.Expansion.{as_text, beside, file_named, first_file, folder_of, found_or, is_slash, tried, within};
-ghost use Rattle.expand65.specs.Macros.{Tries, file_of, is_there};
-ghost use Rattle.expand65.specs.Lines.{LeavesStore};
+ghost use Rattle.expand65.specs.Expansion.{as_text, beside, file_named, first_file, folder_of, found_or, is_slash, candidate_names, path_in};
+ghost use Rattle.expand65.specs.Macros.{IsFirstFound, file_of, is_there};
+ghost use Rattle.expand65.specs.Lines.{ReadFrame};
 
-use base65::{Store, StoreFault, Text};
+use base65::{PathString, Store, StoreFault};
 use std::alloc::{AllocError, Global};
 use syntax65::{ExpandFault, MAX_FILE};
 
@@ -54,7 +54,7 @@ fn joined(alloc: Global, folder: &[u8], name: &[u8]) -> Result<Vec<u8>, AllocErr
 
 /// A name in a folder.
 fn within(alloc: Global, name: &[u8], folder: &[u8]) -> Result<Vec<u8>, AllocError>
-    ensures { IfOk result (λ v. v.items ≡ within name.now folder.now) }
+    ensures { IfOk result (λ v. v.items ≡ path_in name.now folder.now) }
 {
     let mut whole = Vec::new(alloc);
     whole.extend_from_slice(folder)?;
@@ -66,11 +66,11 @@ fn within(alloc: Global, name: &[u8], folder: &[u8]) -> Result<Vec<u8>, AllocErr
 /// Whether a file is there; one with too many bytes is refused.
 pub fn is_there<S: Store>(store: &mut S, name: &str) -> Result<bool, ExpandFault>
     ensures there { IfSome (S.files store.old) (λ m.
-        Gives is_outside (λ b. b) result (is_there (fmap.get m name.now))) }
-    ensures leaves { LeavesStore S.files S.failures store.old store.new result }
-    ensures blamed { IsErrOf result ExpandFault.FileError →
-        IsBlamedAt (S.blamed store.new) name.now 16777216 }
-    ensures asked { Asks is_outside (S.failures store.old) result }
+        Refines is_system_error (λ b. b) result (is_there (fmap.get m name.now))) }
+    ensures frame { ReadFrame S.files S.failures store.old store.new result }
+    ensures last_failure { IsErrOf result ExpandFault.FileError →
+        FailedAt (S.last_failure store.new) name.now 16777216 }
+    ensures at_last_count { FailsAtLastCount is_system_error (S.failures store.old) result }
 {
     let mut byte = [0u8; 1];
     match store.read_at(name, MAX_FILE, &mut byte) {
@@ -93,7 +93,7 @@ fn text_of(bytes: &[u8]) -> Option<&str>
 }
 
 /// A name as it is looked for in a file's own folder alone, if it is a text. A name that begins with `/` stays as given.
-pub fn name_beside(alloc: Global, file: &str, name: &[u8]) -> Result<Option<Text>, AllocError>
+pub fn name_beside(alloc: Global, file: &str, name: &[u8]) -> Result<Option<PathString>, AllocError>
     ensures { IfOk result (λ text. text ≡ as_text (beside file.now name.now)) }
 {
     let folder = if begins_with_slash(name) {
@@ -103,26 +103,30 @@ pub fn name_beside(alloc: Global, file: &str, name: &[u8]) -> Result<Option<Text
     };
     let whole = joined(alloc, folder, name)?;
     match text_of(whole.as_slice()) {
-        Some(text) => Ok(Some(Text::copy_of(alloc, text)?)),
+        Some(text) => Ok(Some(PathString::copy_of(alloc, text)?)),
         None => Ok(None),
     }
 }
 
 /// The file of a name, if it is there.
-fn look_up<S: Store>(alloc: Global, store: &mut S, name: &[u8]) -> Result<Option<Text>, ExpandFault>
+fn look_up<S: Store>(
+    alloc: Global,
+    store: &mut S,
+    name: &[u8],
+) -> Result<Option<PathString>, ExpandFault>
     ensures tries { IfSome (S.files store.old) (λ m.
-        (others : Result (List ℕ × List ℕ) ExpandFault) → Tries m result others
+        (others : Result (List ℕ × List ℕ) ExpandFault) → IsFirstFound m result others
         (found_or name.now (file_named m name.now) others)) }
-    ensures blamed { IsErrOf result ExpandFault.FileError →
-        IsBlamedAt (S.blamed store.new) name.now 16777216 }
-    ensures leaves { LeavesStore S.files S.failures store.old store.new result }
+    ensures last_failure { IsErrOf result ExpandFault.FileError →
+        FailedAt (S.last_failure store.new) name.now 16777216 }
+    ensures frame { ReadFrame S.files S.failures store.old store.new result }
 {
     let Some(text) = text_of(name) else {
         return Ok(None);
     };
     let there = is_there(store, text)?;
     if there {
-        Ok(Some(Text::copy_of(alloc, text)?))
+        Ok(Some(PathString::copy_of(alloc, text)?))
     } else {
         Ok(None)
     }
@@ -132,14 +136,14 @@ fn look_up<S: Store>(alloc: Global, store: &mut S, name: &[u8]) -> Result<Option
 fn find_in_folders<S: Store>(
     alloc: Global,
     store: &mut S,
-    folders: &[Text],
+    folders: &[PathString],
     name: &[u8],
-) -> Result<Text, ExpandFault>
+) -> Result<PathString, ExpandFault>
     ensures found { IfSome (S.files store.old) (λ m.
-        Gives is_outside (file_of m) result (first_file m (map (within name.now) folders.now))) }
-    ensures blamed { IsErrOf result ExpandFault.FileError →
-        IsAmong (S.blamed store.new) (map (within name.now) folders.now) }
-    ensures leaves { LeavesStore S.files S.failures store.old store.new result }
+        Refines is_system_error (file_of m) result (first_file m (map (path_in name.now) folders.now))) }
+    ensures last_failure { IsErrOf result ExpandFault.FileError →
+        IsAmong (S.last_failure store.new) (map (path_in name.now) folders.now) }
+    ensures frame { ReadFrame S.files S.failures store.old store.new result }
 {
     for folder in folders {
         let whole = within(alloc, name, folder.as_str().as_bytes())?;
@@ -155,14 +159,14 @@ pub fn find_file<S: Store>(
     alloc: Global,
     store: &mut S,
     file: &str,
-    folders: &[Text],
+    folders: &[PathString],
     name: &[u8],
-) -> Result<Text, ExpandFault>
+) -> Result<PathString, ExpandFault>
     ensures found { IfSome (S.files store.old) (λ m.
-        Gives is_outside (file_of m) result (first_file m (tried file.now folders.now name.now))) }
-    ensures blamed { IsErrOf result ExpandFault.FileError →
-        IsAmong (S.blamed store.new) (tried file.now folders.now name.now) }
-    ensures leaves { LeavesStore S.files S.failures store.old store.new result }
+        Refines is_system_error (file_of m) result (first_file m (candidate_names file.now folders.now name.now))) }
+    ensures last_failure { IsErrOf result ExpandFault.FileError →
+        IsAmong (S.last_failure store.new) (candidate_names file.now folders.now name.now) }
+    ensures frame { ReadFrame S.files S.failures store.old store.new result }
 {
     if begins_with_slash(name) {
         return match look_up(alloc, store, name)? {

@@ -3,23 +3,23 @@
 ghost use Rattle.std.specs.Prelude.{◌≡◌, ◌↔◌, ◌<◌, ◌+◌, drop, length, true, false, [], ◌∷◌, Ok, IsTrue, IfErr, IfOk, IfSome, OnOk, Result};
 ghost use Rattle.std.specs.List.{prefix_len};
 ghost use Rattle.base65.specs.Store.{Files};
-ghost use Rattle.syntax65.specs.Faults.{is_failure, is_outside};
-ghost use Rattle.expand65.specs.Standing.{ComesNext, IsFile, IsReady, TakesLine, is_call, is_file, left_in, moved_by, onward, turns_left, IsAt, IsLineOf};
-ghost use Rattle.expand65.specs.Playing.{tokens_in, left_to_play, replacing_of};
-ghost use Rattle.syntax65.specs.declared.place.Place.{Place};
-ghost use Rattle.expand65.specs.Lines.{is_inside, left_in_file, moved, IsFileAt, IsReadingAt, LeavesStore, number_token};
+ghost use Rattle.syntax65.specs.Faults.{is_failure, is_system_error};
+ghost use Rattle.expand65.specs.Representation.{ComesNext, IsFile, IsReady, TakesLine, is_call, is_file, remaining_in, moved_by, next_location, iterations_left, IsAt, IsLineOf};
+ghost use Rattle.expand65.specs.Replay.{tokens_in, left_to_play, replacing_of};
+ghost use Rattle.syntax65.specs.declared.source_location.SourceLocation.{SourceLocation};
+ghost use Rattle.expand65.specs.Lines.{is_inside, left_in_file, location_at, IsFileAt, IsReadingAt, ReadFrame, number_token};
 
 use crate::file::{OpenFile, line_len};
-use crate::line::Line;
-use crate::passing::trimmed;
-use crate::playing::Replay;
-use base65::{Sequence, Store};
+use crate::line::StoredLine;
+use crate::macro_replay::Replay;
+use crate::skipping::trimmed;
+use base65::{ListVec, Store};
 use std::alloc::{AllocError, Global};
 use syntax65::{ExpandFault, Token, TokenKind};
 
 /// Where lines come from.
 #[derive(Drop)]
-pub enum Source {
+pub enum LineSource {
     File(OpenFile),
     Call(Replay),
     /// A body with the number of the turn that comes next, and of turns.
@@ -46,7 +46,7 @@ impl NextLine {
 }
 
 /// A number as a line of one token.
-pub fn number_line(alloc: Global, number: u32) -> Result<Line, AllocError>
+pub fn number_line(alloc: Global, number: u32) -> Result<StoredLine, AllocError>
     ensures { IfOk result (λ line. tokens_in line ≡ number_token number ∷ []) }
 {
     let text = format!(in alloc; "{number}")?;
@@ -54,7 +54,7 @@ pub fn number_line(alloc: Global, number: u32) -> Result<Line, AllocError>
         kind: TokenKind::Number(number),
         text: text.as_bytes(),
     };
-    Line::copy_of(alloc, &[token])
+    StoredLine::copy_of(alloc, &[token])
 }
 
 impl OpenFile {
@@ -66,15 +66,15 @@ impl OpenFile {
             OnOk result (left_in_file m self.new ≡ left_in_file m self.old)) }
         ensures more { IfOk result (λ n. (n ≡ NextLine.AtEnd →
             ⊥) → self.new.at < length self.new.buffer.items) }
-        ensures outside { IfErr result (λ e. is_outside e ≡ true) }
-        ensures onward { (p : Place) → p.line ≡ self.old.line → IfOk result (λ n.
-            (n ≡ NextLine.AtEnd → ⊥) → moved_by n p ≡ moved p (p.line + 1)) }
+        ensures outside { IfErr result (λ e. is_system_error e ≡ true) }
+        ensures onward { (p : SourceLocation) → p.line ≡ self.old.line → IfOk result (λ n.
+            (n ≡ NextLine.AtEnd → ⊥) → moved_by n p ≡ location_at p (p.line + 1)) }
         ensures line { self.new.line ≡ self.old.line }
-        ensures at { IfSome (S.files store.old) (λ m. (p : Place) → IsFileAt m self.old p →
+        ensures at { IfSome (S.files store.old) (λ m. (p : SourceLocation) → IsFileAt m self.old p →
             OnOk result (IsFileAt m self.new p)) }
-        ensures blamed { IfSome (S.files store.old) (λ m. (p : Place) → IsFileAt m self.old p →
-            IfErr result (λ e. is_failure e ≡ true → IsReadingAt m (S.blamed store.new) p)) }
-        ensures leaves { LeavesStore S.files S.failures store.old store.new result }
+        ensures last_failure { IfSome (S.files store.old) (λ m. (p : SourceLocation) → IsFileAt m self.old p →
+            IfErr result (λ e. is_failure e ≡ true → IsReadingAt m (S.last_failure store.new) p)) }
+        ensures frame { ReadFrame S.files S.failures store.old store.new result }
     {
         if !self.has_more(store)? {
             return Ok(NextLine::AtEnd);
@@ -87,17 +87,17 @@ impl OpenFile {
 
     /// Takes the next line, which ends behind so many bytes of those at hand.
     #[inline(always)]
-    fn take_at_hand(&mut self, alloc: Global, len: usize) -> Result<Line, ExpandFault>
+    fn take_at_hand(&mut self, alloc: Global, len: usize) -> Result<StoredLine, ExpandFault>
         requires end { len ≡ prefix_len is_inside (drop self.old.at self.old.buffer.items) }
         requires within { len < length (drop self.old.at self.old.buffer.items) }
         ensures taken { (m : Files) → TakesLine (left_in_file m self.old) result (left_in_file m self.new) }
-        ensures at { (m : Files) (p : Place) → IsFileAt m self.old p →
-            OnOk result (IsFileAt m self.new (moved p (p.line + 1))) }
+        ensures at { (m : Files) (p : SourceLocation) → IsFileAt m self.old p →
+            OnOk result (IsFileAt m self.new (location_at p (p.line + 1))) }
         ensures inside { IfErr result (λ e. is_failure e ≡ false) }
     {
         let (_, rest) = self.buffer.split_at(self.at);
         let (bytes, _) = rest.split_at(len);
-        let line = Line::read(alloc, trimmed(bytes))?;
+        let line = StoredLine::read(alloc, trimmed(bytes))?;
         let Some(number) = self.line.checked_add(1) else {
             return Err(ExpandFault::OutOfMemory);
         };
@@ -107,16 +107,20 @@ impl OpenFile {
     }
 
     /// Takes the next line, which begins in what is at hand.
-    fn take_line<S: Store>(&mut self, alloc: Global, store: &mut S) -> Result<Line, ExpandFault>
+    fn take_line<S: Store>(
+        &mut self,
+        alloc: Global,
+        store: &mut S,
+    ) -> Result<StoredLine, ExpandFault>
         requires { self.old.at < length self.old.buffer.items }
         ensures taken { IfSome (S.files store.old) (λ m.
             TakesLine (left_in_file m self.old) result (left_in_file m self.new)) }
-        ensures at { IfSome (S.files store.old) (λ m. (p : Place) → IsFileAt m self.old p →
-            OnOk result (IsFileAt m self.new (moved p (p.line + 1)))) }
-        ensures blamed { IfSome (S.files store.old) (λ m. (p : Place) → IsFileAt m self.old p →
-            IfErr result (λ e. is_failure e ≡ true → IsReadingAt m (S.blamed store.new)
-            (moved p (p.line + 1)))) }
-        ensures leaves { LeavesStore S.files S.failures store.old store.new result }
+        ensures at { IfSome (S.files store.old) (λ m. (p : SourceLocation) → IsFileAt m self.old p →
+            OnOk result (IsFileAt m self.new (location_at p (p.line + 1)))) }
+        ensures last_failure { IfSome (S.files store.old) (λ m. (p : SourceLocation) → IsFileAt m self.old p →
+            IfErr result (λ e. is_failure e ≡ true → IsReadingAt m (S.last_failure store.new)
+            (location_at p (p.line + 1)))) }
+        ensures frame { ReadFrame S.files S.failures store.old store.new result }
     {
         let (_, rest) = self.buffer.split_at(self.at);
         let len = line_len(rest);
@@ -124,7 +128,7 @@ impl OpenFile {
             return self.take_at_hand(alloc, len);
         }
         let bytes = self.next_line(alloc, store)?;
-        let line = Line::read(alloc, bytes.as_slice())?;
+        let line = StoredLine::read(alloc, bytes.as_slice())?;
         self.spare = bytes.into_vec();
         let Some(number) = self.line.checked_add(1) else {
             return Err(ExpandFault::OutOfMemory);
@@ -157,7 +161,7 @@ impl Replay {
     }
 
     /// Takes the next line.
-    fn take_line(&mut self, alloc: Global) -> Result<Line, ExpandFault>
+    fn take_line(&mut self, alloc: Global) -> Result<StoredLine, ExpandFault>
         requires { self.old.at < length self.old.body.value.lines }
         ensures taken { TakesLine (left_to_play self.old) result (left_to_play self.new) }
         ensures body { self.new.body ≡ self.old.body }
@@ -171,19 +175,19 @@ impl Replay {
 }
 
 /// Begins the next turn of a repeat where the turn before is over; whether a line more is left.
-fn begin_turn(
+fn begin_iteration(
     alloc: Global,
     replay: &mut Replay,
     next: &mut u32,
     count: u32,
 ) -> Result<NextLine, ExpandFault>
-    ensures same { OnOk result (turns_left replay.new next.new count ≡ turns_left replay.old next.old count) }
-    ensures comes { IfOk result (λ n. ComesNext (turns_left replay.new next.new count) n) }
+    ensures same { OnOk result (iterations_left replay.new next.new count ≡ iterations_left replay.old next.old count) }
+    ensures comes { IfOk result (λ n. ComesNext (iterations_left replay.new next.new count) n) }
     ensures ready { IfOk result (λ n. (n ≡ NextLine.AtEnd →
         ⊥) → replay.new.at < length replay.new.body.value.lines) }
     ensures played { IfOk result (λ n. (n ≡ NextLine.AtEnd → ⊥) → n ≡ NextLine.Replayed) }
     ensures inside { IfErr result (λ e. is_failure e ≡ false) }
-    ensures outside { IfErr result (λ e. is_outside e ≡ true) }
+    ensures outside { IfErr result (λ e. is_system_error e ≡ true) }
 {
     if replay.has_line() {
         return Ok(NextLine::Replayed);
@@ -195,7 +199,7 @@ fn begin_turn(
         return Ok(NextLine::AtEnd);
     }
     let number = number_line(alloc, *next)?;
-    let mut arguments = Sequence::new(alloc);
+    let mut arguments = ListVec::new(alloc);
     arguments.push(number)?;
     replay.arguments = arguments;
     replay.at = 0;
@@ -203,12 +207,12 @@ fn begin_turn(
     Ok(NextLine::Replayed)
 }
 
-impl Source {
+impl LineSource {
     /// Whether it is an expansion.
     pub fn is_call(&self) -> bool
         ensures { result ≡ is_call self.now }
     {
-        matches!(self, Source::Call(_))
+        matches!(self, LineSource::Call(_))
     }
 
     /// What comes next, which is then at hand.
@@ -217,47 +221,51 @@ impl Source {
         alloc: Global,
         store: &mut S,
     ) -> Result<NextLine, ExpandFault>
-        ensures comes { IfSome (S.files store.old) (λ m. IfOk result (λ n. ComesNext (left_in m self.new) n)) }
-        ensures same { IfSome (S.files store.old) (λ m. OnOk result (left_in m self.new ≡ left_in m self.old)) }
+        ensures comes { IfSome (S.files store.old) (λ m. IfOk result (λ n. ComesNext (remaining_in m self.new) n)) }
+        ensures same { IfSome (S.files store.old) (λ m. OnOk result (remaining_in m self.new ≡ remaining_in m self.old)) }
         ensures ready { IfOk result (λ n. (n ≡ NextLine.AtEnd → ⊥) → IsReady self.new) }
         ensures call { is_call self.new ≡ is_call self.old }
         ensures file { IfErr result (λ e. is_failure e ≡ true → IsFile self.old) }
-        ensures outside { IfErr result (λ e. is_outside e ≡ true) }
+        ensures outside { IfErr result (λ e. is_system_error e ≡ true) }
         ensures kind { is_file self.new ≡ is_file self.old }
-        ensures onward { (p : Place) → IsLineOf self.old p → IfOk result (λ n.
-            (n ≡ NextLine.AtEnd → ⊥) → moved_by n p ≡ onward self.new p) }
-        ensures at { IfSome (S.files store.old) (λ m. (p : Place) → IsAt m self.old p →
+        ensures onward { (p : SourceLocation) → IsLineOf self.old p → IfOk result (λ n.
+            (n ≡ NextLine.AtEnd → ⊥) → moved_by n p ≡ next_location self.new p) }
+        ensures at { IfSome (S.files store.old) (λ m. (p : SourceLocation) → IsAt m self.old p →
             OnOk result (IsAt m self.new p)) }
-        ensures blamed { IfSome (S.files store.old) (λ m. (p : Place) → IsAt m self.old p →
-            IfErr result (λ e. is_failure e ≡ true → IsReadingAt m (S.blamed store.new) p)) }
-        ensures leaves { LeavesStore S.files S.failures store.old store.new result }
+        ensures last_failure { IfSome (S.files store.old) (λ m. (p : SourceLocation) → IsAt m self.old p →
+            IfErr result (λ e. is_failure e ≡ true → IsReadingAt m (S.last_failure store.new) p)) }
+        ensures frame { ReadFrame S.files S.failures store.old store.new result }
     {
         match self {
-            Source::File(file) => file.begin_line(store),
-            Source::Call(replay) => Ok(replay.next_line()),
-            Source::Repeat(replay, next, count) => begin_turn(alloc, replay, next, *count),
+            LineSource::File(file) => file.begin_line(store),
+            LineSource::Call(replay) => Ok(replay.next_line()),
+            LineSource::Repeat(replay, next, count) => begin_iteration(alloc, replay, next, *count),
         }
     }
 
     /// Takes the next line.
-    pub fn take_line<S: Store>(&mut self, alloc: Global, store: &mut S) -> Result<Line, ExpandFault>
+    pub fn take_line<S: Store>(
+        &mut self,
+        alloc: Global,
+        store: &mut S,
+    ) -> Result<StoredLine, ExpandFault>
         requires { IsReady self.old }
         ensures taken { IfSome (S.files store.old) (λ m.
-            TakesLine (left_in m self.old) result (left_in m self.new)) }
+            TakesLine (remaining_in m self.old) result (remaining_in m self.new)) }
         ensures call { is_call self.new ≡ is_call self.old }
         ensures file { IfErr result (λ e. is_failure e ≡ true → IsFile self.old) }
         ensures kind { is_file self.new ≡ is_file self.old }
-        ensures at { IfSome (S.files store.old) (λ m. (p : Place) → IsAt m self.old p →
-            OnOk result (IsAt m self.new (onward self.old p))) }
-        ensures blamed { IfSome (S.files store.old) (λ m. (p : Place) → IsAt m self.old p →
-            IfErr result (λ e. is_failure e ≡ true → IsReadingAt m (S.blamed store.new)
-            (onward self.old p))) }
-        ensures leaves { LeavesStore S.files S.failures store.old store.new result }
+        ensures at { IfSome (S.files store.old) (λ m. (p : SourceLocation) → IsAt m self.old p →
+            OnOk result (IsAt m self.new (next_location self.old p))) }
+        ensures last_failure { IfSome (S.files store.old) (λ m. (p : SourceLocation) → IsAt m self.old p →
+            IfErr result (λ e. is_failure e ≡ true → IsReadingAt m (S.last_failure store.new)
+            (next_location self.old p))) }
+        ensures frame { ReadFrame S.files S.failures store.old store.new result }
     {
         match self {
-            Source::File(file) => file.take_line(alloc, store),
-            Source::Call(replay) => replay.take_line(alloc),
-            Source::Repeat(replay, _, _) => replay.take_line(alloc),
+            LineSource::File(file) => file.take_line(alloc, store),
+            LineSource::Call(replay) => replay.take_line(alloc),
+            LineSource::Repeat(replay, _, _) => replay.take_line(alloc),
         }
     }
 }

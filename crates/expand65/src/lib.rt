@@ -8,28 +8,28 @@ mod file;
 mod fronts;
 mod includes;
 mod input;
+mod input_stack;
 mod knows;
 pub mod laws;
 mod line;
+mod macro_replay;
 mod macros;
-mod passing;
-mod playing;
-mod reader;
+mod preprocessor;
 mod repeats;
-mod rewriter;
+mod skipping;
 
 pub use blocks::{BlockEnd, BlockKind, WholeBlock};
 pub use expander::{Expander, Options, Statement};
 pub use file::OpenFile;
 pub use fronts::{
-    Directive, Test, behind_first, closes_brace, front_directive, is_comma, label_len, name_in,
-    opens_brace, opens_parenthesis, string_of,
+    ConditionKind, Directive, after_first, closes_brace, front_directive, is_comma, label_len,
+    name_in, opens_brace, opens_parenthesis, string_of,
 };
 pub use includes::name_beside;
-pub use input::{Source, number_line};
+pub use input::{LineSource, number_line};
+pub use input_stack::{Input, InputStack};
 pub use knows::Knows;
-pub use line::Line;
-pub use passing::Peeked;
-pub use playing::{Body, Replay};
-pub use reader::{Input, Reader};
-pub use syntax65::{ExpandFault, Place};
+pub use line::StoredLine;
+pub use macro_replay::{Body, Replay};
+pub use skipping::Peeked;
+pub use syntax65::{ExpandFault, SourceLocation};

@@ -1,22 +1,22 @@
 //! Lines that are kept.
 
 ghost use Rattle.std.specs.Prelude.{◌≡◌, ◌≤◌, ◌++◌, [], false, length, slice_get, option_map, take, IsTrue, IfErr, IfOk, IfSome, List, OnOk, Result};
-ghost use Rattle.base65.specs.Relations.{Answers};
+ghost use Rattle.base65.specs.Relations.{RefinesRel};
 ghost use Rattle.syntax65.specs.Tokens.{IsRead, Lexeme, lexeme_of, lexemes};
 ghost use Rattle.syntax65.specs.declared.lexing.tokens.LexFault.{LexFault};
-ghost use Rattle.syntax65.specs.Faults.{is_failure, is_outside};
+ghost use Rattle.syntax65.specs.Faults.{is_failure, is_system_error};
 ghost use Rattle.expand65.specs.Fronts.{front_directive, label_len};
-ghost use Rattle.expand65.specs.Playing.{behind_word, cut, text_of, tokens_in, IsParted, IsColonIn, IsPlain};
-ghost use Rattle.expand65.specs.Lines.{lexed};
+ghost use Rattle.expand65.specs.Replay.{after_word, cut, text_of, tokens_in, IsParted, IsColonIn, IsPlain};
+ghost use Rattle.expand65.specs.Lines.{file_line_tokens};
 
 use crate::fronts::{Directive, directive_in, is_mislabelled, label_len};
-use base65::Sequence;
+use base65::ListVec;
 use std::alloc::{AllocError, Global};
-use syntax65::{ExpandFault, Lexer, Mark, Token, TokenKind};
+use syntax65::{ExpandFault, Lexer, Punctuation, Token, TokenKind};
 
 /// What a token of a line is, how many of the line's bytes part it from the token before, and how many are its own.
 #[derive(Clone, Copy)]
-pub struct Word {
+pub struct StoredToken {
     pub kind: TokenKind,
     pub blanks: u32,
     pub len: u32,
@@ -24,70 +24,70 @@ pub struct Word {
 
 /// The tokens of a line, with its bytes up to the last token's end.
 #[derive(Drop)]
-pub struct Line {
-    pub words: Sequence<Word>,
-    pub bytes: Sequence<u8>,
+pub struct StoredLine {
+    pub spans: ListVec<StoredToken>,
+    pub bytes: ListVec<u8>,
 }
 
-impl Word {
+impl StoredToken {
     /// A token of so many bytes, behind so many others.
     #[inline(always)]
-    fn new(kind: TokenKind, blanks: usize, len: usize) -> Result<Word, AllocError>
+    fn new(kind: TokenKind, blanks: usize, len: usize) -> Result<StoredToken, AllocError>
         ensures { IfOk result (λ w. (w.kind ≡ kind) × (w.blanks ≡ blanks) × (w.len ≡ len)) }
     {
         let (Ok(blanks), Ok(len)) = (u32::try_from(blanks), u32::try_from(len)) else {
             return Err(AllocError);
         };
-        Ok(Word { kind, blanks, len })
+        Ok(StoredToken { kind, blanks, len })
     }
 
     /// The token of the word at the front of some bytes, and what stands behind it.
     #[inline(always)]
     fn token<'a>(&self, bytes: &'a [u8]) -> (Token<'a>, &'a [u8])
         ensures token { lexeme_of result.0 ≡ text_of self.now bytes.now }
-        ensures behind { result.1.now ≡ behind_word self.now bytes.now }
+        ensures following { result.1.now ≡ after_word self.now bytes.now }
     {
         let (_, here) = bytes.split_at((self.blanks as usize).min(bytes.len()));
-        let (text, behind) = here.split_at((self.len as usize).min(here.len()));
+        let (text, following) = here.split_at((self.len as usize).min(here.len()));
         let kind = self.kind;
-        (Token { kind, text }, behind)
+        (Token { kind, text }, following)
     }
 }
 
-impl Line {
+impl StoredLine {
     /// A line of these tokens.
     #[inline(always)]
-    pub fn copy_of(alloc: Global, tokens: &[Token<'_>]) -> Result<Line, AllocError>
+    pub fn copy_of(alloc: Global, tokens: &[Token<'_>]) -> Result<StoredLine, AllocError>
         ensures { IfOk result (λ line. tokens_in line ≡ lexemes tokens.now) }
     {
         let mut words = Vec::with_capacity(alloc, tokens.len())?;
         // A token has some four bytes.
         let mut bytes = Vec::with_capacity(alloc, tokens.len().saturating_mul(4))?;
         for token in tokens {
-            words.push(Word::new(token.kind, 0, token.text.len())?)?;
+            words.push(StoredToken::new(token.kind, 0, token.text.len())?)?;
             bytes.extend_from_slice(token.text)?;
         }
-        Ok(Line {
-            words: Sequence::from_vec(words),
-            bytes: Sequence::from_vec(bytes),
+        Ok(StoredLine {
+            spans: ListVec::from_vec(words),
+            bytes: ListVec::from_vec(bytes),
         })
     }
 
     /// The tokens of a line of a file.
     #[inline(always)]
-    pub fn read(alloc: Global, bytes: &[u8]) -> Result<Line, ExpandFault>
-        ensures tokens { Answers is_outside tokens_in result
-            (λ r. (q : Result (List Lexeme) LexFault) × IsRead bytes.now q × (r ≡ lexed q)) }
+    pub fn read(alloc: Global, bytes: &[u8]) -> Result<StoredLine, ExpandFault>
+        ensures tokens { RefinesRel is_system_error tokens_in result
+            (λ r. (q : Result (List Lexeme) LexFault) × IsRead bytes.now q × (r ≡ file_line_tokens q)) }
         ensures inside { IfErr result (λ e. is_failure e ≡ false) }
     {
         // Room for most lines, and not more: those of a macro stay as they are.
         let mut words = Vec::with_capacity(alloc, (bytes.len() / 2 + 1).min(8))?;
         let len = read_words(bytes, &mut words)?;
-        let (front, _) = bytes.split_at(len);
-        let kept = Vec::from_slice(alloc, front)?;
-        Ok(Line {
-            words: Sequence::from_vec(words),
-            bytes: Sequence::from_vec(kept),
+        let (pending, _) = bytes.split_at(len);
+        let kept = Vec::from_slice(alloc, pending)?;
+        Ok(StoredLine {
+            spans: ListVec::from_vec(words),
+            bytes: ListVec::from_vec(kept),
         })
     }
 
@@ -96,10 +96,10 @@ impl Line {
         ensures { OnOk result (lexemes tokens.new.items ≡ lexemes tokens.old.items ++ tokens_in self.now) }
     {
         let mut rest = self.bytes.as_slice();
-        for word in self.words.as_slice() {
-            let (token, behind) = word.token(rest);
+        for word in self.spans.as_slice() {
+            let (token, following) = word.token(rest);
             tokens.push(token)?;
-            rest = behind;
+            rest = following;
         }
         Ok(())
     }
@@ -110,16 +110,16 @@ impl Line {
         ensures within { IfSome result (λ n. n ≤ length room.new) }
         ensures tokens { IfSome result (λ n. lexemes (take n room.new) ≡ tokens_in self.now) }
     {
-        if self.words.len() > room.len() {
+        if self.spans.len() > room.len() {
             return None;
         }
         let mut count = 0;
         let mut left = self.bytes.as_slice();
-        for word in self.words.as_slice() {
-            let (token, behind) = word.token(left);
+        for word in self.spans.as_slice() {
+            let (token, following) = word.token(left);
             room[count] = token;
             count += 1;
-            left = behind;
+            left = following;
         }
         Some(count)
     }
@@ -128,7 +128,7 @@ impl Line {
     pub fn first(&self) -> Option<Token<'_>>
         ensures { option_map lexeme_of result ≡ slice_get (tokens_in self.now) 0 }
     {
-        let word = self.words.as_slice().first()?;
+        let word = self.spans.as_slice().first()?;
         let (token, _) = word.token(self.bytes.as_slice());
         Some(token)
     }
@@ -137,7 +137,7 @@ impl Line {
     pub fn directive(&self) -> Option<Directive>
         ensures { result ≡ front_directive (tokens_in self.now) }
     {
-        let word = self.words.as_slice().first()?;
+        let word = self.spans.as_slice().first()?;
         // Most lines begin with no directive, and then their bytes aren't looked at.
         if !matches!(word.kind, TokenKind::Directive) {
             return None;
@@ -148,10 +148,10 @@ impl Line {
 
     /// Whether a word is there at a place, and is a colon.
     fn is_colon_at(&self, at: usize) -> bool
-        ensures { IsColonIn (slice_get self.now.words at) result }
+        ensures { IsColonIn (slice_get self.now.spans at) result }
     {
-        match self.words.as_slice().get(at) {
-            Some(word) => matches!(word.kind, TokenKind::Symbol(Mark::Colon)),
+        match self.spans.as_slice().get(at) {
+            Some(word) => matches!(word.kind, TokenKind::Symbol(Punctuation::Colon)),
             None => false,
         }
     }
@@ -176,7 +176,10 @@ impl Line {
     }
 
     /// The label at the front and what stands behind it, if there is a label.
-    pub fn parted(&self, alloc: Global) -> Result<Option<(Line, Line)>, ExpandFault>
+    pub fn split_label(
+        &self,
+        alloc: Global,
+    ) -> Result<Option<(StoredLine, StoredLine)>, ExpandFault>
         ensures parts { IsParted (tokens_in self.now) result }
         ensures inside { IfErr result (λ e. is_failure e ≡ false) }
     {
@@ -193,8 +196,8 @@ impl Line {
             return Err(ExpandFault::NotUnderstood);
         }
         let (label, rest) = tokens.split_at(len);
-        let label = Line::copy_of(alloc, label)?;
-        let rest = Line::copy_of(alloc, rest)?;
+        let label = StoredLine::copy_of(alloc, label)?;
+        let rest = StoredLine::copy_of(alloc, rest)?;
         Ok(Some((label, rest)))
     }
 
@@ -202,7 +205,7 @@ impl Line {
     pub fn tokens(&self, alloc: Global) -> Result<Vec<Token<'_>>, AllocError>
         ensures { IfOk result (λ tokens. lexemes tokens.items ≡ tokens_in self.now) }
     {
-        let mut tokens = Vec::with_capacity(alloc, self.words.len())?;
+        let mut tokens = Vec::with_capacity(alloc, self.spans.len())?;
         self.add_to(&mut tokens)?;
         Ok(tokens)
     }
@@ -210,10 +213,10 @@ impl Line {
 
 /// Reads the words of a line of a file; how many of its bytes stand in front of the last one's end.
 #[inline(always)]
-fn read_words(bytes: &[u8], words: &mut Vec<Word>) -> Result<usize, ExpandFault>
+fn read_words(bytes: &[u8], words: &mut Vec<StoredToken>) -> Result<usize, ExpandFault>
     requires { words.old.items ≡ [] }
-    ensures tokens { Answers is_outside (λ n. cut words.new.items (take n bytes.now)) result
-        (λ r. (q : Result (List Lexeme) LexFault) × IsRead bytes.now q × (r ≡ lexed q)) }
+    ensures tokens { RefinesRel is_system_error (λ n. cut words.new.items (take n bytes.now)) result
+        (λ r. (q : Result (List Lexeme) LexFault) × IsRead bytes.now q × (r ≡ file_line_tokens q)) }
     ensures within { IfOk result (λ n. n ≤ length bytes.now) }
     ensures inside { IfErr result (λ e. is_failure e ≡ false) }
 {
@@ -225,7 +228,7 @@ fn read_words(bytes: &[u8], words: &mut Vec<Word>) -> Result<usize, ExpandFault>
                 let len = token.text.len();
                 let blanks = left - lexer.rest.len() - len;
                 // A line has 4,096 bytes at most, so both fit.
-                words.push(Word {
+                words.push(StoredToken {
                     kind: token.kind,
                     blanks: blanks as u32,
                     len: len as u32,

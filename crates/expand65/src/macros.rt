@@ -2,25 +2,25 @@
 
 ghost use Rattle.std.specs.Prelude.{Option, ◌≡◌, ◌<◌, ◌≤◌, ◌+◌, ◌^◌, IfOk, IsSome, IsTrue, length, map, option_map, false, is_some, IfErr, Ok, Some};
 ghost use Rattle.syntax65.specs.Tokens.{lexeme_of, lexemes};
-ghost use Rattle.expand65.specs.Macros.{arguments_of, braces_behind, closes_last, is_braced, parts_within, unbraced, macro_line, called, distinct_of, header_of, macro_at, macro_of, ordinary, params_of, is_comma_at, name_at, part_len};
-ghost use Rattle.expand65.specs.Fronts.{names_of, understood};
-ghost use Rattle.expand65.specs.Playing.{tokens_in, definition_of};
-ghost use Rattle.base65.specs.Outcome.{Gives};
-ghost use Rattle.syntax65.specs.Faults.{is_failure, is_outside};
-ghost use Rattle.expand65.specs.Failing.{Fails};
-ghost use Rattle.expand65.specs.Expansion.{Leads};
+ghost use Rattle.expand65.specs.Macros.{arguments_of, braces_after, closes_last, is_braced, parts_within, without_braces, macro_line, call_result, distinct_of, header_of, macro_at, macro_of, ordinary, params_of, is_comma_at, name_at, part_len};
+ghost use Rattle.expand65.specs.Fronts.{names_of, ok_or_unknown};
+ghost use Rattle.expand65.specs.Replay.{tokens_in, definition_of};
+ghost use Rattle.base65.specs.Outcome.{Refines};
+ghost use Rattle.syntax65.specs.Faults.{is_failure, is_system_error};
+ghost use Rattle.expand65.specs.Failing.{StepFails};
+ghost use Rattle.expand65.specs.Expansion.{StepReaches};
 ghost use Rattle.base65.specs.Store.{Files};
-ghost use Rattle.expand65.specs.Standing.{Keeps, TurnsTo, LeadsTo, StopsBy, macros_of};
-ghost use Rattle.expand65.specs.Lines.{LeavesStore};
+ghost use Rattle.expand65.specs.Representation.{PreservesPositions, HasLineOutcome, LeadsTo, StopsBy, macros_of};
+ghost use Rattle.expand65.specs.Lines.{ReadFrame};
 
 use crate::blocks::BlockKind;
-use crate::fronts::{behind_first, closes_brace, is_comma, name_in, opens_brace};
-use crate::input::{Source, number_line};
-use crate::line::Line;
-use crate::playing::{Body, Replay};
-use crate::reader::Input;
-use crate::rewriter::{Rewriter, Turn};
-use base65::{Sequence, Store};
+use crate::fronts::{after_first, closes_brace, is_comma, name_in, opens_brace};
+use crate::input::{LineSource, number_line};
+use crate::input_stack::Input;
+use crate::line::StoredLine;
+use crate::macro_replay::{Body, Replay};
+use crate::preprocessor::{LineOutcome, Preprocessor};
+use base65::{ListVec, Store};
 use indexmap::{IndexMap, IndexSet};
 use std::alloc::{AllocError, Global};
 use std::rc::Rc;
@@ -70,9 +70,9 @@ pub fn names_of<'a>(
 }
 
 /// How many braces are open behind a token.
-fn braces_behind(depth: usize, token: &Token<'_>) -> usize
+fn braces_after(depth: usize, token: &Token<'_>) -> usize
     requires { depth < 2 ^ 62 }
-    ensures { result ≡ braces_behind depth (lexeme_of token.now) }
+    ensures { result ≡ braces_after depth (lexeme_of token.now) }
 {
     if opens_brace(token) {
         depth + 1
@@ -93,7 +93,7 @@ fn part_len(tokens: &[Token<'_>]) -> usize
         if is_comma(token) && depth == 0 {
             return place;
         }
-        depth = braces_behind(depth, token);
+        depth = braces_after(depth, token);
     }
     tokens.len()
 }
@@ -107,7 +107,7 @@ fn closes_last(tokens: &[Token<'_>]) -> bool
         if closes_brace(token) && depth == 0 {
             return place + 1 == tokens.len();
         }
-        depth = braces_behind(depth, token);
+        depth = braces_after(depth, token);
     }
     false
 }
@@ -116,12 +116,12 @@ fn closes_last(tokens: &[Token<'_>]) -> bool
 fn is_braced(tokens: &[Token<'_>]) -> bool
     ensures { result ≡ is_braced (lexemes tokens.now) }
 {
-    matches!(tokens, [first, behind @ ..] if opens_brace(first) && closes_last(behind))
+    matches!(tokens, [first, following @ ..] if opens_brace(first) && closes_last(following))
 }
 
 /// An argument without the pair of braces round it.
 fn unbraced<'a, 'b>(tokens: &'b [Token<'a>]) -> &'b [Token<'a>]
-    ensures { lexemes result.now ≡ unbraced (lexemes tokens.now) }
+    ensures { lexemes result.now ≡ without_braces (lexemes tokens.now) }
 {
     match tokens {
         [_, inner @ .., _] if is_braced(tokens) => inner,
@@ -130,18 +130,18 @@ fn unbraced<'a, 'b>(tokens: &'b [Token<'a>]) -> &'b [Token<'a>]
 }
 
 /// What stands between the commas that aren't within braces.
-fn parts_of(alloc: Global, tokens: &[Token<'_>]) -> Result<Sequence<Line>, AllocError>
-    ensures { IfOk result (λ lines. map tokens_in lines ≡ map unbraced (parts_within 0 (lexemes tokens.now))) }
+fn parts_of(alloc: Global, tokens: &[Token<'_>]) -> Result<ListVec<StoredLine>, AllocError>
+    ensures { IfOk result (λ lines. map tokens_in lines ≡ map without_braces (parts_within 0 (lexemes tokens.now))) }
 {
-    let mut lines = Sequence::new(alloc);
+    let mut lines = ListVec::new(alloc);
     let mut at = 0;
     'parts: loop {
         let (_, rest) = tokens.split_at(at);
         let len = part_len(rest);
-        let (part, behind) = rest.split_at(len);
-        let line = Line::copy_of(alloc, unbraced(part))?;
+        let (part, following) = rest.split_at(len);
+        let line = StoredLine::copy_of(alloc, unbraced(part))?;
         lines.push(line)?;
-        if behind.is_empty() {
+        if following.is_empty() {
             return Ok(lines);
         }
         at += len + 1;
@@ -149,11 +149,11 @@ fn parts_of(alloc: Global, tokens: &[Token<'_>]) -> Result<Sequence<Line>, Alloc
 }
 
 /// The arguments in the tokens behind a macro's name.
-pub fn arguments_of(alloc: Global, tokens: &[Token<'_>]) -> Result<Sequence<Line>, AllocError>
+pub fn arguments_of(alloc: Global, tokens: &[Token<'_>]) -> Result<ListVec<StoredLine>, AllocError>
     ensures { IfOk result (λ lines. map tokens_in lines ≡ arguments_of (lexemes tokens.now)) }
 {
     if tokens.is_empty() {
-        return Ok(Sequence::new(alloc));
+        return Ok(ListVec::new(alloc));
     }
     parts_of(alloc, tokens)
 }
@@ -167,8 +167,8 @@ pub struct Header {
 
 /// Names of which no two are alike.
 fn distinct(alloc: Global, names: &[&[u8]]) -> Result<IndexSet<Vec<u8>>, ExpandFault>
-    ensures set { Gives is_outside (λ s. map (λ k. k.items) s.keys) result
-        (understood (distinct_of (map (λ s. s.now) names.now))) }
+    ensures set { Refines is_system_error (λ s. map (λ k. k.items) s.keys) result
+        (ok_or_unknown (distinct_of (map (λ s. s.now) names.now))) }
     ensures inside { IfErr result (λ e. is_failure e ≡ false) }
 {
     let mut set = IndexSet::new(alloc);
@@ -183,8 +183,8 @@ fn distinct(alloc: Global, names: &[&[u8]]) -> Result<IndexSet<Vec<u8>>, ExpandF
 
 /// No parameters, or names with commas between them.
 fn params_of(alloc: Global, tokens: &[Token<'_>]) -> Result<IndexSet<Vec<u8>>, ExpandFault>
-    ensures params { Gives is_outside (λ s. map (λ k. k.items) s.keys) result
-        (understood (params_of (lexemes tokens.now))) }
+    ensures params { Refines is_system_error (λ s. map (λ k. k.items) s.keys) result
+        (ok_or_unknown (params_of (lexemes tokens.now))) }
     ensures inside { IfErr result (λ e. is_failure e ≡ false) }
 {
     if tokens.is_empty() {
@@ -198,34 +198,34 @@ fn params_of(alloc: Global, tokens: &[Token<'_>]) -> Result<IndexSet<Vec<u8>>, E
 
 /// A macro's name and its parameters.
 fn header_of(alloc: Global, tokens: &[Token<'_>]) -> Result<Header, ExpandFault>
-    ensures header { Gives is_outside (λ h. (h.name.items, map (λ k. k.items) h.params.keys)) result
-        (understood (header_of (lexemes tokens.now))) }
+    ensures header { Refines is_system_error (λ h. (h.name.items, map (λ k. k.items) h.params.keys)) result
+        (ok_or_unknown (header_of (lexemes tokens.now))) }
     ensures inside { IfErr result (λ e. is_failure e ≡ false) }
 {
-    let Some((first, behind)) = tokens.split_first() else {
+    let Some((first, following)) = tokens.split_first() else {
         return Err(ExpandFault::NotUnderstood);
     };
     let Some(name) = name_in(first) else {
         return Err(ExpandFault::NotUnderstood);
     };
-    let params = params_of(alloc, behind)?;
+    let params = params_of(alloc, following)?;
     let name = Vec::from_slice(alloc, name)?;
     Ok(Header { name, params })
 }
 
-impl Rewriter {
+impl Preprocessor {
     /// `.macro` and what stands behind it.
     pub fn begin_macro<S: Store>(
         &mut self,
         store: &mut S,
         tokens: &[Token<'_>],
-    ) -> Result<Turn, ExpandFault>
-        ensures turns { TurnsTo (S.files store.old) self.old self.new result (λ m s.
-            Leads m (macro_line s (lexemes tokens.now))) }
-        ensures keeps { Keeps (S.files store.old) self.old self.new result }
-        ensures leaves { LeavesStore S.files S.failures store.old store.new result }
+    ) -> Result<LineOutcome, ExpandFault>
+        ensures turns { HasLineOutcome (S.files store.old) self.old self.new result (λ m s.
+            StepReaches m (macro_line s (lexemes tokens.now))) }
+        ensures keeps { PreservesPositions (S.files store.old) self.old self.new result }
+        ensures frame { ReadFrame S.files S.failures store.old store.new result }
         ensures stopped { StopsBy (S.files store.old) self.old self.new result (λ m s.
-            Fails m (S.blamed store.new) (macro_line s (lexemes tokens.now))) }
+            StepFails m (S.last_failure store.new) (macro_line s (lexemes tokens.now))) }
     {
         let Header { name, params } = header_of(self.alloc, tokens)?;
         if self.has_macro(name.as_slice()) {
@@ -235,7 +235,7 @@ impl Rewriter {
         let lines = block.lines;
         let body = Rc::new(self.alloc, Body { params, lines })?;
         self.macros.insert(name, body)?;
-        Ok(Turn::Goes)
+        Ok(LineOutcome::Continue)
     }
 
     /// Whether a macro has a name.
@@ -275,10 +275,10 @@ impl Rewriter {
     }
 
     /// A call of a macro with what stands behind its name.
-    fn call(&mut self, body: Rc<Body>, tokens: &[Token<'_>]) -> Result<Turn, ExpandFault>
+    fn call(&mut self, body: Rc<Body>, tokens: &[Token<'_>]) -> Result<LineOutcome, ExpandFault>
         ensures turns { LeadsTo self.old self.new result (λ s.
-            called s (definition_of body.value) (arguments_of (lexemes tokens.now))) }
-        ensures keeps { (files : Option Files) → Keeps files self.old self.new result }
+            call_result s (definition_of body.value) (arguments_of (lexemes tokens.now))) }
+        ensures keeps { (files : Option Files) → PreservesPositions files self.old self.new result }
         ensures inside { IfErr result (λ e. is_failure e ≡ false) }
     {
         let arguments = arguments_of(self.alloc, tokens)?;
@@ -289,11 +289,15 @@ impl Rewriter {
     }
 
     /// The macro's lines with these arguments in them.
-    fn replay(&mut self, body: Rc<Body>, arguments: Sequence<Line>) -> Result<Turn, ExpandFault>
+    fn replay(
+        &mut self,
+        body: Rc<Body>,
+        arguments: ListVec<StoredLine>,
+    ) -> Result<LineOutcome, ExpandFault>
         requires { length arguments ≤ length body.value.params.keys }
         ensures turns { LeadsTo self.old self.new result (λ s.
-            called s (definition_of body.value) (map tokens_in arguments)) }
-        ensures keeps { (files : Option Files) → Keeps files self.old self.new result }
+            call_result s (definition_of body.value) (map tokens_in arguments)) }
+        ensures keeps { (files : Option Files) → PreservesPositions files self.old self.new result }
         ensures inside { IfErr result (λ e. is_failure e ≡ false) }
     {
         let Some(number) = self.expansions.checked_add(1) else {
@@ -312,29 +316,29 @@ impl Rewriter {
             number,
         };
         self.reader.enter(Input {
-            source: Source::Call(replay),
+            source: LineSource::Call(replay),
             conditions: self.conditions.len(),
             back: None,
         })?;
         self.expansions = number;
-        Ok(Turn::Goes)
+        Ok(LineOutcome::Continue)
     }
 
     /// A line without a directive of expansion: nothing, a call or a statement.
-    pub fn call_or_give(&mut self, line: Line) -> Result<Turn, ExpandFault>
+    pub fn call_or_give(&mut self, line: StoredLine) -> Result<LineOutcome, ExpandFault>
         ensures turns { LeadsTo self.old self.new result (λ s. ordinary s (tokens_in line)) }
-        ensures keeps { (files : Option Files) → Keeps files self.old self.new result }
+        ensures keeps { (files : Option Files) → PreservesPositions files self.old self.new result }
         ensures inside { IfErr result (λ e. is_failure e ≡ false) }
     {
         let Some(first) = line.first() else {
-            return Ok(Turn::Goes);
+            return Ok(LineOutcome::Continue);
         };
         match self.macro_at(&first)? {
             Some(body) => {
                 let tokens = line.tokens(self.alloc)?;
-                self.call(body, behind_first(tokens.as_slice()))
+                self.call(body, after_first(tokens.as_slice()))
             }
-            None => Ok(Turn::Gives(line)),
+            None => Ok(LineOutcome::Yield(line)),
         }
     }
 }

@@ -2,29 +2,29 @@
 
 ghost use Rattle.std.specs.Prelude.{Option, ◌≡◌, false, map, IfErr, ℕ, Ok, Result};
 ghost use Rattle.std.specs.List.{list_any};
-ghost use Rattle.base65.specs.Outcome.{Gives};
+ghost use Rattle.base65.specs.Outcome.{Refines};
 ghost use Rattle.syntax65.specs.Tokens.{lexemes};
-ghost use Rattle.syntax65.specs.Faults.{is_failure, is_outside};
-ghost use Rattle.expand65.specs.Fronts.{understood};
-ghost use Rattle.expand65.specs.Macros.{exit_macro, is_made, local_line, new_names, repeat_line, repeated, repeat_header, turns_of, variable_of};
+ghost use Rattle.syntax65.specs.Faults.{is_failure, is_system_error};
+ghost use Rattle.expand65.specs.Fronts.{ok_or_unknown};
+ghost use Rattle.expand65.specs.Macros.{exit_macro, is_made, local_line, new_names, repeat_line, iterations_step, repeat_header, iterations_of, variable_of};
 ghost use Rattle.base65.specs.Store.{Files};
-ghost use Rattle.expand65.specs.Standing.{Keeps, TurnsTo, LeadsTo, StopsBy};
+ghost use Rattle.expand65.specs.Representation.{PreservesPositions, HasLineOutcome, LeadsTo, StopsBy};
 ghost use Rattle.syntax65.specs.Expressions.{IsParsed};
-ghost use Rattle.base65.specs.Relations.{Answers};
+ghost use Rattle.base65.specs.Relations.{RefinesRel};
 ghost use Rattle.syntax65.specs.Trees.{Tree};
 ghost use Rattle.syntax65.specs.declared.expressions.words.ExprFault.{ExprFault};
-ghost use Rattle.expand65.specs.Failing.{Fails};
-ghost use Rattle.expand65.specs.Expansion.{Leads};
-ghost use Rattle.expand65.specs.Lines.{LeavesStore};
+ghost use Rattle.expand65.specs.Failing.{StepFails};
+ghost use Rattle.expand65.specs.Expansion.{StepReaches};
+ghost use Rattle.expand65.specs.Lines.{ReadFrame};
 
 use crate::blocks::BlockKind;
-use crate::input::Source;
+use crate::input::LineSource;
+use crate::input_stack::Input;
 use crate::knows::Knows;
+use crate::macro_replay::{Body, Replay};
 use crate::macros::{is_comma_at, name_at, names_of};
-use crate::playing::{Body, Replay};
-use crate::reader::Input;
-use crate::rewriter::{Rewriter, Turn};
-use base65::{Sequence, Store};
+use crate::preprocessor::{LineOutcome, Preprocessor};
+use base65::{ListVec, Store};
 use indexmap::{IndexMap, IndexSet};
 use std::alloc::Global;
 use std::rc::Rc;
@@ -51,8 +51,8 @@ fn is_one_made(names: &[&[u8]]) -> bool
 
 /// Names with commas between them, none of which was made.
 fn new_names<'a>(alloc: Global, tokens: &[Token<'a>]) -> Result<Vec<&'a [u8]>, ExpandFault>
-    ensures names { Gives is_outside (λ v. map (λ s. s.now) v.items) result
-        (understood (new_names (lexemes tokens.now))) }
+    ensures names { Refines is_system_error (λ v. map (λ s. s.now) v.items) result
+        (ok_or_unknown (new_names (lexemes tokens.now))) }
     ensures inside { IfErr result (λ e. is_failure e ≡ false) }
 {
     let Some(names) = names_of(alloc, tokens)? else {
@@ -64,11 +64,11 @@ fn new_names<'a>(alloc: Global, tokens: &[Token<'a>]) -> Result<Vec<&'a [u8]>, E
     Ok(names)
 }
 
-impl Rewriter {
+impl Preprocessor {
     /// `.local` and what stands behind it.
-    pub fn add_locals(&mut self, tokens: &[Token<'_>]) -> Result<Turn, ExpandFault>
+    pub fn add_locals(&mut self, tokens: &[Token<'_>]) -> Result<LineOutcome, ExpandFault>
         ensures turns { LeadsTo self.old self.new result (λ s. local_line s (lexemes tokens.now)) }
-        ensures keeps { (files : Option Files) → Keeps files self.old self.new result }
+        ensures keeps { (files : Option Files) → PreservesPositions files self.old self.new result }
         ensures inside { IfErr result (λ e. is_failure e ≡ false) }
     {
         if !self.reader.top.source.is_call() {
@@ -79,13 +79,13 @@ impl Rewriter {
             .top
             .source
             .add_locals(self.alloc, names.as_slice())?;
-        Ok(Turn::Goes)
+        Ok(LineOutcome::Continue)
     }
 
     /// LeavesStore the innermost expansion.
-    pub fn exit_macro(&mut self) -> Result<Turn, ExpandFault>
+    pub fn exit_macro(&mut self) -> Result<LineOutcome, ExpandFault>
         ensures turns { LeadsTo self.old self.new result exit_macro }
-        ensures keeps { (files : Option Files) → Keeps files self.old self.new result }
+        ensures keeps { (files : Option Files) → PreservesPositions files self.old self.new result }
         ensures inside { IfErr result (λ e. is_failure e ≡ false) }
     {
         let Some(end) = self.reader.leave_macro() else {
@@ -93,15 +93,15 @@ impl Rewriter {
         };
         self.conditions.truncate(end.conditions);
         if end.more {
-            Ok(Turn::Goes)
+            Ok(LineOutcome::Continue)
         } else {
-            Ok(Turn::Ends)
+            Ok(LineOutcome::EndOfInput)
         }
     }
 }
 
 /// How many turns a repeat has at most.
-const MAX_TURNS: i64 = 65_536;
+const MAX_ITERATIONS: i64 = 65_536;
 
 /// How many turns there are, and the variable, if there is one.
 #[derive(Drop)]
@@ -112,8 +112,8 @@ pub struct Header {
 
 /// Nothing, or a comma and a name.
 fn variable_of(alloc: Global, tokens: &[Token<'_>]) -> Result<IndexSet<Vec<u8>>, ExpandFault>
-    ensures variable { Gives is_outside (λ s. map (λ k. k.items) s.keys) result
-        (understood (variable_of (lexemes tokens.now))) }
+    ensures variable { Refines is_system_error (λ s. map (λ k. k.items) s.keys) result
+        (ok_or_unknown (variable_of (lexemes tokens.now))) }
     ensures inside { IfErr result (λ e. is_failure e ≡ false) }
 {
     if tokens.is_empty() {
@@ -132,53 +132,53 @@ fn variable_of(alloc: Global, tokens: &[Token<'_>]) -> Result<IndexSet<Vec<u8>>,
 
 /// The expression of a count, and the variable, if there is one.
 fn header_of(alloc: Global, tokens: &[Token<'_>]) -> Result<Header, ExpandFault>
-    ensures header { Answers is_outside (λ h. (h.count, map (λ k. k.items) h.variable.keys))
+    ensures header { RefinesRel is_system_error (λ h. (h.count, map (λ k. k.items) h.variable.keys))
         result (λ r. (q : Result (Tree × ℕ) ExprFault) × IsParsed (lexemes tokens.now) q ×
         (r ≡ repeat_header (lexemes tokens.now) q)) }
     ensures inside { IfErr result (λ e. is_failure e ≡ false) }
 {
     let (count, len) = read_expr(alloc, tokens)?;
-    let (_, behind) = tokens.split_at(len);
-    let variable = variable_of(alloc, behind)?;
+    let (_, following) = tokens.split_at(len);
+    let variable = variable_of(alloc, following)?;
     Ok(Header { count, variable })
 }
 
-fn turns_of(value: Option<i64>) -> Result<u32, ExpandFault>
-    ensures { result ≡ turns_of value }
+fn iterations_of(value: Option<i64>) -> Result<u32, ExpandFault>
+    ensures { result ≡ iterations_of value }
 {
     match value {
         None => Err(ExpandFault::NotConstant),
-        Some(count) if count < 0 || count > MAX_TURNS => Err(ExpandFault::CountOutOfRange),
+        Some(count) if count < 0 || count > MAX_ITERATIONS => Err(ExpandFault::CountOutOfRange),
         Some(count) => Ok(count as u32),
     }
 }
 
 /// How many turns the expression of a count says.
-fn turns_said<K: Knows>(alloc: Global, knows: &K, count: Expr) -> Result<u32, ExpandFault>
-    ensures said { Gives is_outside (λ n. n) result
-        (turns_of ((K.meaning knows.now).value count)) }
+fn iterations_given<K: Knows>(alloc: Global, knows: &K, count: Expr) -> Result<u32, ExpandFault>
+    ensures said { Refines is_system_error (λ n. n) result
+        (iterations_of ((K.meaning knows.now).value count)) }
     ensures inside { IfErr result (λ e. is_failure e ≡ false) }
 {
-    turns_of(knows.value(alloc, &count)?)
+    iterations_of(knows.value(alloc, &count)?)
 }
 
-impl Rewriter {
+impl Preprocessor {
     /// `.repeat` and what stands behind it.
     pub fn begin_repeat<S: Store, K: Knows>(
         &mut self,
         store: &mut S,
         knows: &K,
         tokens: &[Token<'_>],
-    ) -> Result<Turn, ExpandFault>
-        ensures turns { TurnsTo (S.files store.old) self.old self.new result (λ m s.
-            Leads m (repeat_line (K.meaning knows.now) s (lexemes tokens.now))) }
-        ensures keeps { Keeps (S.files store.old) self.old self.new result }
-        ensures leaves { LeavesStore S.files S.failures store.old store.new result }
+    ) -> Result<LineOutcome, ExpandFault>
+        ensures turns { HasLineOutcome (S.files store.old) self.old self.new result (λ m s.
+            StepReaches m (repeat_line (K.meaning knows.now) s (lexemes tokens.now))) }
+        ensures keeps { PreservesPositions (S.files store.old) self.old self.new result }
+        ensures frame { ReadFrame S.files S.failures store.old store.new result }
         ensures stopped { StopsBy (S.files store.old) self.old self.new result (λ m s.
-            Fails m (S.blamed store.new) (repeat_line (K.meaning knows.now) s (lexemes tokens.now))) }
+            StepFails m (S.last_failure store.new) (repeat_line (K.meaning knows.now) s (lexemes tokens.now))) }
     {
         let Header { count, variable } = header_of(self.alloc, tokens)?;
-        let count = turns_said(self.alloc, knows, count)?;
+        let count = iterations_given(self.alloc, knows, count)?;
         self.repeat(store, count, variable)
     }
 
@@ -188,13 +188,13 @@ impl Rewriter {
         store: &mut S,
         count: u32,
         variable: IndexSet<Vec<u8>>,
-    ) -> Result<Turn, ExpandFault>
-        ensures turns { TurnsTo (S.files store.old) self.old self.new result (λ m s.
-            Leads m (repeated s count (map (λ k. k.items) variable.keys))) }
-        ensures keeps { Keeps (S.files store.old) self.old self.new result }
-        ensures leaves { LeavesStore S.files S.failures store.old store.new result }
+    ) -> Result<LineOutcome, ExpandFault>
+        ensures turns { HasLineOutcome (S.files store.old) self.old self.new result (λ m s.
+            StepReaches m (iterations_step s count (map (λ k. k.items) variable.keys))) }
+        ensures keeps { PreservesPositions (S.files store.old) self.old self.new result }
+        ensures frame { ReadFrame S.files S.failures store.old store.new result }
         ensures stopped { StopsBy (S.files store.old) self.old self.new result (λ m s.
-            Fails m (S.blamed store.new) (repeated s count (map (λ k. k.items) variable.keys))) }
+            StepFails m (S.last_failure store.new) (iterations_step s count (map (λ k. k.items) variable.keys))) }
     {
         let block = self.reader.block(self.alloc, store, BlockKind::Repeat)?;
         let lines = block.lines;
@@ -204,7 +204,7 @@ impl Rewriter {
             lines,
         };
         let body = Rc::new(self.alloc, body)?;
-        let arguments = Sequence::new(self.alloc);
+        let arguments = ListVec::new(self.alloc);
         let locals = IndexMap::with_hasher(self.alloc, *self.macros.hasher());
         let replay = Replay {
             body,
@@ -215,10 +215,10 @@ impl Rewriter {
             number: 0,
         };
         self.reader.enter(Input {
-            source: Source::Repeat(replay, 0, count),
+            source: LineSource::Repeat(replay, 0, count),
             conditions: self.conditions.len(),
             back: None,
         })?;
-        Ok(Turn::Goes)
+        Ok(LineOutcome::Continue)
     }
 }

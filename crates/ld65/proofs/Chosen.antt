@@ -4,7 +4,7 @@ use Rattle.std.proofs.Common.{◌≡◌, ◌∙◌, ◌<◌, ◌≤◌, ◌+◌,
 use Rattle.std.specs.Prelude.{IfSome}
 use Rattle.std.specs.Option.{option_map_or}
 use Rattle.script65.proofs.Eaches.{drop_item}
-use Rattle.base65.specs.Outcome.{◌>>=◌, Refuses, Unless}
+use Rattle.base65.specs.Outcome.{◌>>=◌, RefinesErr, Unless}
 use Rattle.base65.specs.Store.{Files}
 use Rattle.base65.proofs.Outcome.{refused-then}
 use Rattle.library65.specs.declared.fault.LibraryFault.{LibraryFault}
@@ -12,18 +12,18 @@ use Rattle.library65.specs.declared.index.Entry.{Entry}
 use Rattle.script65.specs.declared.script.Script.{Script}
 use Rattle.link65.specs.declared.fault.LinkFault.{LinkFault}
 use Rattle.link65.specs.Programs.{Module}
-use Rattle.link65.specs.Standing.{Feeding, IsFed, module_of}
-use Rattle.ld65.specs.declared.refusal.Refusal.{Refusal}
-use Rattle.ld65.specs.declared.refusal.Refusal.TheVariants as refusal
-use Rattle.ld65.specs.Inner.Feeding.{AreChosen, FeedsLibrary, FeedsMembers, FeedsObject, Leads, LeadsBy}
-use Rattle.ld65.specs.Linkage.{Input, IsLibraryInput, as_library, chosen, chosen_at, index_in, member_input, member_module, with_member, with_members}
-use Rattle.ld65.specs.Refusals.{is_outside, refusal_in}
-use Rattle.ld65.proofs.Fed.{fed_behind, in_outside, refused_behind}
+use Rattle.link65.specs.Representation.{LinkerView, IsFed, module_of}
+use Rattle.ld65.specs.declared.fault.LinkCommandFault.{LinkCommandFault}
+use Rattle.ld65.specs.declared.fault.LinkCommandFault.TheVariants as refusal
+use Rattle.ld65.specs.Internal.Feeding.{AreChosen, FeedsLibrary, FeedsMembers, FeedsObject, FeedRefinesThen, LeadsBy}
+use Rattle.ld65.specs.Linkage.{Input, IsLibraryInput, as_library, selected_entries, chosen_at, index_in, member_input, member_module, with_member, with_members}
+use Rattle.ld65.specs.Faults.{is_system_error, refusal_in}
+use Rattle.ld65.proofs.Fed.{fed_after, in_outside, refused_after}
 
 -- ---- One member.
 
-module _ (known : Option Files) (library : List ℕ) (e : Entry) (old new : Feeding) where
-  abbrev with_one : Script → List Module → Files → Result (List Module) Refusal
+module _ (known : Option Files) (library : List ℕ) (e : Entry) (old new : LinkerView) where
+  abbrev with_one : Script → List Module → Files → Result (List Module) LinkCommandFault
   with_one s before m = with_member s m library before e >>= (λ ms. Ok ms)
 
   -- the member as it was fed, by a name that is its module's
@@ -35,7 +35,7 @@ module _ (known : Option Files) (library : List ℕ) (e : Entry) (old new : Feed
       let q = subst (λ n. FeedsObject known (fed_as n) old new (Ok tt)) same fed before stands in
       let name = member_module library e.name in
       let ms = before ++ module_of name q.0 ∷ [] in
-      (ms, go known ms (fed_behind known old.script before (member_input library e) (refusal_in name) q.0 q.1), q.2)
+      (ms, go known ms (fed_after known old.script before (member_input library e) (refusal_in name) q.0 q.1), q.2)
     where
       go : (f : Option Files) (ms : List Module) → IfSome f (λ m. with_member old.script m library before e ≡ Ok ms) → IfSome f (λ m. with_one old.script before m ≡ Ok ms)
       go None ms h = tt
@@ -49,24 +49,24 @@ module _ (known : Option Files) (library : List ℕ) (e : Entry) (old new : Feed
       by_module : FeedsObject known (member_input library e) old new (Err f) → FeedsMembers known library (e ∷ []) old new (Err (refusal_in (member_module library e.name) f))
       by_module fed before stands =
           let name = member_module library e.name in
-          go known (refusal_in name f) (refused_behind known old.script before (member_input library e) (refusal_in name) f (in_outside name f) (fed before stands))
+          go known (refusal_in name f) (refused_after known old.script before (member_input library e) (refusal_in name) f (in_outside name f) (fed before stands))
         where
-          go : (k : Option Files) (x : Refusal) → IfSome k (λ m. Refuses is_outside x (with_member old.script m library before e)) → IfSome k (λ m. Refuses is_outside x (with_one old.script before m))
+          go : (k : Option Files) (x : LinkCommandFault) → IfSome k (λ m. RefinesErr is_system_error x (with_member old.script m library before e)) → IfSome k (λ m. RefinesErr is_system_error x (with_one old.script before m))
           go None x h = tt
-          go (Some m) x h = refused-then is_outside x (with_member old.script m library before e) (λ ms. Ok ms) h
+          go (Some m) x h = refused-then is_system_error x (with_member old.script m library before e) (λ ms. Ok ms) h
 
   -- memory ran out
   pub member_unnamed : FeedsMembers known library (e ∷ []) old new (Err refusal.OutOfMemory)
   member_unnamed before stands = go known
     where
-      go : (k : Option Files) → IfSome k (λ m. Refuses is_outside refusal.OutOfMemory (with_one old.script before m))
+      go : (k : Option Files) → IfSome k (λ m. RefinesErr is_system_error refusal.OutOfMemory (with_one old.script before m))
       go None = tt
       go (Some m) = tt
 
 -- ---- The loop, for all modules that the linker stands for.
 
 -- what is left of the members comes to the same as all of them, behind what the linker stands for
-abbrev pub IsAfter : Option Files → List ℕ → List Entry → List Entry → Feeding → Feeding → Type 0
+abbrev pub IsAfter : Option Files → List ℕ → List Entry → List Entry → LinkerView → LinkerView → Type 0
 IsAfter known library all left old now =
     (before : List Module) → IsFed old before
     → (modules : List Module) × IsFed now modules
@@ -78,11 +78,11 @@ module _ (known : Option Files) (library : List ℕ) (all : List Entry) where
   in_turn s m before [] left = refl
   in_turn s m before (e ∷ es) left = go (with_member s m library before e) (λ ms. in_turn s m ms es left)
     where
-      go : (r : Result (List Module) Refusal) → ((ms : List Module) → with_members s m library ms (es ++ left) ≡ (with_members s m library ms es >>= (λ ms. with_members s m library ms left))) → (r >>= (λ ms. with_members s m library ms (es ++ left))) ≡ ((r >>= (λ ms. with_members s m library ms es)) >>= (λ ms. with_members s m library ms left))
+      go : (r : Result (List Module) LinkCommandFault) → ((ms : List Module) → with_members s m library ms (es ++ left) ≡ (with_members s m library ms es >>= (λ ms. with_members s m library ms left))) → (r >>= (λ ms. with_members s m library ms (es ++ left))) ≡ ((r >>= (λ ms. with_members s m library ms es)) >>= (λ ms. with_members s m library ms left))
       go (Ok ms) next = next ms
       go (Err x) next = refl
 
-  pub after_more : (some left : List Entry) (now : Option Files) (old mid new : Feeding) → now ≡ known → mid.script ≡ old.script → IsAfter known library all (some ++ left) old mid → FeedsMembers now library some mid new (Ok tt) → IsAfter known library all left old new
+  pub after_more : (some left : List Entry) (now : Option Files) (old mid new : LinkerView) → now ≡ known → mid.script ≡ old.script → IsAfter known library all (some ++ left) old mid → FeedsMembers now library some mid new (Ok tt) → IsAfter known library all left old new
   after_more some left now old mid new same script is fed before stands =
       let p = is before stands in
       let q = fed p.0 p.1 in
@@ -94,21 +94,21 @@ module _ (known : Option Files) (library : List ℕ) (all : List Entry) where
           h ∙ in_turn old.script m modules some left
           ∙ ap (λ r. r >>= (λ ms. with_members old.script m library ms left)) (subst (λ (s : Script). with_members s m library modules some ≡ Ok more) script added)
 
-  pub after_refused : (some left : List Entry) (now : Option Files) (old mid new : Feeding) (x : Refusal) → now ≡ known → mid.script ≡ old.script → IsAfter known library all (some ++ left) old mid → FeedsMembers now library some mid new (Err x) → FeedsMembers known library all old new (Err x)
+  pub after_refused : (some left : List Entry) (now : Option Files) (old mid new : LinkerView) (x : LinkCommandFault) → now ≡ known → mid.script ≡ old.script → IsAfter known library all (some ++ left) old mid → FeedsMembers now library some mid new (Err x) → FeedsMembers known library all old new (Err x)
   after_refused some left now old mid new x same script is fed before stands =
       let p = is before stands in
       go p.0 known p.2 (rw same at fed p.0 p.1)
     where
-      unless : (b : Bool) (r : Result (List Module) Refusal) (f : List Module → Result (List Module) Refusal) (whole : Result (List Module) Refusal) → whole ≡ (r >>= f) → Unless b (r ≡ Err x) → Unless b (whole ≡ Err x)
+      unless : (b : Bool) (r : Result (List Module) LinkCommandFault) (f : List Module → Result (List Module) LinkCommandFault) (whole : Result (List Module) LinkCommandFault) → whole ≡ (r >>= f) → Unless b (r ≡ Err x) → Unless b (whole ≡ Err x)
       unless true r f whole h refused = tt
       unless false r f whole h refused = h ∙ ap (λ q. q >>= f) refused
 
-      go : (modules : List Module) (f : Option Files) → IfSome f (λ m. with_members old.script m library before all ≡ with_members old.script m library modules (some ++ left)) → IfSome f (λ m. Refuses is_outside x (with_members mid.script m library modules some)) → IfSome f (λ m. Refuses is_outside x (with_members old.script m library before all))
+      go : (modules : List Module) (f : Option Files) → IfSome f (λ m. with_members old.script m library before all ≡ with_members old.script m library modules (some ++ left)) → IfSome f (λ m. RefinesErr is_system_error x (with_members mid.script m library modules some)) → IfSome f (λ m. RefinesErr is_system_error x (with_members old.script m library before all))
       go modules None h refused = tt
       go modules (Some m) h refused =
-          unless (is_outside x) (with_members old.script m library modules some) (λ ms. with_members old.script m library ms left) _
+          unless (is_system_error x) (with_members old.script m library modules some) (λ ms. with_members old.script m library ms left) _
           (h ∙ in_turn old.script m modules some left)
-          (subst (λ (s : Script). Refuses is_outside x (with_members s m library modules some)) script refused)
+          (subst (λ (s : Script). RefinesErr is_system_error x (with_members s m library modules some)) script refused)
 
 -- ---- Places of an index.
 
@@ -118,35 +118,35 @@ any_default (x ∷ xs) zero d e h = refl
 any_default (x ∷ xs) (suc k) d e h = any_default xs k d e (omega (arith, h))
 
 -- what is left of the places begins with the one at its turn
-place_at : (known : Option Files) (library : List ℕ) (es : List Entry) (places : List ℕ) (k d : ℕ) (old mid : Feeding) → k < length places → IsAfter known library (chosen es places) (chosen es (drop k places)) old mid → IsAfter known library (chosen es places) (chosen_at es (get_or places k d) ++ chosen es (drop (k + 1) places)) old mid
+place_at : (known : Option Files) (library : List ℕ) (es : List Entry) (places : List ℕ) (k d : ℕ) (old mid : LinkerView) → k < length places → IsAfter known library (selected_entries es places) (selected_entries es (drop k places)) old mid → IsAfter known library (selected_entries es places) (chosen_at es (get_or places k d) ++ selected_entries es (drop (k + 1) places)) old mid
 place_at known library es places k d old mid lt is =
     let place = get_or places k d in
-    subst (λ (left : List Entry). IsAfter known library (chosen es places) left old mid) (ap (chosen es) (drop_item places k place lt (any_default places k d place lt))) is
+    subst (λ (left : List Entry). IsAfter known library (selected_entries es places) left old mid) (ap (selected_entries es) (drop_item places k place lt (any_default places k d place lt))) is
 
-module _ (known now : Option Files) (library : List ℕ) (es : List Entry) (places : List ℕ) (k d : ℕ) (old mid new : Feeding) (lt : k < length places) (same : now ≡ known) (script : mid.script ≡ old.script) (is : IsAfter known library (chosen es places) (chosen es (drop k places)) old mid) where
-  pub turn_refused : (x : Refusal) → FeedsMembers now library (chosen_at es (get_or places k d)) mid new (Err x) → FeedsMembers known library (chosen es places) old new (Err x)
-  turn_refused x fed = after_refused known library (chosen es places) (chosen_at es (get_or places k d)) (chosen es (drop (k + 1) places)) now old mid new x same script (place_at known library es places k d old mid lt is) fed
+module _ (known now : Option Files) (library : List ℕ) (es : List Entry) (places : List ℕ) (k d : ℕ) (old mid new : LinkerView) (lt : k < length places) (same : now ≡ known) (script : mid.script ≡ old.script) (is : IsAfter known library (selected_entries es places) (selected_entries es (drop k places)) old mid) where
+  pub turn_refused : (x : LinkCommandFault) → FeedsMembers now library (chosen_at es (get_or places k d)) mid new (Err x) → FeedsMembers known library (selected_entries es places) old new (Err x)
+  turn_refused x fed = after_refused known library (selected_entries es places) (chosen_at es (get_or places k d)) (selected_entries es (drop (k + 1) places)) now old mid new x same script (place_at known library es places k d old mid lt is) fed
 
-  pub turn_fed : FeedsMembers now library (chosen_at es (get_or places k d)) mid new (Ok tt) → IsAfter known library (chosen es places) (chosen es (drop (k + 1) places)) old new
-  turn_fed fed = after_more known library (chosen es places) (chosen_at es (get_or places k d)) (chosen es (drop (k + 1) places)) now old mid new same script (place_at known library es places k d old mid lt is) fed
+  pub turn_fed : FeedsMembers now library (chosen_at es (get_or places k d)) mid new (Ok tt) → IsAfter known library (selected_entries es places) (selected_entries es (drop (k + 1) places)) old new
+  turn_fed fed = after_more known library (selected_entries es places) (chosen_at es (get_or places k d)) (selected_entries es (drop (k + 1) places)) now old mid new same script (place_at known library es places k d old mid lt is) fed
 
-pub entry_there : (known : Option Files) (library : List ℕ) (es : List Entry) (place : ℕ) (e : Entry) (old new : Feeding) (r : Result (Unit {0}) Refusal) → Some e ≡ slice_get es place → FeedsMembers known library (e ∷ []) old new r → FeedsMembers known library (chosen_at es place) old new r
+pub entry_there : (known : Option Files) (library : List ℕ) (es : List Entry) (place : ℕ) (e : Entry) (old new : LinkerView) (r : Result (Unit {0}) LinkCommandFault) → Some e ≡ slice_get es place → FeedsMembers known library (e ∷ []) old new r → FeedsMembers known library (chosen_at es place) old new r
 entry_there known library es place e old new r there fed =
     subst (λ (o : Option Entry). FeedsMembers known library (option_map_or (λ e. e ∷ []) o []) old new r) there fed
 
-pub none_there : (known : Option Files) (library : List ℕ) (es : List Entry) (place : ℕ) (old : Feeding) → None ≡ slice_get es place → FeedsMembers known library (chosen_at es place) old old (Ok tt)
+pub none_there : (known : Option Files) (library : List ℕ) (es : List Entry) (place : ℕ) (old : LinkerView) → None ≡ slice_get es place → FeedsMembers known library (chosen_at es place) old old (Ok tt)
 none_there known library es place old there =
     subst (λ (o : Option Entry). FeedsMembers known library (option_map_or (λ e. e ∷ []) o []) old old (Ok tt)) there nothing
   where
     nothing : FeedsMembers known library [] old old (Ok tt)
     nothing before stands = (before, go known, stands)
       where
-        go : (f : Option Files) → IfSome f (λ m. ◌≡◌ {A = Result (List Module) Refusal} (Ok before) (Ok before))
+        go : (f : Option Files) → IfSome f (λ m. ◌≡◌ {A = Result (List Module) LinkCommandFault} (Ok before) (Ok before))
         go None = tt
         go (Some m) = refl
 
 -- before the first of the members
-pub after_none : (known : Option Files) (library : List ℕ) (all : List Entry) (old : Feeding) → IsAfter known library all all old old
+pub after_none : (known : Option Files) (library : List ℕ) (all : List Entry) (old : LinkerView) → IsAfter known library all all old old
 after_none known library all old before stands = (before, stands, go known)
   where
     go : (f : Option Files) → IfSome f (λ m. with_members old.script m library before all ≡ with_members old.script m library before all)
@@ -154,10 +154,10 @@ after_none known library all old before stands = (before, stands, go known)
     go (Some m) = refl
 
 -- behind the last
-pub after_all : (known : Option Files) (library : List ℕ) (es : List Entry) (places : List ℕ) (k : ℕ) (old new : Feeding) → length places ≤ k → IsAfter known library (chosen es places) (chosen es (drop k places)) old new → FeedsMembers known library (chosen es places) old new (Ok tt)
+pub after_all : (known : Option Files) (library : List ℕ) (es : List Entry) (places : List ℕ) (k : ℕ) (old new : LinkerView) → length places ≤ k → IsAfter known library (selected_entries es places) (selected_entries es (drop k places)) old new → FeedsMembers known library (selected_entries es places) old new (Ok tt)
 after_all known library es places k old new le is before stands =
     let p = is before stands in
-    (p.0, subst (λ (ps : List ℕ). IfSome known (λ m. with_members old.script m library before (chosen es places) ≡ with_members old.script m library p.0 (chosen es ps))) (drop_past places k le) p.2, p.1)
+    (p.0, subst (λ (ps : List ℕ). IfSome known (λ m. with_members old.script m library before (selected_entries es places) ≡ with_members old.script m library p.0 (selected_entries es ps))) (drop_past places k le) p.2, p.1)
   where
     drop_past : (ps : List ℕ) (k : ℕ) → length ps ≤ k → drop k ps ≡ []
     drop_past ps k le = grind (arith, common_steps)
@@ -174,27 +174,27 @@ indexed (Some m) k library es h = go (index_in m library) h
     go (Err f) h = absurd cc
 
 -- the members were fed, an index and places of it as they are borrowed
-pub library_fed : (known : Option Files) (k : ℕ) (library : List ℕ) (es entries : List Entry) (places ps : List ℕ) (old new : Feeding) (r : Result (Unit {0}) Refusal) → entries ≡ es → ps ≡ places → IfSome known (λ m. as_library k (index_in m library) ≡ Ok es) → AreChosen es places old → FeedsMembers known library (chosen entries ps) old new r → FeedsLibrary known k library old new r
+pub library_fed : (known : Option Files) (k : ℕ) (library : List ℕ) (es entries : List Entry) (places ps : List ℕ) (old new : LinkerView) (r : Result (Unit {0}) LinkCommandFault) → entries ≡ es → ps ≡ places → IfSome known (λ m. as_library k (index_in m library) ≡ Ok es) → AreChosen es places old → FeedsMembers known library (selected_entries entries ps) old new r → FeedsLibrary known k library old new r
 library_fed known k library es entries places ps old new r same_es same_places read chosen_so fed before stands = by r (rw (same_es, same_places) at fed before stands)
   where
     index : IfSome known (λ m. index_in m library ≡ Ok es)
     index = indexed known k library es read
 
-    all_in : Files → Result (List Module) Refusal
-    all_in m = with_members old.script m library before (chosen es places)
+    all_in : Files → Result (List Module) LinkCommandFault
+    all_in m = with_members old.script m library before (selected_entries es places)
 
-    as_input : (m : Files) (q : Result (List Module) Refusal) → index_in m library ≡ Ok es → all_in m ≡ q → IsLibraryInput old.script m k before library q
+    as_input : (m : Files) (q : Result (List Module) LinkCommandFault) → index_in m library ≡ Ok es → all_in m ≡ q → IsLibraryInput old.script m k before library q
     as_input m q index h = rw index (places, chosen_so before stands, sym h)
 
-    told : (f : Option Files) (q : Result (List Module) Refusal) → IfSome f (λ m. index_in m library ≡ Ok es) → IfSome f (λ m. all_in m ≡ q) → IfSome f (λ m. IsLibraryInput old.script m k before library q)
+    told : (f : Option Files) (q : Result (List Module) LinkCommandFault) → IfSome f (λ m. index_in m library ≡ Ok es) → IfSome f (λ m. all_in m ≡ q) → IfSome f (λ m. IsLibraryInput old.script m k before library q)
     told None q index h = tt
     told (Some m) q index h = as_input m q index h
 
-    refused : (f : Option Files) (b : Bool) (q : Result (List Module) Refusal) → IfSome f (λ m. index_in m library ≡ Ok es) → IfSome f (λ m. Unless b (all_in m ≡ q)) → IfSome f (λ m. Unless b (IsLibraryInput old.script m k before library q))
+    refused : (f : Option Files) (b : Bool) (q : Result (List Module) LinkCommandFault) → IfSome f (λ m. index_in m library ≡ Ok es) → IfSome f (λ m. Unless b (all_in m ≡ q)) → IfSome f (λ m. Unless b (IsLibraryInput old.script m k before library q))
     refused None b q index h = tt
     refused (Some m) true q index h = tt
     refused (Some m) false q index h = as_input m q index h
 
-    by : (r : Result (Unit {0}) Refusal) → Leads is_outside (λ u modules. IsFed new modules) known all_in r → LeadsBy is_outside (λ u modules. IsFed new modules) known (λ m. IsLibraryInput old.script m k before library) r
+    by : (r : Result (Unit {0}) LinkCommandFault) → FeedRefinesThen is_system_error (λ u modules. IsFed new modules) known all_in r → LeadsBy is_system_error (λ u modules. IsFed new modules) known (λ m. IsLibraryInput old.script m k before library) r
     by (Ok u) h = (h.0, told known (Ok h.0) index h.1, h.2)
-    by (Err e) h = refused known (is_outside e) (Err e) index h
+    by (Err e) h = refused known (is_system_error e) (Err e) index h

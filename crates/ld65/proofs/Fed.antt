@@ -1,7 +1,7 @@
 -- Records that are read and fed one after another, a module behind others.
 use Rattle.std.proofs.Common.{◌≡◌, ◌∙◌, ◌<◌, ℕ, List, [], ◌∷◌, ◌++◌, Bool, true, false, Option, Some, None, Result, Ok, Err, refl, ap, arith, ◌==◌, sym}
 use Rattle.std.specs.Prelude.{IfSome}
-use Rattle.base65.specs.Outcome.{Refuses, Unless}
+use Rattle.base65.specs.Outcome.{RefinesErr, Unless}
 use Rattle.base65.specs.Store.{Files}
 use Rattle.object65.specs.declared.fault.ObjectFault.{ObjectFault}
 use Rattle.object65.specs.declared.fault.ObjectFault.TheVariants as object
@@ -10,14 +10,14 @@ use Rattle.script65.specs.declared.script.Script.{Script}
 use Rattle.link65.specs.declared.fault.LinkFault.{LinkFault}
 use Rattle.link65.specs.declared.fault.LinkFault.TheVariants as link
 use Rattle.link65.specs.Programs.{Module}
-use Rattle.link65.specs.Standing.{Feeding, module_of, Continues, IsFeeding, as_link}
-use Rattle.ld65.specs.declared.refusal.Refusal.{Refusal}
-use Rattle.ld65.specs.Inner.Feeding.{is_link_outside, FeedsRecords, records_in}
-use Rattle.ld65.specs.Linkage.{Input, added_in, behind}
-use Rattle.ld65.specs.Refusals.{is_outside, refusal_at, refusal_in}
+use Rattle.link65.specs.Representation.{LinkerView, module_of, AddsRecord, IsFeeding, as_link}
+use Rattle.ld65.specs.declared.fault.LinkCommandFault.{LinkCommandFault}
+use Rattle.ld65.specs.Internal.Feeding.{is_fed_system_error, FeedsRecords, records_in}
+use Rattle.ld65.specs.Linkage.{Input, added_in, modules_after}
+use Rattle.ld65.specs.Faults.{is_system_error, refusal_at, refusal_in}
 use Rattle.std.specs.FinMap.{get}
 use Rattle.std.proofs.lemmas.Bool.Decides.{nat_tests}
-use Rattle.object65.specs.Record.{is_outside as is_object_outside, is_memory as is_object_memory, Entry}
+use Rattle.object65.specs.Record.{is_system_error as is_object_system_error, is_memory as is_object_memory, RawRecord}
 use Rattle.object65.specs.Reading.{in_file, record_at}
 use Rattle.object65.specs.Scanning.{State, after, start}
 use Rattle.object65.proofs.Records.{GoesIn, all_in, reading_stops, taking_stops, ends_in, goes_on_in, begins_in}
@@ -27,22 +27,22 @@ use Rattle.library65.specs.declared.index.Entry.{Entry as Listing}
 
 -- ---- What comes from outside stays so in the command's words.
 
-object_outside : (f : ObjectFault) (k : ℕ) → is_outside (refusal_at k (link.Malformed f)) ≡ is_link_outside (link.Malformed f)
+object_outside : (f : ObjectFault) (k : ℕ) → is_system_error (refusal_at k (link.Malformed f)) ≡ is_fed_system_error (link.Malformed f)
 object_outside object.OutOfMemory k = refl
 object_outside object.FileError k = refl
 object_outside f k = cc
 
-pub at_outside : (k : ℕ) (e : LinkFault) → is_outside (refusal_at k e) ≡ is_link_outside e
+pub at_outside : (k : ℕ) (e : LinkFault) → is_system_error (refusal_at k e) ≡ is_fed_system_error e
 at_outside k (link.Malformed f) = object_outside f k
 at_outside k link.OutOfMemory = refl
 at_outside k e = cc
 
-member_outside : (f : ObjectFault) (name : List ℕ) → is_outside (refusal_in name (link.Malformed f)) ≡ is_link_outside (link.Malformed f)
+member_outside : (f : ObjectFault) (name : List ℕ) → is_system_error (refusal_in name (link.Malformed f)) ≡ is_fed_system_error (link.Malformed f)
 member_outside object.OutOfMemory name = refl
 member_outside object.FileError name = refl
 member_outside f name = cc
 
-pub in_outside : (name : List ℕ) (e : LinkFault) → is_outside (refusal_in name e) ≡ is_link_outside e
+pub in_outside : (name : List ℕ) (e : LinkFault) → is_system_error (refusal_in name e) ≡ is_fed_system_error e
 in_outside name (link.Malformed f) = member_outside f name
 in_outside name link.OutOfMemory = refl
 in_outside name link.IndexDisagrees = refl
@@ -50,17 +50,17 @@ in_outside name e = cc
 
 -- ---- The module of an object behind others.
 
-pub fed_behind : (known : Option Files) (s : Script) (before : List Module) (i : Input) (named : LinkFault → Refusal) (o : Object) → IfSome known (λ m. added_in s before m i ≡ Ok o) → IfSome known (λ m. behind named before i.name (added_in s before m i) ≡ Ok (before ++ module_of i.name o ∷ []))
-fed_behind None s before i named o h = tt
-fed_behind (Some m) s before i named o h = ap (behind named before i.name) h
+pub fed_after : (known : Option Files) (s : Script) (before : List Module) (i : Input) (named : LinkFault → LinkCommandFault) (o : Object) → IfSome known (λ m. added_in s before m i ≡ Ok o) → IfSome known (λ m. modules_after named before i.name (added_in s before m i) ≡ Ok (before ++ module_of i.name o ∷ []))
+fed_after None s before i named o h = tt
+fed_after (Some m) s before i named o h = ap (modules_after named before i.name) h
 
-pub refused_behind : (known : Option Files) (s : Script) (before : List Module) (i : Input) (named : LinkFault → Refusal) (e : LinkFault) → is_outside (named e) ≡ is_link_outside e → IfSome known (λ m. Refuses is_link_outside e (added_in s before m i)) → IfSome known (λ m. Refuses is_outside (named e) (behind named before i.name (added_in s before m i)))
-refused_behind None s before i named e same h = tt
-refused_behind (Some m) s before i named e same h = rw same (go (is_link_outside e) h)
+pub refused_after : (known : Option Files) (s : Script) (before : List Module) (i : Input) (named : LinkFault → LinkCommandFault) (e : LinkFault) → is_system_error (named e) ≡ is_fed_system_error e → IfSome known (λ m. RefinesErr is_fed_system_error e (added_in s before m i)) → IfSome known (λ m. RefinesErr is_system_error (named e) (modules_after named before i.name (added_in s before m i)))
+refused_after None s before i named e same h = tt
+refused_after (Some m) s before i named e same h = rw same (go (is_fed_system_error e) h)
   where
-    go : (b : Bool) → Unless b (added_in s before m i ≡ Err e) → Unless b (behind named before i.name (added_in s before m i) ≡ Err (named e))
+    go : (b : Bool) → Unless b (added_in s before m i ≡ Err e) → Unless b (modules_after named before i.name (added_in s before m i) ≡ Err (named e))
     go true h = tt
-    go false h = ap (behind named before i.name) h
+    go false h = ap (modules_after named before i.name) h
 
 -- ---- Faults.
 
@@ -69,41 +69,41 @@ unless true h p = tt
 unless false h p = h p
 
 -- a fault of an object that isn't want of memory is one of the link
-pub of_malformed : {A : Type 0} (f : ObjectFault) (r : Result A ObjectFault) → Refuses is_object_outside f r → Refuses is_link_outside (link.Malformed f) (as_link r)
-of_malformed f r h = unless (is_object_outside f) (λ e. ap as_link e) h
+pub of_malformed : {A : Type 0} (f : ObjectFault) (r : Result A ObjectFault) → RefinesErr is_object_system_error f r → RefinesErr is_fed_system_error (link.Malformed f) (as_link r)
+of_malformed f r h = unless (is_object_system_error f) (λ e. ap as_link e) h
 
-of_malformed_in : {A : Type 0} (known : Option Files) (f : ObjectFault) (r : Files → Result A ObjectFault) → IfSome known (λ m. Refuses is_object_outside f (r m)) → IfSome known (λ m. Refuses is_link_outside (link.Malformed f) (as_link (r m)))
+of_malformed_in : {A : Type 0} (known : Option Files) (f : ObjectFault) (r : Files → Result A ObjectFault) → IfSome known (λ m. RefinesErr is_object_system_error f (r m)) → IfSome known (λ m. RefinesErr is_fed_system_error (link.Malformed f) (as_link (r m)))
 of_malformed_in None f r h = tt
 of_malformed_in (Some m) f r h = of_malformed f (r m) h
 
 -- a refusal of an object is one of the link
-pub of_object : {A : Type 0} (f : ObjectFault) (r : Result A ObjectFault) → Refuses is_object_outside f r → Refuses is_link_outside (as_fault f) (as_link r)
+pub of_object : {A : Type 0} (f : ObjectFault) (r : Result A ObjectFault) → RefinesErr is_object_system_error f r → RefinesErr is_fed_system_error (as_fault f) (as_link r)
 of_object f r h = go (is_object_memory f) refl
   where
-    go : (b : Bool) → is_object_memory f ≡ b → Refuses is_link_outside (as_fault f) (as_link r)
+    go : (b : Bool) → is_object_memory f ≡ b → RefinesErr is_fed_system_error (as_fault f) (as_link r)
     go true is = rw is tt
     go false is = rw is (of_malformed f r h)
 
-pub of_object_in : {A : Type 0} (known : Option Files) (f : ObjectFault) (r : Files → Result A ObjectFault) → IfSome known (λ m. Refuses is_object_outside f (r m)) → IfSome known (λ m. Refuses is_link_outside (as_fault f) (as_link (r m)))
+pub of_object_in : {A : Type 0} (known : Option Files) (f : ObjectFault) (r : Files → Result A ObjectFault) → IfSome known (λ m. RefinesErr is_object_system_error f (r m)) → IfSome known (λ m. RefinesErr is_fed_system_error (as_fault f) (as_link (r m)))
 of_object_in None f r h = tt
 of_object_in (Some m) f r h = of_object f (r m) h
 
-memory_is_outside : (f : LinkFault) → is_memory f ≡ true → is_link_outside f ≡ true
+memory_is_outside : (f : LinkFault) → is_memory f ≡ true → is_fed_system_error f ≡ true
 memory_is_outside link.OutOfMemory h = refl
 memory_is_outside f h = absurd cc
 
 -- where memory ran out nothing is said
-pub by_memory : {A : Type 0} (known : Option Files) (e : LinkFault) (r : Files → Result A LinkFault) → is_memory e ≡ true → IfSome known (λ m. Refuses is_link_outside e (r m))
+pub by_memory : {A : Type 0} (known : Option Files) (e : LinkFault) (r : Files → Result A LinkFault) → is_memory e ≡ true → IfSome known (λ m. RefinesErr is_fed_system_error e (r m))
 by_memory None e r h = tt
 by_memory (Some m) e r h = rw (memory_is_outside e h) tt
 
 -- a refusal in want of memory alone is one from outside
-pub memory_outside : {A : Type 0} (e : LinkFault) (r : Result A LinkFault) → Refuses is_memory e r → Refuses is_link_outside e r
+pub memory_outside : {A : Type 0} (e : LinkFault) (r : Result A LinkFault) → RefinesErr is_memory e r → RefinesErr is_fed_system_error e r
 memory_outside e r h = go (is_memory e) refl h
   where
-    go : (b : Bool) → is_memory e ≡ b → Unless b (r ≡ Err e) → Refuses is_link_outside e r
+    go : (b : Bool) → is_memory e ≡ b → Unless b (r ≡ Err e) → RefinesErr is_fed_system_error e r
     go true k u = rw (memory_is_outside e k) tt
-    go false k u = unlessed (is_link_outside e) u
+    go false k u = unlessed (is_fed_system_error e) u
       where
         unlessed : (b : Bool) → r ≡ Err e → Unless b (r ≡ Err e)
         unlessed true u = tt
@@ -120,26 +120,26 @@ accepted (Err f) x h = absurd cc
 
 -- ---- A record that was read, as the linker sees it.
 
-pub seen : (known : Option Files) (read : Files → Result (Entry × ℕ) ObjectFault) (shown of_reader : Entry) (next : ℕ) → shown ≡ of_reader → IfSome known (λ m. read m ≡ Ok (of_reader, next)) → IfSome known (λ m. read m ≡ Ok (shown, next))
+pub seen : (known : Option Files) (read : Files → Result (RawRecord × ℕ) ObjectFault) (shown of_reader : RawRecord) (next : ℕ) → shown ≡ of_reader → IfSome known (λ m. read m ≡ Ok (of_reader, next)) → IfSome known (λ m. read m ≡ Ok (shown, next))
 seen known read shown of_reader next same h = rw same h
 
 -- ---- A record that the linker refuses.
 
 -- it is a fault of no store
-pub not_stored : (s : State) (x : Entry) (e : LinkFault) → Refuses is_memory e (as_link (after s x)) → e ≡ link.Malformed object.FileError → ⊥
+pub not_stored : (s : State) (x : RawRecord) (e : LinkFault) → RefinesErr is_memory e (as_link (after s x)) → e ≡ link.Malformed object.FileError → ⊥
 not_stored s x e h is = absurd (after_free s x (refused_so (rw is at h)))
   where
     refused_so : as_link (after s x) ≡ Err (link.Malformed object.FileError) → after s x ≡ Err object.FileError
     refused_so u = let p = from_object (after s x) _ u in let same : object.FileError ≡ p.0 = cc p.1 in p.2 ∙ ap Err (sym same)
 
-pub taking_refused : (v limit at next : ℕ) (known now : Option Files) (name : List ℕ) (s : State) (r : Entry × ℕ) (e : LinkFault) → now ≡ known → GoesIn v known name limit at next s → IfSome now (λ m. in_file (get m name) (record_at v next limit) ≡ Ok r) → Refuses is_memory e (as_link (after s r.0)) → IfSome known (λ m. Refuses is_link_outside e (as_link (all_in v (get m name) at limit)))
+pub taking_refused : (v limit at next : ℕ) (known now : Option Files) (name : List ℕ) (s : State) (r : RawRecord × ℕ) (e : LinkFault) → now ≡ known → GoesIn v known name limit at next s → IfSome now (λ m. in_file (get m name) (record_at v next limit) ≡ Ok r) → RefinesErr is_memory e (as_link (after s r.0)) → IfSome known (λ m. RefinesErr is_fed_system_error e (as_link (all_in v (get m name) at limit)))
 taking_refused v limit at next known now name s r e same goes read refused = go (is_memory e) refl refused
   where
-    go : (b : Bool) → is_memory e ≡ b → Unless b (as_link (after s r.0) ≡ Err e) → IfSome known (λ m. Refuses is_link_outside e (as_link (all_in v (get m name) at limit)))
+    go : (b : Bool) → is_memory e ≡ b → Unless b (as_link (after s r.0) ≡ Err e) → IfSome known (λ m. RefinesErr is_fed_system_error e (as_link (all_in v (get m name) at limit)))
     go true h u = by_memory known e (λ m. as_link (all_in v (get m name) at limit)) h
     go false h u =
         let p = from_object (after s r.0) e u in
-        let free : Refuses is_object_outside p.0 (after s r.0) = unless_any (is_object_outside p.0) p.2 in
+        let free : RefinesErr is_object_system_error p.0 (after s r.0) = unless_any (is_object_system_error p.0) p.2 in
         rw p.1 (of_malformed_in known p.0 (λ m. all_in v (get m name) at limit) (taking_stops v limit at next known now name s r p.0 same goes read free))
       where
         unless_any : (b : Bool) {P : Type 0} → P → Unless b P
@@ -152,26 +152,26 @@ not_at n h = grind (arith, nat_tests)
 -- ---- The loop, for all modules that the linker stands for.
 
 -- what is left of a file reads as all of it, behind what the linker has taken
-abbrev pub IsAt : Option Files → Input → ℕ × ℕ → ℕ → Feeding → Feeding → Type 0
+abbrev pub IsAt : Option Files → Input → ℕ × ℕ → ℕ → LinkerView → LinkerView → Type 0
 IsAt known i at next old now =
     (modules : List Module) (called : List ℕ) (entry : Option Listing) → IsFeeding old modules called entry (start at.0)
     → (s : State) × IsFeeding now modules called entry s × GoesIn at.0 known i.file i.end at.1 next s
 
 module _ (known : Option Files) (i : Input) (at : ℕ × ℕ) where
-  pub is_at_first : (old : Feeding) → IsAt known i at at.1 old old
+  pub is_at_first : (old : LinkerView) → IsAt known i at at.1 old old
   is_at_first old modules called entry h = (start at.0, h, begins_in at.0 i.end at.1 at.1 known i.file)
 
-  pub unread : (next : ℕ) (now : Option Files) (old mid new : Feeding) (f : ObjectFault) → now ≡ known → IsAt known i at next old mid → IfSome now (λ m. Refuses is_object_outside f (in_file (get m i.file) (record_at at.0 next i.end))) → FeedsRecords known i at old new (Err (as_fault f))
+  pub unread : (next : ℕ) (now : Option Files) (old mid new : LinkerView) (f : ObjectFault) → now ≡ known → IsAt known i at next old mid → IfSome now (λ m. RefinesErr is_object_system_error f (in_file (get m i.file) (record_at at.0 next i.end))) → FeedsRecords known i at old new (Err (as_fault f))
   unread next now old mid new f same is h modules called entry stands =
       let p = is modules called entry stands in
       of_object_in known f (λ m. records_in m i at) (reading_stops at.0 i.end at.1 next known now i.file p.0 f same p.2 h)
 
-  pub untaken : (next : ℕ) (now : Option Files) (old mid new : Feeding) (r : Entry × ℕ) (e : LinkFault) → now ≡ known → IsAt known i at next old mid → IfSome now (λ m. in_file (get m i.file) (record_at at.0 next i.end) ≡ Ok r) → Continues r.0 mid new (Err e) → FeedsRecords known i at old new (Err e)
+  pub untaken : (next : ℕ) (now : Option Files) (old mid new : LinkerView) (r : RawRecord × ℕ) (e : LinkFault) → now ≡ known → IsAt known i at next old mid → IfSome now (λ m. in_file (get m i.file) (record_at at.0 next i.end) ≡ Ok r) → AddsRecord r.0 mid new (Err e) → FeedsRecords known i at old new (Err e)
   untaken next now old mid new r e same is read refused modules called entry stands =
       let p = is modules called entry stands in
       taking_refused at.0 i.end at.1 next known now i.file p.0 r e same p.2 read (refused modules called entry p.0 p.1)
 
-  pub ends_there : (next : ℕ) (now : Option Files) (old mid new : Feeding) (r : Entry × ℕ) → now ≡ known → IsAt known i at next old mid → IfSome now (λ m. in_file (get m i.file) (record_at at.0 next i.end) ≡ Ok r) → Continues r.0 mid new (Ok tt) → r.0.kind ≡ 8 → FeedsRecords known i at old new (Ok r.1)
+  pub ends_there : (next : ℕ) (now : Option Files) (old mid new : LinkerView) (r : RawRecord × ℕ) → now ≡ known → IsAt known i at next old mid → IfSome now (λ m. in_file (get m i.file) (record_at at.0 next i.end) ≡ Ok r) → AddsRecord r.0 mid new (Ok tt) → r.0.kind ≡ 8 → FeedsRecords known i at old new (Ok r.1)
   ends_there next now old mid new r same is read taken end modules called entry stands =
       let p = is modules called entry stands in
       let q = taken modules called entry p.0 p.1 in
@@ -182,7 +182,7 @@ module _ (known : Option Files) (i : Input) (at : ℕ × ℕ) where
       linked None f x h = tt
       linked (Some m) f x h = ap as_link h
 
-  pub goes_further : (next : ℕ) (now : Option Files) (old mid new : Feeding) (r : Entry × ℕ) → now ≡ known → IsAt known i at next old mid → IfSome now (λ m. in_file (get m i.file) (record_at at.0 next i.end) ≡ Ok r) → next < r.1 → Continues r.0 mid new (Ok tt) → (r.0.kind ≡ 8 → ⊥) → IsAt known i at r.1 old new
+  pub goes_further : (next : ℕ) (now : Option Files) (old mid new : LinkerView) (r : RawRecord × ℕ) → now ≡ known → IsAt known i at next old mid → IfSome now (λ m. in_file (get m i.file) (record_at at.0 next i.end) ≡ Ok r) → next < r.1 → AddsRecord r.0 mid new (Ok tt) → (r.0.kind ≡ 8 → ⊥) → IsAt known i at r.1 old new
   goes_further next now old mid new r same is read later taken end modules called entry stands =
       let p = is modules called entry stands in
       let q = taken modules called entry p.0 p.1 in
@@ -190,7 +190,7 @@ module _ (known : Option Files) (i : Input) (at : ℕ × ℕ) where
       (q.0, q.2, goes_on_in at.0 i.end at.1 next known now i.file p.0 q.0 r same p.2 read later step (ended_by p.0 q.0 r.0 step ∙ not_at r.0.kind end))
 
   -- a record that the linker refuses is no failure of the store
-  pub refused_free : (next : ℕ) (old mid new : Feeding) (x : Entry) (e : LinkFault) → IsAt known i at next old mid → Continues x mid new (Err e) → (modules : List Module) (called : List ℕ) (entry : Option Listing) → IsFeeding old modules called entry (start at.0) → e ≡ link.Malformed object.FileError → ⊥
+  pub refused_free : (next : ℕ) (old mid new : LinkerView) (x : RawRecord) (e : LinkFault) → IsAt known i at next old mid → AddsRecord x mid new (Err e) → (modules : List Module) (called : List ℕ) (entry : Option Listing) → IsFeeding old modules called entry (start at.0) → e ≡ link.Malformed object.FileError → ⊥
   refused_free next old mid new x e is refused modules called entry stands same =
       let p = is modules called entry stands in
       not_stored p.0 x e (refused modules called entry p.0 p.1) same

@@ -2,27 +2,27 @@
 use Rattle.std.proofs.lemmas.Grind.{common_steps}
 use Rattle.std.proofs.Common.{◌≡◌, ◌∙◌, ◌<◌, ℕ, List, [], Bool, true, false, if◌then◌else◌, Option, Result, Ok, Err, refl, ap, arith, ◌≤◌, ◌+◌, subst, sym, IfErr}
 use Rattle.std.specs.Prelude.{IsErrOf}
-use Rattle.base65.specs.Store.{Files, IsBlamedIn, Passes, PassesBy, Blamed}
+use Rattle.base65.specs.Store.{Files, FailedWithin, PropagatesIoError, PropagatesIoErrors, LastFailure}
 use Rattle.object65.specs.declared.fault.ObjectFault.{ObjectFault}
 use Rattle.object65.specs.declared.fault.ObjectFault.TheVariants as object
 use Rattle.object65.specs.Record.{is_memory as is_object_memory}
-use Rattle.object65.specs.Reading.{Leaves}
+use Rattle.object65.specs.Reading.{StoreFrame}
 use Rattle.link65.specs.declared.fault.LinkFault.{LinkFault}
 use Rattle.link65.specs.declared.fault.LinkFault.TheVariants as link
 use Rattle.link65.specs.Faults.{of_object}
 use Rattle.link65.specs.Programs.{Module}
 use Rattle.script65.specs.declared.script.Script.{Script}
-use Rattle.link65.specs.Standing.{Feeding, IsFed, Keeps, is_open}
-use Rattle.ld65.specs.declared.refusal.Refusal.{Refusal}
-use Rattle.ld65.specs.Inner.Feeding.{LeavesBy, LeavesFed}
+use Rattle.link65.specs.Representation.{LinkerView, IsFed, ConfigFrame, is_open}
+use Rattle.ld65.specs.declared.fault.LinkCommandFault.{LinkCommandFault}
+use Rattle.ld65.specs.Internal.Feeding.{NamedStoreFrame, FeedFrame}
 use Rattle.ld65.specs.Linkage.{as_refusal, member_module}
-use Rattle.ld65.specs.Naming.{IsOfFront, IsOfMember, IsOfObject, Names}
-use Rattle.ld65.specs.declared.refusal.Refusal.TheVariants.{Member, Object}
+use Rattle.ld65.specs.Naming.{IsOfFront, IsOfMember, IsOfObject, NamesFailure}
+use Rattle.ld65.specs.declared.fault.LinkCommandFault.TheVariants.{Member, Object}
 use Rattle.library65.specs.declared.index.Entry.{Entry}
-use Rattle.ld65.specs.Refusals.{is_failure, refusal_at, refusal_in}
+use Rattle.ld65.specs.Faults.{is_failure, refusal_at, refusal_in}
 use Rattle.ld65.proofs.Objects.{file_failed}
 
-pub keeps_on : (old mid new : Feeding) → Keeps old mid → Keeps mid new → Keeps old new
+pub keeps_on : (old mid new : LinkerView) → ConfigFrame old mid → ConfigFrame mid new → ConfigFrame old new
 keeps_on old mid new first next = record { script = next.script ∙ first.script; output = next.output ∙ first.output }
 
 -- ---- Of the linker's faults none but the store's own is a failure of a file.
@@ -50,51 +50,51 @@ pub err_is : {T : Type 0} (e f : LinkFault) → ◌≡◌ {A = Result T LinkFaul
 err_is e f h = cc h
 
 -- where a call answered, none failed
-pub none_passed : {T : Type 0} (a b : ℕ) (x : T) → Passes file_failed a b (Ok x) → b ≡ a
+pub none_passed : {T : Type 0} (a b : ℕ) (x : T) → PropagatesIoError file_failed a b (Ok x) → b ≡ a
 none_passed a b x passes = grind (arith, common_steps)
 
-module _ {X : Type 0} {files_of : X → Option Files} {failures_of : X → ℕ} {blamed_of : X → Blamed} (name : List ℕ) (old new : X) where
+module _ {X : Type 0} {files_of : X → Option Files} {failures_of : X → ℕ} {last_failure_of : X → LastFailure} (name : List ℕ) (old new : X) where
   -- a call that doesn't ask the store
-  pub untouched : {T : Type 0} (r : Result T LinkFault) → files_of new ≡ files_of old → failures_of new ≡ failures_of old → (r ≡ Err file_failed → ⊥) → Leaves files_of failures_of blamed_of file_failed name old new r
+  pub untouched : {T : Type 0} (r : Result T LinkFault) → files_of new ≡ files_of old → failures_of new ≡ failures_of old → (r ≡ Err file_failed → ⊥) → StoreFrame files_of failures_of last_failure_of file_failed name old new r
   untouched r files same free = record {
     files = files;
     count = record { later = omega (arith, same); told = λ h. absurd (omega (arith, same)); cause = λ h. absurd (free h) };
-    blamed = λ h. absurd (free h);
+    last_failure = λ h. absurd (free h);
   }
 
   -- a fault of reading, as the linker's, behind calls that didn't fail the store
-  pub unread_behind : {A B : Type 0} (mid : X) (f : ObjectFault) → files_of mid ≡ files_of old → failures_of mid ≡ failures_of old → Leaves {T = A} files_of failures_of blamed_of object.FileError name mid new (Err f) → Leaves {T = B} files_of failures_of blamed_of file_failed name old new (Err (of_object f))
-  unread_behind {A} {B} mid f files same left = record {
+  pub unread_after : {A B : Type 0} (mid : X) (f : ObjectFault) → files_of mid ≡ files_of old → failures_of mid ≡ failures_of old → StoreFrame {T = A} files_of failures_of last_failure_of object.FileError name mid new (Err f) → StoreFrame {T = B} files_of failures_of last_failure_of file_failed name old new (Err (of_object f))
+  unread_after {A} {B} mid f files same left = record {
     files = left.files ∙ files;
-    count = subst (λ (n : ℕ). Passes {T = B} file_failed n (failures_of new) (Err (of_object f))) same (record {
+    count = subst (λ (n : ℕ). PropagatesIoError {T = B} file_failed n (failures_of new) (Err (of_object f))) same (record {
       later = left.count.later;
       told = λ h. let is : f ≡ object.FileError = cc (left.count.told h) in ap (λ g. Err (of_object g)) is;
       cause = λ h. left.count.cause (ap Err (as_read h));
     });
-    blamed = λ h. left.blamed (ap Err (as_read h));
+    last_failure = λ h. left.last_failure (ap Err (as_read h));
   }
     where
       as_read : ◌≡◌ {A = Result B LinkFault} (Err (of_object f)) (Err file_failed) → f ≡ object.FileError
       as_read h = stored f (let is : of_object f ≡ file_failed = cc h in is)
 
   -- any other refusal
-  pub fault_behind : {A B : Type 0} (mid : X) (e : LinkFault) → files_of mid ≡ files_of old → failures_of mid ≡ failures_of old → Leaves {T = A} files_of failures_of blamed_of file_failed name mid new (Err e) → Leaves {T = B} files_of failures_of blamed_of file_failed name old new (Err e)
-  fault_behind {A} {B} mid e files same left = record {
+  pub fault_after : {A B : Type 0} (mid : X) (e : LinkFault) → files_of mid ≡ files_of old → failures_of mid ≡ failures_of old → StoreFrame {T = A} files_of failures_of last_failure_of file_failed name mid new (Err e) → StoreFrame {T = B} files_of failures_of last_failure_of file_failed name old new (Err e)
+  fault_after {A} {B} mid e files same left = record {
     files = left.files ∙ files;
-    count = subst (λ (n : ℕ). Passes {T = B} file_failed n (failures_of new) (Err e)) same (record {
+    count = subst (λ (n : ℕ). PropagatesIoError {T = B} file_failed n (failures_of new) (Err e)) same (record {
       later = left.count.later;
       told = λ h. ap Err (let is : e ≡ file_failed = cc (left.count.told h) in is);
       cause = λ h. left.count.cause (ap Err (err_is e file_failed h));
     });
-    blamed = λ h. left.blamed (ap Err (err_is e file_failed h));
+    last_failure = λ h. left.last_failure (ap Err (err_is e file_failed h));
   }
 
 -- ---- An object as an input and as a member.
 
-fed_count : (a b : ℕ) → Passes {T = Unit {0}} file_failed a b (Ok tt) → PassesBy {T = Unit {0}} is_failure a b (Ok tt)
+fed_count : (a b : ℕ) → PropagatesIoError {T = Unit {0}} file_failed a b (Ok tt) → PropagatesIoErrors {T = Unit {0}} is_failure a b (Ok tt)
 fed_count a b passes = record { later = passes.later; told = λ h. let no : ⊥ = cc (passes.told h) in absurd no; cause = tt }
 
-named_count : (named : LinkFault → Refusal) (a b : ℕ) (e : LinkFault) → is_failure (named file_failed) ≡ true → (is_failure (named e) ≡ true → e ≡ file_failed) → Passes {T = Unit {0}} file_failed a b (Err e) → PassesBy {T = Unit {0}} is_failure a b (Err (named e))
+named_count : (named : LinkFault → LinkCommandFault) (a b : ℕ) (e : LinkFault) → is_failure (named file_failed) ≡ true → (is_failure (named e) ≡ true → e ≡ file_failed) → PropagatesIoError {T = Unit {0}} file_failed a b (Err e) → PropagatesIoErrors {T = Unit {0}} is_failure a b (Err (named e))
 named_count named a b e fails stored passes = record {
   later = passes.later;
   told = λ h. let same : e ≡ file_failed = cc (passes.told h) in ap (λ x. is_failure (named x)) same ∙ fails;
@@ -102,16 +102,16 @@ named_count named a b e fails stored passes = record {
 }
 
 -- what is left behind an object, where the linker stands for modules
-abbrev LeavesObject : {X : Type 0} → (X → Option Files) → (X → ℕ) → (X → Blamed) → List ℕ → X → X → Feeding → Result (Unit {0}) LinkFault → Type 0
-LeavesObject files_of failures_of blamed_of name old new before r = (modules : List Module) → IsFed before modules → Leaves files_of failures_of blamed_of file_failed name old new r
+abbrev LeavesObject : {X : Type 0} → (X → Option Files) → (X → ℕ) → (X → LastFailure) → List ℕ → X → X → LinkerView → Result (Unit {0}) LinkFault → Type 0
+LeavesObject files_of failures_of last_failure_of name old new before r = (modules : List Module) → IsFed before modules → StoreFrame files_of failures_of last_failure_of file_failed name old new r
 
 -- where the store failed, the call asked for these bytes of a file
-abbrev FailsWithin : {X : Type 0} → (X → Blamed) → List ℕ → ℕ → ℕ → X → Feeding → Result (Unit {0}) LinkFault → Type 0
-FailsWithin blamed_of name begin end new before r = (modules : List Module) → IsFed before modules → IsErrOf r file_failed → begin ≤ end → IsBlamedIn (blamed_of new) name begin end
+abbrev FailsWithin : {X : Type 0} → (X → LastFailure) → List ℕ → ℕ → ℕ → X → LinkerView → Result (Unit {0}) LinkFault → Type 0
+FailsWithin last_failure_of name begin end new before r = (modules : List Module) → IsFed before modules → IsErrOf r file_failed → begin ≤ end → FailedWithin (last_failure_of new) name begin end
 
-module _ {X : Type 0} {files_of : X → Option Files} {failures_of : X → ℕ} {blamed_of : X → Blamed} (old new : X) (before after : Feeding) (keeps : Keeps before after) (files : files_of new ≡ files_of old) where
-  pub object_left : (NamesBehind : List Module → Blamed → Refusal → Type 0) (name : List ℕ) → is_open after ≡ false → LeavesObject files_of failures_of blamed_of name old new before (Ok tt) → LeavesFed files_of failures_of blamed_of NamesBehind old new before after (Ok tt)
-  object_left NamesBehind name opened left = record {
+module _ {X : Type 0} {files_of : X → Option Files} {failures_of : X → ℕ} {last_failure_of : X → LastFailure} (old new : X) (before after : LinkerView) (keeps : ConfigFrame before after) (files : files_of new ≡ files_of old) where
+  pub object_left : (NamesAfter : List Module → LastFailure → LinkCommandFault → Type 0) (name : List ℕ) → is_open after ≡ false → LeavesObject files_of failures_of last_failure_of name old new before (Ok tt) → FeedFrame files_of failures_of last_failure_of NamesAfter old new before after (Ok tt)
+  object_left NamesAfter name opened left = record {
     opened = opened;
     keeps = keeps;
     files = files;
@@ -119,7 +119,7 @@ module _ {X : Type 0} {files_of : X → Option Files} {failures_of : X → ℕ} 
     named = λ modules stands. tt;
   }
 
-  pub file_left : (place : ℕ) (name : List ℕ) (e : LinkFault) → LeavesObject files_of failures_of blamed_of name old new before (Err e) → LeavesFed files_of failures_of blamed_of (λ _ b. Names (IsOfObject b place name)) old new before after (Err (refusal_at place e))
+  pub file_left : (place : ℕ) (name : List ℕ) (e : LinkFault) → LeavesObject files_of failures_of last_failure_of name old new before (Err e) → FeedFrame files_of failures_of last_failure_of (λ _ b. NamesFailure (IsOfObject b place name)) old new before after (Err (refusal_at place e))
   file_left place name e left = record {
     opened = tt;
     keeps = keeps;
@@ -127,11 +127,11 @@ module _ {X : Type 0} {files_of : X → Option Files} {failures_of : X → ℕ} 
     count = λ modules stands. named_count (refusal_at place) _ _ e refl (is_stored_at place e) (left modules stands).count;
     named = λ modules stands failed.
         let fault = is_stored_at place e failed in
-        let P : LinkFault → Type 0 = λ f. IsOfObject (blamed_of new) place name (refusal_at place f) in
-        subst P (sym fault) (refl, (left modules stands).blamed (ap Err fault));
+        let P : LinkFault → Type 0 = λ f. IsOfObject (last_failure_of new) place name (refusal_at place f) in
+        subst P (sym fault) (refl, (left modules stands).last_failure (ap Err fault));
   }
 
-  pub member_left : (library called : List ℕ) (entry : Entry) (e : LinkFault) → called ≡ member_module library entry.name → LeavesObject files_of failures_of blamed_of library old new before (Err e) → FailsWithin blamed_of library entry.place (entry.place + entry.size) new before (Err e) → LeavesFed files_of failures_of blamed_of (λ _ b. Names (IsOfMember b library entry)) old new before after (Err (refusal_in called e))
+  pub member_left : (library called : List ℕ) (entry : Entry) (e : LinkFault) → called ≡ member_module library entry.name → LeavesObject files_of failures_of last_failure_of library old new before (Err e) → FailsWithin last_failure_of library entry.place (entry.place + entry.size) new before (Err e) → FeedFrame files_of failures_of last_failure_of (λ _ b. NamesFailure (IsOfMember b library entry)) old new before after (Err (refusal_in called e))
   member_left library called entry e is left within = record {
     opened = tt;
     keeps = keeps;
@@ -139,18 +139,18 @@ module _ {X : Type 0} {files_of : X → Option Files} {failures_of : X → ℕ} 
     count = λ modules stands. named_count (refusal_in called) _ _ e refl (is_stored_in called e) (left modules stands).count;
     named = λ modules stands failed.
         let fault = is_stored_in called e failed in
-        let P : LinkFault → Type 0 = λ f. IsOfMember (blamed_of new) library entry (refusal_in called f) in
+        let P : LinkFault → Type 0 = λ f. IsOfMember (last_failure_of new) library entry (refusal_in called f) in
         subst P (sym fault) (ap (λ n. Member n object.FileError) is, within modules stands (ap Err fault) (omega arith));
   }
 
 -- ---- Inputs and members, one behind another.
 
-kept_by : {T : Type 0} (a b : ℕ) (x : T) → PassesBy is_failure a b (Ok x) → b ≡ a
+kept_by : {T : Type 0} (a b : ℕ) (x : T) → PropagatesIoErrors is_failure a b (Ok x) → b ≡ a
 kept_by a b x passes = let not_later : a < b → ⊥ = λ h. absurd (passes.told h) in omega (arith, passes.later, not_later)
 
-module _ {X : Type 0} {files_of : X → Option Files} {failures_of : X → ℕ} {blamed_of : X → Blamed} (NamesBehind : List Module → Blamed → Refusal → Type 0) where
+module _ {X : Type 0} {files_of : X → Option Files} {failures_of : X → ℕ} {last_failure_of : X → LastFailure} (NamesAfter : List Module → LastFailure → LinkCommandFault → Type 0) where
   -- a call that asks the store alone
-  pub read_left : {T : Type 0} (NamesRead : Blamed → Refusal → Type 0) (old new : X) (before : Feeding) (x : T) → is_open before ≡ false → LeavesBy files_of failures_of blamed_of NamesRead old new (Ok x) → LeavesFed files_of failures_of blamed_of NamesBehind old new before before (Ok tt)
+  pub read_left : {T : Type 0} (NamesRead : LastFailure → LinkCommandFault → Type 0) (old new : X) (before : LinkerView) (x : T) → is_open before ≡ false → NamedStoreFrame files_of failures_of last_failure_of NamesRead old new (Ok x) → FeedFrame files_of failures_of last_failure_of NamesAfter old new before before (Ok tt)
   read_left NamesRead old new before x opened left = record {
     opened = opened;
     keeps = record { script = refl; output = refl };
@@ -159,29 +159,29 @@ module _ {X : Type 0} {files_of : X → Option Files} {failures_of : X → ℕ} 
     named = λ modules stands. tt;
   }
 
-  pub unread_left : {T : Type 0} (NamesRead : Blamed → Refusal → Type 0) (old new : X) (before : Feeding) (e : Refusal) → ((modules : List Module) (b : Blamed) → NamesRead b e → NamesBehind modules b e) → LeavesBy {T = T} files_of failures_of blamed_of NamesRead old new (Err e) → LeavesFed files_of failures_of blamed_of NamesBehind old new before before (Err e)
+  pub unread_left : {T : Type 0} (NamesRead : LastFailure → LinkCommandFault → Type 0) (old new : X) (before : LinkerView) (e : LinkCommandFault) → ((modules : List Module) (b : LastFailure) → NamesRead b e → NamesAfter modules b e) → NamedStoreFrame {T = T} files_of failures_of last_failure_of NamesRead old new (Err e) → FeedFrame files_of failures_of last_failure_of NamesAfter old new before before (Err e)
   unread_left NamesRead old new before e so left = record {
     opened = tt;
     keeps = record { script = refl; output = refl };
     files = left.files;
     count = λ modules stands. let p = left.count in record { later = p.later; told = λ h. p.told h; cause = λ h. p.cause h };
-    named = λ modules stands. so modules (blamed_of new) left.named;
+    named = λ modules stands. so modules (last_failure_of new) left.named;
   }
 
   -- a call behind others, by what each names where the store failed
-  pub behind_others : (NamesOne : List Module → Blamed → Refusal → Type 0) (old mid new : X) (before middle after : Feeding) (r : Result (Unit {0}) Refusal) → ((modules : List Module) → IsFed before modules → (more : List Module) × IsFed middle more × (IfErr r (NamesOne more (blamed_of new)) → IfErr r (NamesBehind modules (blamed_of new)))) → LeavesFed files_of failures_of blamed_of NamesBehind old mid before middle (Ok tt) → LeavesFed files_of failures_of blamed_of NamesOne mid new middle after r → LeavesFed files_of failures_of blamed_of NamesBehind old new before after r
-  behind_others NamesOne old mid new before middle after r so first next = record {
+  pub after_others : (NamesOne : List Module → LastFailure → LinkCommandFault → Type 0) (old mid new : X) (before middle after : LinkerView) (r : Result (Unit {0}) LinkCommandFault) → ((modules : List Module) → IsFed before modules → (more : List Module) × IsFed middle more × (IfErr r (NamesOne more (last_failure_of new)) → IfErr r (NamesAfter modules (last_failure_of new)))) → FeedFrame files_of failures_of last_failure_of NamesAfter old mid before middle (Ok tt) → FeedFrame files_of failures_of last_failure_of NamesOne mid new middle after r → FeedFrame files_of failures_of last_failure_of NamesAfter old new before after r
+  after_others NamesOne old mid new before middle after r so first next = record {
     opened = next.opened;
     keeps = keeps_on before middle after first.keeps next.keeps;
     files = next.files ∙ first.files;
     count = λ modules stands.
         let p = so modules stands in
-        subst (λ (n : ℕ). PassesBy is_failure n (failures_of new) r) (kept_by _ _ tt (first.count modules stands)) (next.count p.0 p.1);
+        subst (λ (n : ℕ). PropagatesIoErrors is_failure n (failures_of new) r) (kept_by _ _ tt (first.count modules stands)) (next.count p.0 p.1);
     named = λ modules stands. let p = so modules stands in p.2 (next.named p.0 p.1);
   }
 
 -- a refusal of a call that doesn't ask the store
-pub unasked : {X : Type 0} {files_of : X → Option Files} {failures_of : X → ℕ} {blamed_of : X → Blamed} (IsOf : List Module → Blamed → Refusal → Type 0) (old : X) (before : Feeding) (e : Refusal) → is_failure e ≡ false → LeavesFed files_of failures_of blamed_of (λ modules b. Names (IsOf modules b)) old old before before (Err e)
+pub unasked : {X : Type 0} {files_of : X → Option Files} {failures_of : X → ℕ} {last_failure_of : X → LastFailure} (IsOf : List Module → LastFailure → LinkCommandFault → Type 0) (old : X) (before : LinkerView) (e : LinkCommandFault) → is_failure e ≡ false → FeedFrame files_of failures_of last_failure_of (λ modules b. NamesFailure (IsOf modules b)) old old before before (Err e)
 unasked IsOf old before e free = record {
   opened = tt;
   keeps = record { script = refl; output = refl };
@@ -195,8 +195,8 @@ unasked IsOf old before e free = record {
 failed_front : (place : ℕ) (f : ObjectFault) → is_failure (Object place f) ≡ true → f ≡ object.FileError
 failed_front place f h = let same : link.Malformed f ≡ file_failed = is_stored_at place (link.Malformed f) h in cc
 
-module _ {X : Type 0} {files_of : X → Option Files} {failures_of : X → ℕ} {blamed_of : X → Blamed} (NamesBehind : List Module → Blamed → Refusal → Type 0) (name : List ℕ) (old new : X) (before : Feeding) where
-  pub front_read : (b : Bool) → is_open before ≡ false → Leaves files_of failures_of blamed_of object.FileError name old new (Ok b) → LeavesFed files_of failures_of blamed_of NamesBehind old new before before (Ok tt)
+module _ {X : Type 0} {files_of : X → Option Files} {failures_of : X → ℕ} {last_failure_of : X → LastFailure} (NamesAfter : List Module → LastFailure → LinkCommandFault → Type 0) (name : List ℕ) (old new : X) (before : LinkerView) where
+  pub front_read : (b : Bool) → is_open before ≡ false → StoreFrame files_of failures_of last_failure_of object.FileError name old new (Ok b) → FeedFrame files_of failures_of last_failure_of NamesAfter old new before before (Ok tt)
   front_read b opened left = record {
     opened = opened;
     keeps = record { script = refl; output = refl };
@@ -205,8 +205,8 @@ module _ {X : Type 0} {files_of : X → Option Files} {failures_of : X → ℕ} 
     named = λ modules stands. tt;
   }
 
-pub front_unread : {X : Type 0} {files_of : X → Option Files} {failures_of : X → ℕ} {blamed_of : X → Blamed} (IsOf : List Module → Blamed → Refusal → Type 0) (name : List ℕ) (old new : X) (before : Feeding) (place : ℕ) (f : ObjectFault) → ((modules : List Module) (e : Refusal) → IsOfFront (blamed_of new) place name e → IsOf modules (blamed_of new) e) → Leaves {T = Bool} files_of failures_of blamed_of object.FileError name old new (Err f) → (IsErrOf {T = Bool} (Err f) object.FileError → IsBlamedIn (blamed_of new) name 0 4) → LeavesFed files_of failures_of blamed_of (λ modules b. Names (IsOf modules b)) old new before before (Err (Object place f))
-front_unread {X} {files_of} {failures_of} {blamed_of} IsOf name old new before place f so left within = record {
+pub front_unread : {X : Type 0} {files_of : X → Option Files} {failures_of : X → ℕ} {last_failure_of : X → LastFailure} (IsOf : List Module → LastFailure → LinkCommandFault → Type 0) (name : List ℕ) (old new : X) (before : LinkerView) (place : ℕ) (f : ObjectFault) → ((modules : List Module) (e : LinkCommandFault) → IsOfFront (last_failure_of new) place name e → IsOf modules (last_failure_of new) e) → StoreFrame {T = Bool} files_of failures_of last_failure_of object.FileError name old new (Err f) → (IsErrOf {T = Bool} (Err f) object.FileError → FailedWithin (last_failure_of new) name 0 4) → FeedFrame files_of failures_of last_failure_of (λ modules b. NamesFailure (IsOf modules b)) old new before before (Err (Object place f))
+front_unread {X} {files_of} {failures_of} {last_failure_of} IsOf name old new before place f so left within = record {
   opened = tt;
   keeps = record { script = refl; output = refl };
   files = left.files;
@@ -222,16 +222,16 @@ front_unread {X} {files_of} {failures_of} {blamed_of} IsOf name old new before p
 
 -- ---- All inputs.
 
-module _ {X T : Type 0} {files_of : X → Option Files} {failures_of : X → ℕ} {blamed_of : X → Blamed} (IsOf : Script → List Module → Blamed → List (List ℕ) → Refusal → Type 0) (s : Script) (names inputs : List (List ℕ)) (old new : X) (fresh fed : Feeding) (script : fresh.script ≡ s) (stands : IsFed fresh []) where
-  pub refused_left : (e : Refusal) → names ≡ inputs → LeavesFed files_of failures_of blamed_of (λ first b. Names (IsOf fresh.script first b names)) old new fresh fed (Err e) → LeavesBy {T = T} files_of failures_of blamed_of (λ b. Names (IsOf s [] b inputs)) old new (Err e)
+module _ {X T : Type 0} {files_of : X → Option Files} {failures_of : X → ℕ} {last_failure_of : X → LastFailure} (IsOf : Script → List Module → LastFailure → List (List ℕ) → LinkCommandFault → Type 0) (s : Script) (names inputs : List (List ℕ)) (old new : X) (fresh fed : LinkerView) (script : fresh.script ≡ s) (stands : IsFed fresh []) where
+  pub refused_left : (e : LinkCommandFault) → names ≡ inputs → FeedFrame files_of failures_of last_failure_of (λ first b. NamesFailure (IsOf fresh.script first b names)) old new fresh fed (Err e) → NamedStoreFrame {T = T} files_of failures_of last_failure_of (λ b. NamesFailure (IsOf s [] b inputs)) old new (Err e)
   refused_left e same left = record {
     files = left.files;
     count = let p = left.count [] stands in record { later = p.later; told = λ h. p.told h; cause = λ h. p.cause h };
-    named = let P : Script → List (List ℕ) → Type 0 = λ t ns. Names (IsOf t [] (blamed_of new) ns) e in subst (λ t. P t inputs) script (subst (P fresh.script) same (left.named [] stands));
+    named = let P : Script → List (List ℕ) → Type 0 = λ t ns. NamesFailure (IsOf t [] (last_failure_of new) ns) e in subst (λ t. P t inputs) script (subst (P fresh.script) same (left.named [] stands));
   }
 
   -- behind them no other call fails the store
-  pub linked_left : (r : Result T LinkFault) → LeavesFed files_of failures_of blamed_of (λ first b. Names (IsOf fresh.script first b names)) old new fresh fed (Ok tt) → LeavesBy files_of failures_of blamed_of (λ b. Names (IsOf s [] b inputs)) old new (as_refusal r)
+  pub linked_left : (r : Result T LinkFault) → FeedFrame files_of failures_of last_failure_of (λ first b. NamesFailure (IsOf fresh.script first b names)) old new fresh fed (Ok tt) → NamedStoreFrame files_of failures_of last_failure_of (λ b. NamesFailure (IsOf s [] b inputs)) old new (as_refusal r)
   linked_left (Ok x) left = let p = left.count [] stands in record {
     files = left.files;
     count = record { later = p.later; told = λ h. absurd (p.told h); cause = tt };

@@ -5,12 +5,12 @@ use Rattle.std.specs.Option.{option_map_or}
 use Rattle.std.proofs.lemmas.Slice.Eq.{bytes_eq-Decides}
 use Rattle.base65.specs.Outcome.{◌>>=◌}
 use Rattle.base65.specs.Store.{Files}
-use Rattle.script65.specs.declared.fault.Stop.{Stop}
+use Rattle.script65.specs.declared.fault.FaultAt.{FaultAt}
 use Rattle.script65.specs.declared.script.Script.{Script}
 use Rattle.script65.specs.declared.reading.words.Block.{Block}
 use Rattle.script65.specs.declared.reading.entries.Entries.{Entries}
 use Rattle.script65.specs.declared.reading.tokens.Lexeme.TheVariants.{Word as word, End as the_end}
-use Rattle.script65.specs.Attributes.{blocks, said}
+use Rattle.script65.specs.Attributes.{blocks, value_of_word}
 use Rattle.script65.specs.Entries.{no_entries}
 use Rattle.script65.specs.Grammar.{AreBlocks, IsBlock, IsWritten, block, no_block}
 use Rattle.script65.specs.Scripts.{HasEntries, IsScript, LengthOr, is_too_long, script_from, with_line}
@@ -23,8 +23,8 @@ opening : (rest : List ℕ) → (token (82 ∷ rest) 0).lexeme ≡ word (82 ∷ 
 unfolding token
 opening rest = refl
 
-no_block_word : (written xs : List ℕ) (b : Block) → written ≡ 82 ∷ xs → said written blocks ≡ Some b → ⊥
-no_block_word written xs b is known = let none : ◌≡◌ {A = Option Block} None (Some b) = subst (λ (w : List ℕ). said w blocks ≡ Some b) is known in absurd cc
+no_block_word : (written xs : List ℕ) (b : Block) → written ≡ 82 ∷ xs → value_of_word written blocks ≡ Some b → ⊥
+no_block_word written xs b is known = let none : ◌≡◌ {A = Option Block} None (Some b) = subst (λ (w : List ℕ). value_of_word w blocks ≡ Some b) is known in absurd cc
 
 first_block : (bytes : List ℕ) (es fs : Entries) (at end : ℕ) → AreBlocks bytes es fs at end → (at ≡ end) ⊎ ((gs : Entries) × (mid : ℕ) × IsBlock bytes es gs at mid)
 first_block bytes _ _ _ _ (no_block es at) = inl refl
@@ -50,7 +50,7 @@ no_script rest s is = go is.0 is.1 is.2
     entries es true h = absurd cc
     entries es false h = not_written rest es h
 
-    go : (q : Result Entries Stop) → HasEntries (82 ∷ rest) q → Ok s ≡ with_line (82 ∷ rest) (q >>= script_from) → ⊥
+    go : (q : Result Entries FaultAt) → HasEntries (82 ∷ rest) q → Ok s ≡ with_line (82 ∷ rest) (q >>= script_from) → ⊥
     go (Ok es) has same = entries es (is_too_long (82 ∷ rest)) has
     go (Err f) has same = absurd cc
 

@@ -17,12 +17,12 @@ use Rattle.script65.specs.declared.script.Script.{Script}
 use Rattle.link65.specs.Programs.{Module}
 use Rattle.cli65.specs.Line.{Linking}
 use Rattle.cli65.specs.Messages.{file_message}
-use Rattle.ld65.specs.declared.refusal.Refusal.{Refusal}
-use Rattle.ld65.specs.declared.refusal.Refusal.TheVariants as refusal
-use Rattle.ld65.specs.Laws.{OneNamingLaw, TellsPart}
+use Rattle.ld65.specs.declared.fault.LinkCommandFault.{LinkCommandFault}
+use Rattle.ld65.specs.declared.fault.LinkCommandFault.TheVariants as refusal
+use Rattle.ld65.specs.Laws.{LinkNamingIsUnique, TellsPart}
 use Rattle.ld65.specs.Linkage.{index_in, is_library_in, member_module}
 use Rattle.ld65.specs.Naming.{IsOfFront, IsOfIndex, IsOfInput, IsOfLibrary, IsOfLine, IsOfNeeded, IsOfObject, IsOfScript, IsScriptIn}
-use Rattle.ld65.specs.Refusals.{named, refusal_message}
+use Rattle.ld65.specs.Faults.{input_name_at, error_message}
 use Rattle.ld65.proofs.NoScript.{script_is_no_library}
 
 abbrev failure_of : List ℕ → List ℕ
@@ -44,15 +44,15 @@ record IsInMember (m : Files) (l : Linking) (c : FailedCall) (i : ℕ) (entry : 
   end : at ≤ entry.place + entry.size
 
 -- its message names the member
-record NamesMember (m : Files) (l : Linking) (c : FailedCall) (e : Refusal) : Type 0 where
+record NamesMember (m : Files) (l : Linking) (c : FailedCall) (e : LinkCommandFault) : Type 0 where
   place : ℕ
   entry : Entry
   within : IsInMember m l c place entry
-  says : refusal_message l e ≡ failure_of (member_module c.name entry.name)
+  says : error_message l e ≡ failure_of (member_module c.name entry.name)
 
 -- or it names a file, and no member was asked for
-record NamesFile (m : Files) (l : Linking) (c : FailedCall) (e : Refusal) : Type 0 where
-  says : refusal_message l e ≡ failure_of c.name
+record NamesFile (m : Files) (l : Linking) (c : FailedCall) (e : LinkCommandFault) : Type 0 where
+  says : error_message l e ≡ failure_of c.name
   apart : (i : ℕ) (entry : Entry) → IsInMember m l c i entry → ⊥
 
 -- the bytes of a library with an index
@@ -89,11 +89,11 @@ within_one at es end k i j d e row one other low high other_low other_high = go 
 
 module _ (m : Files) (l : Linking) (c : FailedCall) (tells : TellsPart m c) where
   -- a member's place is behind the index, and it isn't where one ends
-  record Behind (i : ℕ) (entry : Entry) (w : IsInMember m l c i entry) : Type 0 where
+  record Following (i : ℕ) (entry : Entry) (w : IsInMember m l c i entry) : Type 0 where
     bytes : List ℕ
     has : get m c.name ≡ Some bytes
     index : index_at bytes ≡ Ok w.entries
-    behind : 8 < entry.place
+    following : 8 < entry.place
     first : members_begin w.entries (length bytes) ≤ entry.place
     before : w.at < entry.place + entry.size
     within : w.at < length bytes
@@ -104,8 +104,8 @@ module _ (m : Files) (l : Linking) (c : FailedCall) (tells : TellsPart m c) wher
   all_at P (x ∷ es) zero e all there = let same : x ≡ e = cc there in subst P same all.0
   all_at P (x ∷ es) (suc i) e all there = all_at P es i e all.1 there
 
-  behind : (i : ℕ) (entry : Entry) (w : IsInMember m l c i entry) → Behind i entry w
-  behind i entry w =
+  following : (i : ℕ) (entry : Entry) (w : IsInMember m l c i entry) → Following i entry w
+  following i entry w =
       let b = indexed_bytes m c.name w.entries w.index in
       let s = index_stands b.0 w.entries b.2 in
       let r = stands_within (members_begin w.entries (length b.0)) w.entries (length b.0) i entry s.row w.there in
@@ -117,7 +117,7 @@ module _ (m : Files) (l : Linking) (c : FailedCall) (tells : TellsPart m c) wher
         bytes = b.0;
         has = b.1;
         index = b.2;
-        behind = omega (arith, s.behind, r.0);
+        following = omega (arith, s.following, r.0);
         first = r.0;
         before = before;
         within = omega (arith, before, r.1);
@@ -132,8 +132,8 @@ module _ (m : Files) (l : Linking) (c : FailedCall) (tells : TellsPart m c) wher
   one_member i j d e v w =
       let same : v.entries ≡ w.entries = let both : ◌≡◌ {A = Result (List Entry) LibraryFault} (Ok v.entries) (Ok w.entries) = sym v.index ∙ w.index in cc in
       let there : slice_get w.entries i ≡ Some d = subst (λ (es : List Entry). slice_get es i ≡ Some d) same v.there in
-      let a = behind i d v in
-      let b = behind j e w in
+      let a = following i d v in
+      let b = following j e w in
       let at : v.at ≡ w.at = same_place c v.at w.at v.asked w.asked in
       within_one (members_begin w.entries (length b.bytes)) w.entries (length b.bytes) w.at i j d e (index_stands b.bytes w.entries b.index).row there w.there
       (omega (arith, v.begin, at)) (omega (arith, a.before, at)) w.begin b.before
@@ -141,50 +141,50 @@ module _ (m : Files) (l : Linking) (c : FailedCall) (tells : TellsPart m c) wher
   -- ---- The message of each refusal.
 
   -- an input's name
-  input_at : (k : ℕ) (name : List ℕ) → slice_get l.inputs k ≡ Some name → c.name ≡ name → named l.inputs k ≡ c.name
+  input_at : (k : ℕ) (name : List ℕ) → slice_get l.inputs k ≡ Some name → c.name ≡ name → input_name_at l.inputs k ≡ c.name
   input_at k name there is = get_or_from_slice_get l.inputs k name [] there ∙ sym is
 
-  says_object : (k : ℕ) (name : List ℕ) (e : Refusal) → slice_get l.inputs k ≡ Some name → c.name ≡ name → e ≡ refusal.Object k object.FileError → refusal_message l e ≡ failure_of c.name
-  says_object k name e there is same = ap (refusal_message l) same ∙ ap failure_of (input_at k name there is)
+  says_object : (k : ℕ) (name : List ℕ) (e : LinkCommandFault) → slice_get l.inputs k ≡ Some name → c.name ≡ name → e ≡ refusal.Object k object.FileError → error_message l e ≡ failure_of c.name
+  says_object k name e there is same = ap (error_message l) same ∙ ap failure_of (input_at k name there is)
 
-  says_library : (k : ℕ) (name : List ℕ) (e : Refusal) → slice_get l.inputs k ≡ Some name → c.name ≡ name → e ≡ refusal.Library k library.FileError → refusal_message l e ≡ failure_of c.name
-  says_library k name e there is same = ap (refusal_message l) same ∙ ap failure_of (input_at k name there is)
+  says_library : (k : ℕ) (name : List ℕ) (e : LinkCommandFault) → slice_get l.inputs k ≡ Some name → c.name ≡ name → e ≡ refusal.Library k library.FileError → error_message l e ≡ failure_of c.name
+  says_library k name e there is same = ap (error_message l) same ∙ ap failure_of (input_at k name there is)
 
-  of_script : (e : Refusal) → IsOfScript (Some c) l.script e → NamesFile m l c e
+  of_script : (e : LinkCommandFault) → IsOfScript (Some c) l.script e → NamesFile m l c e
   of_script e h = record {
-    says = ap (refusal_message l) h.0 ∙ ap failure_of (sym h.1);
+    says = ap (error_message l) h.0 ∙ ap failure_of (sym h.1);
     apart = λ i entry w. script_is_no_library m l.script w.script w.read (subst (λ (n : List ℕ). is_library_in m n ≡ true) h.1 w.kind);
   }
 
-  of_front : (k : ℕ) (name : List ℕ) (e : Refusal) → slice_get l.inputs k ≡ Some name → IsOfFront (Some c) k name e → NamesFile m l c e
+  of_front : (k : ℕ) (name : List ℕ) (e : LinkCommandFault) → slice_get l.inputs k ≡ Some name → IsOfFront (Some c) k name e → NamesFile m l c e
   of_front k name e there h = record {
     says = says_object k name e there h.1.0 h.0;
-    apart = λ i entry w. absurd (omega (arith, (behind i entry w).behind, w.begin, same_place c w.at h.1.1 w.asked h.1.2, h.1.4));
+    apart = λ i entry w. absurd (omega (arith, (following i entry w).following, w.begin, same_place c w.at h.1.1 w.asked h.1.2, h.1.4));
   }
 
-  of_object : (k : ℕ) (name : List ℕ) (e : Refusal) → slice_get l.inputs k ≡ Some name → is_library_in m name ≡ false → IsOfObject (Some c) k name e → NamesFile m l c e
+  of_object : (k : ℕ) (name : List ℕ) (e : LinkCommandFault) → slice_get l.inputs k ≡ Some name → is_library_in m name ≡ false → IsOfObject (Some c) k name e → NamesFile m l c e
   of_object k name e there kind h = record {
     says = says_object k name e there h.1 h.0;
     apart = λ i entry w. let both : true ≡ false = sym (subst (λ (n : List ℕ). is_library_in m n ≡ true) h.1 w.kind) ∙ kind in absurd cc;
   }
 
-  of_index : (k : ℕ) (name : List ℕ) (e : Refusal) → slice_get l.inputs k ≡ Some name → IsOfIndex (Some m) (Some c) k name e → NamesFile m l c e
+  of_index : (k : ℕ) (name : List ℕ) (e : LinkCommandFault) → slice_get l.inputs k ≡ Some name → IsOfIndex (Some m) (Some c) k name e → NamesFile m l c e
   of_index k name e there h = record {
     says = says_library k name e there h.1 h.0;
     apart = λ i entry w.
-        let b = behind i entry w in
+        let b = following i entry w in
         let has : get m name ≡ Some b.bytes = subst (λ (n : List ℕ). get m n ≡ Some b.bytes) h.1 b.has in
         let asks = subst (λ (f : Option (List ℕ)). IfSome f (λ bytes. (at : ℕ) × (c.at ≡ Some at) × IsIndexPlace bytes at)) has h.2 in
         let at : w.at ≡ asks.0 = same_place c w.at asks.0 w.asked asks.1 in
         beyond i entry w b asks.0 at (asks.2 w.entries b.index);
   }
     where
-      beyond : (i : ℕ) (entry : Entry) (w : IsInMember m l c i entry) (b : Behind i entry w) (at : ℕ) → w.at ≡ at → (at < members_begin w.entries (length b.bytes)) ⊎ (length b.bytes ≡ at + 1) ⊎ (length b.bytes ≡ at) → ⊥
+      beyond : (i : ℕ) (entry : Entry) (w : IsInMember m l c i entry) (b : Following i entry w) (at : ℕ) → w.at ≡ at → (at < members_begin w.entries (length b.bytes)) ⊎ (length b.bytes ≡ at + 1) ⊎ (length b.bytes ≡ at) → ⊥
       beyond i entry w b at is (inl h) = omega (arith, b.first, w.begin, is)
       beyond i entry w b at is (inr (inl h)) = b.unlike (omega (arith, is, h))
       beyond i entry w b at is (inr (inr h)) = omega (arith, b.within, is, h)
 
-  of_needed : (s : Script) (before : List Module) (name : List ℕ) (e : Refusal) → IsScriptIn m l.script s → is_library_in m name ≡ true → IsOfNeeded (Some m) s before (Some c) name e → NamesMember m l c e
+  of_needed : (s : Script) (before : List Module) (name : List ℕ) (e : LinkCommandFault) → IsScriptIn m l.script s → is_library_in m name ≡ true → IsOfNeeded (Some m) s before (Some c) name e → NamesMember m l c e
   of_needed s before name e read kind h =
       let p = h.named in
       let is : name ≡ c.name = sym p.1.0 in
@@ -203,10 +203,10 @@ module _ (m : Files) (l : Linking) (c : FailedCall) (tells : TellsPart m c) wher
           begin = p.1.3;
           end = p.1.4;
         };
-        says = ap (refusal_message l) p.0 ∙ ap (λ (n : List ℕ). failure_of (member_module n h.entry.name)) is;
+        says = ap (error_message l) p.0 ∙ ap (λ (n : List ℕ). failure_of (member_module n h.entry.name)) is;
       }
 
-  of_input : (s : Script) (before : List Module) (k : ℕ) (name : List ℕ) (e : Refusal) → IsScriptIn m l.script s → slice_get l.inputs k ≡ Some name → IsOfInput (Some m) s before (Some c) k name e → NamesFile m l c e ⊎ NamesMember m l c e
+  of_input : (s : Script) (before : List Module) (k : ℕ) (name : List ℕ) (e : LinkCommandFault) → IsScriptIn m l.script s → slice_get l.inputs k ≡ Some name → IsOfInput (Some m) s before (Some c) k name e → NamesFile m l c e ⊎ NamesMember m l c e
   of_input s before k name e read there (inl h) = inl (of_front k name e there h)
   of_input s before k name e read there (inr (inl h)) = inl (of_object k name e there h.0 h.1)
   of_input s before k name e read there (inr (inr h)) = of_library h.1
@@ -215,15 +215,15 @@ module _ (m : Files) (l : Linking) (c : FailedCall) (tells : TellsPart m c) wher
       of_library (inl i) = inl (of_index k name e there i)
       of_library (inr n) = inr (of_needed s before name e read h.0 n)
 
-  of_line : (e : Refusal) → IsOfLine (Some m) (Some c) l e → NamesFile m l c e ⊎ NamesMember m l c e
+  of_line : (e : LinkCommandFault) → IsOfLine (Some m) (Some c) l e → NamesFile m l c e ⊎ NamesMember m l c e
   of_line e (inl h) = inl (of_script e h)
   of_line e (inr h) = of_input h.0 h.2.3 h.2.0 h.2.1 e h.1 h.2.2 h.2.5
 
-  one_message : (e f : Refusal) → NamesFile m l c e ⊎ NamesMember m l c e → NamesFile m l c f ⊎ NamesMember m l c f → refusal_message l e ≡ refusal_message l f
+  one_message : (e f : LinkCommandFault) → NamesFile m l c e ⊎ NamesMember m l c e → NamesFile m l c f ⊎ NamesMember m l c f → error_message l e ≡ error_message l f
   one_message e f (inl x) (inl y) = x.says ∙ sym y.says
   one_message e f (inl x) (inr y) = absurd (x.apart y.place y.entry y.within)
   one_message e f (inr x) (inl y) = absurd (y.apart x.place x.entry x.within)
   one_message e f (inr x) (inr y) = x.says ∙ ap (λ (d : Entry). failure_of (member_module c.name d.name)) (one_member x.place y.place x.entry y.entry x.within y.within) ∙ sym y.says
 
-pub one_naming : OneNamingLaw
+pub one_naming : LinkNamingIsUnique
 one_naming m l c e f tells a b = one_message m l c tells e f (of_line m l c tells e a) (of_line m l c tells f b)

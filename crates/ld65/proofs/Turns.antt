@@ -5,21 +5,21 @@ use Rattle.std.proofs.lemmas.List.{take_more, append-nil}
 use Rattle.std.specs.FinMap.{get}
 use Rattle.std.specs.Option.{option_map_or}
 use Rattle.std.specs.Prelude.{IfSome, IsErrOf}
-use Rattle.base65.specs.Outcome.{◌>>=◌, First, Gives}
-use Rattle.base65.specs.Store.{Files, IsBlamedIn, Blamed}
+use Rattle.base65.specs.Outcome.{◌>>=◌, AndThen, Refines}
+use Rattle.base65.specs.Store.{Files, FailedWithin, LastFailure}
 use Rattle.object65.specs.declared.fault.ObjectFault.{ObjectFault}
 use Rattle.object65.specs.declared.fault.ObjectFault.TheVariants as object
 use Rattle.object65.specs.Reading.{in_file}
-use Rattle.object65.specs.Record.{is_outside as is_object_outside}
+use Rattle.object65.specs.Record.{is_system_error as is_object_system_error}
 use Rattle.library65.specs.declared.index.Entry.{Entry}
 use Rattle.script65.specs.declared.script.Script.{Script}
 use Rattle.link65.specs.Faults.{of_object}
 use Rattle.link65.specs.Programs.{Module}
-use Rattle.link65.specs.Standing.{Feeding, IsFed}
-use Rattle.ld65.specs.declared.refusal.Refusal.{Refusal}
-use Rattle.ld65.specs.Inner.Feeding.{AreChosen, FeedsInput, FeedsMembers}
-use Rattle.ld65.specs.Linkage.{AreInputs, IsInput, as_library, chosen, chosen_at, index_in, is_library, is_library_in, with_members}
-use Rattle.ld65.specs.Naming.{IsOfInput, IsOfInputs, IsOfLibrary, IsOfMember, IsOfObject, Names}
+use Rattle.link65.specs.Representation.{LinkerView, IsFed}
+use Rattle.ld65.specs.declared.fault.LinkCommandFault.{LinkCommandFault}
+use Rattle.ld65.specs.Internal.Feeding.{AreChosen, FeedsInput, FeedsMembers}
+use Rattle.ld65.specs.Linkage.{AreInputs, IsInput, as_library, selected_entries, chosen_at, index_in, is_library, is_library_in, with_members}
+use Rattle.ld65.specs.Naming.{IsOfInput, IsOfInputs, IsOfLibrary, IsOfMember, IsOfObject, NamesFailure}
 use Rattle.ld65.proofs.Chosen.{in_turn, indexed}
 use Rattle.ld65.proofs.Leaving.{err_is, stored}
 use Rattle.ld65.proofs.Objects.{file_failed}
@@ -27,37 +27,37 @@ use Rattle.ld65.proofs.Objects.{file_failed}
 -- ---- Within an object.
 
 -- what was asked for behind a place is asked for behind an earlier one
-pub later_in : (b : Blamed) (name : List ℕ) (begin at end : ℕ) → begin ≤ at → IsBlamedIn b name at end → IsBlamedIn b name begin end
+pub later_in : (b : LastFailure) (name : List ℕ) (begin at end : ℕ) → begin ≤ at → FailedWithin b name at end → FailedWithin b name begin end
 later_in None name begin at end le h = tt
 later_in (Some c) name begin at end le h = (h.0, h.1, h.2, omega (arith, le, h.3), h.4)
 
 -- a reading of an object's file that failed, as the linker's
-pub read_within : {A B : Type 0} (b : Blamed) (name : List ℕ) (begin at end : ℕ) (f : ObjectFault) → begin ≤ at → at ≤ end → (IsErrOf {T = A} (Err f) object.FileError → at ≤ end → IsBlamedIn b name at end) → IsErrOf {T = B} (Err (of_object f)) file_failed → IsBlamedIn b name begin end
+pub read_within : {A B : Type 0} (b : LastFailure) (name : List ℕ) (begin at end : ℕ) (f : ObjectFault) → begin ≤ at → at ≤ end → (IsErrOf {T = A} (Err f) object.FileError → at ≤ end → FailedWithin b name at end) → IsErrOf {T = B} (Err (of_object f)) file_failed → FailedWithin b name begin end
 read_within b name begin at end f le room within h =
     later_in b name begin at end le (within (ap Err (stored f (err_is _ _ h))) room)
 
 -- ---- The members of a library.
 
 -- the members before a turn were fed
-abbrev pub IsTurn : Option Files → List ℕ → List Entry → List ℕ → ℕ → Feeding → Feeding → Type 0
+abbrev pub IsTurn : Option Files → List ℕ → List Entry → List ℕ → ℕ → LinkerView → LinkerView → Type 0
 IsTurn known library es places k old now =
     (before : List Module) → IsFed old before
     → (modules : List Module) × IsFed now modules
-    × IfSome known (λ m. with_members old.script m library before (chosen es (take k places)) ≡ Ok modules)
+    × IfSome known (λ m. with_members old.script m library before (selected_entries es (take k places)) ≡ Ok modules)
 
-pub first_turn : (known : Option Files) (library : List ℕ) (es : List Entry) (places : List ℕ) (old : Feeding) → IsTurn known library es places 0 old old
+pub first_turn : (known : Option Files) (library : List ℕ) (es : List Entry) (places : List ℕ) (old : LinkerView) → IsTurn known library es places 0 old old
 first_turn known library es places old before stands = (before, stands, go known)
   where
-    go : (f : Option Files) → IfSome f (λ m. with_members old.script m library before (chosen es (take 0 places)) ≡ Ok before)
+    go : (f : Option Files) → IfSome f (λ m. with_members old.script m library before (selected_entries es (take 0 places)) ≡ Ok before)
     go None = tt
     go (Some m) = refl
 
-module _ (known now : Option Files) (library : List ℕ) (es : List Entry) (places : List ℕ) (k d : ℕ) (old mid new : Feeding) where
+module _ (known now : Option Files) (library : List ℕ) (es : List Entry) (places : List ℕ) (k d : ℕ) (old mid new : LinkerView) where
   -- with one more place
-  one_more : k < length places → chosen es (take (k + 1) places) ≡ chosen es (take k places) ++ chosen_at es (get_or places k d)
+  one_more : k < length places → selected_entries es (take (k + 1) places) ≡ selected_entries es (take k places) ++ chosen_at es (get_or places k d)
   one_more lt =
-      ap (chosen es) (take_more places k d lt) ∙ flat_map-append (chosen_at es) (take k places) (get_or places k d ∷ [])
-      ∙ ap (λ xs. chosen es (take k places) ++ xs) (append-nil (chosen_at es (get_or places k d)))
+      ap (selected_entries es) (take_more places k d lt) ∙ flat_map-append (chosen_at es) (take k places) (get_or places k d ∷ [])
+      ∙ ap (λ xs. selected_entries es (take k places) ++ xs) (append-nil (chosen_at es (get_or places k d)))
 
   pub next_turn : k < length places → now ≡ known → mid.script ≡ old.script → IsTurn known library es places k old mid → FeedsMembers now library (chosen_at es (get_or places k d)) mid new (Ok tt) → IsTurn known library es places (k + 1) old new
   next_turn lt same script is fed before stands =
@@ -65,12 +65,12 @@ module _ (known now : Option Files) (library : List ℕ) (es : List Entry) (plac
       let q = fed p.0 p.1 in
       (q.0, q.2, go p.0 q.0 known p.2 (rw same at q.1))
     where
-      go : (modules more : List Module) (f : Option Files) → IfSome f (λ m. with_members old.script m library before (chosen es (take k places)) ≡ Ok modules) → IfSome f (λ m. with_members mid.script m library modules (chosen_at es (get_or places k d)) ≡ Ok more) → IfSome f (λ m. with_members old.script m library before (chosen es (take (k + 1) places)) ≡ Ok more)
+      go : (modules more : List Module) (f : Option Files) → IfSome f (λ m. with_members old.script m library before (selected_entries es (take k places)) ≡ Ok modules) → IfSome f (λ m. with_members mid.script m library modules (chosen_at es (get_or places k d)) ≡ Ok more) → IfSome f (λ m. with_members old.script m library before (selected_entries es (take (k + 1) places)) ≡ Ok more)
       go modules more None h added = tt
       go modules more (Some m) h added =
           let this = chosen_at es (get_or places k d) in
           ap (with_members old.script m library before) (one_more lt)
-          ∙ in_turn known library [] old.script m before (chosen es (take k places)) this
+          ∙ in_turn known library [] old.script m before (selected_entries es (take k places)) this
           ∙ ap (λ r. r >>= (λ ms. with_members old.script m library ms this)) h
           ∙ subst (λ (s : Script). with_members s m library modules this ≡ Ok more) script added
 
@@ -81,7 +81,7 @@ stands_at (x ∷ xs) zero d h = refl
 stands_at (x ∷ xs) (suc k) d h = stands_at xs k d (omega (arith, h))
 
 -- the member at a turn was refused
-pub of_needed : (known : Option Files) (place : ℕ) (library : List ℕ) (es : List Entry) (places : List ℕ) (k d : ℕ) (entry : Entry) (old mid : Feeding) (b : Blamed) (e : Refusal) (input : ℕ) → IfSome known (λ m. as_library place (index_in m library) ≡ Ok es) → AreChosen es places old → k < length places → Some entry ≡ slice_get es (get_or places k d) → IsTurn known library es places k old mid → (before : List Module) → IsFed old before → (modules : List Module) × IsFed mid modules × (Names (IsOfMember b library entry) e → Names (IsOfLibrary known old.script before b input library) e)
+pub of_needed : (known : Option Files) (place : ℕ) (library : List ℕ) (es : List Entry) (places : List ℕ) (k d : ℕ) (entry : Entry) (old mid : LinkerView) (b : LastFailure) (e : LinkCommandFault) (input : ℕ) → IfSome known (λ m. as_library place (index_in m library) ≡ Ok es) → AreChosen es places old → k < length places → Some entry ≡ slice_get es (get_or places k d) → IsTurn known library es places k old mid → (before : List Module) → IsFed old before → (modules : List Module) × IsFed mid modules × (NamesFailure (IsOfMember b library entry) e → NamesFailure (IsOfLibrary known old.script before b input library) e)
 of_needed known place library es places k d entry old mid b e input read chosen_so lt there is before stands =
     let p = is before stands in (
       p.0,
@@ -113,12 +113,12 @@ inputs_more s m k before [] modules name more is this =
 inputs_more s m k before (x ∷ xs) modules name more is this =
     go is.0 (λ ms next. inputs_more s m (k + 1) ms xs modules name more next (subst (λ (n : ℕ). IsInput s m n modules name (Ok more)) (omega arith) this)) is.1 is.2
   where
-    go : (q : Result (List Module) Refusal) → ((ms : List Module) → AreInputs s m (k + 1) ms xs (Ok modules) → AreInputs s m (k + 1) ms (xs ++ name ∷ []) (Ok more)) → IsInput s m k before x q → First q (λ ms. AreInputs s m (k + 1) ms xs) (Ok modules) → AreInputs s m k before (x ∷ xs ++ name ∷ []) (Ok more)
+    go : (q : Result (List Module) LinkCommandFault) → ((ms : List Module) → AreInputs s m (k + 1) ms xs (Ok modules) → AreInputs s m (k + 1) ms (xs ++ name ∷ []) (Ok more)) → IsInput s m k before x q → AndThen q (λ ms. AreInputs s m (k + 1) ms xs) (Ok modules) → AreInputs s m k before (x ∷ xs ++ name ∷ []) (Ok more)
     go (Ok ms) rest first next = (Ok ms, first, rest ms next)
     go (Err e) rest first next = absurd cc
 
 -- the inputs before a turn were fed
-abbrev pub IsInputTurn : Option Files → List (List ℕ) → ℕ → Feeding → Feeding → Type 0
+abbrev pub IsInputTurn : Option Files → List (List ℕ) → ℕ → LinkerView → LinkerView → Type 0
 IsInputTurn known names k old now =
     (before : List Module) → IsFed old before
     → (modules : List Module) × IsFed now modules
@@ -142,8 +142,8 @@ item (y ∷ ys) (suc k) x h = item ys k x h
 with_next : (xs : List (List ℕ)) (k : ℕ) (x : List ℕ) → slice_get xs k ≡ Some x → take (k + 1) xs ≡ take k xs ++ x ∷ []
 with_next xs k x h = take_more xs k x (within xs k x h) ∙ ap (λ z. take k xs ++ z ∷ []) (item xs k x h)
 
-module _ (known now : Option Files) (names : List (List ℕ)) (k : ℕ) (name : List ℕ) (old mid : Feeding) (there : slice_get names k ≡ Some name) (same : now ≡ known) (script : mid.script ≡ old.script) (is : IsInputTurn known names k old mid) where
-  pub next_input : (new : Feeding) → FeedsInput now k name mid new (Ok tt) → IsInputTurn known names (k + 1) old new
+module _ (known now : Option Files) (names : List (List ℕ)) (k : ℕ) (name : List ℕ) (old mid : LinkerView) (there : slice_get names k ≡ Some name) (same : now ≡ known) (script : mid.script ≡ old.script) (is : IsInputTurn known names k old mid) where
+  pub next_input : (new : LinkerView) → FeedsInput now k name mid new (Ok tt) → IsInputTurn known names (k + 1) old new
   next_input new fed before stands =
       let p = is before stands in
       let q = fed p.0 p.1 in
@@ -158,7 +158,7 @@ module _ (known now : Option Files) (names : List (List ℕ)) (k : ℕ) (name : 
           (subst (λ (n : ℕ). IsInput old.script m n modules name (Ok more)) here (subst (λ (s : Script). IsInput s m k modules name (Ok more)) script added)))
 
   -- the input at a turn was refused
-  pub of_inputs : (b : Blamed) (e : Refusal) (before : List Module) → IsFed old before → (modules : List Module) × IsFed mid modules × (Names (IsOfInput now mid.script modules b k name) e → Names (IsOfInputs known old.script before b names) e)
+  pub of_inputs : (b : LastFailure) (e : LinkCommandFault) (before : List Module) → IsFed old before → (modules : List Module) × IsFed mid modules × (NamesFailure (IsOfInput now mid.script modules b k name) e → NamesFailure (IsOfInputs known old.script before b names) e)
   of_inputs b e before stands =
       let p = is before stands in (
         p.0,
@@ -168,21 +168,21 @@ module _ (known now : Option Files) (names : List (List ℕ)) (k : ℕ) (name : 
 
 -- ---- An input, by its front.
 
-pub kind : (known : Option Files) (name : List ℕ) (b : Bool) → IfSome known (λ m. Gives is_object_outside (λ (b : Bool). b) (Ok b) (in_file (get m name) (λ bytes. Ok (is_library bytes)))) → IfSome known (λ m. is_library_in m name ≡ b)
+pub kind : (known : Option Files) (name : List ℕ) (b : Bool) → IfSome known (λ m. Refines is_object_system_error (λ (b : Bool). b) (Ok b) (in_file (get m name) (λ bytes. Ok (is_library bytes)))) → IfSome known (λ m. is_library_in m name ≡ b)
 kind None name b h = tt
 kind (Some m) name b h = go (get m name) h
   where
-    go : (f : Option (List ℕ)) → Gives is_object_outside (λ (b : Bool). b) (Ok b) (in_file f (λ bytes. Ok (is_library bytes))) → option_map_or is_library f false ≡ b
+    go : (f : Option (List ℕ)) → Refines is_object_system_error (λ (b : Bool). b) (Ok b) (in_file f (λ bytes. Ok (is_library bytes))) → option_map_or is_library f false ≡ b
     go None h = absurd cc
     go (Some bytes) h = cc
 
 module _ (known : Option Files) (s : Script) (place : ℕ) (name : List ℕ) where
   -- what a refusal names, of an object, as of an input
-  pub by_object : (modules : List Module) (b : Blamed) (r : Result (Unit {0}) Refusal) → IfSome known (λ m. is_library_in m name ≡ false) → IfErr r (Names (IsOfObject b place name)) → IfErr r (Names (IsOfInput known s modules b place name))
+  pub by_object : (modules : List Module) (b : LastFailure) (r : Result (Unit {0}) LinkCommandFault) → IfSome known (λ m. is_library_in m name ≡ false) → IfErr r (NamesFailure (IsOfObject b place name)) → IfErr r (NamesFailure (IsOfInput known s modules b place name))
   by_object modules b (Ok u) kind h = tt
   by_object modules b (Err e) kind h = λ failed. inr (inl (kind, h failed))
 
 -- (the files are as before)
-pub by_library : (known now : Option Files) (s : Script) (place : ℕ) (name : List ℕ) → now ≡ known → (modules : List Module) (b : Blamed) (r : Result (Unit {0}) Refusal) → IfSome known (λ m. is_library_in m name ≡ true) → IfErr r (Names (IsOfLibrary now s modules b place name)) → IfErr r (Names (IsOfInput known s modules b place name))
+pub by_library : (known now : Option Files) (s : Script) (place : ℕ) (name : List ℕ) → now ≡ known → (modules : List Module) (b : LastFailure) (r : Result (Unit {0}) LinkCommandFault) → IfSome known (λ m. is_library_in m name ≡ true) → IfErr r (NamesFailure (IsOfLibrary now s modules b place name)) → IfErr r (NamesFailure (IsOfInput known s modules b place name))
 by_library known now s place name same modules b (Ok u) kind h = tt
 by_library known now s place name same modules b (Err e) kind h = λ failed. inr (inr (kind, subst (λ (f : Option Files). IsOfLibrary f s modules b place name e) same (h failed)))

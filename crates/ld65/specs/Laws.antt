@@ -2,7 +2,7 @@
 use Rattle.std.specs.Prelude.{◌≡◌, ◌≢◌, ◌+◌, ◌-◌, List, length, Some, Result, Ok, IfSome}
 use Rattle.std.specs.FinMap.{get}
 use Rattle.std.specs.List.{AllByRecursion}
-use Rattle.base65.specs.Own.{IsOwn}
+use Rattle.base65.specs.SystemErrors.{IsNoSystemError}
 use Rattle.base65.specs.Store.{FailedCall, Files}
 use Rattle.library65.specs.declared.index.Entry.{Entry}
 use Rattle.script65.specs.declared.script.Script.{Script}
@@ -10,20 +10,20 @@ use Rattle.link65.specs.declared.linking.Linked.{Linked}
 use Rattle.cli65.specs.Line.{Linking}
 use Rattle.ld65.specs.Linkage.{IsLinked, IsLinkedBy, index_in}
 use Rattle.ld65.specs.Naming.{IsOfLine}
-use Rattle.ld65.specs.Refusals.{is_outside, refusal_message}
-use Rattle.ld65.specs.declared.refusal.Refusal.{Refusal}
+use Rattle.ld65.specs.Faults.{is_system_error, error_message}
+use Rattle.ld65.specs.declared.fault.LinkCommandFault.{LinkCommandFault}
 
 -- by any script, what a line asks for of any files comes to something, and to no fault from outside
-abbrev pub SomeScriptedLinkLaw : Type 0
-SomeScriptedLinkLaw =
+abbrev pub ScriptedLinkExists : Type 0
+ScriptedLinkExists =
     (m : Files) (l : Linking) (s : Script) →
-    (r : Result Linked Refusal) × IsLinkedBy m l s r × IsOwn is_outside r
+    (r : Result Linked LinkCommandFault) × IsLinkedBy m l s r × IsNoSystemError is_system_error r
 
 -- so does what it asks for by the script that it names
-abbrev pub SomeLinkLaw : Type 0
-SomeLinkLaw =
+abbrev pub CommandLinkExists : Type 0
+CommandLinkExists =
     (m : Files) (l : Linking) →
-    (r : Result Linked Refusal) × IsLinked m l r × IsOwn is_outside r
+    (r : Result Linked LinkCommandFault) × IsLinked m l r × IsNoSystemError is_system_error r
 
 -- The place of a failed call tells which part of a library it asked for: it isn't where a member ends, which is where the next
 -- one begins, nor that of the file's last byte, which both the index and the last member ask for.
@@ -33,7 +33,7 @@ TellsPart m c =
     AllByRecursion (λ e. c.at ≢ Some (e.place + e.size)) es × IfSome (get m c.name) (λ bytes. c.at ≢ Some (length bytes - 1))
 
 -- so a call that failed has one message at most
-abbrev pub OneNamingLaw : Type 0
-OneNamingLaw =
-    (m : Files) (l : Linking) (c : FailedCall) (e f : Refusal) → TellsPart m c →
-    IsOfLine (Some m) (Some c) l e → IsOfLine (Some m) (Some c) l f → refusal_message l e ≡ refusal_message l f
+abbrev pub LinkNamingIsUnique : Type 0
+LinkNamingIsUnique =
+    (m : Files) (l : Linking) (c : FailedCall) (e f : LinkCommandFault) → TellsPart m c →
+    IsOfLine (Some m) (Some c) l e → IsOfLine (Some m) (Some c) l f → error_message l e ≡ error_message l f

@@ -1,5 +1,5 @@
-pub mod Inner
+pub mod Internal
 pub mod Laws
 pub mod Linkage
 pub mod Naming
-pub mod Refusals
+pub mod Faults

@@ -4,7 +4,7 @@ use Rattle.std.specs.FinMap.{get}
 use Rattle.std.specs.List.{flat_map}
 use Rattle.std.specs.Option.{option_map_or}
 use Rattle.std.specs.Str.{bytes_eq}
-use Rattle.base65.specs.Outcome.{◌>>=◌, First}
+use Rattle.base65.specs.Outcome.{◌>>=◌, AndThen}
 use Rattle.base65.specs.Store.{Files}
 use Rattle.base65.specs.declared.store.StoreFault.TheVariants.{FileNotFound}
 use Rattle.object65.specs.declared.object.Object.{Object}
@@ -22,28 +22,28 @@ use Rattle.link65.specs.declared.linking.Linked.{Linked}
 use Rattle.link65.specs.Names.{given_names, open_names}
 use Rattle.link65.specs.Links.{LinkOf, names_once}
 use Rattle.link65.specs.Programs.{Module, program_of}
-use Rattle.link65.specs.Standing.{agreed, as_link, joined as joined_to, module_of}
+use Rattle.link65.specs.Representation.{agreeing_object, as_link, module_without_duplicates as joined_to, module_of}
 use Rattle.cli65.specs.Line.{Linking}
-use Rattle.cli65.specs.Messages.{joined}
-use Rattle.ld65.specs.declared.refusal.Refusal.{Refusal}
-use Rattle.ld65.specs.declared.refusal.Refusal.TheVariants as refusal
-use Rattle.ld65.specs.Refusals.{refusal_at, refusal_in}
+use Rattle.cli65.specs.Messages.{concat_texts}
+use Rattle.ld65.specs.declared.fault.LinkCommandFault.{LinkCommandFault}
+use Rattle.ld65.specs.declared.fault.LinkCommandFault.TheVariants as refusal
+use Rattle.ld65.specs.Faults.{refusal_at, refusal_in}
 
 -- the faults of the parts as the command's; an input is named by its place in the line
-abbrev pub as_script : Result Script ScriptFault → Result Script Refusal
+abbrev pub as_script : Result Script ScriptFault → Result Script LinkCommandFault
 as_script (Ok s) = Ok s
 as_script (Err e) = Err (refusal.Script e)
 
-abbrev pub as_library : {A : Type 0} → ℕ → Result A LibraryFault → Result A Refusal
+abbrev pub as_library : {A : Type 0} → ℕ → Result A LibraryFault → Result A LinkCommandFault
 as_library k (Ok x) = Ok x
 as_library k (Err e) = Err (refusal.Library k e)
 
-abbrev pub as_refusal : {A : Type 0} → Result A LinkFault → Result A Refusal
+abbrev pub as_refusal : {A : Type 0} → Result A LinkFault → Result A LinkCommandFault
 as_refusal (Ok x) = Ok x
 as_refusal (Err e) = Err (refusal.Link e)
 
 -- the bytes of a script's file
-abbrev pub text_of : Option (List ℕ) → Result (List ℕ) Refusal
+abbrev pub text_of : Option (List ℕ) → Result (List ℕ) LinkCommandFault
 text_of None = Err (refusal.ScriptFile FileNotFound)
 text_of (Some bytes) = Ok bytes
 
@@ -72,7 +72,7 @@ file_input name = record { file = name; begin = 0; end = no_limit; name = name; 
 
 -- the module of a library's member: `library(member)`
 abbrev pub member_module : List ℕ → List ℕ → List ℕ
-member_module library name = joined (library ∷ codes "(" ∷ name ∷ codes ")" ∷ [])
+member_module library name = concat_texts (library ∷ codes "(" ∷ name ∷ codes ")" ∷ [])
 
 abbrev pub member_input : List ℕ → Entry → Input
 member_input library e =
@@ -84,23 +84,23 @@ object_in m i = in_file (get m i.file) (object_at i.begin i.end)
 -- The object behind other modules: first its own faults count, then an entry that disagrees with it, then a name that
 -- is given again.
 abbrev pub added_in : Script → List Module → Files → Input → Result Object LinkFault
-added_in s before m i = as_link (object_in m i) >>= agreed i.entry >>= joined_to s before i.name
+added_in s before m i = as_link (object_in m i) >>= agreeing_object i.entry >>= joined_to s before i.name
 
 -- the modules with that of the object, or what its fault is
-abbrev pub behind : (LinkFault → Refusal) → List Module → List ℕ → Result Object LinkFault → Result (List Module) Refusal
-behind named before name (Ok o) = Ok (before ++ module_of name o ∷ [])
-behind named before name (Err e) = Err (named e)
+abbrev pub modules_after : (LinkFault → LinkCommandFault) → List Module → List ℕ → Result Object LinkFault → Result (List Module) LinkCommandFault
+modules_after named before name (Ok o) = Ok (before ++ module_of name o ∷ [])
+modules_after named before name (Err e) = Err (named e)
 
-abbrev pub with_file : Script → Files → ℕ → List Module → List ℕ → Result (List Module) Refusal
-with_file s m k before name = behind (refusal_at k) before name (added_in s before m (file_input name))
+abbrev pub with_file : Script → Files → ℕ → List Module → List ℕ → Result (List Module) LinkCommandFault
+with_file s m k before name = modules_after (refusal_at k) before name (added_in s before m (file_input name))
 
-abbrev pub with_member : Script → Files → List ℕ → List Module → Entry → Result (List Module) Refusal
+abbrev pub with_member : Script → Files → List ℕ → List Module → Entry → Result (List Module) LinkCommandFault
 with_member s m library before e =
-    behind (refusal_in (member_module library e.name)) before (member_module library e.name) (added_in s before m (member_input library e))
+    modules_after (refusal_in (member_module library e.name)) before (member_module library e.name) (added_in s before m (member_input library e))
 
 -- ---- The modules of the inputs.
 
-abbrev pub with_members : Script → Files → List ℕ → List Module → List Entry → Result (List Module) Refusal
+abbrev pub with_members : Script → Files → List ℕ → List Module → List Entry → Result (List Module) LinkCommandFault
 with_members s m library before [] = Ok before
 with_members s m library before (e ∷ es) = with_member s m library before e >>= (λ ms. with_members s m library ms es)
 
@@ -108,23 +108,23 @@ with_members s m library before (e ∷ es) = with_member s m library before e >>
 abbrev pub chosen_at : List Entry → ℕ → List Entry
 chosen_at es place = option_map_or (λ e. e ∷ []) (slice_get es place) []
 
-abbrev pub chosen : List Entry → List ℕ → List Entry
-chosen es places = flat_map (chosen_at es) places
+abbrev pub selected_entries : List Entry → List ℕ → List Entry
+selected_entries es places = flat_map (chosen_at es) places
 
 -- The members of an index that the modules before the library need, in the order in which they stand: the first exporters
 -- of the least set of names that has what these leave open, and with each name what its first exporter imports and
 -- they don't define.
-abbrev pub AreNeeded : Script → Files → List ℕ → List Module → List Entry → Result (List Module) Refusal → Type 0
+abbrev pub AreNeeded : Script → Files → List ℕ → List Module → List Entry → Result (List Module) LinkCommandFault → Type 0
 AreNeeded s m library before es r =
     (places : List ℕ) × IsSelection es (open_names s (program_of before)) (given_names s (program_of before)) places
-    × (r ≡ with_members s m library before (chosen es places))
+    × (r ≡ with_members s m library before (selected_entries es places))
 
 abbrev pub index_in : Files → List ℕ → Result (List Entry) LibraryFault
 index_in m library = in_library (get m library) index_at
 
 -- the needed members of a library at a place of the line, behind other modules
-abbrev pub IsLibraryInput : Script → Files → ℕ → List Module → List ℕ → Result (List Module) Refusal → Type 0
-IsLibraryInput s m k before library r = First (as_library k (index_in m library)) (AreNeeded s m library before) r
+abbrev pub IsLibraryInput : Script → Files → ℕ → List Module → List ℕ → Result (List Module) LinkCommandFault → Type 0
+IsLibraryInput s m k before library r = AndThen (as_library k (index_in m library)) (AreNeeded s m library before) r
 
 -- a file that begins with these bytes is a library, any other an object
 abbrev pub library_mark : List ℕ
@@ -141,32 +141,32 @@ ByKind true Library Object = Library
 ByKind false Library Object = Object
 
 -- the modules behind an input at a place of the line
-abbrev pub IsInput : Script → Files → ℕ → List Module → List ℕ → Result (List Module) Refusal → Type 0
+abbrev pub IsInput : Script → Files → ℕ → List Module → List ℕ → Result (List Module) LinkCommandFault → Type 0
 IsInput s m k before name r =
     ByKind (is_library_in m name) (IsLibraryInput s m k before name r) (r ≡ with_file s m k before name)
 
 -- The modules of inputs behind others, the first of them at a place of the line; or the first fault of the first input
 -- that has one.
-abbrev pub AreInputs : Script → Files → ℕ → List Module → List (List ℕ) → Result (List Module) Refusal → Type 0
+abbrev pub AreInputs : Script → Files → ℕ → List Module → List (List ℕ) → Result (List Module) LinkCommandFault → Type 0
 AreInputs s m k before [] r = r ≡ Ok before
 AreInputs s m k before (name ∷ names) r =
-    (q : Result (List Module) Refusal) × IsInput s m k before name q × First q (λ ms. AreInputs s m (k + 1) ms names) r
+    (q : Result (List Module) LinkCommandFault) × IsInput s m k before name q × AndThen q (λ ms. AreInputs s m (k + 1) ms names) r
 
 -- ---- The link.
 
 -- what modules come to
-abbrev pub LinksTo : Linking → Script → List Module → Result Linked Refusal → Type 0
+abbrev pub LinksTo : Linking → Script → List Module → Result Linked LinkCommandFault → Type 0
 LinksTo l s ms r = (q : Result Linked LinkFault) × LinkOf (output_of l) s ms q × (r ≡ as_refusal q)
 
 -- the modules of a line's inputs, and what they come to
-abbrev pub IsInputLink : Files → Linking → Script → Result Linked Refusal → Type 0
-IsInputLink m l s r = (q : Result (List Module) Refusal) × AreInputs s m 0 [] l.inputs q × First q (LinksTo l s) r
+abbrev pub IsInputLink : Files → Linking → Script → Result Linked LinkCommandFault → Type 0
+IsInputLink m l s r = (q : Result (List Module) LinkCommandFault) × AreInputs s m 0 [] l.inputs q × AndThen q (LinksTo l s) r
 
 -- the script's own names, then the inputs in order, then the link
-abbrev pub IsLinkedBy : Files → Linking → Script → Result Linked Refusal → Type 0
-IsLinkedBy m l s r = First (as_refusal (names_once s (program_of []))) (λ u. IsInputLink m l s) r
+abbrev pub IsLinkedBy : Files → Linking → Script → Result Linked LinkCommandFault → Type 0
+IsLinkedBy m l s r = AndThen (as_refusal (names_once s (program_of []))) (λ u. IsInputLink m l s) r
 
 -- What a line asks for, or why it isn't linked: first the script, then the inputs, then what they are linked to.
-abbrev pub IsLinked : Files → Linking → Result Linked Refusal → Type 0
+abbrev pub IsLinked : Files → Linking → Result Linked LinkCommandFault → Type 0
 IsLinked m l r =
-    First (text_of (get m l.script)) (λ text u. (q : Result Script ScriptFault) × IsScript text q × First (as_script q) (IsLinkedBy m l) u) r
+    AndThen (text_of (get m l.script)) (λ text u. (q : Result Script ScriptFault) × IsScript text q × AndThen (as_script q) (IsLinkedBy m l) u) r

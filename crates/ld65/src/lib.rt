@@ -1,11 +1,11 @@
 //! The command ld65: what a line of it comes to.
 #![tactic(auto)]
 
+mod fault;
 pub mod laws;
 mod linking;
 mod members;
-mod refusal;
 
+pub use fault::{LinkCommandFault, error_message};
 pub use link65::{LinkFault, Linked};
 pub use linking::link_files;
-pub use refusal::{Refusal, refusal_message};

@@ -1,28 +1,28 @@
 //! From the inputs of a line to what they are linked to.
 
 ghost use Rattle.std.specs.Prelude.{◌≡◌, ◌≤◌, [], List, ℕ, OnOk, Option, true, false, IfErr, IfOk, IfSome, IsErrOf, Ok, map};
-ghost use Rattle.base65.specs.Store.{PassesBy, Asks, IsBlamedIn};
+ghost use Rattle.base65.specs.Store.{PropagatesIoErrors, FailsAtLastCount, FailedWithin};
 ghost use Rattle.object65.specs.declared.fault.ObjectFault.TheVariants.{FileError};
 ghost use Rattle.object65.specs.Scanning.{start};
 ghost use Rattle.library65.specs.declared.index.Entry as index;
 ghost use Rattle.link65.specs.declared.fault.LinkFault.TheVariants.{Malformed};
 ghost use Rattle.link65.specs.Programs.{Module};
-ghost use Rattle.link65.specs.Standing.{IsFed, IsFeeding, Keeps, is_open};
-ghost use Rattle.ld65.specs.Inner.Feeding.{FeedsObject, FeedsRecords, input_of, FeedsFile, FeedsInput, FeedsInputs, LeavesBy, LeavesFed};
+ghost use Rattle.link65.specs.Representation.{IsFed, IsFeeding, ConfigFrame, is_open};
+ghost use Rattle.ld65.specs.Internal.Feeding.{FeedsObject, FeedsRecords, input_of, FeedsFile, FeedsInput, FeedsInputs, NamedStoreFrame, FeedFrame};
 ghost use Rattle.std.specs.FinMap.{get};
-ghost use Rattle.base65.specs.Outcome.{Gives, Finds};
-ghost use Rattle.object65.specs.Record.{is_outside as is_object_outside};
-ghost use Rattle.object65.specs.Reading.{Leaves, in_file};
+ghost use Rattle.base65.specs.Outcome.{Refines, RefinesProp};
+ghost use Rattle.object65.specs.Record.{is_system_error as is_object_system_error};
+ghost use Rattle.object65.specs.Reading.{StoreFrame, in_file};
 ghost use Rattle.ld65.specs.Linkage.{is_library, IsLinkedBy, IsLinked};
-ghost use Rattle.ld65.specs.Refusals.{is_failure, is_outside};
-ghost use Rattle.ld65.specs.Naming.{IsOfInput, IsOfInputs, IsOfLine, IsOfObject, IsOfScript, Names};
+ghost use Rattle.ld65.specs.Faults.{is_failure, is_system_error};
+ghost use Rattle.ld65.specs.Naming.{IsOfInput, IsOfInputs, IsOfLine, IsOfObject, IsOfScript, NamesFailure};
 ghost use Rattle.cli65.specs.Line.{linking};
-ghost use Rattle.ld65.specs.Inner.Texts.{script_text};
+ghost use Rattle.ld65.specs.Internal.Texts.{script_text};
 
+use crate::fault::LinkCommandFault;
 use crate::members::{Named, feed_library};
-use crate::refusal::Refusal;
-use base65::{Sequence, Store, read_front, read_full};
-use cli65::LinkLine;
+use base65::{ListVec, Store, read_front, read_full};
+use cli65::LinkArgs;
 use library65::Entry;
 use link65::{LinkFault, Linked, Linker};
 use object65::format::END;
@@ -55,16 +55,16 @@ fn feed_records<S: Store>(
     requires fresh { reader.old.ahead ≡ [] }
     ensures fed { FeedsRecords (S.files store.old) (input_of object.now) head linker.old linker.new result }
     ensures opened { is_open linker.new ≡ true }
-    ensures keeps { Keeps linker.old linker.new }
+    ensures keeps { ConfigFrame linker.old linker.new }
     ensures files { S.files store.new ≡ S.files store.old }
-    ensures kept { (modules : List Module) (called : List ℕ) (entry : Option index.Entry) →
+    ensures frame { (modules : List Module) (called : List ℕ) (entry : Option index.Entry) →
         IsFeeding linker.old modules called entry (start head.0) →
-        Leaves S.files S.failures S.blamed (Malformed FileError) object.now.file.now
+        StoreFrame S.files S.failures S.last_failure (Malformed FileError) object.now.file.now
         store.old store.new result }
     ensures within { (modules : List Module) (called : List ℕ) (entry : Option index.Entry) →
         IsFeeding linker.old modules called entry (start head.0) →
         IsErrOf result (Malformed FileError) → head.1 ≤ object.now.end →
-        IsBlamedIn (S.blamed store.new) object.now.file.now head.1 object.now.end }
+        FailedWithin (S.last_failure store.new) object.now.file.now head.1 object.now.end }
     ensures bound { IfOk result (λ end. (head.1 ≤ end) × (end ≤ object.now.end)) }
 {
     let (version, first) = head;
@@ -89,14 +89,14 @@ pub fn feed_object<S: Store>(
     requires { is_open linker.old ≡ false }
     ensures fed { FeedsObject (S.files store.old) (input_of object.now) linker.old linker.new result }
     ensures opened { OnOk result (is_open linker.new ≡ false) }
-    ensures keeps { Keeps linker.old linker.new }
+    ensures keeps { ConfigFrame linker.old linker.new }
     ensures files { S.files store.new ≡ S.files store.old }
-    ensures kept { (modules : List Module) → IsFed linker.old modules →
-        Leaves S.files S.failures S.blamed (Malformed FileError) object.now.file.now
+    ensures frame { (modules : List Module) → IsFed linker.old modules →
+        StoreFrame S.files S.failures S.last_failure (Malformed FileError) object.now.file.now
         store.old store.new result }
     ensures within { (modules : List Module) → IsFed linker.old modules →
         IsErrOf result (Malformed FileError) → object.now.begin ≤ object.now.end →
-        IsBlamedIn (S.blamed store.new) object.now.file.now object.now.begin object.now.end }
+        FailedWithin (S.last_failure store.new) object.now.file.now object.now.begin object.now.end }
 {
     let head = read_head(store, object.file, object.begin, object.end)?;
     linker.begin_module(object.name, head.0, object.entry)?;
@@ -111,9 +111,9 @@ const LIBRARY: [u8; 4] = [0x52, 0x36, 0x35, 0x6c];
 
 /// Whether a file begins as a library.
 fn is_library<S: Store>(store: &mut S, name: &str) -> Result<bool, ObjectFault>
-    ensures read { IfSome (S.files store.old) (λ m. Gives is_object_outside (λ b. b) result (in_file (get m name.now) (λ bytes. Ok (is_library bytes)))) }
-    ensures kept { Leaves S.files S.failures S.blamed FileError name.now store.old store.new result }
-    ensures within { IsErrOf result FileError → IsBlamedIn (S.blamed store.new) name.now 0 4 }
+    ensures read { IfSome (S.files store.old) (λ m. Refines is_object_system_error (λ b. b) result (in_file (get m name.now) (λ bytes. Ok (is_library bytes)))) }
+    ensures frame { StoreFrame S.files S.failures S.last_failure FileError name.now store.old store.new result }
+    ensures within { IsErrOf result FileError → FailedWithin (S.last_failure store.new) name.now 0 4 }
 {
     let mut front = [0u8; 4];
     let n = read_full(store, name, 0, &mut front)?;
@@ -126,11 +126,11 @@ fn feed_file<S: Store>(
     linker: &mut Linker,
     reader: &mut RecordReader,
     input: &Named<'_>,
-) -> Result<(), Refusal>
+) -> Result<(), LinkCommandFault>
     requires { is_open linker.old ≡ false }
     ensures fed { FeedsFile (S.files store.old) input.now.place input.now.name.now linker.old linker.new result }
-    ensures kept { LeavesFed S.files S.failures S.blamed
-        (λ _ b. Names (IsOfObject b input.now.place input.now.name.now))
+    ensures frame { FeedFrame S.files S.failures S.last_failure
+        (λ _ b. NamesFailure (IsOfObject b input.now.place input.now.name.now))
         store.old store.new linker.old linker.new result }
 {
     let object = ObjectInput {
@@ -142,7 +142,7 @@ fn feed_file<S: Store>(
     };
     match feed_object(store, linker, reader, &object) {
         Ok(()) => Ok(()),
-        Err(fault) => Err(Refusal::of_input(input.place, fault)),
+        Err(fault) => Err(LinkCommandFault::of_input(input.place, fault)),
     }
 }
 
@@ -153,18 +153,18 @@ fn feed_input<S: Store>(
     linker: &mut Linker,
     reader: &mut RecordReader,
     input: &Named<'_>,
-) -> Result<(), Refusal>
+) -> Result<(), LinkCommandFault>
     requires { is_open linker.old ≡ false }
     ensures fed { FeedsInput (S.files store.old) input.now.place input.now.name.now linker.old linker.new result }
-    ensures kept { LeavesFed S.files S.failures S.blamed
-        (λ before b. Names (IsOfInput (S.files store.old) linker.old.script before b
+    ensures frame { FeedFrame S.files S.failures S.last_failure
+        (λ before b. NamesFailure (IsOfInput (S.files store.old) linker.old.script before b
         input.now.place input.now.name.now))
         store.old store.new linker.old linker.new result }
 {
     match is_library(store, input.name) {
         Ok(true) => feed_library(alloc, store, linker, input),
         Ok(false) => feed_file(store, linker, reader, input),
-        Err(fault) => Err(Refusal::Object(input.place, fault)),
+        Err(fault) => Err(LinkCommandFault::Object(input.place, fault)),
     }
 }
 
@@ -174,11 +174,11 @@ fn feed_inputs<S: Store>(
     store: &mut S,
     linker: &mut Linker,
     inputs: &[&str],
-) -> Result<(), Refusal>
+) -> Result<(), LinkCommandFault>
     requires { is_open linker.old ≡ false }
     ensures fed { FeedsInputs (S.files store.old) (map (λ s. s.now) inputs.now) linker.old linker.new result }
-    ensures kept { LeavesFed S.files S.failures S.blamed
-        (λ first b. Names (IsOfInputs (S.files store.old) linker.old.script first b
+    ensures frame { FeedFrame S.files S.failures S.last_failure
+        (λ first b. NamesFailure (IsOfInputs (S.files store.old) linker.old.script first b
         (map (λ s. s.now) inputs.now)))
         store.old store.new linker.old linker.new result }
 {
@@ -196,12 +196,12 @@ const SCRIPT_LIMIT: usize = 1_048_576;
 fn link_inputs<S: Store>(
     alloc: Global,
     store: &mut S,
-    line: &LinkLine<'_>,
+    line: &LinkArgs<'_>,
     script: Script,
-) -> Result<Linked, Refusal>
-    ensures linked { IfSome (S.files store.old) (λ m. Finds is_outside (IsLinkedBy m (linking line.now) script) result) }
-    ensures kept { LeavesBy S.files S.failures S.blamed
-        (λ b. Names (IsOfInputs (S.files store.old) script [] b (linking line.now).inputs))
+) -> Result<Linked, LinkCommandFault>
+    ensures linked { IfSome (S.files store.old) (λ m. RefinesProp is_system_error (IsLinkedBy m (linking line.now) script) result) }
+    ensures frame { NamedStoreFrame S.files S.failures S.last_failure
+        (λ b. NamesFailure (IsOfInputs (S.files store.old) script [] b (linking line.now).inputs))
         store.old store.new result }
 {
     let output = line.output.unwrap_or("a.out");
@@ -211,13 +211,17 @@ fn link_inputs<S: Store>(
 }
 
 /// The script's bytes, no more of them than tell that it is too long.
-fn read_text<S: Store>(alloc: Global, store: &mut S, name: &str) -> Result<Sequence<u8>, Refusal>
-    ensures read { IfSome (S.files store.old) (λ m. Finds is_outside (λ r. r ≡ script_text m name.now) result) }
-    ensures kept { LeavesBy S.files S.failures S.blamed
-        (λ b. Names (IsOfScript b name.now)) store.old store.new result }
-    ensures asked { Asks is_outside (S.failures store.old) result }
+fn read_text<S: Store>(
+    alloc: Global,
+    store: &mut S,
+    name: &str,
+) -> Result<ListVec<u8>, LinkCommandFault>
+    ensures read { IfSome (S.files store.old) (λ m. RefinesProp is_system_error (λ r. r ≡ script_text m name.now) result) }
+    ensures frame { NamedStoreFrame S.files S.failures S.last_failure
+        (λ b. NamesFailure (IsOfScript b name.now)) store.old store.new result }
+    ensures at_last_count { FailsAtLastCount is_system_error (S.failures store.old) result }
 {
-    Ok(Sequence::from_vec(read_front(alloc, store, name, SCRIPT_LIMIT + 1)?))
+    Ok(ListVec::from_vec(read_front(alloc, store, name, SCRIPT_LIMIT + 1)?))
 }
 
 /// What the script and the inputs of a line are linked to: the files of areas, what is warned of, and the map. No
@@ -226,14 +230,14 @@ fn read_text<S: Store>(alloc: Global, store: &mut S, name: &str) -> Result<Seque
 pub fn link_files<S: Store>(
     alloc: Global,
     store: &mut S,
-    line: &LinkLine<'_>,
-) -> Result<Linked, Refusal>
-    ensures linked { IfSome (S.files store.old) (λ m. Finds is_outside (IsLinked m (linking line.now)) result) }
+    line: &LinkArgs<'_>,
+) -> Result<Linked, LinkCommandFault>
+    ensures linked { IfSome (S.files store.old) (λ m. RefinesProp is_system_error (IsLinked m (linking line.now)) result) }
     ensures files { S.files store.new ≡ S.files store.old }
-    ensures count { PassesBy is_failure (S.failures store.old) (S.failures store.new) result }
+    ensures count { PropagatesIoErrors is_failure (S.failures store.old) (S.failures store.new) result }
     ensures named { IfErr result
-        (Names (IsOfLine (S.files store.old) (S.blamed store.new) (linking line.now))) }
-    ensures asked { Asks is_outside (S.failures store.old) result }
+        (NamesFailure (IsOfLine (S.files store.old) (S.last_failure store.new) (linking line.now))) }
+    ensures at_last_count { FailsAtLastCount is_system_error (S.failures store.old) result }
 {
     let text = read_text(alloc, store, line.script)?;
     let script = read_script(alloc, text.as_slice())?;

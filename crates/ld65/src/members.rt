@@ -2,18 +2,18 @@
 
 ghost use Rattle.std.specs.Prelude.{◌≡◌, ◌+◌, ◌≤◌, List, IfErr, IfOk, IfSome, false, true, ◌∷◌, [], option_map, slice_get};
 ghost use Rattle.std.specs.List.{AllByRecursion};
-ghost use Rattle.base65.specs.Outcome.{Gives};
+ghost use Rattle.base65.specs.Outcome.{Refines};
 ghost use Rattle.object65.specs.Reading.{file_limit};
 ghost use Rattle.link65.specs.Programs.{Module};
-ghost use Rattle.link65.specs.Standing.{IsFed, is_open};
-ghost use Rattle.ld65.specs.Inner.Feeding.{AreChosen, FeedsLibrary, FeedsMembers, LeavesBy, LeavesFed};
+ghost use Rattle.link65.specs.Representation.{IsFed, is_open};
+ghost use Rattle.ld65.specs.Internal.Feeding.{AreChosen, FeedsLibrary, FeedsMembers, NamedStoreFrame, FeedFrame};
 ghost use Rattle.ld65.specs.Linkage.{as_library, index_in, member_module};
-ghost use Rattle.ld65.specs.Refusals.{is_failure, is_memory, is_outside};
-ghost use Rattle.ld65.specs.Naming.{IsOfIndex, IsOfLibrary, IsOfMember, Names};
+ghost use Rattle.ld65.specs.Faults.{is_failure, is_memory, is_system_error};
+ghost use Rattle.ld65.specs.Naming.{IsOfIndex, IsOfLibrary, IsOfMember, NamesFailure};
 
+use crate::fault::LinkCommandFault;
 use crate::linking::{ObjectInput, feed_object};
-use crate::refusal::Refusal;
-use base65::{Sequence, Store};
+use base65::{ListVec, Store};
 use cli65::join;
 use library65::{Entry, Index, read_index, select};
 use link65::Linker;
@@ -28,21 +28,25 @@ pub struct Named<'a> {
 }
 
 /// The index of a library.
-fn index_of<S: Store>(alloc: Global, store: &mut S, input: &Named<'_>) -> Result<Index, Refusal>
-    ensures read { IfSome (S.files store.old) (λ m. Gives is_outside (λ x. x.entries) result (as_library input.now.place (index_in m input.now.name.now))) }
+fn index_of<S: Store>(
+    alloc: Global,
+    store: &mut S,
+    input: &Named<'_>,
+) -> Result<Index, LinkCommandFault>
+    ensures read { IfSome (S.files store.old) (λ m. Refines is_system_error (λ x. x.entries) result (as_library input.now.place (index_in m input.now.name.now))) }
     ensures within { IfOk result (λ x. AllByRecursion (λ e. e.place + e.size ≤ file_limit) x.entries) }
-    ensures kept { LeavesBy S.files S.failures S.blamed
-        (λ b. Names (IsOfIndex (S.files store.old) b input.now.place input.now.name.now))
+    ensures frame { NamedStoreFrame S.files S.failures S.last_failure
+        (λ b. NamesFailure (IsOfIndex (S.files store.old) b input.now.place input.now.name.now))
         store.old store.new result }
 {
     match read_index(alloc, store, input.name) {
         Ok(index) => Ok(index),
-        Err(fault) => Err(Refusal::Library(input.place, fault)),
+        Err(fault) => Err(LinkCommandFault::Library(input.place, fault)),
     }
 }
 
 /// Where the members stand in an index that the script and the modules fed so far need.
-fn places_of(alloc: Global, linker: &Linker, index: &Index) -> Result<Vec<usize>, Refusal>
+fn places_of(alloc: Global, linker: &Linker, index: &Index) -> Result<Vec<usize>, LinkCommandFault>
     ensures chosen { IfOk result (λ places. AreChosen index.now.entries places.items linker.now) }
     ensures memory { (modules : List Module) → IsFed linker.now modules → IfErr result (λ e. is_memory e ≡ true) }
     ensures cause { IfErr result (λ e. is_failure e ≡ false) }
@@ -51,19 +55,19 @@ fn places_of(alloc: Global, linker: &Linker, index: &Index) -> Result<Vec<usize>
     let defined = linker.defined_names()?;
     match select(alloc, index, &wanted, &defined) {
         Ok(places) => Ok(places),
-        Err(_) => Err(Refusal::OutOfMemory),
+        Err(_) => Err(LinkCommandFault::OutOfMemory),
     }
 }
 
 /// A member of a library: the library's file, and the member's entry in its index.
 #[derive(Clone, Copy)]
-struct Member<'a> {
+struct LibraryMember<'a> {
     library: &'a str,
     entry: &'a Entry,
 }
 
 /// The name of a member's module.
-fn module_name(alloc: Global, member: &Member<'_>) -> Result<Sequence<u8>, AllocError>
+fn module_name(alloc: Global, member: &LibraryMember<'_>) -> Result<ListVec<u8>, AllocError>
     ensures { IfOk result (λ name. name ≡ member_module member.now.library.now member.now.entry.now.name) }
 {
     join(
@@ -83,13 +87,13 @@ fn feed_member<S: Store>(
     store: &mut S,
     linker: &mut Linker,
     reader: &mut RecordReader,
-    member: &Member<'_>,
-) -> Result<(), Refusal>
+    member: &LibraryMember<'_>,
+) -> Result<(), LinkCommandFault>
     requires opened { is_open linker.old ≡ false }
     requires within { member.now.entry.now.place + member.now.entry.now.size ≤ file_limit }
     ensures fed { FeedsMembers (S.files store.old) member.now.library.now (member.now.entry.now ∷ []) linker.old linker.new result }
-    ensures kept { LeavesFed S.files S.failures S.blamed
-        (λ _ b. Names (IsOfMember b member.now.library.now member.now.entry.now))
+    ensures frame { FeedFrame S.files S.failures S.last_failure
+        (λ _ b. NamesFailure (IsOfMember b member.now.library.now member.now.entry.now))
         store.old store.new linker.old linker.new result }
 {
     let name = module_name(alloc, member)?;
@@ -102,7 +106,7 @@ fn feed_member<S: Store>(
     };
     match feed_object(store, linker, reader, &object) {
         Ok(()) => Ok(()),
-        Err(fault) => Err(Refusal::of_member(name, fault)),
+        Err(fault) => Err(LinkCommandFault::of_member(name, fault)),
     }
 }
 
@@ -119,11 +123,11 @@ pub fn feed_library<S: Store>(
     store: &mut S,
     linker: &mut Linker,
     input: &Named<'_>,
-) -> Result<(), Refusal>
+) -> Result<(), LinkCommandFault>
     requires { is_open linker.old ≡ false }
     ensures fed { FeedsLibrary (S.files store.old) input.now.place input.now.name.now linker.old linker.new result }
-    ensures kept { LeavesFed S.files S.failures S.blamed
-        (λ before b. Names (IsOfLibrary (S.files store.old) linker.old.script before b
+    ensures frame { FeedFrame S.files S.failures S.last_failure
+        (λ before b. NamesFailure (IsOfLibrary (S.files store.old) linker.old.script before b
         input.now.place input.now.name.now))
         store.old store.new linker.old linker.new result }
 {
@@ -134,7 +138,7 @@ pub fn feed_library<S: Store>(
     let mut reader = RecordReader::new();
     for place in places.as_slice() {
         if let Some(entry) = entry_at(entries, *place) {
-            let member = Member { library, entry };
+            let member = LibraryMember { library, entry };
             feed_member(alloc, store, linker, &mut reader, &member)?;
         }
     }

@@ -14,9 +14,9 @@ use Rattle.byteorder.specs.Endian.{little_bytes}
 use Rattle.object65.specs.Reading.{file_limit}
 use Rattle.base65.specs.Outcome.{◌>>=◌}
 use Rattle.library65.specs.declared.index.Entry.{Entry}
-use Rattle.library65.specs.declared.index.Listing.{Listing}
+use Rattle.library65.specs.declared.index.UnplacedEntry.{UnplacedEntry}
 use Rattle.library65.specs.Spelling.{are_member_names, is_among, is_member_name, is_name, IsGoodEntry, IsIndex, StandFrom, entry_bytes, index_bytes, library_head, name_bytes, names_bytes}
-use Rattle.library65.specs.Reading.{counted_at, end_at, head_at, entry_at, field_at, index_at, list_at, listing, listing_at, listings_at, member_name_at, name_at, number_at, placed, symbol_at, symbols_at}
+use Rattle.library65.specs.Reading.{counted_at, end_at, head_at, entry_at, field_at, index_at, list_at, listing, listing_at, listings_at, member_name_at, name_at, number_at, members_with_offsets, symbol_at, symbols_at}
 use Rattle.library65.proofs.Edits.{good_names, left, right}
 use Rattle.library65.proofs.Made.{entry_size}
 
@@ -82,7 +82,7 @@ pub member_name_again : (bytes : List ℕ) (at : ℕ) (names : List (List ℕ)) 
 unfolding member_name_at
 member_name_again bytes at names name good new s = rw (name_again bytes at name s, good, new) refl
 
-abbrev pub listing_of : Entry → Listing
+abbrev pub listing_of : Entry → UnplacedEntry
 listing_of e = listing e.name e.size e.exports e.imports
 
 pub listing_again : (bytes : List ℕ) (at : ℕ) (names : List (List ℕ)) (e : Entry) → is_member_name e.name ≡ true → is_among names e.name ≡ false → IsGoodEntry e → Stands bytes at (entry_bytes e) → listing_at names at bytes ≡ Ok (listing_of e, at + length (entry_bytes e))
@@ -128,21 +128,21 @@ pub fresh_none : (es : List Entry) → Fresh [] es
 fresh_none [] = tt
 fresh_none (e ∷ es) = (refl, fresh_none es)
 
-pub listings_again : (bytes : List ℕ) (at : ℕ) (before : List Listing) (es : List Entry) → are_member_names (map (λ e. e.name) es) ≡ true → Fresh (map (λ m. m.name) before) es → AllByRecursion IsGoodEntry es → Stands bytes at (flat_map entry_bytes es) → listings_at (length es) before at bytes ≡ Ok (before ++ map listing_of es, at + length (flat_map entry_bytes es))
+pub listings_again : (bytes : List ℕ) (at : ℕ) (before : List UnplacedEntry) (es : List Entry) → are_member_names (map (λ e. e.name) es) ≡ true → Fresh (map (λ m. m.name) before) es → AllByRecursion IsGoodEntry es → Stands bytes at (flat_map entry_bytes es) → listings_at (length es) before at bytes ≡ Ok (before ++ map listing_of es, at + length (flat_map entry_bytes es))
 listings_again bytes at before [] good fresh fits s = grind (arith, common_steps)
 listings_again bytes at before (e ∷ es) good fresh fits s =
     let g = good_names e.name (map (λ (x : Entry). x.name) es) good in
     let rest = second_part bytes at (entry_bytes e) (flat_map entry_bytes es) s in
     let next = at + length (entry_bytes e) in
-    let named : map (λ (m : Listing). m.name) (before ++ listing_of e ∷ []) ≡ map (λ (m : Listing). m.name) before ++ e.name ∷ [] = map-append (λ (m : Listing). m.name) before (listing_of e ∷ []) in
-    let fresh2 : Fresh (map (λ (m : Listing). m.name) (before ++ listing_of e ∷ [])) es = subst (λ ns. Fresh ns es) (sym named) (fresh_on (map (λ (m : Listing). m.name) before) e.name es fresh.1 g.new) in
+    let named : map (λ (m : UnplacedEntry). m.name) (before ++ listing_of e ∷ []) ≡ map (λ (m : UnplacedEntry). m.name) before ++ e.name ∷ [] = map-append (λ (m : UnplacedEntry). m.name) before (listing_of e ∷ []) in
+    let fresh2 : Fresh (map (λ (m : UnplacedEntry). m.name) (before ++ listing_of e ∷ [])) es = subst (λ ns. Fresh ns es) (sym named) (fresh_on (map (λ (m : UnplacedEntry). m.name) before) e.name es fresh.1 g.new) in
     let total : next + length (flat_map entry_bytes es) ≡ at + length (flat_map entry_bytes (e ∷ es)) = omega (arith, length-append (entry_bytes e) (flat_map entry_bytes es)) in
     ap (λ r. r >>= (λ m. listings_at (length es) (before ++ m.0 ∷ []) m.1 bytes)) (listing_again bytes at (map (λ m. m.name) before) e g.good fresh.0 fits.0 (first_part bytes at (entry_bytes e) (flat_map entry_bytes es) s))
     ∙ listings_again bytes next (before ++ listing_of e ∷ []) es g.rest fresh2 fits.1 rest
     ∙ ap (λ xs. Ok (xs, next + length (flat_map entry_bytes es))) (append_assoc before (listing_of e ∷ []) (map listing_of es))
     ∙ ap (λ k. Ok (before ++ map listing_of (e ∷ es), k)) total
 
-pub placed_again : (before : List Entry) (at : ℕ) (es : List Entry) → StandFrom at es → at + sum_by entry_size es ≤ file_limit → placed before at (map listing_of es) ≡ Ok (before ++ es, at + sum_by entry_size es)
+pub placed_again : (before : List Entry) (at : ℕ) (es : List Entry) → StandFrom at es → at + sum_by entry_size es ≤ file_limit → members_with_offsets before at (map listing_of es) ≡ Ok (before ++ es, at + sum_by entry_size es)
 placed_again before at [] stands le = grind (arith, common_steps, entry_size, append-nil)
 placed_again before at (e ∷ es) stands le =
     let total : sum_by entry_size (e ∷ es) ≡ e.size + sum_by entry_size es = sum_by-cons entry_size e es in
@@ -150,7 +150,7 @@ placed_again before at (e ∷ es) stands le =
     let same : entry_at at (listing_of e) ≡ e = ap (λ p. record e { place = p }) (sym stands.0) in
     let sum : at + e.size + sum_by entry_size es ≡ at + sum_by entry_size (e ∷ es) = omega arith in
     rw within
-    (ap (λ x. placed (before ++ x ∷ []) (at + e.size) (map listing_of es)) same
+    (ap (λ x. members_with_offsets (before ++ x ∷ []) (at + e.size) (map listing_of es)) same
     ∙ placed_again (before ++ e ∷ []) (at + e.size) es stands.1 (omega arith)
     ∙ ap (λ xs. Ok (xs, at + e.size + sum_by entry_size es)) (append_assoc before (e ∷ []) es)
     ∙ ap (λ k. Ok (before ++ e ∷ es, k)) sum)
@@ -187,6 +187,6 @@ index_again bytes es x =
     let end : 9 + length listed + sum_by entry_size es ≡ length bytes = omega arith in
     let stands : StandFrom (9 + length listed) es = subst (λ n. StandFrom n es) head x.places in
     let within : 9 + length listed + sum_by entry_size es ≤ file_limit = omega (arith, x.limit, end) in
-    ap (λ r. r >>= (λ l. placed [] l.1 l.0 >>= (λ p. end_at p.1 bytes >>= (λ u. Ok p.0)))) (list_again bytes es x)
+    ap (λ r. r >>= (λ l. members_with_offsets [] l.1 l.0 >>= (λ p. end_at p.1 bytes >>= (λ u. Ok p.0)))) (list_again bytes es x)
     ∙ ap (λ r. r >>= (λ p. end_at p.1 bytes >>= (λ u. Ok p.0))) (placed_again [] (9 + length listed) es stands within)
     ∙ ap (λ r. r >>= (λ u. Ok es)) (end_again bytes (9 + length listed + sum_by entry_size es) end)

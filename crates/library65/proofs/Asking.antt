@@ -6,14 +6,14 @@ use Rattle.std.specs.FinMap.{get}
 use Rattle.std.proofs.lemmas.Bool.Decides.{nat_tests}
 use Rattle.std.proofs.lemmas.List.{length-take}
 use Rattle.base65.specs.Outcome.{◌>>=◌}
-use Rattle.base65.specs.Store.{Blamed, Files, IsBlamedIn}
+use Rattle.base65.specs.Store.{LastFailure, Files, FailedWithin}
 use Rattle.object65.specs.Reading.{file_limit}
 use Rattle.library65.specs.declared.fault.LibraryFault.{LibraryFault}
 use Rattle.library65.specs.declared.fault.LibraryFault.TheVariants.{BadIndex, CutShort, FileError}
 use Rattle.library65.specs.declared.index.Entry.{Entry}
-use Rattle.library65.specs.declared.index.Listing.{Listing}
+use Rattle.library65.specs.declared.index.UnplacedEntry.{UnplacedEntry}
 use Rattle.library65.specs.Asking.{AsksAt, IsBefore, IsIndexPlace, IsInName, members_begin}
-use Rattle.library65.specs.Reading.{count_at, counted_at, end_at, entry_at, field_at, in_file, index_at, list_at, listing, listing_at, listings_at, member_name_at, name_at, number_at, placed, symbol_at, symbols_at}
+use Rattle.library65.specs.Reading.{count_at, counted_at, end_at, entry_at, field_at, in_file, index_at, list_at, listing, listing_at, listings_at, member_name_at, name_at, number_at, members_with_offsets, symbol_at, symbols_at}
 use Rattle.library65.specs.Spelling.{is_among, is_member_name, is_name}
 use Rattle.std.proofs.Math.Nat.{eq-or-lt_of_le}
 use Rattle.library65.proofs.Edits.{left, right}
@@ -77,7 +77,7 @@ member_some : (name : List ℕ) → is_member_name name ≡ true → 0 < length 
 member_some name e = grind (arith, common_steps, left, right, nat_tests)
 
 -- the parts of what is said of a member
-record Listed (bytes : List ℕ) (at : ℕ) (x : Listing × ℕ) : Type 0 where
+record Listed (bytes : List ℕ) (at : ℕ) (x : UnplacedEntry × ℕ) : Type 0 where
   name : List ℕ × ℕ
   named : name_at at bytes ≡ Ok name
   some : 0 < length name.0
@@ -87,7 +87,7 @@ record Listed (bytes : List ℕ) (at : ℕ) (x : Listing × ℕ) : Type 0 where
   imported : counted_at exports.1 bytes ≡ Ok imports
   ends : x.1 ≡ imports.1
 
-listed : (bytes : List ℕ) (at : ℕ) (names : List (List ℕ)) (x : Listing × ℕ) → listing_at names at bytes ≡ Ok x → Listed bytes at x
+listed : (bytes : List ℕ) (at : ℕ) (names : List (List ℕ)) (x : UnplacedEntry × ℕ) → listing_at names at bytes ≡ Ok x → Listed bytes at x
 unfolding listing_at
 listed bytes at names x e =
     let a = bound (member_name_at names at bytes) _ x e in
@@ -95,7 +95,7 @@ listed bytes at names x e =
     let c = bound (counted_at (a.0.1 + 4) bytes) _ x b.2 in
     let d = bound (counted_at c.0.1 bytes) _ x c.2 in
     let n = member_name_is bytes at names a.0 a.1 in
-    let made : ◌≡◌ {A = Listing × ℕ} (listing a.0.0 b.0 c.0.0 d.0.0, d.0.1) x = cc (d.2) in
+    let made : ◌≡◌ {A = UnplacedEntry × ℕ} (listing a.0.0 b.0 c.0.0 d.0.0, d.0.1) x = cc (d.2) in
     record {
       name = a.0;
       named = n.0;
@@ -104,18 +104,18 @@ listed bytes at names x e =
       exported = c.1;
       imports = d.0;
       imported = d.1;
-      ends = sym (ap (λ (y : Listing × ℕ). y.1) made);
+      ends = sym (ap (λ (y : UnplacedEntry × ℕ). y.1) made);
     }
 
-listing_later : (bytes : List ℕ) (at : ℕ) (names : List (List ℕ)) (x : Listing × ℕ) → listing_at names at bytes ≡ Ok x → at ≤ x.1
+listing_later : (bytes : List ℕ) (at : ℕ) (names : List (List ℕ)) (x : UnplacedEntry × ℕ) → listing_at names at bytes ≡ Ok x → at ≤ x.1
 listing_later bytes at names x e =
     let l = listed bytes at names x e in
     omega (arith, name_later bytes at l.name l.named, counted_later bytes (l.name.1 + 4) l.exports l.exported, counted_later bytes l.exports.1 l.imports l.imported, l.ends)
 
-listings_later : (n : ℕ) (bytes : List ℕ) (at : ℕ) (before : List Listing) (x : List Listing × ℕ) → listings_at n before at bytes ≡ Ok x → at ≤ x.1
-listings_later zero bytes at before x e = let same : ◌≡◌ {A = List Listing × ℕ} (before, at) x = cc e in omega (arith, ap (λ (y : List Listing × ℕ). y.1) same)
+listings_later : (n : ℕ) (bytes : List ℕ) (at : ℕ) (before : List UnplacedEntry) (x : List UnplacedEntry × ℕ) → listings_at n before at bytes ≡ Ok x → at ≤ x.1
+listings_later zero bytes at before x e = let same : ◌≡◌ {A = List UnplacedEntry × ℕ} (before, at) x = cc e in omega (arith, ap (λ (y : List UnplacedEntry × ℕ). y.1) same)
 listings_later (suc n) bytes at before x e =
-    let names = map (λ (m : Listing). m.name) before in
+    let names = map (λ (m : UnplacedEntry). m.name) before in
     let a = bound (listing_at names at bytes) (λ m. listings_at n (before ++ m.0 ∷ []) m.1 bytes) x e in
     omega (arith, listing_later bytes at names a.0 a.1, listings_later n bytes a.0.1 (before ++ a.0.0 ∷ []) x a.2)
 
@@ -174,9 +174,9 @@ module _ (bytes : List ℕ) (k : ℕ) where
         let next : counted_at exports.1 bytes ≡ Ok l.imports = subst (λ (y : List (List ℕ) × ℕ). counted_at y.1 bytes ≡ Ok l.imports) here l.imported in
         omega (arith, within l.imports next, l.ends)
 
-  pub listing_of : (n : ℕ) (at : ℕ) (before : List Listing) → IsBefore (listing_at (map (λ m. m.name) before) at) bytes k → IsBefore (listings_at (suc n) before at) bytes k
+  pub listing_of : (n : ℕ) (at : ℕ) (before : List UnplacedEntry) → IsBefore (listing_at (map (λ m. m.name) before) at) bytes k → IsBefore (listings_at (suc n) before at) bytes k
   listing_of n at before within x e =
-      let a = bound (listing_at (map (λ (m : Listing). m.name) before) at bytes) (λ m. listings_at n (before ++ m.0 ∷ []) m.1 bytes) x e in
+      let a = bound (listing_at (map (λ (m : UnplacedEntry). m.name) before) at bytes) (λ m. listings_at n (before ++ m.0 ∷ []) m.1 bytes) x e in
       omega (arith, within a.0 a.1, listings_later n bytes a.0.1 (before ++ a.0.0 ∷ []) x a.2)
 
   pub count_of_list : k ≤ 8 → IsBefore list_at bytes k
@@ -187,33 +187,33 @@ module _ (bytes : List ℕ) (k : ℕ) where
 
 -- ---- The whole index.
 
-placed_first : (at : ℕ) (ms : List Listing) (before : List Entry) (x : List Entry × ℕ) → placed before at ms ≡ Ok x → at ≤ x.1
+placed_first : (at : ℕ) (ms : List UnplacedEntry) (before : List Entry) (x : List Entry × ℕ) → members_with_offsets before at ms ≡ Ok x → at ≤ x.1
 placed_first at [] before x e = let same : ◌≡◌ {A = List Entry × ℕ} (before, at) x = cc e in omega (arith, ap (λ (y : List Entry × ℕ). y.1) same)
-placed_first at (m ∷ ms) before x e = let a = passes (nat_lt file_limit (at + m.size)) BadIndex (placed (before ++ entry_at at m ∷ []) (at + m.size) ms) x e in omega (arith, placed_first (at + m.size) ms (before ++ entry_at at m ∷ []) x a.1)
+placed_first at (m ∷ ms) before x e = let a = passes (nat_lt file_limit (at + m.size)) BadIndex (members_with_offsets (before ++ entry_at at m ∷ []) (at + m.size) ms) x e in omega (arith, placed_first (at + m.size) ms (before ++ entry_at at m ∷ []) x a.1)
 
 -- entries that were placed go on
-placed_behind : (at : ℕ) (ms : List Listing) (e : Entry) (before : List Entry) (x : List Entry × ℕ) → placed (e ∷ before) at ms ≡ Ok x → (end : ℕ) → members_begin x.0 end ≡ e.place
-placed_behind at [] e before x h end = let same : ◌≡◌ {A = List Entry × ℕ} (e ∷ before, at) x = cc h in ap (λ (y : List Entry × ℕ). members_begin y.0 end) (sym same)
-placed_behind at (m ∷ ms) e before x h end = let a = passes _ _ _ x h in placed_behind (at + m.size) ms e (before ++ entry_at at m ∷ []) x a.1 end
+placed_after : (at : ℕ) (ms : List UnplacedEntry) (e : Entry) (before : List Entry) (x : List Entry × ℕ) → members_with_offsets (e ∷ before) at ms ≡ Ok x → (end : ℕ) → members_begin x.0 end ≡ e.place
+placed_after at [] e before x h end = let same : ◌≡◌ {A = List Entry × ℕ} (e ∷ before, at) x = cc h in ap (λ (y : List Entry × ℕ). members_begin y.0 end) (sym same)
+placed_after at (m ∷ ms) e before x h end = let a = passes _ _ _ x h in placed_after (at + m.size) ms e (before ++ entry_at at m ∷ []) x a.1 end
 
-begins_at : (at : ℕ) (ms : List Listing) (x : List Entry × ℕ) → placed [] at ms ≡ Ok x → members_begin x.0 x.1 ≡ at
+begins_at : (at : ℕ) (ms : List UnplacedEntry) (x : List Entry × ℕ) → members_with_offsets [] at ms ≡ Ok x → members_begin x.0 x.1 ≡ at
 begins_at at [] x e = let same : ◌≡◌ {A = List Entry × ℕ} ([], at) x = cc e in ap (λ (y : List Entry × ℕ). members_begin y.0 y.1) (sym same)
-begins_at at (m ∷ ms) x e = let a = passes _ _ _ x e in placed_behind (at + m.size) ms (entry_at at m) [] x a.1 x.1
+begins_at at (m ∷ ms) x e = let a = passes _ _ _ x e in placed_after (at + m.size) ms (entry_at at m) [] x a.1 x.1
 
 -- the parts of an index
 pub record Indexed (bytes : List ℕ) (es : List Entry) : Type 0 where
-  pub list : List Listing × ℕ
+  pub list : List UnplacedEntry × ℕ
   pub listed : list_at bytes ≡ Ok list
   pub placed_to : List Entry × ℕ
-  pub places : placed [] list.1 list.0 ≡ Ok placed_to
+  pub places : members_with_offsets [] list.1 list.0 ≡ Ok placed_to
   pub ends : length bytes ≡ placed_to.1
   pub entries : placed_to.0 ≡ es
 
 pub indexed : (bytes : List ℕ) (es : List Entry) → index_at bytes ≡ Ok es → Indexed bytes es
 unfolding index_at
 indexed bytes es e =
-    let a = bound (list_at bytes) (λ l. placed [] l.1 l.0 >>= (λ p. end_at p.1 bytes >>= (λ u. Ok p.0))) es e in
-    let p = bound (placed [] a.0.1 a.0.0) (λ p. end_at p.1 bytes >>= (λ u. Ok p.0)) es a.2 in
+    let a = bound (list_at bytes) (λ l. members_with_offsets [] l.1 l.0 >>= (λ p. end_at p.1 bytes >>= (λ u. Ok p.0))) es e in
+    let p = bound (members_with_offsets [] a.0.1 a.0.0) (λ p. end_at p.1 bytes >>= (λ u. Ok p.0)) es a.2 in
     let u = bound (end_at p.0.1 bytes) (λ u. Ok p.0.0) es p.2 in
     record { list = a.0; listed = a.1; placed_to = p.0; places = p.1; ends = ended bytes p.0.1 u.0 u.1; entries = cc (u.2) }
 
@@ -224,11 +224,11 @@ module _ (bytes : List ℕ) (k : ℕ) where
       let begin : members_begin es (length bytes) ≡ x.list.1 = ap (members_begin es) x.ends ∙ ap (λ (ys : List Entry). members_begin ys x.placed_to.1) (sym x.entries) ∙ begins_at x.list.1 x.list.0 x.placed_to x.places in
       inl (omega (arith, begin, within x.list x.listed))
 
-  pub end_of_index : (list : List Listing × ℕ) (p : List Entry × ℕ) → list_at bytes ≡ Ok list → placed [] list.1 list.0 ≡ Ok p → 0 < p.1 → p.1 - 1 ≤ k → k ≤ p.1 → IsIndexPlace bytes k
+  pub end_of_index : (list : List UnplacedEntry × ℕ) (p : List Entry × ℕ) → list_at bytes ≡ Ok list → members_with_offsets [] list.1 list.0 ≡ Ok p → 0 < p.1 → p.1 - 1 ≤ k → k ≤ p.1 → IsIndexPlace bytes k
   end_of_index list p read places some low high es e =
       let x = indexed bytes es e in
       let same : x.list ≡ list = cc (x.listed, read) in
-      let here : placed [] list.1 list.0 ≡ Ok x.placed_to = subst (λ (l : List Listing × ℕ). placed [] l.1 l.0 ≡ Ok x.placed_to) same x.places in
+      let here : members_with_offsets [] list.1 list.0 ≡ Ok x.placed_to = subst (λ (l : List UnplacedEntry × ℕ). members_with_offsets [] l.1 l.0 ≡ Ok x.placed_to) same x.places in
       let to : x.placed_to ≡ p = cc (here, places) in
       let end : length bytes ≡ p.1 = x.ends ∙ ap (λ (y : List Entry × ℕ). y.1) to in
       inr (last (eq-or-lt_of_le high) end)
@@ -241,18 +241,18 @@ module _ (bytes : List ℕ) (k : ℕ) where
 
 -- what is so of a file's bytes is so of a place
 module _ (m : Files) (file bytes : List ℕ) (P Q : List ℕ → ℕ → Type 0) (so : (k : ℕ) → P bytes k → Q bytes k) where
-  told : (blamed : Blamed) → IfSome blamed (λ c. (at : ℕ) × (c.at ≡ Some at) × P bytes at) → IfSome blamed (λ c. (at : ℕ) × (c.at ≡ Some at) × Q bytes at)
+  told : (last_failure : LastFailure) → IfSome last_failure (λ c. (at : ℕ) × (c.at ≡ Some at) × P bytes at) → IfSome last_failure (λ c. (at : ℕ) × (c.at ≡ Some at) × Q bytes at)
   told None h = tt
   told (Some c) h = (h.0, h.1, so h.0 h.2)
 
-pub asks_on : (known now : Option Files) (blamed : Blamed) (file : List ℕ) (P Q : List ℕ → ℕ → Type 0) → now ≡ known → ((m : Files) (bytes : List ℕ) (k : ℕ) → known ≡ Some m → get m file ≡ Some bytes → P bytes k → Q bytes k) → AsksAt now blamed file P → AsksAt known blamed file Q
-asks_on known now blamed file P Q same so asks = go known refl (subst (λ (f : Option Files). AsksAt f blamed file P) same asks)
+pub asks_on : (known now : Option Files) (last_failure : LastFailure) (file : List ℕ) (P Q : List ℕ → ℕ → Type 0) → now ≡ known → ((m : Files) (bytes : List ℕ) (k : ℕ) → known ≡ Some m → get m file ≡ Some bytes → P bytes k → Q bytes k) → AsksAt now last_failure file P → AsksAt known last_failure file Q
+asks_on known now last_failure file P Q same so asks = go known refl (subst (λ (f : Option Files). AsksAt f last_failure file P) same asks)
   where
-    of : (m : Files) → known ≡ Some m → (b : Option (List ℕ)) → get m file ≡ b → IfSome b (λ bytes. IfSome blamed (λ c. (at : ℕ) × (c.at ≡ Some at) × P bytes at)) → IfSome b (λ bytes. IfSome blamed (λ c. (at : ℕ) × (c.at ≡ Some at) × Q bytes at))
+    of : (m : Files) → known ≡ Some m → (b : Option (List ℕ)) → get m file ≡ b → IfSome b (λ bytes. IfSome last_failure (λ c. (at : ℕ) × (c.at ≡ Some at) × P bytes at)) → IfSome b (λ bytes. IfSome last_failure (λ c. (at : ℕ) × (c.at ≡ Some at) × Q bytes at))
     of m is None there asks = tt
-    of m is (Some bytes) there asks = told m file bytes P Q (λ k. so m bytes k is there) blamed asks
+    of m is (Some bytes) there asks = told m file bytes P Q (λ k. so m bytes k is there) last_failure asks
 
-    go : (f : Option Files) → known ≡ f → AsksAt f blamed file P → AsksAt f blamed file Q
+    go : (f : Option Files) → known ≡ f → AsksAt f last_failure file P → AsksAt f last_failure file Q
     go None is asks = tt
     go (Some m) is asks = of m is (get m file) refl asks
 
@@ -260,18 +260,18 @@ asks_on known now blamed file P Q same so asks = go known refl (subst (λ (f : O
 abbrev pub IsBetween : ℕ → ℕ → List ℕ → ℕ → Type 0
 IsBetween begin end bytes at = (begin ≤ at) × (at ≤ end)
 
-pub asks_between : (known : Option Files) (blamed : Blamed) (file : List ℕ) (begin end : ℕ) → IsBlamedIn blamed file begin end → AsksAt known blamed file (IsBetween begin end)
-asks_between known blamed file begin end h = go known
+pub asks_between : (known : Option Files) (last_failure : LastFailure) (file : List ℕ) (begin end : ℕ) → FailedWithin last_failure file begin end → AsksAt known last_failure file (IsBetween begin end)
+asks_between known last_failure file begin end h = go known
   where
-    told_so : (b : Blamed) → IsBlamedIn b file begin end → (bytes : List ℕ) → IfSome b (λ c. (at : ℕ) × (c.at ≡ Some at) × IsBetween begin end bytes at)
+    told_so : (b : LastFailure) → FailedWithin b file begin end → (bytes : List ℕ) → IfSome b (λ c. (at : ℕ) × (c.at ≡ Some at) × IsBetween begin end bytes at)
     told_so None h bytes = tt
     told_so (Some c) h bytes = (h.1, h.2, (h.3, h.4))
 
-    of : (b : Option (List ℕ)) → IfSome b (λ bytes. IfSome blamed (λ c. (at : ℕ) × (c.at ≡ Some at) × IsBetween begin end bytes at))
+    of : (b : Option (List ℕ)) → IfSome b (λ bytes. IfSome last_failure (λ c. (at : ℕ) × (c.at ≡ Some at) × IsBetween begin end bytes at))
     of None = tt
-    of (Some bytes) = told_so blamed h bytes
+    of (Some bytes) = told_so last_failure h bytes
 
-    go : (f : Option Files) → AsksAt f blamed file (IsBetween begin end)
+    go : (f : Option Files) → AsksAt f last_failure file (IsBetween begin end)
     go None = tt
     go (Some m) = of (get m file)
 
@@ -294,40 +294,40 @@ leads_before rest all bytes k same within x e = within x (same ∙ e)
 pub fault_of : {T U : Type 0} (e : LibraryFault) → IsErrOf {T = T} (Err e) FileError → IsErrOf {T = U} (Err e) FileError
 fault_of e h = let is : e ≡ FileError = cc h in ap Err is
 
-module _ (known now : Option Files) (blamed : Blamed) (file : List ℕ) (same : now ≡ known) where
-  pub count_failed : (at : ℕ) → IsBlamedIn blamed file at (at + 3) → AsksAt known blamed file (IsBefore (counted_at at))
-  count_failed at h = asks_on known known blamed file (IsBetween at (at + 3)) (IsBefore (counted_at at)) refl (λ m bytes k is there b. count_of_symbols bytes k at b.1) (asks_between known blamed file at (at + 3) h)
+module _ (known now : Option Files) (last_failure : LastFailure) (file : List ℕ) (same : now ≡ known) where
+  pub count_failed : (at : ℕ) → FailedWithin last_failure file at (at + 3) → AsksAt known last_failure file (IsBefore (counted_at at))
+  count_failed at h = asks_on known known last_failure file (IsBetween at (at + 3)) (IsBefore (counted_at at)) refl (λ m bytes k is there b. count_of_symbols bytes k at b.1) (asks_between known last_failure file at (at + 3) h)
 
-  pub symbol_failed : (n i at end : ℕ) (names : List (List ℕ)) → i < n → Leads known file (symbols_at (n - i) names end) (counted_at at) → AsksAt now blamed file (IsInName end) → AsksAt known blamed file (IsBefore (counted_at at))
+  pub symbol_failed : (n i at end : ℕ) (names : List (List ℕ)) → i < n → Leads known file (symbols_at (n - i) names end) (counted_at at) → AsksAt now last_failure file (IsInName end) → AsksAt known last_failure file (IsBefore (counted_at at))
   symbol_failed n i at end names less leads asks =
       let one : n - i ≡ suc (n - (i + 1)) = omega arith in
-      asks_on known now blamed file (IsInName end) (IsBefore (counted_at at)) same
+      asks_on known now last_failure file (IsInName end) (IsBefore (counted_at at)) same
       (λ m bytes k is there within. leads_before (symbols_at (n - i) names end) (counted_at at) bytes k (leads_at known file _ _ leads m bytes is there)
       (subst (λ (j : ℕ). IsBefore (symbols_at j names end) bytes k) (sym one) (symbol_of bytes k (n - (i + 1)) end names within))) asks
 
   module _ (at : ℕ) (names : List (List ℕ)) where
-    pub name_failed : AsksAt known blamed file (IsInName at) → AsksAt known blamed file (IsBefore (listing_at names at))
-    name_failed asks = asks_on known known blamed file (IsInName at) (IsBefore (listing_at names at)) refl (λ m bytes k is there within. name_of_listing bytes k at names within) asks
+    pub name_failed : AsksAt known last_failure file (IsInName at) → AsksAt known last_failure file (IsBefore (listing_at names at))
+    name_failed asks = asks_on known known last_failure file (IsInName at) (IsBefore (listing_at names at)) refl (λ m bytes k is there within. name_of_listing bytes k at names within) asks
 
     module _ (name : List ℕ × ℕ) (named : IfSome known (λ m. in_file (get m file) (name_at at) ≡ Ok name)) where
-      pub size_failed : IsBlamedIn blamed file name.1 (name.1 + 3) → AsksAt known blamed file (IsBefore (listing_at names at))
-      size_failed h = asks_on known known blamed file (IsBetween name.1 (name.1 + 3)) (IsBefore (listing_at names at)) refl (λ m bytes k is there b. size_of_listing bytes k at names name (read_at known file (name_at at) name named m bytes is there) b.1) (asks_between known blamed file name.1 (name.1 + 3) h)
+      pub size_failed : FailedWithin last_failure file name.1 (name.1 + 3) → AsksAt known last_failure file (IsBefore (listing_at names at))
+      size_failed h = asks_on known known last_failure file (IsBetween name.1 (name.1 + 3)) (IsBefore (listing_at names at)) refl (λ m bytes k is there b. size_of_listing bytes k at names name (read_at known file (name_at at) name named m bytes is there) b.1) (asks_between known last_failure file name.1 (name.1 + 3) h)
 
-      pub exports_failed : AsksAt now blamed file (IsBefore (counted_at (name.1 + 4))) → AsksAt known blamed file (IsBefore (listing_at names at))
-      exports_failed asks = asks_on known now blamed file (IsBefore (counted_at (name.1 + 4))) (IsBefore (listing_at names at)) same (λ m bytes k is there within. exports_of_listing bytes k at names name (read_at known file (name_at at) name named m bytes is there) within) asks
+      pub exports_failed : AsksAt now last_failure file (IsBefore (counted_at (name.1 + 4))) → AsksAt known last_failure file (IsBefore (listing_at names at))
+      exports_failed asks = asks_on known now last_failure file (IsBefore (counted_at (name.1 + 4))) (IsBefore (listing_at names at)) same (λ m bytes k is there within. exports_of_listing bytes k at names name (read_at known file (name_at at) name named m bytes is there) within) asks
 
-  pub members_failed : IsBlamedIn blamed file 0 8 → AsksAt known blamed file (IsBefore list_at)
-  members_failed h = asks_on known known blamed file (IsBetween 0 8) (IsBefore list_at) refl (λ m bytes k is there b. count_of_list bytes k b.1) (asks_between known blamed file 0 8 h)
+  pub members_failed : FailedWithin last_failure file 0 8 → AsksAt known last_failure file (IsBefore list_at)
+  members_failed h = asks_on known known last_failure file (IsBetween 0 8) (IsBefore list_at) refl (λ m bytes k is there b. count_of_list bytes k b.1) (asks_between known last_failure file 0 8 h)
 
-  pub listing_failed : (n i end : ℕ) (ms : List Listing) (names : List (List ℕ)) → names ≡ map (λ m. m.name) ms → i < n → Leads known file (listings_at (n - i) ms end) list_at → AsksAt now blamed file (IsBefore (listing_at names end)) → AsksAt known blamed file (IsBefore list_at)
+  pub listing_failed : (n i end : ℕ) (ms : List UnplacedEntry) (names : List (List ℕ)) → names ≡ map (λ m. m.name) ms → i < n → Leads known file (listings_at (n - i) ms end) list_at → AsksAt now last_failure file (IsBefore (listing_at names end)) → AsksAt known last_failure file (IsBefore list_at)
   listing_failed n i end ms names named less leads asks =
       let one : n - i ≡ suc (n - (i + 1)) = omega arith in
-      asks_on known now blamed file (IsBefore (listing_at names end)) (IsBefore list_at) same
+      asks_on known now last_failure file (IsBefore (listing_at names end)) (IsBefore list_at) same
       (λ m bytes k is there within. leads_before (listings_at (n - i) ms end) list_at bytes k (leads_at known file _ _ leads m bytes is there)
       (subst (λ (j : ℕ). IsBefore (listings_at j ms end) bytes k) (sym one) (listing_of bytes k (n - (i + 1)) end ms (subst (λ (ns : List (List ℕ)). IsBefore (listing_at ns end) bytes k) named within)))) asks
 
-  pub list_failed : AsksAt known blamed file (IsBefore list_at) → AsksAt known blamed file IsIndexPlace
-  list_failed asks = asks_on known known blamed file (IsBefore list_at) IsIndexPlace refl (λ m bytes k is there within. list_of_index bytes k within) asks
+  pub list_failed : AsksAt known last_failure file (IsBefore list_at) → AsksAt known last_failure file IsIndexPlace
+  list_failed asks = asks_on known known last_failure file (IsBefore list_at) IsIndexPlace refl (λ m bytes k is there within. list_of_index bytes k within) asks
 
-  pub end_failed : (list : List Listing × ℕ) (p : List Entry × ℕ) → IfSome known (λ m. in_file (get m file) list_at ≡ Ok list) → placed [] list.1 list.0 ≡ Ok p → 0 < p.1 → IsBlamedIn blamed file (p.1 - 1) (p.1 - 1 + 1) → AsksAt known blamed file IsIndexPlace
-  end_failed list p read places some h = asks_on known known blamed file (IsBetween (p.1 - 1) (p.1 - 1 + 1)) IsIndexPlace refl (λ m bytes k is there b. end_of_index bytes k list p (read_at known file list_at list read m bytes is there) places some b.0 (omega (arith, b.1))) (asks_between known blamed file (p.1 - 1) (p.1 - 1 + 1) h)
+  pub end_failed : (list : List UnplacedEntry × ℕ) (p : List Entry × ℕ) → IfSome known (λ m. in_file (get m file) list_at ≡ Ok list) → members_with_offsets [] list.1 list.0 ≡ Ok p → 0 < p.1 → FailedWithin last_failure file (p.1 - 1) (p.1 - 1 + 1) → AsksAt known last_failure file IsIndexPlace
+  end_failed list p read places some h = asks_on known known last_failure file (IsBetween (p.1 - 1) (p.1 - 1 + 1)) IsIndexPlace refl (λ m bytes k is there b. end_of_index bytes k list p (read_at known file list_at list read m bytes is there) places some b.0 (omega (arith, b.1))) (asks_between known last_failure file (p.1 - 1) (p.1 - 1 + 1) h)

@@ -11,7 +11,7 @@ use Rattle.std.proofs.lemmas.Slice.Eq.{bytes_eq-Decides}
 use Rattle.indexmap.specs.IndexMap.{insert_entry}
 use Rattle.library65.specs.declared.contents.Contents.{Contents}
 use Rattle.library65.specs.declared.library.Stored.{Stored}
-use Rattle.library65.specs.Libraries.{bytes_of, checked, member_names, with_member, without_member, IsStored, member_of}
+use Rattle.library65.specs.Libraries.{bytes_of, member_contents, member_names, with_member, without_member, IsStored, member_of}
 use Rattle.library65.specs.Spelling.{are_member_names, is_among, is_member_name, Member}
 
 abbrev pub Stock : Type 0
@@ -115,8 +115,8 @@ without_good (m ∷ ms) name all =
 
 -- ---- What is kept stays so.
 
-pub checked_good : (name bytes : List ℕ) (c : Contents) → checked name bytes ≡ Ok c → is_member_name name ≡ true
-unfolding checked
+pub checked_good : (name bytes : List ℕ) (c : Contents) → member_contents name bytes ≡ Ok c → is_member_name name ≡ true
+unfolding member_contents
 checked_good name bytes c e = grind (arith, common_steps)
 
 pub insert_stored : (es : Stock) (k : Vec ℕ) (v : Stored) → AllByRecursion IsStored es → IsStored (k, v) → AllByRecursion IsStored (insert_entry same_key es k v)

@@ -13,7 +13,7 @@ use Rattle.base65.specs.Outcome.{◌>>=◌}
 use Rattle.library65.specs.declared.fault.LibraryFault.{LibraryFault}
 use Rattle.library65.specs.declared.fault.LibraryFault.TheVariants.{BadIndex, CutShort}
 use Rattle.library65.specs.Spelling.{is_name, are_member_names, is_among, is_member_name, name_bytes, names_bytes, IsGoodEntry, IsIndex, StandFrom, entry_bytes, index_bytes, library_head, listing_bytes}
-use Rattle.library65.specs.Reading.{counted_at, field_at, name_at, number_at, symbol_at, symbols_at, count_at, end_at, entry_at, head_at, index_at, list_at, listing, listing_at, listings_at, member_name_at, placed}
+use Rattle.library65.specs.Reading.{counted_at, field_at, name_at, number_at, symbol_at, symbols_at, count_at, end_at, entry_at, head_at, index_at, list_at, listing, listing_at, listings_at, member_name_at, members_with_offsets}
 use Rattle.library65.proofs.Edits.{and, left, names_good, right, turned}
 use Rattle.std.specs.Prelude.{sum_by}
 use Rattle.std.specs.Str.{bytes_eq}
@@ -22,7 +22,7 @@ use Rattle.std.proofs.lemmas.Cmp.{nat_list_eq_equiv}
 use Rattle.std.proofs.lemmas.List.Folds.{list_any-append}
 use Rattle.std.proofs.lemmas.List.Sums.{sum_by-cons}
 use Rattle.library65.specs.declared.index.Entry.{Entry}
-use Rattle.library65.specs.declared.index.Listing.{Listing}
+use Rattle.library65.specs.declared.index.UnplacedEntry.{UnplacedEntry}
 use Rattle.library65.specs.Laws.{IndexReadLaw}
 use Rattle.library65.proofs.Made.{entry_size}
 
@@ -157,10 +157,10 @@ counted_takes bytes at x is e =
 
 -- ---- What is read as an index is an index.
 
-abbrev text_of : Listing → List ℕ
+abbrev text_of : UnplacedEntry → List ℕ
 text_of m = listing_bytes m.name m.size m.exports m.imports
 
-record TakesListing (bytes : List ℕ) (at : ℕ) (names : List (List ℕ)) (x : Listing × ℕ) : Type 0 where
+record TakesListing (bytes : List ℕ) (at : ℕ) (names : List (List ℕ)) (x : UnplacedEntry × ℕ) : Type 0 where
   takes : Takes bytes at x.1 (text_of x.0)
   good : is_member_name x.0.name ≡ true
   new : is_among names x.0.name ≡ false
@@ -179,7 +179,7 @@ member_name_takes bytes at names x e =
     let t = name_takes bytes at a.0 a.1 in
     subst (TakesName bytes at names) g.1 (record { takes = t; good = left (is_member_name a.0.0) (not (is_among names a.0.0)) g.0; new = turned (is_among names a.0.0) (right (is_member_name a.0.0) (not (is_among names a.0.0)) g.0) })
 
-listing_takes : (bytes : List ℕ) (at : ℕ) (names : List (List ℕ)) (x : Listing × ℕ) → IsBytes bytes → listing_at names at bytes ≡ Ok x → TakesListing bytes at names x
+listing_takes : (bytes : List ℕ) (at : ℕ) (names : List (List ℕ)) (x : UnplacedEntry × ℕ) → IsBytes bytes → listing_at names at bytes ≡ Ok x → TakesListing bytes at names x
 unfolding listing_at
 listing_takes bytes at names x is e =
     let a = bound (member_name_at names at bytes) _ x e in
@@ -190,7 +190,7 @@ listing_takes bytes at names x is e =
     let size = number_takes bytes a.0.1 b.0 is b.1 in
     let exports = counted_takes bytes (a.0.1 + 4) c.0 is c.1 in
     let imports = counted_takes bytes c.0.1 d.0 is d.1 in
-    let made : ◌≡◌ {A = Listing × ℕ} (listing a.0.0 b.0 c.0.0 d.0.0, d.0.1) x = cc (d.2) in
+    let made : ◌≡◌ {A = UnplacedEntry × ℕ} (listing a.0.0 b.0 c.0.0 d.0.0, d.0.1) x = cc (d.2) in
     let tail = takes_then bytes (a.0.1 + 4) c.0.1 d.0.1 (names_bytes c.0.0) (names_bytes d.0.0) exports.takes imports.takes in
     let more = takes_then bytes a.0.1 (a.0.1 + 4) d.0.1 (little_bytes 4 b.0) (names_bytes c.0.0 ++ names_bytes d.0.0) size.0 tail in
     let all = takes_then bytes at a.0.1 d.0.1 (name_bytes a.0.0) (little_bytes 4 b.0 ++ (names_bytes c.0.0 ++ names_bytes d.0.0)) name.takes more in
@@ -202,15 +202,15 @@ listing_takes bytes at names x is e =
     })
 
 -- none of these names is among those
-abbrev Apart : List (List ℕ) → List Listing → Type 0
-Apart names ms = AllByRecursion (λ (m : Listing). is_among names m.name ≡ false) ms
+abbrev Apart : List (List ℕ) → List UnplacedEntry → Type 0
+Apart names ms = AllByRecursion (λ (m : UnplacedEntry). is_among names m.name ≡ false) ms
 
 or_none : (a b : Bool) → (a || b) ≡ false → (a ≡ false) × (b ≡ false)
 or_none true b e = cc
 or_none false b e = (refl, e)
 
 -- names that aren't among those and one more
-parted : (names : List (List ℕ)) (name : List ℕ) (ms : List Listing) → Apart (names ++ name ∷ []) ms → Apart names ms × (is_among (map (λ (m : Listing). m.name) ms) name ≡ false)
+parted : (names : List (List ℕ)) (name : List ℕ) (ms : List UnplacedEntry) → Apart (names ++ name ∷ []) ms → Apart names ms × (is_among (map (λ (m : UnplacedEntry). m.name) ms) name ≡ false)
 parted names name [] apart = (tt, refl)
 parted names name (m ∷ ms) apart =
     let both = or_none (is_among names m.name) (bytes_eq m.name name || false) (sym (list_any-append (pointwise nat_eq m.name) names (name ∷ [])) ∙ apart.0) in
@@ -222,8 +222,8 @@ parted names name (m ∷ ms) apart =
     neither true b e f = cc
     neither false b e f = f
 
-record TakesListings (bytes : List ℕ) (n at : ℕ) (before : List Listing) (x : List Listing × ℕ) : Type 0 where
-  new : List Listing
+record TakesListings (bytes : List ℕ) (n at : ℕ) (before : List UnplacedEntry) (x : List UnplacedEntry × ℕ) : Type 0 where
+  new : List UnplacedEntry
   members : x.0 ≡ before ++ new
   count : length new ≡ n
   takes : Takes bytes at x.1 (flat_map text_of new)
@@ -231,71 +231,71 @@ record TakesListings (bytes : List ℕ) (n at : ℕ) (before : List Listing) (x 
   apart : Apart (map (λ m. m.name) before) new
   fits : AllByRecursion (λ m. IsGoodEntry (entry_at 0 m)) new
 
-listings_take : (n : ℕ) (bytes : List ℕ) (at : ℕ) (before : List Listing) (x : List Listing × ℕ) → IsBytes bytes → at ≤ file_limit → listings_at n before at bytes ≡ Ok x → TakesListings bytes n at before x
+listings_take : (n : ℕ) (bytes : List ℕ) (at : ℕ) (before : List UnplacedEntry) (x : List UnplacedEntry × ℕ) → IsBytes bytes → at ≤ file_limit → listings_at n before at bytes ≡ Ok x → TakesListings bytes n at before x
 listings_take zero bytes at before x is le e = grind (arith, common_steps, append-nil, takes_none)
 listings_take (suc n) bytes at before x is le e =
-    let names = map (λ (m : Listing). m.name) before in
+    let names = map (λ (m : UnplacedEntry). m.name) before in
     let a = bound (listing_at names at bytes) (λ m. listings_at n (before ++ m.0 ∷ []) m.1 bytes) x e in
     let m = listing_takes bytes at names a.0 is a.1 in
     let rest = listings_take n bytes a.0.1 (before ++ a.0.0 ∷ []) x is m.takes.limit a.2 in
-    let named : map (λ (m : Listing). m.name) (before ++ a.0.0 ∷ []) ≡ names ++ a.0.0.name ∷ [] = map-append (λ (m : Listing). m.name) before (a.0.0 ∷ []) in
+    let named : map (λ (m : UnplacedEntry). m.name) (before ++ a.0.0 ∷ []) ≡ names ++ a.0.0.name ∷ [] = map-append (λ (m : UnplacedEntry). m.name) before (a.0.0 ∷ []) in
     let both = parted names a.0.0.name rest.new (subst (λ ns. Apart ns rest.new) named rest.apart) in
     record {
       new = a.0.0 ∷ rest.new;
       members = rest.members ∙ append_assoc before (a.0.0 ∷ []) rest.new;
       count = ap suc rest.count;
       takes = takes_then bytes at a.0.1 x.1 (text_of a.0.0) (flat_map text_of rest.new) m.takes rest.takes;
-      names = names_good a.0.0.name (map (λ (m : Listing). m.name) rest.new) (record { good = m.good; new = both.1; rest = rest.names });
+      names = names_good a.0.0.name (map (λ (m : UnplacedEntry). m.name) rest.new) (record { good = m.good; new = both.1; rest = rest.names });
       apart = (m.new, both.0);
       fits = (m.fits, rest.fits);
     }
 
 -- ---- Places.
 
-abbrev placed_from : ℕ → List Listing → List Entry
+abbrev placed_from : ℕ → List UnplacedEntry → List Entry
 placed_from at [] = []
 placed_from at (m ∷ ms) = entry_at at m ∷ placed_from (at + m.size) ms
 
-record TakesPlaces (at : ℕ) (before : List Entry) (ms : List Listing) (x : List Entry × ℕ) : Type 0 where
+record TakesPlaces (at : ℕ) (before : List Entry) (ms : List UnplacedEntry) (x : List Entry × ℕ) : Type 0 where
   entries : x.0 ≡ before ++ placed_from at ms
   end : x.1 ≡ at + sum_by (λ m. m.size) ms
   limit : x.1 ≤ file_limit
 
-placed_takes : (before : List Entry) (at : ℕ) (ms : List Listing) (x : List Entry × ℕ) → at ≤ file_limit → placed before at ms ≡ Ok x → TakesPlaces at before ms x
+placed_takes : (before : List Entry) (at : ℕ) (ms : List UnplacedEntry) (x : List Entry × ℕ) → at ≤ file_limit → members_with_offsets before at ms ≡ Ok x → TakesPlaces at before ms x
 placed_takes before at [] x le e = grind (arith, common_steps, append-nil)
 placed_takes before at (m ∷ ms) x le e =
-    let a = passes (nat_lt file_limit (at + m.size)) BadIndex (placed (before ++ entry_at at m ∷ []) (at + m.size) ms) x e in
+    let a = passes (nat_lt file_limit (at + m.size)) BadIndex (members_with_offsets (before ++ entry_at at m ∷ []) (at + m.size) ms) x e in
     let within : at + m.size ≤ file_limit = grind (arith, nat_tests) in
     let rest = placed_takes (before ++ entry_at at m ∷ []) (at + m.size) ms x within a.1 in
     record {
       entries = rest.entries ∙ append_assoc before (entry_at at m ∷ []) (placed_from (at + m.size) ms);
-      end = omega (arith, rest.end, sum_by-cons (λ (m : Listing). m.size) m ms);
+      end = omega (arith, rest.end, sum_by-cons (λ (m : UnplacedEntry). m.size) m ms);
       limit = rest.limit;
     }
 
-all_stand : (at : ℕ) (ms : List Listing) → StandFrom at (placed_from at ms)
+all_stand : (at : ℕ) (ms : List UnplacedEntry) → StandFrom at (placed_from at ms)
 all_stand at [] = tt
 all_stand at (m ∷ ms) = (refl, all_stand (at + m.size) ms)
 
-all_named : (at : ℕ) (ms : List Listing) → map (λ (e : Entry). e.name) (placed_from at ms) ≡ map (λ (m : Listing). m.name) ms
+all_named : (at : ℕ) (ms : List UnplacedEntry) → map (λ (e : Entry). e.name) (placed_from at ms) ≡ map (λ (m : UnplacedEntry). m.name) ms
 all_named at [] = refl
 all_named at (m ∷ ms) = ap (λ ns. m.name ∷ ns) (all_named (at + m.size) ms)
 
-all_text : (at : ℕ) (ms : List Listing) → flat_map entry_bytes (placed_from at ms) ≡ flat_map text_of ms
+all_text : (at : ℕ) (ms : List UnplacedEntry) → flat_map entry_bytes (placed_from at ms) ≡ flat_map text_of ms
 all_text at [] = refl
 all_text at (m ∷ ms) = ap (λ xs. text_of m ++ xs) (all_text (at + m.size) ms)
 
-all_fit : (at : ℕ) (ms : List Listing) → AllByRecursion (λ m. IsGoodEntry (entry_at 0 m)) ms → AllByRecursion IsGoodEntry (placed_from at ms)
+all_fit : (at : ℕ) (ms : List UnplacedEntry) → AllByRecursion (λ m. IsGoodEntry (entry_at 0 m)) ms → AllByRecursion IsGoodEntry (placed_from at ms)
 all_fit at [] fits = tt
 all_fit at (m ∷ ms) fits = (record { exports = fits.0.exports; imports = fits.0.imports; size = fits.0.size; export_count = fits.0.export_count; import_count = fits.0.import_count }, all_fit (at + m.size) ms fits.1)
 
-all_count : (at : ℕ) (ms : List Listing) → length (placed_from at ms) ≡ length ms
+all_count : (at : ℕ) (ms : List UnplacedEntry) → length (placed_from at ms) ≡ length ms
 all_count at [] = refl
 all_count at (m ∷ ms) = ap suc (all_count (at + m.size) ms)
 
-all_sizes : (at : ℕ) (ms : List Listing) → sum_by entry_size (placed_from at ms) ≡ sum_by (λ (m : Listing). m.size) ms
+all_sizes : (at : ℕ) (ms : List UnplacedEntry) → sum_by entry_size (placed_from at ms) ≡ sum_by (λ (m : UnplacedEntry). m.size) ms
 all_sizes at [] = refl
-all_sizes at (m ∷ ms) = sum_by-cons entry_size (entry_at at m) (placed_from (at + m.size) ms) ∙ ap (λ n. m.size + n) (all_sizes (at + m.size) ms) ∙ sym (sum_by-cons (λ (m : Listing). m.size) m ms)
+all_sizes at (m ∷ ms) = sum_by-cons entry_size (entry_at at m) (placed_from (at + m.size) ms) ∙ ap (λ n. m.size + n) (all_sizes (at + m.size) ms) ∙ sym (sum_by-cons (λ (m : UnplacedEntry). m.size) m ms)
 
 -- ---- The whole.
 
@@ -308,8 +308,8 @@ ended bytes end u e = grind (arith, common_steps)
 pub index_takes : IndexReadLaw
 unfolding index_at list_at
 index_takes bytes es is e =
-    let a = bound (list_at bytes) (λ l. placed [] l.1 l.0 >>= (λ p. end_at p.1 bytes >>= (λ u. Ok p.0))) es e in
-    let p = bound (placed [] a.0.1 a.0.0) (λ p. end_at p.1 bytes >>= (λ u. Ok p.0)) es a.2 in
+    let a = bound (list_at bytes) (λ l. members_with_offsets [] l.1 l.0 >>= (λ p. end_at p.1 bytes >>= (λ u. Ok p.0))) es e in
+    let p = bound (members_with_offsets [] a.0.1 a.0.0) (λ p. end_at p.1 bytes >>= (λ u. Ok p.0)) es a.2 in
     let u = bound (end_at p.0.1 bytes) (λ u. Ok p.0.0) es p.2 in
     let n = bound (count_at bytes) (λ n. listings_at n [] 9 bytes) a.0 a.1 in
     let h = bound (head_at bytes) (λ u. number_at 5 bytes) n.0 n.1 in
@@ -322,7 +322,7 @@ index_takes bytes es is e =
     let at = a.0.1 in
     let found = placed_from at ms in
     let es_is : es ≡ found = sym (let made : p.0.0 ≡ es = cc (u.2) in made) ∙ places.entries ∙ ap (placed_from at) listed.members in
-    let sizes : sum_by (λ (m : Listing). m.size) a.0.0 ≡ sum_by (λ (m : Listing). m.size) ms = ap (sum_by (λ (m : Listing). m.size)) listed.members in
+    let sizes : sum_by (λ (m : UnplacedEntry). m.size) a.0.0 ≡ sum_by (λ (m : UnplacedEntry). m.size) ms = ap (sum_by (λ (m : UnplacedEntry). m.size)) listed.members in
     let tail = takes_then bytes 5 9 at (little_bytes 4 n.0) (flat_map text_of ms) number.0 listed.takes in
     let all = takes_then bytes 0 5 at library_head (little_bytes 4 n.0 ++ flat_map text_of ms) head tail in
     let text : index_bytes found ≡ library_head ++ (little_bytes 4 n.0 ++ flat_map text_of ms) = ap (λ k. library_head ++ (little_bytes 4 k ++ flat_map entry_bytes found)) (all_count at ms ∙ listed.count) ∙ ap (λ xs. library_head ++ (little_bytes 4 n.0 ++ xs)) (all_text at ms) in

@@ -5,24 +5,24 @@ use Rattle.std.proofs.lemmas.Bool.Decides.{nat_tests}
 use Rattle.std.specs.List.{list_all, flat_map, AllByRecursion}
 use Rattle.object65.specs.declared.object.Export.{Export}
 use Rattle.object65.specs.declared.object.Object.{Object}
-use Rattle.object65.specs.Objects.{are_names, is_among, is_good_object, is_name}
+use Rattle.object65.specs.Objects.{are_names, is_among, is_well_formed_object, is_name}
 use Rattle.object65.proofs.Goods.{parts}
-use Rattle.library65.specs.Spelling.{AreSymbols, Puts, are_member_names, Member, listing_bytes, name_bytes, AreMembers, IsLibrary, StandFrom, entry_bytes, index_bytes, library_head, IsGoodEntry, IsIndex, names_bytes}
+use Rattle.library65.specs.Spelling.{AreSymbols, AppendsBytes, are_member_names, Member, listing_bytes, name_bytes, AreMembers, IsLibrary, StandFrom, entry_bytes, index_bytes, library_head, IsGoodEntry, IsIndex, names_bytes}
 use Rattle.library65.proofs.Edits.{and, left, right}
 use Rattle.std.specs.Global.{Vec}
 use Rattle.library65.specs.declared.contents.Contents.{Contents}
 use Rattle.library65.specs.declared.fault.LibraryFault.{LibraryFault}
 use Rattle.library65.specs.declared.library.Stored.{Stored}
-use Rattle.library65.specs.Libraries.{checked, contents_in, member_listing, member_names, contents_from, library_bytes, written, IsStored, member_of}
+use Rattle.library65.specs.Libraries.{member_contents, contents_in, member_listing, member_names, contents_from, library_bytes, bytes_within_limit, IsStored, member_of}
 use Rattle.std.specs.Prelude.{sum_by}
 use Rattle.std.proofs.lemmas.List.{drop_at, length-take, take-append-drop, take_all, take_at}
 use Rattle.std.proofs.lemmas.List.Sums.{sum_by-cons}
 use Rattle.byteorder.specs.Endian.{little_bytes}
-use Rattle.object65.specs.Reading.{file_limit, room}
+use Rattle.object65.specs.Reading.{file_limit, bytes_before}
 use Rattle.object65.specs.Spelling.{IsObject}
 use Rattle.object65.proofs.Spellings.{object_is_read}
 use Rattle.library65.specs.declared.index.Entry.{Entry}
-use Rattle.library65.specs.Laws.{OneLibraryLaw, WrittenLaw}
+use Rattle.library65.specs.Laws.{LibrarySpellingIsUnique, WrittenLaw}
 
 -- ---- The names in an object are good.
 
@@ -30,7 +30,7 @@ pub all_names : (names : List (List ℕ)) → are_names names ≡ true → list_
 all_names [] e = refl
 all_names (n ∷ ns) e = grind (arith, common_steps, (all_names ns (right (is_name n && not (is_among ns n)) (are_names ns) e)), left, and, right)
 
-pub symbols_good : (o : Object) (exports : List (List ℕ)) → is_good_object o ≡ true → exports ≡ map (λ (e : Export). e.name) o.exports → AreSymbols (record { exports = exports; imports = o.imports })
+pub symbols_good : (o : Object) (exports : List (List ℕ)) → is_well_formed_object o ≡ true → exports ≡ map (λ (e : Export). e.name) o.exports → AreSymbols (record { exports = exports; imports = o.imports })
 symbols_good o exports good same = grind (arith, common_steps, parts, all_names)
 
 -- a good name's length is a byte
@@ -57,8 +57,8 @@ bodies_seen (e ∷ es) = ap (λ xs. e.1.bytes.items ++ xs) (bodies_seen es)
 
 -- ---- One member.
 
-pub checked_contents : (name bytes : List ℕ) (c : Contents) → checked name bytes ≡ Ok c → contents_in bytes ≡ Ok c
-unfolding checked
+pub checked_contents : (name bytes : List ℕ) (c : Contents) → member_contents name bytes ≡ Ok c → contents_in bytes ≡ Ok c
+unfolding member_contents
 checked_contents name bytes c e = grind (arith, common_steps)
 
 pub its_listing : (k : Vec ℕ) (v : Stored) → IsStored (k, v) → member_listing (member_of (k, v)) ≡ listing_bytes k.items (length v.bytes.items) v.contents.exports v.contents.imports
@@ -83,7 +83,7 @@ pub size_first : (all : Stock) (k : Vec ℕ) (v : Stored) (es : Stock) (name : L
 size_first all k v es name total split is same le = grind (arith, common_steps, its_listing, length-append)
 
 -- a part that would pass the limit makes the whole pass it
-pub passed_on : (e : LibraryFault) (part whole old base new after : List ℕ) (n total : ℕ) → Puts part n old new (Err e) → n ≤ total → Puts whole total base after (Err e)
+pub passed_on : (e : LibraryFault) (part whole old base new after : List ℕ) (n total : ℕ) → AppendsBytes part n old new (Err e) → n ≤ total → AppendsBytes whole total base after (Err e)
 passed_on x part whole old base new after n total put le = grind (arith, common_steps)
 
 -- ---- The bytes of a library, from those of its members.
@@ -96,7 +96,7 @@ bodies ms = flat_map (λ m. m.1) ms
 
 -- ---- A member's bytes.
 
-all_room : (bytes : List ℕ) → room bytes 0 (length bytes) ≡ bytes
+all_room : (bytes : List ℕ) → bytes_before bytes 0 (length bytes) ≡ bytes
 all_room bytes = take_all (length bytes - 0) bytes (omega arith)
 
 pub object_there : (bytes : List ℕ) (o : Object) → length bytes ≤ file_limit → IsObject bytes o → contents_in bytes ≡ Ok (contents_from o)
@@ -170,7 +170,7 @@ library_is a ms is =
     ∙ ap (λ n. (library_head ++ (little_bytes 4 n ++ flat_map entry_bytes is.index)) ++ bodies ms) (same_count is.index ms both.1)
     ∙ ap (λ xs. (library_head ++ (little_bytes 4 (length ms) ++ xs)) ++ bodies ms) (all_listings is.index ms short both.1)
 
-pub one_library : OneLibraryLaw
+pub one_library : LibrarySpellingIsUnique
 one_library a b ms first second = library_is a ms first ∙ sym (library_is b ms second)
 
 -- ---- What is written is a library.
@@ -243,7 +243,7 @@ all_there front at (m ∷ ms) os is =
       subst (λ bs. AreMembers bs (entries (at + length m.1) ms os.1) ms) (sym on) (all_there (front ++ m.1) (at + length m.1) ms os.1 further),
     )
 
-within_limit : (ms : List Member) (bytes : List ℕ) → written ms ≡ Ok bytes → (length (library_bytes ms) ≤ file_limit) × (bytes ≡ library_bytes ms)
+within_limit : (ms : List Member) (bytes : List ℕ) → bytes_within_limit ms ≡ Ok bytes → (length (library_bytes ms) ≤ file_limit) × (bytes ≡ library_bytes ms)
 within_limit ms bytes e = grind (arith, common_steps)
 
 pub written_is : WrittenLaw

@@ -2,7 +2,7 @@
 use Rattle.std.proofs.lemmas.Grind.{common_steps}
 use Rattle.std.proofs.Common.{arith, ◌≡◌, ◌∙◌, ◌<◌, ℕ, Bool, true, false, not, List, length, drop, take, get_or, Ok, Err, refl, sym, ap, []}
 use Rattle.std.specs.Str.{bytes_eq}
-use Rattle.base65.specs.Outcome.{Refuses, Unless}
+use Rattle.base65.specs.Outcome.{RefinesErr, Unless}
 use Rattle.object65.specs.declared.fault.ObjectFault.{ObjectFault}
 use Rattle.object65.specs.Reading.{end_at, head_of, object_at, record_at, records_at}
 use Rattle.object65.specs.declared.fault.ObjectFault.TheVariants as object
@@ -11,16 +11,16 @@ use Rattle.library65.specs.Fault.{is_memory}
 use Rattle.library65.specs.declared.fault.LibraryFault.{LibraryFault}
 use Rattle.library65.specs.declared.fault.LibraryFault.TheVariants as library
 use Rattle.library65.specs.declared.fault.LibraryFault.TheVariants.{BadMemberName}
-use Rattle.library65.specs.Libraries.{are_same, checked, contents_from, contents_in}
+use Rattle.library65.specs.Libraries.{are_same, member_contents, contents_from, contents_in}
 use Rattle.library65.specs.Spelling.{is_member_name, AreSymbols}
 use Rattle.object65.specs.declared.record.Item.{Item}
-use Rattle.object65.specs.Record.{is_memory as is_object_memory, Entry as Record, is_version}
+use Rattle.object65.specs.Record.{is_memory as is_object_memory, RawRecord as Record, is_version}
 use Rattle.object65.specs.Items.{with_item}
 use Rattle.object65.specs.Scanning.{Outline, outline_of, IsReached, State, after, object_from, start}
 use Rattle.object65.proofs.Withins.{reached_next, reached_parts, reached_start}
 use Rattle.object65.proofs.Records.{Goes, begins, ends, goes_on, stops_reading, stops_taking}
 use Rattle.library65.specs.declared.contents.Contents.{Contents}
-use Rattle.library65.specs.Inner.Contents.{EndsWith}
+use Rattle.library65.specs.Internal.Contents.{EndsWith}
 use Rattle.library65.proofs.Made.{all_names}
 
 -- ---- The objects in members' bytes.
@@ -35,21 +35,21 @@ turned false e = refl
 
 -- ---- No fault of a store comes from a member's bytes.
 
-not_a_file : (name bytes : List ℕ) → checked name bytes ≡ Err library.FileError → ⊥
-unfolding checked contents_in
+not_a_file : (name bytes : List ℕ) → member_contents name bytes ≡ Err library.FileError → ⊥
+unfolding member_contents contents_in
 not_a_file name bytes e = grind (arith, common_steps)
 
-pub not_stored : (name bytes : List ℕ) (e : LibraryFault) → Refuses is_memory e (checked name bytes) → e ≡ library.FileError → ⊥
+pub not_stored : (name bytes : List ℕ) (e : LibraryFault) → RefinesErr is_memory e (member_contents name bytes) → e ≡ library.FileError → ⊥
 not_stored name bytes e refused is = not_a_file name bytes (rw is at refused)
 
 -- ---- Bytes behind an object.
 
-behind : (end : ℕ) (bytes : List ℕ) → end < length bytes → end_at end (length bytes) bytes ≡ Err object.BytesAfterEnd
-behind end bytes less = grind (arith, common_steps, nat_tests)
+following : (end : ℕ) (bytes : List ℕ) → end < length bytes → end_at end (length bytes) bytes ≡ Err object.BytesAfterEnd
+following end bytes less = grind (arith, common_steps, nat_tests)
 
-pub trailing : (name bytes : List ℕ) (version first end : ℕ) (c : Contents) → is_member_name name ≡ true → Ok (version, first) ≡ head_of 0 (take 5 bytes) → EndsWith bytes version first c end → end < length bytes → checked name bytes ≡ Err library.NotAnObject
-unfolding checked contents_in object_at
-trailing name bytes version first end c named head ends less = grind (arith, common_steps, behind)
+pub trailing : (name bytes : List ℕ) (version first end : ℕ) (c : Contents) → is_member_name name ≡ true → Ok (version, first) ≡ head_of 0 (take 5 bytes) → EndsWith bytes version first c end → end < length bytes → member_contents name bytes ≡ Err library.NotAnObject
+unfolding member_contents contents_in object_at
+trailing name bytes version first end c named head ends less = grind (arith, common_steps, following)
 
 -- ---- Records that are scanned one after another for what they export and import.
 
@@ -69,10 +69,10 @@ pub nothing_taken : (v : ℕ) (bytes : List ℕ) (at : ℕ) → is_version v ≡
 nothing_taken v bytes at known = record { state = start v; goes = begins v bytes (length bytes) at; outline = refl; contents = refl; reached = reached_start v known }
 
 module _ (v : ℕ) (bytes : List ℕ) (at next : ℕ) (scan : Outline) (c : Contents) (was : IsTaken v bytes at next scan c) where
-  pub reading_refused : (e : ObjectFault) → Refuses is_object_memory e (record_at v next (length bytes) bytes) → Refuses is_object_memory e (records_at (length bytes) (start v) at (length bytes) bytes)
+  pub reading_refused : (e : ObjectFault) → RefinesErr is_object_memory e (record_at v next (length bytes) bytes) → RefinesErr is_object_memory e (records_at (length bytes) (start v) at (length bytes) bytes)
   reading_refused e refused = unless (is_object_memory e) (stops_reading v bytes (length bytes) at next was.state e was.goes) refused
 
-  pub taking_refused : (r : Record × ℕ) (e : ObjectFault) → record_at v next (length bytes) bytes ≡ Ok r → ((s : State) → scan ≡ outline_of s → Refuses is_object_memory e (after s r.0)) → Refuses is_object_memory e (records_at (length bytes) (start v) at (length bytes) bytes)
+  pub taking_refused : (r : Record × ℕ) (e : ObjectFault) → record_at v next (length bytes) bytes ≡ Ok r → ((s : State) → scan ≡ outline_of s → RefinesErr is_object_memory e (after s r.0)) → RefinesErr is_object_memory e (records_at (length bytes) (start v) at (length bytes) bytes)
   taking_refused r e read refused = unless (is_object_memory e) (stops_taking v bytes (length bytes) at next was.state r e was.goes read) (refused was.state was.outline)
 
   module _ (r : Record × ℕ) (item : Item) (further : Outline) (more : Contents) (read : record_at v next (length bytes) bytes ≡ Ok r) (taken : (s : State) → scan ≡ outline_of s → after s r.0 ≡ Ok (with_item s item)) (kept : (s : State) → scan ≡ outline_of s → further ≡ outline_of (with_item s item)) (added : (s : State) → c ≡ contents_from (object_from s) → more ≡ contents_from (object_from (with_item s item))) where

@@ -4,14 +4,14 @@ use Rattle.std.proofs.Common.{◌≡◌, ◌∙◌, ◌≤◌, ℕ, true, false,
 use Rattle.std.specs.Str.{bytes_eq}
 use Rattle.std.proofs.lemmas.List.{append-nil, map-append, take_all}
 use Rattle.std.proofs.lemmas.Slice.Eq.{bytes_eq-Decides}
-use Rattle.object65.specs.Reading.{file_limit, room, object_at}
+use Rattle.object65.specs.Reading.{file_limit, bytes_before, object_at}
 use Rattle.base65.specs.Outcome.{◌>>=◌}
 use Rattle.library65.specs.declared.contents.Contents.{Contents}
 use Rattle.library65.specs.declared.index.Entry.{Entry}
 use Rattle.library65.specs.declared.fault.LibraryFault.TheVariants.{CutShort, IndexDisagrees}
 use Rattle.library65.specs.Laws.{LibrarySpellingLaw, LibraryReadLaw, StockLaw}
-use Rattle.library65.specs.Libraries.{agreed, are_same, checked, contents_from, contents_in, joined, joined_all, library_at, member_names, piece_at, with_member, added, agrees, as_member, deleted, object_in, replaced, without_member}
-use Rattle.library65.specs.Spelling.{are_member_names, is_among, is_member_name, AreMembers, IsMember, Member, index_bytes, IsLibrary, IsStock}
+use Rattle.library65.specs.Libraries.{indexed_contents, are_same, member_contents, contents_from, contents_in, with_library_entry, joined_all, library_at, member_names, piece_at, with_member, with_entry, has_index_names, as_member, without_named_member, object_in, with_new_member, without_member}
+use Rattle.library65.specs.Spelling.{are_member_names, is_among, is_member_name, AreMembers, IsMember, Member, index_bytes, IsLibrary, IsMemberList}
 use Rattle.library65.proofs.Again.{Fresh, fresh_none, fresh_on, index_again}
 use Rattle.library65.proofs.Edits.{good_names, checked_good, left, right, with_good, without_good}
 use Rattle.library65.proofs.Made.{AllFit, Fits, bodies, object_there, stand, HasObject, checked_contents}
@@ -41,20 +41,20 @@ put_last (m ∷ ms) name bytes new = grind (arith, common_steps, (put_last ms na
 piece_again : (bytes : List ℕ) (e : Entry) (m : Member) → m.1 ≡ take e.size (drop e.place bytes) → length m.1 ≡ e.size → piece_at e.size e.place bytes ≡ Ok m.1
 piece_again bytes e m is len = grind (arith, common_steps)
 
-checked_again : (name bytes : List ℕ) (c : Contents) → is_member_name name ≡ true → contents_in bytes ≡ Ok c → checked name bytes ≡ Ok c
-unfolding checked
+checked_again : (name bytes : List ℕ) (c : Contents) → is_member_name name ≡ true → contents_in bytes ≡ Ok c → member_contents name bytes ≡ Ok c
+unfolding member_contents
 checked_again name bytes c good is = rw good is
 
-agreed_again : (e : Entry) (m : Member) → is_member_name e.name ≡ true → length m.1 ≤ file_limit → (f : Fits e m) → agreed e m.1 ≡ Ok (contents_from f.object)
-unfolding agreed
+agreed_again : (e : Entry) (m : Member) → is_member_name e.name ≡ true → length m.1 ≤ file_limit → (f : Fits e m) → indexed_contents e m.1 ≡ Ok (contents_from f.object)
+unfolding indexed_contents
 agreed_again e m good short f =
-    let c : checked e.name m.1 ≡ Ok (contents_from f.object) = checked_again e.name m.1 (contents_from f.object) good (object_there m.1 f.object short f.is_object) in
+    let c : member_contents e.name m.1 ≡ Ok (contents_from f.object) = checked_again e.name m.1 (contents_from f.object) good (object_there m.1 f.object short f.is_object) in
     let x : are_same e.exports (contents_from f.object).exports ≡ true = rw f.exports (same_names (map (λ x. x.name) f.object.exports)) in
     let i : are_same e.imports (contents_from f.object).imports ≡ true = rw f.imports (same_names f.object.imports) in
     rw (c, x, i) refl
 
-joined_again : (bytes : List ℕ) (before : List Member) (e : Entry) (m : Member) → is_member_name e.name ≡ true → is_among (member_names before) e.name ≡ false → length m.1 ≤ file_limit → IsMember bytes e m → Fits e m → joined before e bytes ≡ Ok (before ++ m ∷ [])
-unfolding joined
+joined_again : (bytes : List ℕ) (before : List Member) (e : Entry) (m : Member) → is_member_name e.name ≡ true → is_among (member_names before) e.name ≡ false → length m.1 ≤ file_limit → IsMember bytes e m → Fits e m → with_library_entry before e bytes ≡ Ok (before ++ m ∷ [])
+unfolding with_library_entry
 joined_again bytes before e m good new short is f = grind (arith, common_steps, piece_again, agreed_again, put_last)
 
 all_again : (bytes : List ℕ) (before : List Member) (es : List Entry) (ms : List Member) → are_member_names (map (λ (e : Entry). e.name) es) ≡ true → Fresh (member_names before) es → length (bodies ms) ≤ file_limit → AreMembers bytes es ms → AllFit es ms → joined_all before es bytes ≡ Ok (before ++ ms)
@@ -81,7 +81,7 @@ library_loaded bytes ms is =
 
 -- ---- The object in a member's bytes.
 
-all_room : (bytes : List ℕ) → room bytes 0 (length bytes) ≡ bytes
+all_room : (bytes : List ℕ) → bytes_before bytes 0 (length bytes) ≡ bytes
 all_room bytes = take_all (length bytes - 0) bytes (omega arith)
 
 read_one : (r : Result Object ObjectFault) (o : Object) → as_member r ≡ Ok o → r ≡ Ok o
@@ -115,20 +115,20 @@ record TakesMember (bytes : List ℕ) (before : List Member) (e : Entry) (x : Li
   members : x ≡ before ++ (e.name, body) ∷ []
   member : IsMember bytes e (e.name, body)
 
-agreed_takes : (e : Entry) (found : List ℕ) (c : Contents) → IsBytes found → agreed e found ≡ Ok c → HasContents found c × (agrees e c ≡ true)
-unfolding agreed
+agreed_takes : (e : Entry) (found : List ℕ) (c : Contents) → IsBytes found → indexed_contents e found ≡ Ok c → HasContents found c × (has_index_names e c ≡ true)
+unfolding indexed_contents
 agreed_takes e found c is h =
-    let b = bound (checked e.name found) (λ d. if agrees e d then Ok d else Err IndexDisagrees) c h in
-    let g = admits (agrees e b.0) IndexDisagrees b.0 c b.2 in
-    subst (λ d. HasContents found d × (agrees e d ≡ true)) g.1 (contents_read found b.0 is (checked_contents e.name found b.0 b.1), g.0)
+    let b = bound (member_contents e.name found) (λ d. if has_index_names e d then Ok d else Err IndexDisagrees) c h in
+    let g = admits (has_index_names e b.0) IndexDisagrees b.0 c b.2 in
+    subst (λ d. HasContents found d × (has_index_names e d ≡ true)) g.1 (contents_read found b.0 is (checked_contents e.name found b.0 b.1), g.0)
 
-joined_takes : (bytes : List ℕ) (before : List Member) (e : Entry) (x : List Member) → IsBytes bytes → is_among (member_names before) e.name ≡ false → joined before e bytes ≡ Ok x → TakesMember bytes before e x
-unfolding joined
+joined_takes : (bytes : List ℕ) (before : List Member) (e : Entry) (x : List Member) → IsBytes bytes → is_among (member_names before) e.name ≡ false → with_library_entry before e bytes ≡ Ok x → TakesMember bytes before e x
+unfolding with_library_entry
 joined_takes bytes before e x is new h =
-    let p = bound (piece_at e.size e.place bytes) (λ f. added before e f) x h in
+    let p = bound (piece_at e.size e.place bytes) (λ f. with_entry before e f) x h in
     let g = passes (nat_lt (length (take e.size (drop e.place bytes))) e.size) CutShort (Ok (take e.size (drop e.place bytes))) p.0 p.1 in
     let found : p.0 ≡ take e.size (drop e.place bytes) = sym (let same : take e.size (drop e.place bytes) ≡ p.0 = cc (g.1) in same) in
-    let c = bound (agreed e p.0) (λ d. Ok (with_member before e.name p.0)) x p.2 in
+    let c = bound (indexed_contents e p.0) (λ d. Ok (with_member before e.name p.0)) x p.2 in
     let inside : IsBytes p.0 = subst IsBytes (sym found) (bytes_take e.size (drop e.place bytes) (bytes_drop e.place bytes is)) in
     let a = agreed_takes e p.0 c.0 inside c.1 in
     let made : with_member before e.name p.0 ≡ x = cc (c.2) in
@@ -154,7 +154,7 @@ all_take : (bytes : List ℕ) (before : List Member) (es : List Entry) (x : List
 all_take bytes before [] x is good fresh h = let made : before ≡ x = cc in record { new = []; members = sym made ∙ sym (append-nil before); are = tt }
 all_take bytes before (e ∷ es) x is good fresh h =
     let g = good_names e.name (map (λ (y : Entry). y.name) es) good in
-    let a = bound (joined before e bytes) (λ ms. joined_all ms es bytes) x h in
+    let a = bound (with_library_entry before e bytes) (λ ms. joined_all ms es bytes) x h in
     let m = joined_takes bytes before e a.0 is fresh.0 a.1 in
     let named : member_names a.0 ≡ member_names before ++ e.name ∷ [] = ap member_names m.members ∙ map-append (λ (y : Member). y.0) before ((e.name, m.body) ∷ []) in
     let rest = all_take bytes a.0 es x is g.rest (subst (λ ns. Fresh ns es) (sym named) (fresh_on (member_names before) e.name es fresh.1 g.new)) a.2 in
@@ -182,15 +182,15 @@ without_objects : (ms : List Member) (name : List ℕ) → AllByRecursion HasObj
 without_objects [] name all = tt
 without_objects (m ∷ ms) name all = grind (arith, common_steps, (without_objects ms name all.1))
 
-replaced_stock : (ms ns : List Member) (name bytes : List ℕ) → IsBytes bytes → IsStock ms → replaced ms name bytes ≡ Ok ns → IsStock ns
-unfolding replaced
+replaced_stock : (ms ns : List Member) (name bytes : List ℕ) → IsBytes bytes → IsMemberList ms → with_new_member ms name bytes ≡ Ok ns → IsMemberList ns
+unfolding with_new_member
 replaced_stock ms ns name bytes is stock h =
-    let c = bound (checked name bytes) (λ d. Ok (with_member ms name bytes)) ns h in
+    let c = bound (member_contents name bytes) (λ d. Ok (with_member ms name bytes)) ns h in
     let made : with_member ms name bytes ≡ ns = cc (c.2) in
     let o = contents_read bytes c.0 is (checked_contents name bytes c.0 c.1) in
-    subst IsStock made (record { names = with_good ms name bytes (checked_good name bytes c.0 c.1) stock.names; objects = with_objects ms name bytes stock.objects (o.object, o.is_object) })
+    subst IsMemberList made (record { names = with_good ms name bytes (checked_good name bytes c.0 c.1) stock.names; objects = with_objects ms name bytes stock.objects (o.object, o.is_object) })
 
-deleted_stock : (ms ns : List Member) (name : List ℕ) → IsStock ms → deleted ms name ≡ Ok ns → IsStock ns
+deleted_stock : (ms ns : List Member) (name : List ℕ) → IsMemberList ms → without_named_member ms name ≡ Ok ns → IsMemberList ns
 deleted_stock ms ns name stock h = grind (arith, common_steps, admits, without_good, without_objects)
 
 all_named : (bytes : List ℕ) (es : List Entry) (ms : List Member) → AreMembers bytes es ms → member_names ms ≡ map (λ (e : Entry). e.name) es
@@ -208,7 +208,7 @@ all_objects bytes [] (m ∷ ms) are = absurd are
 all_objects bytes (e ∷ es) [] are = absurd are
 all_objects bytes (e ∷ es) (m ∷ ms) are = ((are.0.object, are.0.is_object), all_objects bytes es ms are.1)
 
-library_stock : (bytes : List ℕ) (ms : List Member) → IsLibrary bytes ms → IsStock ms
+library_stock : (bytes : List ℕ) (ms : List Member) → IsLibrary bytes ms → IsMemberList ms
 library_stock bytes ms l = record { names = ap are_member_names (all_named bytes l.index ms l.members) ∙ l.is_index.names; objects = all_objects bytes l.index ms l.members }
 
 pub stock_law : StockLaw

@@ -4,9 +4,9 @@ use Rattle.std.proofs.lemmas.List.{append-nil}
 use Rattle.object65.specs.Reading.{file_limit}
 use Rattle.library65.specs.declared.fault.LibraryFault.TheVariants.{BadIndex}
 use Rattle.library65.specs.declared.index.Entry.{Entry}
-use Rattle.library65.specs.declared.index.Listing.{Listing}
+use Rattle.library65.specs.declared.index.UnplacedEntry.{UnplacedEntry}
 use Rattle.library65.specs.Asking.{members_begin}
-use Rattle.library65.specs.Reading.{entry_at, index_at, placed}
+use Rattle.library65.specs.Reading.{entry_at, index_at, members_with_offsets}
 use Rattle.library65.proofs.Asking.{count_of_list, indexed}
 use Rattle.library65.proofs.Indexed.{passes}
 
@@ -20,12 +20,12 @@ pub record Stand (at : ℕ) (before es : List Entry) (end : ℕ) : Type 0 where
   pub all : es ≡ before ++ new
   pub row : IsRow at new end
 
-placed_stand : (at : ℕ) (ms : List Listing) (before : List Entry) (x : List Entry × ℕ) → placed before at ms ≡ Ok x → Stand at before x.0 x.1
+placed_stand : (at : ℕ) (ms : List UnplacedEntry) (before : List Entry) (x : List Entry × ℕ) → members_with_offsets before at ms ≡ Ok x → Stand at before x.0 x.1
 placed_stand at [] before x h =
     let same : ◌≡◌ {A = List Entry × ℕ} (before, at) x = cc h in
     record { new = []; all = sym (ap (λ (y : List Entry × ℕ). y.0) same) ∙ sym (append-nil before); row = ap (λ (y : List Entry × ℕ). y.1) same }
 placed_stand at (m ∷ ms) before x h =
-    let a = passes (nat_lt file_limit (at + m.size)) BadIndex (placed (before ++ entry_at at m ∷ []) (at + m.size) ms) x h in
+    let a = passes (nat_lt file_limit (at + m.size)) BadIndex (members_with_offsets (before ++ entry_at at m ∷ []) (at + m.size) ms) x h in
     let rest = placed_stand (at + m.size) ms (before ++ entry_at at m ∷ []) x a.1 in
     record { new = entry_at at m ∷ rest.new; all = rest.all ∙ append_assoc before (entry_at at m ∷ []) rest.new; row = (refl, rest.row) }
 
@@ -34,11 +34,11 @@ begins at [] end row = sym row
 begins at (e ∷ es) end row = row.0
 
 -- the members stand behind the index, up to the end of the file
-pub record StandBehind (bytes : List ℕ) (es : List Entry) : Type 0 where
-  pub behind : 8 < members_begin es (length bytes)
+pub record StandAfter (bytes : List ℕ) (es : List Entry) : Type 0 where
+  pub following : 8 < members_begin es (length bytes)
   pub row : IsRow (members_begin es (length bytes)) es (length bytes)
 
-pub index_stands : (bytes : List ℕ) (es : List Entry) → index_at bytes ≡ Ok es → StandBehind bytes es
+pub index_stands : (bytes : List ℕ) (es : List Entry) → index_at bytes ≡ Ok es → StandAfter bytes es
 index_stands bytes es h =
     let x = indexed bytes es h in
     let s = placed_stand x.list.1 x.list.0 [] x.placed_to x.places in
@@ -46,7 +46,7 @@ index_stands bytes es h =
     let row : IsRow x.list.1 es (length bytes) = subst (λ (n : ℕ). IsRow x.list.1 es n) (sym x.ends) (subst (λ (ys : List Entry). IsRow x.list.1 ys x.placed_to.1) (sym all) s.row) in
     let first = begins x.list.1 es (length bytes) row in
     record {
-      behind = omega (arith, first, count_of_list bytes 8 (omega arith) x.list x.listed);
+      following = omega (arith, first, count_of_list bytes 8 (omega arith) x.list x.listed);
       row = subst (λ (n : ℕ). IsRow n es (length bytes)) (sym first) row;
     }
 

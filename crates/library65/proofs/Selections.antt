@@ -3,7 +3,7 @@ use Rattle.std.proofs.lemmas.Grind.{common_steps}
 use Rattle.std.specs.Global.{Vec}
 use Rattle.std.specs.Vec.{with_item}
 use Rattle.library65.specs.declared.selecting.Found.{Found}
-use Rattle.library65.specs.Inner.Searching.{IsSound}
+use Rattle.library65.specs.Internal.Searching.{IsWellFormedTable}
 use Rattle.std.proofs.Common.{◌≡◌, ◌∙◌, ◌<◌, ◌≤◌, ◌-◌, ℕ, zero, suc, ◌+◌, Bool, true, false, not, ◌||◌, cond, nat_eq, List, [], ◌∷◌, ◌++◌, length, get_or, slice_get, Some, refl, sym, ap, subst, arith, if◌then◌else◌, ◌&&◌, Option, None}
 use Rattle.std.specs.Prelude.{count_by, replicate, slice_set}
 use Rattle.std.specs.List.{AllByRecursion, list_any, position_from}
@@ -11,8 +11,8 @@ use Rattle.std.proofs.lemmas.Bool.Decides.{nat_tests}
 use Rattle.std.proofs.lemmas.List.{append-nil}
 use Rattle.std.proofs.lemmas.List.Folds.{list_any-append}
 use Rattle.std.proofs.lemmas.List.Sums.{sum_by-cons}
-use Rattle.library65.specs.Selection.{IsRising, has_place, IsClosed, IsSelection, first_exporter, imports_at, GrowingSelectionLaw, OneSelectionLaw}
-use Rattle.library65.specs.Inner.Searching.{marked_from, IsSearched, Finds}
+use Rattle.library65.specs.Selection.{IsRising, has_place, IsClosed, IsSelection, first_exporter, imports_at, GrowingSelectionLaw, SelectionIsUnique}
+use Rattle.library65.specs.Internal.Searching.{marked_from, IsSearched, MarksExporters}
 use Rattle.library65.specs.declared.index.Entry.{Entry}
 use Rattle.object65.specs.Objects.{is_among}
 use Rattle.std.specs.Cmp.Lexicographic.{pointwise}
@@ -69,8 +69,8 @@ place_append is js i = list_any-append (nat_eq i) is js
 pub place_kept : (is js : List ℕ) (i : ℕ) → has_place is i ≡ true → has_place (is ++ js) i ≡ true
 place_kept is js i e = place_append is js i ∙ or_left (has_place is i) (has_place js i) e
 
-pub place_behind : (is js : List ℕ) (i : ℕ) → has_place js i ≡ true → has_place (is ++ js) i ≡ true
-place_behind is js i e = place_append is js i ∙ or_right (has_place is i) (has_place js i) e
+pub place_after : (is js : List ℕ) (i : ℕ) → has_place js i ≡ true → has_place (is ++ js) i ≡ true
+place_after is js i e = place_append is js i ∙ or_right (has_place is i) (has_place js i) e
 
 pub get_kept : (is js : List ℕ) (k : ℕ) → k < length is → slice_get (is ++ js) k ≡ slice_get is k
 get_kept [] js k lt = absurd (omega arith)
@@ -236,18 +236,18 @@ selection_grows es wanted more defined a b grown first second place there =
     let from = first.exporters place there in
     second.all from.0 place (first.least second.has closed from.0 from.1) from.2
 
-pub one_selection : OneSelectionLaw
+pub one_selection : SelectionIsUnique
 one_selection es wanted defined a b first second = grind (arith, common_steps, one_list, selection_grows)
 
 -- ---- The search for the members that a link needs: what it has found is the selection.
 
 module _ (es : List Entry) (defined : Names) where
   -- nothing is wanted
-  pub finds_none : (old : List ℕ) → Finds es defined [] old old
+  pub finds_none : (old : List ℕ) → MarksExporters es defined [] old old
   finds_none old = grind (arith, common_steps)
 
   -- names one behind the other
-  pub finds_more : (names : Names) (name : List ℕ) (old mid new : List ℕ) → Finds es defined names old mid → Finds es defined (name ∷ []) mid new → Finds es defined (names ++ name ∷ []) old new
+  pub finds_more : (names : Names) (name : List ℕ) (old mid new : List ℕ) → MarksExporters es defined names old mid → MarksExporters es defined (name ∷ []) mid new → MarksExporters es defined (names ++ name ∷ []) old new
   finds_more names name old mid new first last = grind (arith, common_steps)
 
   one_name : (name n : List ℕ) → is_among (name ∷ []) n ≡ true → n ≡ name
@@ -257,27 +257,27 @@ module _ (es : List Entry) (defined : Names) where
   its_own name = or_left (pointwise nat_eq name name) false ((bytes_eq-Decides name name).1 refl)
 
   -- a name that is defined
-  pub finds_defined : (name : List ℕ) (old : List ℕ) → is_among defined name ≡ true → Finds es defined (name ∷ []) old old
+  pub finds_defined : (name : List ℕ) (old : List ℕ) → is_among defined name ≡ true → MarksExporters es defined (name ∷ []) old old
   finds_defined name old is = record {
-    behind = [];
+    following = [];
     more = sym (append-nil old);
     all = λ n i among free exported. let same = one_name name n among in absurd (let both : true ≡ false = sym is ∙ ap (is_among defined) (sym same) ∙ free in cc);
     only = λ i e. absurd cc;
   }
 
   -- a name that no member exports
-  pub finds_nobody : (name : List ℕ) (old : List ℕ) → first_exporter es name ≡ None → Finds es defined (name ∷ []) old old
+  pub finds_nobody : (name : List ℕ) (old : List ℕ) → first_exporter es name ≡ None → MarksExporters es defined (name ∷ []) old old
   finds_nobody name old none = record {
-    behind = [];
+    following = [];
     more = sym (append-nil old);
     all = λ n i among free exported. let same = one_name name n among in absurd (let both : None ≡ Some i = sym none ∙ ap (first_exporter es) (sym same) ∙ exported in cc);
     only = λ i e. absurd cc;
   }
 
   -- a name whose first exporter was found before
-  pub finds_again : (name : List ℕ) (place : ℕ) (old : List ℕ) → first_exporter es name ≡ Some place → has_place old place ≡ true → Finds es defined (name ∷ []) old old
+  pub finds_again : (name : List ℕ) (place : ℕ) (old : List ℕ) → first_exporter es name ≡ Some place → has_place old place ≡ true → MarksExporters es defined (name ∷ []) old old
   finds_again name place old first there = record {
-    behind = [];
+    following = [];
     more = sym (append-nil old);
     all = λ n i among free exported. let same = one_name name n among in
         let is : Some place ≡ Some i = sym first ∙ ap (first_exporter es) (sym same) ∙ exported in
@@ -286,34 +286,34 @@ module _ (es : List Entry) (defined : Names) where
   }
 
   -- a name whose first exporter is new
-  pub finds_new : (name : List ℕ) (place : ℕ) (old new : List ℕ) → first_exporter es name ≡ Some place → is_among defined name ≡ false → new ≡ old ++ place ∷ [] → Finds es defined (name ∷ []) old new
+  pub finds_new : (name : List ℕ) (place : ℕ) (old new : List ℕ) → first_exporter es name ≡ Some place → is_among defined name ≡ false → new ≡ old ++ place ∷ [] → MarksExporters es defined (name ∷ []) old new
   finds_new name place old new first free more = record {
-    behind = place ∷ [];
+    following = place ∷ [];
     more = more;
     all = λ n i among free_too exported. let same = one_name name n among in
         let is : Some place ≡ Some i = sym first ∙ ap (first_exporter es) (sym same) ∙ exported in
         let at : place ≡ i = cc in
         let there : has_place (place ∷ []) i ≡ true = grind (arith, nat_tests) in
-        subst (λ (js : List ℕ). has_place js i ≡ true) (sym more) (place_behind old (place ∷ []) i there);
+        subst (λ (js : List ℕ). has_place js i ≡ true) (sym more) (place_after old (place ∷ []) i there);
     only = λ i found. let at : i ≡ place = grind (arith, nat_tests) in (name, its_own name, free, first ∙ ap (λ j. Some j) (sym at));
   }
 
 module _ (es : List Entry) (wanted defined : Names) where
   -- what is wanted was found
-  pub search_begins : (found : List ℕ) → Finds es defined wanted [] found → IsSearched es wanted defined found 0
+  pub search_begins : (found : List ℕ) → MarksExporters es defined wanted [] found → IsSearched es wanted defined found 0
   search_begins found finds = grind (arith, common_steps)
 
   -- what one member more imports was found
-  pub search_goes_on : (found new : List ℕ) (next place : ℕ) → next < length found → slice_get found next ≡ Some place → IsSearched es wanted defined found next → Finds es defined (imports_at es place) found new → IsSearched es wanted defined new (next + 1)
+  pub search_goes_on : (found new : List ℕ) (next place : ℕ) → next < length found → slice_get found next ≡ Some place → IsSearched es wanted defined found next → MarksExporters es defined (imports_at es place) found new → IsSearched es wanted defined new (next + 1)
   search_goes_on found new next place lt at so_far finds = record {
-    needed = λ i there. or_true (has_place found i) (has_place finds.behind i) (sym (list_any-append (nat_eq i) found finds.behind) ∙ subst (λ (js : List ℕ). has_place js i ≡ true) finds.more there)
+    needed = λ i there. or_true (has_place found i) (has_place finds.following i) (sym (list_any-append (nat_eq i) found finds.following) ∙ subst (λ (js : List ℕ). has_place js i ≡ true) finds.more there)
         (λ e. so_far.needed i e)
         (λ e. let r = finds.only i e in
         let from = so_far.needed place (place_of found next place at) in
         (r.0, (λ has closed. closed.goes_on from.0 r.0 place (from.1 has closed) from.2 r.1 r.2), r.3));
     wanted_found = λ name i among free exported. grown i (so_far.wanted_found name i among free exported);
     imports_found = λ k p less there name i among free exported.
-        let before : slice_get found k ≡ Some p = sym (get_kept found finds.behind k (omega arith)) ∙ subst (λ (js : List ℕ). slice_get js k ≡ Some p) finds.more there in
+        let before : slice_get found k ≡ Some p = sym (get_kept found finds.following k (omega arith)) ∙ subst (λ (js : List ℕ). slice_get js k ≡ Some p) finds.more there in
         either (nat_eq k next)
         (λ e. let is : k ≡ next = grind (arith, nat_tests) in
         let same : Some p ≡ Some place = sym before ∙ ap (slice_get found) is ∙ at in
@@ -323,10 +323,10 @@ module _ (es : List Entry) (wanted defined : Names) where
   }
     where
       grown : (i : ℕ) → has_place found i ≡ true → has_place new i ≡ true
-      grown i e = subst (λ (js : List ℕ). has_place js i ≡ true) (sym finds.more) (place_kept found finds.behind i e)
+      grown i e = subst (λ (js : List ℕ). has_place js i ≡ true) (sym finds.more) (place_kept found finds.following i e)
 
 -- one more that wasn't found before is marked
-pub mark_sound : (f : Found) (place : ℕ) (places : Vec ℕ) → IsSound f → get_or f.marks.items place false ≡ false → place < length f.marks.items → places.items ≡ f.places.items ++ place ∷ [] → IsSound (record { marks = with_item f.marks place true; places = places })
+pub mark_sound : (f : Found) (place : ℕ) (places : Vec ℕ) → IsWellFormedTable f → get_or f.marks.items place false ≡ false → place < length f.marks.items → places.items ≡ f.places.items ++ place ∷ [] → IsWellFormedTable (record { marks = with_item f.marks place true; places = places })
 mark_sound f place places sound clear within more = record {
   marks = λ i. grind (arith, common_steps);
   count = grind (arith, common_steps);

@@ -5,8 +5,8 @@ use Rattle.std.proofs.lemmas.Bool.Decides.{nat_tests}
 use Rattle.std.proofs.lemmas.List.{append-nil}
 use Rattle.library65.specs.declared.index.Entry.{Entry}
 use Rattle.library65.specs.Spelling.{is_among}
-use Rattle.library65.specs.Inner.Searching.{Finds, IsSearched, marked_from}
-use Rattle.library65.specs.Selection.{IsSelection, SomeSelectionLaw, first_exporter, has_place, imports_at}
+use Rattle.library65.specs.Internal.Searching.{MarksExporters, IsSearched, marked_from}
+use Rattle.library65.specs.Selection.{IsSelection, SelectionExists, first_exporter, has_place, imports_at}
 use Rattle.library65.proofs.Selections.{count_added, either, length_marks, marks_added, no_marks, none_counted, finds_again, finds_defined, finds_more, finds_new, finds_nobody, finds_none, search_begins, search_goes_on, exporter_below, searched_selected}
 
 abbrev Names : Type 0
@@ -51,7 +51,7 @@ one_marked es old place k below new =
 
 record Found (es : List Entry) (defined names : Names) (old : List ℕ) : Type 0 where
   new : List ℕ
-  finds : Finds es defined names old new
+  finds : MarksExporters es defined names old new
   marked : Marked es new
 
 module _ (es : List Entry) (defined : Names) where
@@ -72,16 +72,16 @@ module _ (es : List Entry) (defined : Names) where
             marked = one_marked es old place k (exporter_below es name place first) fresh;
           })
 
-  find_behind : (before names : Names) (old mid : List ℕ) → Finds es defined before old mid → Marked es mid → Found es defined (before ++ names) old
-  find_behind before [] old mid finds k =
-      record { new = mid; finds = subst (λ (ns : Names). Finds es defined ns old mid) (sym (append-nil before)) finds; marked = k }
-  find_behind before (n ∷ names) old mid finds k =
+  find_after : (before names : Names) (old mid : List ℕ) → MarksExporters es defined before old mid → Marked es mid → Found es defined (before ++ names) old
+  find_after before [] old mid finds k =
+      record { new = mid; finds = subst (λ (ns : Names). MarksExporters es defined ns old mid) (sym (append-nil before)) finds; marked = k }
+  find_after before (n ∷ names) old mid finds k =
       let one = find_name n mid k in
-      let more = find_behind (before ++ n ∷ []) names old one.new (finds_more es defined before n old mid one.new finds one.finds) one.marked in
-      record { new = more.new; finds = subst (λ (ns : Names). Finds es defined ns old more.new) (append_assoc before (n ∷ []) names) more.finds; marked = more.marked }
+      let more = find_after (before ++ n ∷ []) names old one.new (finds_more es defined before n old mid one.new finds one.finds) one.marked in
+      record { new = more.new; finds = subst (λ (ns : Names). MarksExporters es defined ns old more.new) (append_assoc before (n ∷ []) names) more.finds; marked = more.marked }
 
   find_names : (names : Names) (old : List ℕ) → Marked es old → Found es defined names old
-  find_names names old k = find_behind [] names old old (finds_none es defined old) k
+  find_names names old k = find_after [] names old old (finds_none es defined old) k
 
 place_there : (xs : List ℕ) (k : ℕ) → k < length xs → (x : ℕ) × (slice_get xs k ≡ Some x)
 place_there [] k lt = absurd (omega arith)
@@ -111,7 +111,7 @@ module _ (es : List Entry) (wanted defined : Names) where
       search n (next + 1) more.new more.marked (search_goes_on es wanted defined found more.new next at.0 lt at.1 so_far more.finds) (omega arith)))
       (λ e. search_ends next found k so_far (grind (arith, nat_tests)))
 
-pub some_selection : SomeSelectionLaw
+pub some_selection : SelectionExists
 some_selection es wanted defined =
     let first = find_names es defined wanted [] (none_marked es) in
     search es wanted defined (length es) 0 first.new first.marked (search_begins es wanted defined first.new first.finds) (omega arith)

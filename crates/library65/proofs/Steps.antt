@@ -3,15 +3,15 @@ use Rattle.std.proofs.lemmas.Grind.{common_steps}
 use Rattle.std.proofs.Common.{◌≡◌, ◌∙◌, ◌<◌, arith, ℕ, List, Bool, true, false, Option, Some, None, Result, Ok, Err, refl, sym, ap, subst, drop, length, suc, ◌+◌, ◌-◌, ◌≤◌, [], ◌∷◌, ◌++◌, map, nat_le, take, min}
 use Rattle.std.specs.Prelude.{IfSome, if◌then◌else◌}
 use Rattle.std.specs.FinMap as finmap
-use Rattle.base65.specs.Outcome.{◌>>=◌, Refuses}
-use Rattle.base65.specs.Store.{Blamed, Files, Passes}
-use Rattle.object65.specs.Reading.{Leaves}
+use Rattle.base65.specs.Outcome.{◌>>=◌, RefinesErr}
+use Rattle.base65.specs.Store.{LastFailure, Files, PropagatesIoError}
+use Rattle.object65.specs.Reading.{StoreFrame}
 use Rattle.library65.specs.declared.fault.LibraryFault.{LibraryFault}
 use Rattle.library65.specs.declared.fault.LibraryFault.TheVariants.{BadIndex, FileError}
-use Rattle.library65.specs.Fault.{is_outside}
+use Rattle.library65.specs.Fault.{is_system_error}
 use Rattle.library65.specs.Reading.{in_file, index_at, count_at, counted_at, list_at, listing_at, listings_at, name_at, number_at, symbol_at, symbols_at}
 use Rattle.std.proofs.lemmas.List.{length-take, take_all}
-use Rattle.library65.specs.declared.index.Listing.{Listing}
+use Rattle.library65.specs.declared.index.UnplacedEntry.{UnplacedEntry}
 use Rattle.library65.specs.Libraries.{joined_all, library_at, piece_at}
 use Rattle.library65.specs.Spelling.{is_name}
 use Rattle.std.proofs.lemmas.Bool.Decides.{nat_tests}
@@ -33,11 +33,11 @@ module _ {A Y : Type 0} (name : List ℕ) (all rest : Reading A) (step : Reading
   goes_on x now y files leads read = grind (arith, common_steps)
 
   -- a step that is refused
-  pub stops : (known now : Option Files) (e : LibraryFault) → now ≡ known → Leads known name rest all → IfSome now (λ m. Refuses is_outside e (in_file (finmap.get m name) step)) → IfSome known (λ m. Refuses is_outside e (in_file (finmap.get m name) all))
+  pub stops : (known now : Option Files) (e : LibraryFault) → now ≡ known → Leads known name rest all → IfSome now (λ m. RefinesErr is_system_error e (in_file (finmap.get m name) step)) → IfSome known (λ m. RefinesErr is_system_error e (in_file (finmap.get m name) all))
   stops x now e files leads refused = grind (arith, common_steps)
 
   -- a step that is taken, behind which what was read is refused
-  pub fails : (known now : Option Files) (y : Y) (e : LibraryFault) → now ≡ known → Leads known name rest all → IfSome now (λ m. in_file (finmap.get m name) step ≡ Ok y) → ((bytes : List ℕ) → k y bytes ≡ Err e) → IfSome known (λ m. Refuses is_outside e (in_file (finmap.get m name) all))
+  pub fails : (known now : Option Files) (y : Y) (e : LibraryFault) → now ≡ known → Leads known name rest all → IfSome now (λ m. in_file (finmap.get m name) step ≡ Ok y) → ((bytes : List ℕ) → k y bytes ≡ Err e) → IfSome known (λ m. RefinesErr is_system_error e (in_file (finmap.get m name) all))
   fails x now y e files leads read refused = grind (arith, common_steps)
 
 -- at the beginning all is left to read
@@ -45,19 +45,19 @@ pub begins : {A : Type 0} (known : Option Files) (name : List ℕ) (all : Readin
 begins x name all = grind (arith, common_steps)
 
 -- a call that answered left the count of failures as it was
-pub kept_count : {T : Type 0} (old now : ℕ) (x : T) → Passes {E = LibraryFault} FileError old now (Ok x) → now ≡ old
+pub kept_count : {T : Type 0} (old now : ℕ) (x : T) → PropagatesIoError {E = LibraryFault} FileError old now (Ok x) → now ≡ old
 kept_count old now x passes = grind (arith, common_steps)
 
 -- a refusal for another cause passes nothing on
-none_passed : {T : Type 0} (old now : ℕ) (e : LibraryFault) → now ≡ old → (e ≡ FileError → ⊥) → Passes {T = T} FileError old now (Err e)
+none_passed : {T : Type 0} (old now : ℕ) (e : LibraryFault) → now ≡ old → (e ≡ FileError → ⊥) → PropagatesIoError {T = T} FileError old now (Err e)
 none_passed old now e same other = grind (arith, common_steps)
 
 -- it leaves what the answered call before it left
-pub kept_on : {X T U : Type 0} {files_of : X → Option Files} {failures_of : X → ℕ} {blamed_of : X → Blamed} {name : List ℕ} {old new : X} (x : T) (e : LibraryFault) → Leaves files_of failures_of blamed_of FileError name old new (Ok x) → (e ≡ FileError → ⊥) → Leaves {T = U} files_of failures_of blamed_of FileError name old new (Err e)
+pub kept_on : {X T U : Type 0} {files_of : X → Option Files} {failures_of : X → ℕ} {last_failure_of : X → LastFailure} {name : List ℕ} {old new : X} (x : T) (e : LibraryFault) → StoreFrame files_of failures_of last_failure_of FileError name old new (Ok x) → (e ≡ FileError → ⊥) → StoreFrame {T = U} files_of failures_of last_failure_of FileError name old new (Err e)
 kept_on x e kept other = record {
   files = kept.files;
   count = none_passed _ _ e (kept_count _ _ x kept.count) other;
-  blamed = λ h. (let is : e ≡ FileError = cc h in absurd (other is));
+  last_failure = λ h. (let is : e ≡ FileError = cc h in absurd (other is));
 }
 
 -- ---- The names of exports or imports.
@@ -85,11 +85,11 @@ pub list_begins : (bytes : List ℕ) → list_at bytes ≡ (count_at bytes >>= (
 unfolding list_at
 list_begins bytes = grind (arith, common_steps)
 
-pub listings_more : (n i : ℕ) (ms : List Listing) (names : List (List ℕ)) (at : ℕ) → names ≡ map (λ m. m.name) ms → i < n → (bytes : List ℕ) → listings_at (n - i) ms at bytes ≡ (listing_at names at bytes >>= (λ m. listings_at (n - (i + 1)) (ms ++ m.0 ∷ []) m.1 bytes))
+pub listings_more : (n i : ℕ) (ms : List UnplacedEntry) (names : List (List ℕ)) (at : ℕ) → names ≡ map (λ m. m.name) ms → i < n → (bytes : List ℕ) → listings_at (n - i) ms at bytes ≡ (listing_at names at bytes >>= (λ m. listings_at (n - (i + 1)) (ms ++ m.0 ∷ []) m.1 bytes))
 listings_more n i ms names at named less bytes = let one : n - i ≡ suc (n - (i + 1)) = omega arith in rw (one, named) refl
 
 -- the names of the members so far, with one more
-pub name_pushed : (ms : List Listing) (m : Listing) (after : List Listing) (names : List (List ℕ)) (name : List ℕ) → names ≡ map (λ x. x.name) ms → name ≡ m.name → after ≡ ms ++ m ∷ [] → names ++ name ∷ [] ≡ map (λ x. x.name) after
+pub name_pushed : (ms : List UnplacedEntry) (m : UnplacedEntry) (after : List UnplacedEntry) (names : List (List ℕ)) (name : List ℕ) → names ≡ map (λ x. x.name) ms → name ≡ m.name → after ≡ ms ++ m ∷ [] → names ++ name ∷ [] ≡ map (λ x. x.name) after
 name_pushed ms m after names name named same pushed = grind (arith, common_steps)
 
 -- ---- The members themselves.

@@ -1,15 +1,15 @@
 -- Which bytes of a library's file a call asked for that failed while the index was read.
 use Rattle.std.specs.Prelude.{◌≡◌, ℕ, ◌+◌, ◌<◌, ◌⊎◌, List, [], ◌∷◌, length, Option, Some, Result, Ok, IfSome}
 use Rattle.std.specs.FinMap.{get}
-use Rattle.base65.specs.Store.{Blamed, Files}
+use Rattle.base65.specs.Store.{LastFailure, Files}
 use Rattle.library65.specs.declared.fault.LibraryFault.{LibraryFault}
 use Rattle.library65.specs.declared.index.Entry.{Entry}
 use Rattle.library65.specs.Reading.{index_at, name_at}
 
 -- the failed call asked for a place of which this holds by the file's bytes, where the store tells its files and the call
-abbrev pub AsksAt : Option Files → Blamed → List ℕ → (List ℕ → ℕ → Type 0) → Type 0
-AsksAt known blamed file IsPlace =
-    IfSome known (λ m. IfSome (get m file) (λ bytes. IfSome blamed (λ c. (at : ℕ) × (c.at ≡ Some at) × IsPlace bytes at)))
+abbrev pub AsksAt : Option Files → LastFailure → List ℕ → (List ℕ → ℕ → Type 0) → Type 0
+AsksAt known last_failure file IsPlace =
+    IfSome known (λ m. IfSome (get m file) (λ bytes. IfSome last_failure (λ c. (at : ℕ) × (c.at ≡ Some at) × IsPlace bytes at)))
 
 -- where something is read of the bytes, this place is in front of its end
 abbrev pub IsBefore : {A : Type 0} → (List ℕ → Result (A × ℕ) LibraryFault) → List ℕ → ℕ → Type 0

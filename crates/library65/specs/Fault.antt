@@ -24,10 +24,10 @@ is_memory OutOfMemory = true
 is_memory _ = false
 
 -- memory ran out or the store failed
-abbrev pub is_outside : LibraryFault → Bool
-is_outside OutOfMemory = true
-is_outside FileError = true
-is_outside _ = false
+abbrev pub is_system_error : LibraryFault → Bool
+is_system_error OutOfMemory = true
+is_system_error FileError = true
+is_system_error _ = false
 
 abbrev pub fault_text : LibraryFault → List ℕ
 fault_text OutOfMemory = codes "out of memory"
@@ -42,17 +42,17 @@ fault_text FileNotFound = codes "file not found"
 fault_text BadMemberName = codes "bad member name"
 
 -- a name as characters: where it isn't text, each byte is the character of its code
-abbrev pub shown : List ℕ → List ℕ
-shown name = if is_utf8 name then name else encode_utf8_all name
+abbrev pub name_text : List ℕ → List ℕ
+name_text name = if is_utf8 name then name else encode_utf8_all name
 
-abbrev pub displayed : LibraryFault → List ℕ
-displayed (NoSuchMember name) = codes "no such member: " ++ shown name
-displayed OutOfMemory = codes "out of memory"
-displayed NotALibrary = codes "not a library"
-displayed CutShort = codes "library cut short"
-displayed BadIndex = codes "bad index"
-displayed NotAnObject = codes "member is not an object"
-displayed IndexDisagrees = codes "index disagrees with member"
-displayed FileError = codes "file error"
-displayed FileNotFound = codes "file not found"
-displayed BadMemberName = codes "bad member name"
+abbrev pub display_text : LibraryFault → List ℕ
+display_text (NoSuchMember name) = codes "no such member: " ++ name_text name
+display_text OutOfMemory = codes "out of memory"
+display_text NotALibrary = codes "not a library"
+display_text CutShort = codes "library cut short"
+display_text BadIndex = codes "bad index"
+display_text NotAnObject = codes "member is not an object"
+display_text IndexDisagrees = codes "index disagrees with member"
+display_text FileError = codes "file error"
+display_text FileNotFound = codes "file not found"
+display_text BadMemberName = codes "bad member name"

@@ -1,30 +1,30 @@
 -- What holds of indexes and libraries, whatever made them.
 use Rattle.std.specs.Prelude.{◌≡◌, ℕ, List, [], Ok}
-use Rattle.base65.specs.Own.{IsOwn}
+use Rattle.base65.specs.SystemErrors.{IsNoSystemError}
 use Rattle.object65.specs.Record.{IsBytes}
 use Rattle.library65.specs.declared.index.Entry.{Entry}
-use Rattle.library65.specs.Fault.{is_outside}
-use Rattle.library65.specs.Libraries.{deleted as deleted_of, library_at, replaced as replaced_of, written, written_behind}
+use Rattle.library65.specs.Fault.{is_system_error}
+use Rattle.library65.specs.Libraries.{without_named_member as deleted_of, library_at, with_new_member as replaced_of, bytes_within_limit, written_after}
 use Rattle.library65.specs.Reading.{index_at}
-use Rattle.library65.specs.Spelling.{IsIndex, IsLibrary, IsStock, Member}
+use Rattle.library65.specs.Spelling.{IsIndex, IsLibrary, IsMemberList, Member}
 
 -- a library has one spelling
-abbrev pub OneLibraryLaw : Type 0
-OneLibraryLaw = (a b : List ℕ) (ms : List Member) → IsLibrary a ms → IsLibrary b ms → a ≡ b
+abbrev pub LibrarySpellingIsUnique : Type 0
+LibrarySpellingIsUnique = (a b : List ℕ) (ms : List Member) → IsLibrary a ms → IsLibrary b ms → a ≡ b
 
 -- of any bytes an index is read, or their first fault
-abbrev pub SomeIndexLaw : Type 0
-SomeIndexLaw = (bytes : List ℕ) → IsOwn is_outside (index_at bytes)
+abbrev pub IndexExists : Type 0
+IndexExists = (bytes : List ℕ) → IsNoSystemError is_system_error (index_at bytes)
 
 -- and a library likewise
-abbrev pub SomeLibraryLaw : Type 0
-SomeLibraryLaw = (bytes : List ℕ) → IsOwn is_outside (library_at bytes)
+abbrev pub LibraryExists : Type 0
+LibraryExists = (bytes : List ℕ) → IsNoSystemError is_system_error (library_at bytes)
 
 -- any members are edited and written, or there is a fault of theirs
-pub record SomeEditLaw : Type 0 where
-  pub replaced : (ms : List Member) (n bytes : List ℕ) → IsOwn is_outside (replaced_of ms n bytes)
-  pub deleted : (ms : List Member) (name : List ℕ) → IsOwn is_outside (deleted_of ms name)
-  pub written : (before : List ℕ) (ms : List Member) → IsOwn is_outside (written_behind before ms)
+pub record EditExists : Type 0 where
+  pub replaced : (ms : List Member) (n bytes : List ℕ) → IsNoSystemError is_system_error (replaced_of ms n bytes)
+  pub deleted : (ms : List Member) (name : List ℕ) → IsNoSystemError is_system_error (deleted_of ms name)
+  pub written : (before : List ℕ) (ms : List Member) → IsNoSystemError is_system_error (written_after before ms)
 
 -- what is read as an index is spelled so
 abbrev pub IndexReadLaw : Type 0
@@ -40,7 +40,7 @@ LibrarySpellingLaw = (bytes : List ℕ) (ms : List Member) → IsLibrary bytes m
 
 -- what is written of members that make a library is a library of them
 abbrev pub WrittenLaw : Type 0
-WrittenLaw = (ms : List Member) (bytes : List ℕ) → IsStock ms → written ms ≡ Ok bytes → IsLibrary bytes ms
+WrittenLaw = (ms : List Member) (bytes : List ℕ) → IsMemberList ms → bytes_within_limit ms ≡ Ok bytes → IsLibrary bytes ms
 
 -- what is loaded as a library is spelled so
 abbrev pub LibraryReadLaw : Type 0
@@ -48,7 +48,7 @@ LibraryReadLaw = (bytes : List ℕ) (ms : List Member) → IsBytes bytes → lib
 
 -- the empty library, one that is loaded and what edits leave are of members that make a library
 pub record StockLaw : Type 0 where
-  pub none : IsStock []
-  pub loaded : (bytes : List ℕ) (ms : List Member) → IsLibrary bytes ms → IsStock ms
-  pub replaced : (ms ns : List Member) (name bytes : List ℕ) → IsBytes bytes → IsStock ms → replaced_of ms name bytes ≡ Ok ns → IsStock ns
-  pub deleted : (ms ns : List Member) (name : List ℕ) → IsStock ms → deleted_of ms name ≡ Ok ns → IsStock ns
+  pub none : IsMemberList []
+  pub loaded : (bytes : List ℕ) (ms : List Member) → IsLibrary bytes ms → IsMemberList ms
+  pub replaced : (ms ns : List Member) (name bytes : List ℕ) → IsBytes bytes → IsMemberList ms → replaced_of ms name bytes ≡ Ok ns → IsMemberList ns
+  pub deleted : (ms ns : List Member) (name : List ℕ) → IsMemberList ms → deleted_of ms name ≡ Ok ns → IsMemberList ns

@@ -1,6 +1,6 @@
 pub mod Asking
 pub mod Fault
-pub mod Inner
+pub mod Internal
 pub mod Laws
 pub mod Libraries
 pub mod Reading

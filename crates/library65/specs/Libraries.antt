@@ -56,18 +56,18 @@ unfoldable pub contents_in : List ℕ → Result Contents LibraryFault
 contents_in bytes = object_in bytes >>= (λ o. Ok (contents_from o))
 
 -- the same of a member of this name
-unfoldable pub checked : List ℕ → List ℕ → Result Contents LibraryFault
-checked name bytes = if is_member_name name then contents_in bytes else Err BadMemberName
+unfoldable pub member_contents : List ℕ → List ℕ → Result Contents LibraryFault
+member_contents name bytes = if is_member_name name then contents_in bytes else Err BadMemberName
 
 -- ---- Edits.
 
-unfoldable pub replaced : List Member → List ℕ → List ℕ → Result (List Member) LibraryFault
-replaced ms name bytes = do
-  contents ← checked name bytes
+unfoldable pub with_new_member : List Member → List ℕ → List ℕ → Result (List Member) LibraryFault
+with_new_member ms name bytes = do
+  contents ← member_contents name bytes
   Ok (with_member ms name bytes)
 
-abbrev pub deleted : List Member → List ℕ → Result (List Member) LibraryFault
-deleted ms name = if is_among (member_names ms) name then Ok (without_member ms name) else Err (NoSuchMember name)
+abbrev pub without_named_member : List Member → List ℕ → Result (List Member) LibraryFault
+without_named_member ms name = if is_among (member_names ms) name then Ok (without_member ms name) else Err (NoSuchMember name)
 
 -- ---- Reading.
 
@@ -75,30 +75,30 @@ abbrev pub are_same : List (List ℕ) → List (List ℕ) → Bool
 are_same names others = pointwise bytes_eq names others
 
 -- the names are those of the object
-abbrev pub agrees : Entry → Contents → Bool
-agrees e c = are_same e.exports c.exports && are_same e.imports c.imports
+abbrev pub has_index_names : Entry → Contents → Bool
+has_index_names e c = are_same e.exports c.exports && are_same e.imports c.imports
 
 -- the bytes of a member, all of which have to be there
 abbrev pub piece_at : ℕ → ℕ → List ℕ → Result (List ℕ) LibraryFault
 piece_at size place bytes = if nat_lt (length (take size (drop place bytes))) size then Err CutShort else Ok (take size (drop place bytes))
 
 -- what the object of an entry's member exports and imports: the names that the entry has
-unfoldable pub agreed : Entry → List ℕ → Result Contents LibraryFault
-agreed e found = do
-  contents ← checked e.name found
-  if agrees e contents then Ok contents else Err IndexDisagrees
+unfoldable pub indexed_contents : Entry → List ℕ → Result Contents LibraryFault
+indexed_contents e found = do
+  contents ← member_contents e.name found
+  if has_index_names e contents then Ok contents else Err IndexDisagrees
 
 -- the members before and the one of an entry
-abbrev pub added : List Member → Entry → List ℕ → Result (List Member) LibraryFault
-added before e found = agreed e found >>= (λ c. Ok (with_member before e.name found))
+abbrev pub with_entry : List Member → Entry → List ℕ → Result (List Member) LibraryFault
+with_entry before e found = indexed_contents e found >>= (λ c. Ok (with_member before e.name found))
 
 -- the same, the member's bytes in those of the library
-unfoldable pub joined : List Member → Entry → List ℕ → Result (List Member) LibraryFault
-joined before e bytes = piece_at e.size e.place bytes >>= (λ found. added before e found)
+unfoldable pub with_library_entry : List Member → Entry → List ℕ → Result (List Member) LibraryFault
+with_library_entry before e bytes = piece_at e.size e.place bytes >>= (λ found. with_entry before e found)
 
 abbrev pub joined_all : List Member → List Entry → List ℕ → Result (List Member) LibraryFault
 joined_all before [] bytes = Ok before
-joined_all before (e ∷ es) bytes = joined before e bytes >>= (λ ms. joined_all ms es bytes)
+joined_all before (e ∷ es) bytes = with_library_entry before e bytes >>= (λ ms. joined_all ms es bytes)
 
 -- the library that the bytes are, or the first fault
 unfoldable pub library_at : List ℕ → Result (List Member) LibraryFault
@@ -119,11 +119,11 @@ abbrev pub library_bytes : List Member → List ℕ
 library_bytes ms = (library_head ++ (little_bytes 4 (length ms) ++ flat_map member_listing ms)) ++ flat_map (λ m. m.1) ms
 
 -- the bytes, unless they would pass the limit of a file
-abbrev pub written : List Member → Result (List ℕ) LibraryFault
-written ms = if nat_lt file_limit (length (library_bytes ms)) then Err BadIndex else Ok (library_bytes ms)
+abbrev pub bytes_within_limit : List Member → Result (List ℕ) LibraryFault
+bytes_within_limit ms = if nat_lt file_limit (length (library_bytes ms)) then Err BadIndex else Ok (library_bytes ms)
 
-abbrev pub written_behind : List ℕ → List Member → Result (List ℕ) LibraryFault
-written_behind before ms = written ms >>= (λ bytes. Ok (before ++ bytes))
+abbrev pub written_after : List ℕ → List Member → Result (List ℕ) LibraryFault
+written_after before ms = bytes_within_limit ms >>= (λ bytes. Ok (before ++ bytes))
 
 -- ---- What a library keeps of its members.
 
@@ -135,9 +135,9 @@ members_of m = map member_of m.entries
 
 -- what is kept of a member is so
 abbrev pub IsStored : Vec ℕ × Stored → Type 0
-IsStored e = (checked e.0.items e.1.bytes.items ≡ Ok e.1.contents) × AreSymbols e.1.contents
+IsStored e = (member_contents e.0.items e.1.bytes.items ≡ Ok e.1.contents) × AreSymbols e.1.contents
 
 -- what a library keeps to
-pub record IsSound {S : Type 0} (m : IndexMap (Vec ℕ) Stored S) : Type 0 where
+pub record IsWellFormedMember {S : Type 0} (m : IndexMap (Vec ℕ) Stored S) : Type 0 where
   pub names : are_member_names (member_names (members_of m)) ≡ true
   pub stored : AllByRecursion IsStored m.entries

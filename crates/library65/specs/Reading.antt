@@ -5,7 +5,7 @@ use Rattle.byteorder.specs.Endian.{little_number}
 use Rattle.object65.specs.Reading.{file_limit}
 use Rattle.base65.specs.Outcome.{◌>>=◌}
 use Rattle.library65.specs.declared.index.Entry.{Entry}
-use Rattle.library65.specs.declared.index.Listing.{Listing}
+use Rattle.library65.specs.declared.index.UnplacedEntry.{UnplacedEntry}
 use Rattle.library65.specs.declared.fault.LibraryFault.{LibraryFault}
 use Rattle.library65.specs.declared.fault.LibraryFault.TheVariants.{NotALibrary, CutShort, BadIndex, FileNotFound}
 use Rattle.library65.specs.Spelling.{is_among, is_member_name, is_name, library_head}
@@ -23,11 +23,11 @@ abbrev pub head_at : List ℕ → Result (Unit {0}) LibraryFault
 head_at bytes = head_of (take 5 bytes)
 
 -- Of so many bytes from a place on these are there. One past the limit of a file stands before the end.
-abbrev pub whole : ℕ → ℕ → List ℕ → Result (List ℕ) LibraryFault
-whole n at found = if nat_lt file_limit (at + length found) then Err BadIndex else if nat_lt (length found) n then Err CutShort else Ok found
+abbrev pub piece_or_cut_short : ℕ → ℕ → List ℕ → Result (List ℕ) LibraryFault
+piece_or_cut_short n at found = if nat_lt file_limit (at + length found) then Err BadIndex else if nat_lt (length found) n then Err CutShort else Ok found
 
 abbrev pub field_at : ℕ → ℕ → List ℕ → Result (List ℕ) LibraryFault
-field_at n at bytes = whole n at (take n (drop at bytes))
+field_at n at bytes = piece_or_cut_short n at (take n (drop at bytes))
 
 unfoldable pub number_at : ℕ → List ℕ → Result ℕ LibraryFault
 number_at at bytes = do
@@ -64,10 +64,10 @@ member_name_at names at bytes = do
   name ← name_at at bytes
   if is_member_name name.0 && not (is_among names name.0) then Ok name else Err BadIndex
 
-abbrev pub listing : List ℕ → ℕ → List (List ℕ) → List (List ℕ) → Listing
+abbrev pub listing : List ℕ → ℕ → List (List ℕ) → List (List ℕ) → UnplacedEntry
 listing name size exports imports = record { name = name; size = size; exports = exports; imports = imports }
 
-unfoldable pub listing_at : List (List ℕ) → ℕ → List ℕ → Result (Listing × ℕ) LibraryFault
+unfoldable pub listing_at : List (List ℕ) → ℕ → List ℕ → Result (UnplacedEntry × ℕ) LibraryFault
 listing_at names at bytes = do
   name ← member_name_at names at bytes
   size ← number_at name.1 bytes
@@ -76,17 +76,17 @@ listing_at names at bytes = do
   Ok (listing name.0 size exports.0 imports.0, imports.1)
 
 -- what is said of so many more members behind those before
-abbrev pub listings_at : ℕ → List Listing → ℕ → List ℕ → Result (List Listing × ℕ) LibraryFault
+abbrev pub listings_at : ℕ → List UnplacedEntry → ℕ → List ℕ → Result (List UnplacedEntry × ℕ) LibraryFault
 listings_at zero before at bytes = Ok (before, at)
 listings_at (suc n) before at bytes = listing_at (map (λ m. m.name) before) at bytes >>= (λ m. listings_at n (before ++ m.0 ∷ []) m.1 bytes)
 
-abbrev pub entry_at : ℕ → Listing → Entry
+abbrev pub entry_at : ℕ → UnplacedEntry → Entry
 entry_at at m = record { name = m.name; place = at; size = m.size; exports = m.exports; imports = m.imports }
 
 -- the members one behind the other, and where the last one ends; none ends past the limit of a file
-abbrev pub placed : List Entry → ℕ → List Listing → Result (List Entry × ℕ) LibraryFault
-placed before at [] = Ok (before, at)
-placed before at (m ∷ ms) = if nat_lt file_limit (at + m.size) then Err BadIndex else placed (before ++ entry_at at m ∷ []) (at + m.size) ms
+abbrev pub members_with_offsets : List Entry → ℕ → List UnplacedEntry → Result (List Entry × ℕ) LibraryFault
+members_with_offsets before at [] = Ok (before, at)
+members_with_offsets before at (m ∷ ms) = if nat_lt file_limit (at + m.size) then Err BadIndex else members_with_offsets (before ++ entry_at at m ∷ []) (at + m.size) ms
 
 -- the file ends there
 abbrev pub end_at : ℕ → List ℕ → Result (Unit {0}) LibraryFault
@@ -97,7 +97,7 @@ abbrev pub count_at : List ℕ → Result ℕ LibraryFault
 count_at bytes = head_at bytes >>= (λ u. number_at 5 bytes)
 
 -- what is said of all members, and where that ends
-unfoldable pub list_at : List ℕ → Result (List Listing × ℕ) LibraryFault
+unfoldable pub list_at : List ℕ → Result (List UnplacedEntry × ℕ) LibraryFault
 list_at bytes = do
   count ← count_at bytes
   listings_at count [] 9 bytes
@@ -106,6 +106,6 @@ list_at bytes = do
 unfoldable pub index_at : List ℕ → Result (List Entry) LibraryFault
 index_at bytes = do
   listed ← list_at bytes
-  entries ← placed [] listed.1 listed.0
+  entries ← members_with_offsets [] listed.1 listed.0
   u ← end_at entries.1 bytes
   Ok entries.0

@@ -41,12 +41,12 @@ pub record IsSelection (es : List Entry) (wanted defined : List (List ℕ)) (pla
 -- ---- What holds of selections, whatever made them.
 
 -- what is wanted has one selection at most
-abbrev pub OneSelectionLaw : Type 0
-OneSelectionLaw = (es : List Entry) (wanted defined : List (List ℕ)) (a b : List ℕ) → IsSelection es wanted defined a → IsSelection es wanted defined b → a ≡ b
+abbrev pub SelectionIsUnique : Type 0
+SelectionIsUnique = (es : List Entry) (wanted defined : List (List ℕ)) (a b : List ℕ) → IsSelection es wanted defined a → IsSelection es wanted defined b → a ≡ b
 
 -- and one at least
-abbrev pub SomeSelectionLaw : Type 0
-SomeSelectionLaw =
+abbrev pub SelectionExists : Type 0
+SelectionExists =
     (es : List Entry) (wanted defined : List (List ℕ)) →
     (places : List ℕ) × IsSelection es wanted defined places
 

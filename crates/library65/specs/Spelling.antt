@@ -39,11 +39,11 @@ pub record AreSymbols (c : Contents) : Type 0 where
   pub imports : list_all is_name c.imports ≡ true
 
 -- a part is put behind what was there, or refused: for want of memory, or since so many bytes would pass the limit
-abbrev pub Puts : List ℕ → ℕ → List ℕ → List ℕ → Result (Unit {0}) LibraryFault → Type 0
-Puts part total old new (Ok u) = new ≡ old ++ part
-Puts part total old new (Err OutOfMemory) = ⊤
-Puts part total old new (Err BadIndex) = file_limit < total
-Puts part total old new (Err _) = ⊥
+abbrev pub AppendsBytes : List ℕ → ℕ → List ℕ → List ℕ → Result (Unit {0}) LibraryFault → Type 0
+AppendsBytes part total old new (Ok u) = new ≡ old ++ part
+AppendsBytes part total old new (Err OutOfMemory) = ⊤
+AppendsBytes part total old new (Err BadIndex) = file_limit < total
+AppendsBytes part total old new (Err _) = ⊥
 
 -- ---- The bytes of an index and of a library, as a grammar.
 
@@ -120,6 +120,6 @@ pub record IsLibrary (bytes : List ℕ) (ms : List Member) : Type 0 where
   pub members : AreMembers bytes index ms
 
 -- members that make a library: good names, none twice, and objects
-pub record IsStock (ms : List Member) : Type 0 where
+pub record IsMemberList (ms : List Member) : Type 0 where
   pub names : are_member_names (map (λ m. m.0) ms) ≡ true
   pub objects : AllByRecursion (λ m. (o : Object) × IsObject m.1 o) ms

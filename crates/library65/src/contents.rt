@@ -1,39 +1,39 @@
 //! What the object in a member's bytes exports and imports.
 
 ghost use Rattle.std.specs.Prelude.{◌≡◌, Ok, IfOk, map, true, ◌≤◌, length, IfErr, OnOk};
-ghost use Rattle.base65.specs.Outcome.{Gives};
-ghost use Rattle.object65.specs.Objects.{is_good_object};
+ghost use Rattle.base65.specs.Outcome.{Refines};
+ghost use Rattle.object65.specs.Objects.{is_well_formed_object};
 ghost use Rattle.library65.specs.Fault.{is_memory};
-ghost use Rattle.library65.specs.Libraries.{agrees, are_same, checked, contents_from};
+ghost use Rattle.library65.specs.Libraries.{has_index_names, are_same, member_contents, contents_from};
 ghost use Rattle.library65.specs.Spelling.{AreSymbols};
 ghost use Rattle.object65.specs.Record.{is_version};
 ghost use Rattle.object65.specs.Items.{with_item};
 ghost use Rattle.object65.specs.Scanning.{State, object_from};
-ghost use Rattle.library65.specs.Inner.Contents.{ReadsContents};
+ghost use Rattle.library65.specs.Internal.Contents.{ReadsContents};
 
 use crate::index::is_file_name;
 use crate::{Entry, LibraryFault};
 use arrayvec::ArrayVec;
-use base65::{Seed, Sequence};
+use base65::{ListVec, Seed};
 use object65::{Export, Item, Object, ObjectFault, Record, Scan, decode_head, decode_record};
 use std::alloc::Global;
 
 /// What an object exports and imports, in its order.
 #[derive(Drop)]
 pub struct Contents {
-    pub exports: Sequence<Sequence<u8>>,
-    pub imports: Sequence<Sequence<u8>>,
+    pub exports: ListVec<ListVec<u8>>,
+    pub imports: ListVec<ListVec<u8>>,
 }
 
 /// What a member of this name and these bytes exports and imports. The space takes the object's records in turn.
-#[tactic(auto, unfolding(crate::specs::Libraries::checked, crate::specs::Libraries::contents_in, object65::specs::Reading::object_at))]
+#[tactic(auto, unfolding(crate::specs::Libraries::member_contents, crate::specs::Libraries::contents_in, object65::specs::Reading::object_at))]
 pub fn check_member(
     alloc: Global,
-    space: &mut Space,
+    space: &mut ReadBuffers,
     name: &[u8],
     bytes: &[u8],
 ) -> Result<Contents, LibraryFault>
-    ensures checked { Gives is_memory (λ c. c) result (checked name.now bytes.now) }
+    ensures checked { Refines is_memory (λ c. c) result (member_contents name.now bytes.now) }
     ensures symbols { IfOk result AreSymbols }
 {
     if !is_file_name(name) {
@@ -48,7 +48,7 @@ pub fn check_member(
 }
 
 /// Whether these are the same names in the same order.
-pub fn are_same(names: &[Sequence<u8>], others: &[Sequence<u8>]) -> bool
+pub fn are_same(names: &[ListVec<u8>], others: &[ListVec<u8>]) -> bool
     ensures { result ≡ are_same names.now others.now }
 {
     if names.len() != others.len() {
@@ -64,7 +64,7 @@ pub fn are_same(names: &[Sequence<u8>], others: &[Sequence<u8>]) -> bool
 
 /// Whether an entry has the names that the object exports and imports.
 pub fn agrees(entry: &Entry, contents: &Contents) -> bool
-    ensures { result ≡ agrees entry.now contents.now }
+    ensures { result ≡ has_index_names entry.now contents.now }
 {
     are_same(entry.exports.as_slice(), contents.exports.as_slice())
         && are_same(entry.imports.as_slice(), contents.imports.as_slice())
@@ -72,17 +72,17 @@ pub fn agrees(entry: &Entry, contents: &Contents) -> bool
 
 /// What the members of a library are read with, one after the other.
 #[derive(Drop)]
-pub struct Space {
+pub struct ReadBuffers {
     /// Their records take it in turn.
     pub record: Record,
     /// What tables of names begin with.
     pub seed: Seed,
 }
 
-impl Space {
+impl ReadBuffers {
     /// Space with tables of this seed.
     pub fn of(seed: Seed) -> Self {
-        Space {
+        ReadBuffers {
             record: Record {
                 kind: 0,
                 body: ArrayVec::new(),
@@ -113,7 +113,7 @@ fn add_item(contents: &mut Contents, item: Item) -> Result<(), ObjectFault>
 /// Reads the records of an object of this version one by one up to the END: what they export and import, and where the END ends.
 fn read_records(
     alloc: Global,
-    space: &mut Space,
+    space: &mut ReadBuffers,
     bytes: &[u8],
     version: u8,
     at: usize,
@@ -126,8 +126,8 @@ fn read_records(
 {
     let mut scan = Scan::seeded(alloc, space.seed, version);
     let mut contents = Contents {
-        exports: Sequence::new(alloc),
-        imports: Sequence::new(alloc),
+        exports: ListVec::new(alloc),
+        imports: ListVec::new(alloc),
     };
     let mut next = at;
     'records: loop {

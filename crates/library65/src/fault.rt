@@ -3,7 +3,7 @@
 ghost use Rattle.std.specs.Prelude.{◌≡◌};
 ghost use Rattle.library65.specs.declared.fault.LibraryFault.TheVariants.{OutOfMemory};
 
-use base65::{Sequence, StoreFault};
+use base65::{ListVec, StoreFault};
 use object65::ObjectFault;
 use std::alloc::{AllocError, AllocFailed};
 use std::error::Error;
@@ -17,7 +17,7 @@ pub enum LibraryFault {
     CutShort,
     BadIndex,
     /// The name that no member has.
-    NoSuchMember(Sequence<u8>),
+    NoSuchMember(ListVec<u8>),
     NotAnObject,
     IndexDisagrees,
     FileError,
@@ -72,9 +72,9 @@ impl From<ObjectFault> for LibraryFault {
 
 impl fmt::Display for LibraryFault {
     ghost use Rattle.std.specs.Prelude.{Some};
-    ghost use Rattle.library65.specs.Fault.{displayed};
+    ghost use Rattle.library65.specs.Fault.{display_text};
 
-    ghost output = { λ e. Some (displayed e) };
+    ghost output = { λ e. Some (display_text e) };
 
     fn fmt<W: fmt::Write>(&self, f: &mut fmt::Formatter<W>) -> fmt::Result {
         match self {
@@ -83,7 +83,7 @@ impl fmt::Display for LibraryFault {
             LibraryFault::CutShort => f.write_str("library cut short"),
             LibraryFault::BadIndex => f.write_str("bad index"),
             LibraryFault::NoSuchMember(name) => {
-                let name = Shown(name.as_slice());
+                let name = NameDisplay(name.as_slice());
                 write!(f, "no such member: {name}")
             }
             LibraryFault::NotAnObject => f.write_str("member is not an object"),
@@ -99,13 +99,13 @@ impl Error for LibraryFault {}
 
 /// A name as it is printed: as it is, and where it isn't text, each byte as the character of its code.
 #[derive(Clone, Copy)]
-struct Shown<'a>(&'a [u8]);
+struct NameDisplay<'a>(&'a [u8]);
 
-impl fmt::Display for Shown<'_> {
+impl fmt::Display for NameDisplay<'_> {
     ghost use Rattle.std.specs.Prelude.{Some};
-    ghost use Rattle.library65.specs.Fault.{shown};
+    ghost use Rattle.library65.specs.Fault.{name_text};
 
-    ghost output = { λ x. Some (shown x.0.now) };
+    ghost output = { λ x. Some (name_text x.0.now) };
 
     fn fmt<W: fmt::Write>(&self, f: &mut fmt::Formatter<W>) -> fmt::Result {
         match std::str::from_utf8(self.0) {

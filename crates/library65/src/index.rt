@@ -3,12 +3,12 @@
 ghost use Rattle.std.specs.Prelude.{◌≡◌, map, ◌++◌, ◌∷◌, [], Ok, false};
 ghost use Rattle.object65.specs.Objects.{is_among, is_printed};
 ghost use Rattle.std.specs.List.{list_all};
-ghost use Rattle.base65.specs.Outcome.{Gives};
+ghost use Rattle.base65.specs.Outcome.{Refines};
 ghost use Rattle.library65.specs.Fault.{is_memory};
 ghost use Rattle.library65.specs.Spelling.{is_among, is_folder, is_member_name, is_name, is_plain};
 
 use crate::LibraryFault;
-use base65::{Sequence, is_utf8};
+use base65::{ListVec, is_utf8};
 use indexmap::IndexSet;
 use std::alloc::Global;
 
@@ -25,30 +25,30 @@ pub fn has_name(names: &IndexSet<Vec<u8>>, name: &[u8]) -> bool
 /// What an index says of a member.
 #[derive(Drop)]
 pub struct Entry {
-    pub name: Sequence<u8>,
+    pub name: ListVec<u8>,
     /// Where the member's bytes begin in the library's file.
     pub place: u64,
     /// How many bytes it has.
     pub size: u32,
     /// The names that it exports, in its order.
-    pub exports: Sequence<Sequence<u8>>,
+    pub exports: ListVec<ListVec<u8>>,
     /// The names that it imports, in its order.
-    pub imports: Sequence<Sequence<u8>>,
+    pub imports: ListVec<ListVec<u8>>,
 }
 
 /// The index of a library: its members in the order in which they stand.
 #[derive(Drop)]
 pub struct Index {
-    pub entries: Sequence<Entry>,
+    pub entries: ListVec<Entry>,
 }
 
 /// What an index says of a member whose place isn't known yet.
 #[derive(Drop)]
-pub struct Listing {
-    pub name: Sequence<u8>,
+pub struct UnplacedEntry {
+    pub name: ListVec<u8>,
     pub size: u32,
-    pub exports: Sequence<Sequence<u8>>,
-    pub imports: Sequence<Sequence<u8>>,
+    pub exports: ListVec<ListVec<u8>>,
+    pub imports: ListVec<ListVec<u8>>,
 }
 
 fn is_printed_name(name: &[u8]) -> bool

@@ -2,26 +2,26 @@
 
 ghost use Rattle.std.specs.Prelude.{◌≡◌, ◌≤◌, ◌<◌, ◌+◌, ◌-◌, length, IfOk, OnOk, IfSome, IsErrOf, ◌++◌, ◌∷◌, [], ℕ, List, map, Ok, false};
 ghost use Rattle.std.specs.FinMap as map;
-ghost use Rattle.base65.specs.Outcome.{Gives};
-ghost use Rattle.base65.specs.Store.{Asks, HoldsBytes, IsBlamedIn};
-ghost use Rattle.object65.specs.Reading.{Leaves, file_limit};
+ghost use Rattle.base65.specs.Outcome.{Refines};
+ghost use Rattle.base65.specs.Store.{FailsAtLastCount, HoldsBytes, FailedWithin};
+ghost use Rattle.object65.specs.Reading.{StoreFrame, file_limit};
 ghost use Rattle.library65.specs.Asking.{AsksAt, IsBefore, IsInName, IsIndexPlace};
-ghost use Rattle.library65.specs.Fault.{is_outside, is_memory};
+ghost use Rattle.library65.specs.Fault.{is_system_error, is_memory};
 ghost use Rattle.library65.specs.Spelling.{is_among, is_member_name};
-ghost use Rattle.library65.specs.Reading.{in_file, field_at, head_at, name_at, number_at, symbol_at, counted_at, count_at, member_name_at, listing_at, list_at, entry_at, placed, end_at, index_at};
+ghost use Rattle.library65.specs.Reading.{in_file, field_at, head_at, name_at, number_at, symbol_at, counted_at, count_at, member_name_at, listing_at, list_at, entry_at, members_with_offsets, end_at, index_at};
 ghost use Rattle.std.specs.List.{AllByRecursion};
 ghost use Rattle.library65.specs.declared.fault.LibraryFault.TheVariants.{FileError};
 
-use crate::index::{Listing, has_name, is_file_name, is_symbol_name};
+use crate::index::{UnplacedEntry, has_name, is_file_name, is_symbol_name};
 use crate::{Entry, Index, LibraryFault};
-use base65::{Sequence, Store, read_full};
+use base65::{ListVec, Store, read_full};
 use byteorder::{ByteOrder, LittleEndian};
 use indexmap::IndexSet;
 use object65::format::FILE_LIMIT;
 use std::alloc::Global;
 
 /// With these bytes a library begins.
-pub const HEAD: [u8; 5] = [0x52, 0x36, 0x35, 0x6c, 0x01];
+pub const MAGIC: [u8; 5] = [0x52, 0x36, 0x35, 0x6c, 0x01];
 
 /// Reads a field of the buffer's length.
 fn read_field<S: Store>(
@@ -32,9 +32,9 @@ fn read_field<S: Store>(
 ) -> Result<(), LibraryFault>
     requires at { at ≤ file_limit }
     requires short { length buf.old < 256 }
-    ensures read { IfSome (S.files store.old) (λ m. Gives is_outside (λ _. buf.new) result (in_file (map.get m file.now) (field_at (length buf.old) at))) }
-    ensures kept { Leaves S.files S.failures S.blamed FileError file.now store.old store.new result }
-    ensures within { IsErrOf result FileError → IsBlamedIn (S.blamed store.new) file.now at (at + (length buf.old - 1)) }
+    ensures read { IfSome (S.files store.old) (λ m. Refines is_system_error (λ _. buf.new) result (in_file (map.get m file.now) (field_at (length buf.old) at))) }
+    ensures frame { StoreFrame S.files S.failures S.last_failure FileError file.now store.old store.new result }
+    ensures within { IsErrOf result FileError → FailedWithin (S.last_failure store.new) file.now at (at + (length buf.old - 1)) }
     ensures limit { OnOk result (at + length buf.old ≤ file_limit) }
 {
     let n = read_full(store, file, at, buf)?;
@@ -51,9 +51,9 @@ fn read_field<S: Store>(
 #[tactic(auto, unfolding(crate::specs::Reading::number_at))]
 fn read_number<S: Store>(store: &mut S, file: &str, at: u64) -> Result<u32, LibraryFault>
     requires { at ≤ file_limit }
-    ensures read { IfSome (S.files store.old) (λ m. Gives is_outside (λ n. n) result (in_file (map.get m file.now) (number_at at))) }
-    ensures kept { Leaves S.files S.failures S.blamed FileError file.now store.old store.new result }
-    ensures within { IsErrOf result FileError → IsBlamedIn (S.blamed store.new) file.now at (at + 3) }
+    ensures read { IfSome (S.files store.old) (λ m. Refines is_system_error (λ n. n) result (in_file (map.get m file.now) (number_at at))) }
+    ensures frame { StoreFrame S.files S.failures S.last_failure FileError file.now store.old store.new result }
+    ensures within { IsErrOf result FileError → FailedWithin (S.last_failure store.new) file.now at (at + 3) }
     ensures limit { OnOk result (at + 4 ≤ file_limit) }
 {
     let mut bytes = [0u8; 4];
@@ -68,11 +68,11 @@ fn read_name<S: Store>(
     store: &mut S,
     file: &str,
     at: u64,
-) -> Result<(Sequence<u8>, u64), LibraryFault>
+) -> Result<(ListVec<u8>, u64), LibraryFault>
     requires { at ≤ file_limit }
-    ensures read { IfSome (S.files store.old) (λ m. Gives is_outside (λ x. x) result (in_file (map.get m file.now) (name_at at))) }
-    ensures kept { Leaves S.files S.failures S.blamed FileError file.now store.old store.new result }
-    ensures before { IsErrOf result FileError → AsksAt (S.files store.old) (S.blamed store.new) file.now (IsInName at) }
+    ensures read { IfSome (S.files store.old) (λ m. Refines is_system_error (λ x. x) result (in_file (map.get m file.now) (name_at at))) }
+    ensures frame { StoreFrame S.files S.failures S.last_failure FileError file.now store.old store.new result }
+    ensures before { IsErrOf result FileError → AsksAt (S.files store.old) (S.last_failure store.new) file.now (IsInName at) }
     ensures end { IfOk result (λ x. (at < x.1) × (x.1 ≤ file_limit)) }
 {
     let mut len = [0u8; 1];
@@ -81,7 +81,7 @@ fn read_name<S: Store>(
     let mut bytes = [0u8; 255];
     let name = &mut bytes[..len];
     read_field(store, file, at + 1, name)?;
-    let name = Sequence::from_vec(Vec::from_slice(alloc, name)?);
+    let name = ListVec::from_vec(Vec::from_slice(alloc, name)?);
     Ok((name, at + 1 + len as u64))
 }
 
@@ -91,16 +91,16 @@ fn read_symbols<S: Store>(
     store: &mut S,
     file: &str,
     at: u64,
-) -> Result<(Sequence<Sequence<u8>>, u64), LibraryFault>
+) -> Result<(ListVec<ListVec<u8>>, u64), LibraryFault>
     requires { at ≤ file_limit }
-    ensures read { IfSome (S.files store.old) (λ m. Gives is_outside (λ x. x) result (in_file (map.get m file.now) (counted_at at))) }
-    ensures kept { Leaves S.files S.failures S.blamed FileError file.now store.old store.new result }
-    ensures before { IsErrOf result FileError → AsksAt (S.files store.old) (S.blamed store.new) file.now (IsBefore (counted_at at)) }
+    ensures read { IfSome (S.files store.old) (λ m. Refines is_system_error (λ x. x) result (in_file (map.get m file.now) (counted_at at))) }
+    ensures frame { StoreFrame S.files S.failures S.last_failure FileError file.now store.old store.new result }
+    ensures before { IsErrOf result FileError → AsksAt (S.files store.old) (S.last_failure store.new) file.now (IsBefore (counted_at at)) }
     ensures end { IfOk result (λ x. (at < x.1) × (x.1 ≤ file_limit)) }
 {
     let count = read_number(store, file, at)?;
     // The index may say any number, so room grows by the names that are read.
-    let mut names = Sequence::new(alloc);
+    let mut names = ListVec::new(alloc);
     let mut end = at + 4;
     for _ in 0..count {
         let (name, next) = read_name(alloc, store, file, end)?;
@@ -121,11 +121,11 @@ fn read_listing<S: Store>(
     file: &str,
     at: u64,
     names: &IndexSet<Vec<u8>>,
-) -> Result<(Listing, u64), LibraryFault>
+) -> Result<(UnplacedEntry, u64), LibraryFault>
     requires { at ≤ file_limit }
-    ensures read { IfSome (S.files store.old) (λ m. Gives is_outside (λ x. x) result (in_file (map.get m file.now) (listing_at (map (λ n. n.items) names.now.keys) at))) }
-    ensures kept { Leaves S.files S.failures S.blamed FileError file.now store.old store.new result }
-    ensures before { IsErrOf result FileError → AsksAt (S.files store.old) (S.blamed store.new) file.now (IsBefore (listing_at (map (λ n. n.items) names.now.keys) at)) }
+    ensures read { IfSome (S.files store.old) (λ m. Refines is_system_error (λ x. x) result (in_file (map.get m file.now) (listing_at (map (λ n. n.items) names.now.keys) at))) }
+    ensures frame { StoreFrame S.files S.failures S.last_failure FileError file.now store.old store.new result }
+    ensures before { IsErrOf result FileError → AsksAt (S.files store.old) (S.last_failure store.new) file.now (IsBefore (listing_at (map (λ n. n.items) names.now.keys) at)) }
     ensures end { IfOk result (λ x. (at < x.1) × (x.1 ≤ file_limit)) }
     ensures new { IfOk result (λ x. is_among (map (λ n. n.items) names.now.keys) x.0.name ≡ false) }
 {
@@ -137,7 +137,7 @@ fn read_listing<S: Store>(
     let (exports, end) = read_symbols(alloc, store, file, end + 4)?;
     let (imports, end) = read_symbols(alloc, store, file, end)?;
     Ok((
-        Listing {
+        UnplacedEntry {
             name,
             size,
             exports,
@@ -149,15 +149,15 @@ fn read_listing<S: Store>(
 
 /// Reads the number of members behind the head; a file that doesn't begin as a library is refused.
 fn read_count<S: Store>(store: &mut S, file: &str) -> Result<u32, LibraryFault>
-    ensures read { IfSome (S.files store.old) (λ m. Gives is_outside (λ n. n) result (in_file (map.get m file.now) count_at)) }
+    ensures read { IfSome (S.files store.old) (λ m. Refines is_system_error (λ n. n) result (in_file (map.get m file.now) count_at)) }
     ensures bytes { IfSome (S.files store.old) (λ m. HoldsBytes (map.get m file.now) result) }
-    ensures kept { Leaves S.files S.failures S.blamed FileError file.now store.old store.new result }
-    ensures within { IsErrOf result FileError → IsBlamedIn (S.blamed store.new) file.now 0 8 }
-    ensures asked { Asks is_outside (S.failures store.old) result }
+    ensures frame { StoreFrame S.files S.failures S.last_failure FileError file.now store.old store.new result }
+    ensures within { IsErrOf result FileError → FailedWithin (S.last_failure store.new) file.now 0 8 }
+    ensures at_last_count { FailsAtLastCount is_system_error (S.failures store.old) result }
 {
     let mut head = [0u8; 5];
     let n = read_full(store, file, 0, &mut head)?;
-    if n < 5 || head[..] != HEAD[..] {
+    if n < 5 || head[..] != MAGIC[..] {
         return Err(LibraryFault::NotALibrary);
     }
     read_number(store, file, 5)
@@ -168,12 +168,12 @@ fn read_list<S: Store>(
     alloc: Global,
     store: &mut S,
     file: &str,
-) -> Result<(Vec<Listing>, u64), LibraryFault>
-    ensures read { IfSome (S.files store.old) (λ m. Gives is_outside (λ x. (x.0.items, x.1)) result (in_file (map.get m file.now) list_at)) }
+) -> Result<(Vec<UnplacedEntry>, u64), LibraryFault>
+    ensures read { IfSome (S.files store.old) (λ m. Refines is_system_error (λ x. (x.0.items, x.1)) result (in_file (map.get m file.now) list_at)) }
     ensures bytes { IfSome (S.files store.old) (λ m. HoldsBytes (map.get m file.now) result) }
-    ensures kept { Leaves S.files S.failures S.blamed FileError file.now store.old store.new result }
-    ensures before { IsErrOf result FileError → AsksAt (S.files store.old) (S.blamed store.new) file.now (IsBefore list_at) }
-    ensures asked { Asks is_outside (S.failures store.old) result }
+    ensures frame { StoreFrame S.files S.failures S.last_failure FileError file.now store.old store.new result }
+    ensures before { IsErrOf result FileError → AsksAt (S.files store.old) (S.last_failure store.new) file.now (IsBefore list_at) }
+    ensures at_last_count { FailsAtLastCount is_system_error (S.failures store.old) result }
     ensures end { IfOk result (λ x. (0 < x.1) × (x.1 ≤ file_limit)) }
 {
     let count = read_count(store, file)?;
@@ -193,11 +193,11 @@ fn read_list<S: Store>(
 /// The members one behind the other, and where the last one ends.
 fn place_members(
     alloc: Global,
-    members: Vec<Listing>,
+    members: Vec<UnplacedEntry>,
     at: u64,
 ) -> Result<(Vec<Entry>, u64), LibraryFault>
     requires { at ≤ file_limit }
-    ensures placed { Gives is_memory (λ x. (x.0.items, x.1)) result (placed [] at members.items) }
+    ensures placed { Refines is_memory (λ x. (x.0.items, x.1)) result (members_with_offsets [] at members.items) }
     ensures within { IfOk result (λ x. AllByRecursion (λ e. e.place + e.size ≤ file_limit) x.0.items) }
     ensures end { IfOk result (λ x. (at ≤ x.1) × (x.1 ≤ file_limit)) }
     ensures cause { IsErrOf result LibraryFault.FileError → ⊥ }
@@ -209,7 +209,7 @@ fn place_members(
         if next > FILE_LIMIT {
             return Err(LibraryFault::BadIndex);
         }
-        let Listing {
+        let UnplacedEntry {
             name,
             size,
             exports,
@@ -230,11 +230,11 @@ fn place_members(
 /// Reads the index of a library: of its members no byte but the last, to see where the file ends.
 #[tactic(auto, unfolding(crate::specs::Reading::index_at))]
 pub fn read_index<S: Store>(alloc: Global, store: &mut S, file: &str) -> Result<Index, LibraryFault>
-    ensures read { IfSome (S.files store.old) (λ m. Gives is_outside (λ x. x.entries) result (in_file (map.get m file.now) index_at)) }
+    ensures read { IfSome (S.files store.old) (λ m. Refines is_system_error (λ x. x.entries) result (in_file (map.get m file.now) index_at)) }
     ensures bytes { IfSome (S.files store.old) (λ m. HoldsBytes (map.get m file.now) result) }
-    ensures kept { Leaves S.files S.failures S.blamed FileError file.now store.old store.new result }
-    ensures before { IsErrOf result FileError → AsksAt (S.files store.old) (S.blamed store.new) file.now IsIndexPlace }
-    ensures asked { Asks is_outside (S.failures store.old) result }
+    ensures frame { StoreFrame S.files S.failures S.last_failure FileError file.now store.old store.new result }
+    ensures before { IsErrOf result FileError → AsksAt (S.files store.old) (S.last_failure store.new) file.now IsIndexPlace }
+    ensures at_last_count { FailsAtLastCount is_system_error (S.failures store.old) result }
     // Also where the store doesn't tell.
     ensures within { IfOk result (λ x. AllByRecursion (λ e. e.place + e.size ≤ file_limit) x.entries) }
 {
@@ -249,6 +249,6 @@ pub fn read_index<S: Store>(alloc: Global, store: &mut S, file: &str) -> Result<
         return Err(LibraryFault::BadIndex);
     }
     Ok(Index {
-        entries: Sequence::from_vec(entries),
+        entries: ListVec::from_vec(entries),
     })
 }

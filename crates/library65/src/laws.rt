@@ -1,26 +1,26 @@
 //! What holds of libraries and selections, whatever made them. Each function's contract is a law.
 
-ghost use Rattle.library65.specs.Laws.{IndexReadLaw, IndexSpellingLaw, LibraryReadLaw, LibrarySpellingLaw, OneLibraryLaw, SomeEditLaw, SomeIndexLaw, SomeLibraryLaw, StockLaw, WrittenLaw};
-ghost use Rattle.library65.specs.Selection.{GrowingSelectionLaw, OneSelectionLaw, SomeSelectionLaw};
+ghost use Rattle.library65.specs.Laws.{IndexReadLaw, IndexSpellingLaw, LibraryReadLaw, LibrarySpellingLaw, LibrarySpellingIsUnique, EditExists, IndexExists, LibraryExists, StockLaw, WrittenLaw};
+ghost use Rattle.library65.specs.Selection.{GrowingSelectionLaw, SelectionIsUnique, SelectionExists};
 
 /// A library has one spelling.
-pub fn one_spelling()
-    ensures { OneLibraryLaw }
+pub fn library_spelling_is_unique()
+    ensures { LibrarySpellingIsUnique }
 {}
 
 /// Any bytes are read as an index, or refused for a fault of their own.
-pub fn some_index()
-    ensures { SomeIndexLaw }
+pub fn index_exists()
+    ensures { IndexExists }
 {}
 
 /// Any bytes are loaded as a library, or refused for a fault of their own.
-pub fn some_library()
-    ensures { SomeLibraryLaw }
+pub fn library_exists()
+    ensures { LibraryExists }
 {}
 
 /// Any members are edited and written, or refused for a fault of their own.
-pub fn some_edit()
-    ensures { SomeEditLaw }
+pub fn edit_exists()
+    ensures { EditExists }
 {}
 
 /// What is spelled as an index is read as that index.
@@ -54,13 +54,13 @@ pub fn edits_leave_a_library()
 {}
 
 /// What is wanted has one selection at most.
-pub fn one_selection()
-    ensures { OneSelectionLaw }
+pub fn selection_is_unique()
+    ensures { SelectionIsUnique }
 {}
 
 /// What is wanted has a selection.
-pub fn some_selection()
-    ensures { SomeSelectionLaw }
+pub fn selection_exists()
+    ensures { SelectionExists }
 {}
 
 /// Where more is wanted, no fewer members are selected.

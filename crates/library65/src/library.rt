@@ -1,23 +1,23 @@
 //! Libraries as lists of members.
 
-ghost use Rattle.object65.specs.Reading.{Leaves};
+ghost use Rattle.object65.specs.Reading.{StoreFrame};
 ghost use Rattle.std.specs.Prelude.{◌≡◌, ◌∷◌, [], IfOk, IfSome, OnErr, OnOk, Ok};
 ghost use Rattle.std.specs.Iterator.{YieldsFirstRef, item_count};
 ghost use Rattle.std.specs.Option.{option_copied};
-ghost use Rattle.base65.specs.Outcome.{Gives};
+ghost use Rattle.base65.specs.Outcome.{Refines};
 ghost use Rattle.std.specs.FinMap as map;
-ghost use Rattle.base65.specs.Store.{Asks, HoldsBytes};
-ghost use Rattle.library65.specs.Fault.{is_memory, is_outside};
+ghost use Rattle.base65.specs.Store.{FailsAtLastCount, HoldsBytes};
+ghost use Rattle.library65.specs.Fault.{is_memory, is_system_error};
 ghost use Rattle.library65.specs.Reading.{in_file};
-ghost use Rattle.library65.specs.Libraries.{bytes_of, checked, deleted, library_at, member_names, replaced, with_member, without_member, written_behind, IsSound, members_of};
+ghost use Rattle.library65.specs.Libraries.{bytes_of, member_contents, without_named_member, library_at, member_names, with_new_member, with_member, without_member, written_after, IsWellFormedMember, members_of};
 ghost use Rattle.library65.specs.Spelling.{is_among, AreSymbols};
 ghost use Rattle.library65.specs.declared.fault.LibraryFault.TheVariants.{FileError};
 
 use crate::LibraryFault;
-use crate::contents::{Contents, Space, check_member};
+use crate::contents::{Contents, ReadBuffers, check_member};
 use crate::loading::read_members;
 use crate::writing::put_library;
-use base65::{Seed, Sequence, Store};
+use base65::{ListVec, Seed, Store};
 use indexmap::IndexMap;
 use indexmap::map::Keys;
 use object65::format::FILE_LIMIT;
@@ -38,7 +38,7 @@ pub struct Library {
     alloc: Global,
     members: IndexMap<Vec<u8>, Stored, Seed>,
     /// It takes the records of each member that is put in, one after another.
-    space: Space,
+    space: ReadBuffers,
 }
 
 impl Model for Library {
@@ -50,11 +50,11 @@ impl Model for Library {
 
     ghost coded = { coded_list (coded× (coded_list coded_ℕ) (coded_list coded_ℕ)) };
 
-    ghost use Rattle.library65.specs.Libraries.{IsSound, members_of};
+    ghost use Rattle.library65.specs.Libraries.{IsWellFormedMember, members_of};
 
     ghost view = { λ l. members_of l.members };
 
-    ghost invariant = { λ l. IsSound l.members };
+    ghost invariant = { λ l. IsWellFormedMember l.members };
 }
 
 /// The names of a library's members, in order.
@@ -92,12 +92,12 @@ pub fn put_member(
     name: Vec<u8>,
     stored: Stored,
 ) -> Result<(), AllocError>
-    requires sound { IsSound members.old }
-    requires checked { checked name.items stored.bytes.items ≡ Ok stored.contents }
+    requires sound { IsWellFormedMember members.old }
+    requires checked { member_contents name.items stored.bytes.items ≡ Ok stored.contents }
     requires symbols { AreSymbols stored.contents }
     ensures put { OnOk result (members_of members.new ≡ with_member (members_of members.old) name.items stored.bytes.items) }
     ensures unchanged { OnErr result (members_of members.new ≡ members_of members.old) }
-    ensures sound { IsSound members.new }
+    ensures sound { IsWellFormedMember members.new }
 {
     members.insert(name, stored)?;
     Ok(())
@@ -118,29 +118,29 @@ impl Library {
         Library {
             alloc,
             members: IndexMap::with_hasher(alloc, seed),
-            space: Space::of(seed),
+            space: ReadBuffers::of(seed),
         }
     }
 
     /// Reads a library from its file, all of it.
     pub fn load<S: Store>(alloc: Global, store: &mut S, file: &str) -> Result<Self, LibraryFault>
-        ensures read { IfSome (S.files store.old) (λ m. Gives is_outside (λ l. l) result (in_file (map.get m file.now) library_at)) }
+        ensures read { IfSome (S.files store.old) (λ m. Refines is_system_error (λ l. l) result (in_file (map.get m file.now) library_at)) }
         ensures bytes { IfSome (S.files store.old) (λ m. HoldsBytes (map.get m file.now) result) }
-        ensures kept { Leaves S.files S.failures S.blamed FileError file.now store.old store.new result }
-        ensures asked { Asks is_outside (S.failures store.old) result }
+        ensures frame { StoreFrame S.files S.failures S.last_failure FileError file.now store.old store.new result }
+        ensures at_last_count { FailsAtLastCount is_system_error (S.failures store.old) result }
     {
         let members = read_members(alloc, store, file)?;
         Ok(Library {
             alloc,
             members,
-            space: Space::of(store.seed()),
+            space: ReadBuffers::of(store.seed()),
         })
     }
 
     /// Puts an object in, in the place of the member of its name, or else last. A refusal changes nothing.
-    #[tactic(auto, unfolding(crate::specs::Libraries::replaced))]
+    #[tactic(auto, unfolding(crate::specs::Libraries::with_new_member))]
     pub fn replace(&mut self, name: &[u8], bytes: &[u8]) -> Result<(), LibraryFault>
-        ensures replaced { Gives is_memory (λ _. self.new) result (replaced self.old name.now bytes.now) }
+        ensures replaced { Refines is_memory (λ _. self.new) result (with_new_member self.old name.now bytes.now) }
         ensures unchanged { OnErr result (self.new ≡ self.old) }
     {
         let contents = check_member(self.alloc, &mut self.space, name, bytes)?;
@@ -152,11 +152,11 @@ impl Library {
 
     /// Takes a member out. A refusal changes nothing.
     pub fn delete(&mut self, name: &[u8]) -> Result<(), LibraryFault>
-        ensures deleted { Gives is_memory (λ _. self.new) result (deleted self.old name.now) }
+        ensures deleted { Refines is_memory (λ _. self.new) result (without_named_member self.old name.now) }
         ensures unchanged { OnErr result (self.new ≡ self.old) }
     {
         if !self.members.contains_key(name) {
-            return Err(LibraryFault::NoSuchMember(Sequence::copy_of(self.alloc, name)?));
+            return Err(LibraryFault::NoSuchMember(ListVec::copy_of(self.alloc, name)?));
         }
         self.members.shift_remove(name);
         Ok(())
@@ -180,7 +180,7 @@ impl Library {
 
     /// Adds the bytes of the library. A refusal, also where they would pass the limit of a file, changes nothing.
     pub fn write(&self, out: &mut Vec<u8>) -> Result<(), LibraryFault>
-        ensures written { Gives is_memory (λ _. out.new.items) result (written_behind out.old.items self.now) }
+        ensures written { Refines is_memory (λ _. out.new.items) result (written_after out.old.items self.now) }
         ensures unchanged { OnErr result (out.new.items ≡ out.old.items) }
     {
         let mut bytes = Vec::new(self.alloc);

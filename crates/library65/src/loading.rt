@@ -3,17 +3,17 @@
 ghost use Rattle.std.specs.Prelude.{◌≡◌, ◌≤◌, ◌+◌, ◌++◌, [], length, drop, take, Ok, OnOk, IsErrOf, IfSome, IfOk};
 ghost use Rattle.std.specs.FinMap as map;
 ghost use Rattle.std.specs.List.{AllByRecursion};
-ghost use Rattle.base65.specs.Outcome.{Gives};
+ghost use Rattle.base65.specs.Outcome.{Refines};
 ghost use Rattle.base65.specs.Reading.{ReadsChunk};
-ghost use Rattle.base65.specs.Store.{Asks, HoldsBytes};
-ghost use Rattle.object65.specs.Reading.{Leaves, file_limit};
-ghost use Rattle.library65.specs.Fault.{is_memory, is_outside};
-ghost use Rattle.library65.specs.Libraries.{added, agreed, checked, joined, library_at, piece_at, IsSound, members_of};
+ghost use Rattle.base65.specs.Store.{FailsAtLastCount, HoldsBytes};
+ghost use Rattle.object65.specs.Reading.{StoreFrame, file_limit};
+ghost use Rattle.library65.specs.Fault.{is_memory, is_system_error};
+ghost use Rattle.library65.specs.Libraries.{with_entry, indexed_contents, member_contents, with_library_entry, library_at, piece_at, IsWellFormedMember, members_of};
 ghost use Rattle.library65.specs.Reading.{in_file};
 ghost use Rattle.library65.specs.Spelling.{AreSymbols};
 ghost use Rattle.library65.specs.declared.fault.LibraryFault.TheVariants.{FileError};
 
-use crate::contents::{Space, agrees, check_member};
+use crate::contents::{ReadBuffers, agrees, check_member};
 use crate::library::{Stored, put_member};
 use crate::{Entry, LibraryFault, read_index};
 use base65::{Seed, Store, StoreFault, read_full};
@@ -27,7 +27,7 @@ const CHUNK: usize = 4096;
 struct Loading {
     alloc: Global,
     members: IndexMap<Vec<u8>, Stored, Seed>,
-    space: Space,
+    space: ReadBuffers,
     chunk: [u8; CHUNK],
 }
 
@@ -43,7 +43,7 @@ fn read_chunk<S: Store>(
     requires limit { at ≤ file_limit }
     ensures read { IfSome (S.files store.old) (λ m. ReadsChunk (map.get m file.now) at (length chunk.old) bytes.old.items bytes.new.items result) }
     ensures grown { IfOk result (λ n. (n ≤ length chunk.old) × (length bytes.new.items ≡ length bytes.old.items + n)) }
-    ensures kept { Leaves S.files S.failures S.blamed StoreFault.FileError file.now store.old store.new result }
+    ensures frame { StoreFrame S.files S.failures S.last_failure StoreFault.FileError file.now store.old store.new result }
 {
     let n = read_full(store, file, at, chunk)?;
     bytes.extend_from_slice(&chunk[..n])?;
@@ -59,8 +59,8 @@ fn read_piece<S: Store>(
     chunk: &mut [u8; CHUNK],
 ) -> Result<Vec<u8>, LibraryFault>
     requires { entry.now.place + entry.now.size ≤ file_limit }
-    ensures read { IfSome (S.files store.old) (λ m. Gives is_outside (λ v. v.items) result (in_file (map.get m file.now) (piece_at entry.now.size entry.now.place))) }
-    ensures kept { Leaves S.files S.failures S.blamed FileError file.now store.old store.new result }
+    ensures read { IfSome (S.files store.old) (λ m. Refines is_system_error (λ v. v.items) result (in_file (map.get m file.now) (piece_at entry.now.size entry.now.place))) }
+    ensures frame { StoreFrame S.files S.failures S.last_failure FileError file.now store.old store.new result }
 {
     let size = entry.size as usize;
     let mut bytes = Vec::new(alloc);
@@ -85,18 +85,18 @@ fn read_piece<S: Store>(
 }
 
 /// Reads the member of an entry and puts it in, where the entry has the names that its object has.
-#[tactic(auto, unfolding(crate::specs::Libraries::joined, crate::specs::Libraries::agreed))]
+#[tactic(auto, unfolding(crate::specs::Libraries::with_library_entry, crate::specs::Libraries::indexed_contents))]
 fn join_member<S: Store>(
     store: &mut S,
     file: &str,
     loading: &mut Loading,
     entry: &Entry,
 ) -> Result<(), LibraryFault>
-    requires sound { IsSound loading.old.members }
+    requires sound { IsWellFormedMember loading.old.members }
     requires within { entry.now.place + entry.now.size ≤ file_limit }
-    ensures read { IfSome (S.files store.old) (λ m. Gives is_outside (λ _. members_of loading.new.members) result (in_file (map.get m file.now) (joined (members_of loading.old.members) entry.now))) }
-    ensures kept { Leaves S.files S.failures S.blamed FileError file.now store.old store.new result }
-    ensures sound { OnOk result (IsSound loading.new.members) }
+    ensures read { IfSome (S.files store.old) (λ m. Refines is_system_error (λ _. members_of loading.new.members) result (in_file (map.get m file.now) (with_library_entry (members_of loading.old.members) entry.now))) }
+    ensures frame { StoreFrame S.files S.failures S.last_failure FileError file.now store.old store.new result }
+    ensures sound { OnOk result (IsWellFormedMember loading.new.members) }
 {
     let alloc = loading.alloc;
     let bytes = read_piece(alloc, store, file, entry, &mut loading.chunk)?;
@@ -116,17 +116,17 @@ pub fn read_members<S: Store>(
     store: &mut S,
     file: &str,
 ) -> Result<IndexMap<Vec<u8>, Stored, Seed>, LibraryFault>
-    ensures read { IfSome (S.files store.old) (λ m. Gives is_outside (λ ms. members_of ms) result (in_file (map.get m file.now) library_at)) }
+    ensures read { IfSome (S.files store.old) (λ m. Refines is_system_error (λ ms. members_of ms) result (in_file (map.get m file.now) library_at)) }
     ensures bytes { IfSome (S.files store.old) (λ m. HoldsBytes (map.get m file.now) result) }
-    ensures kept { Leaves S.files S.failures S.blamed FileError file.now store.old store.new result }
-    ensures asked { Asks is_outside (S.failures store.old) result }
-    ensures sound { IfOk result (λ ms. IsSound ms) }
+    ensures frame { StoreFrame S.files S.failures S.last_failure FileError file.now store.old store.new result }
+    ensures at_last_count { FailsAtLastCount is_system_error (S.failures store.old) result }
+    ensures sound { IfOk result (λ ms. IsWellFormedMember ms) }
 {
     let index = read_index(alloc, store, file)?;
     let mut loading = Loading {
         alloc,
         members: IndexMap::with_hasher(alloc, store.seed()),
-        space: Space::of(store.seed()),
+        space: ReadBuffers::of(store.seed()),
         chunk: [0u8; CHUNK],
     };
     for entry in index.entries.as_slice() {

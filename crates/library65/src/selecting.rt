@@ -4,13 +4,13 @@ ghost use Rattle.std.specs.Prelude.{◌≡◌, ◌<◌, ℕ, List, Some, if◌th
 ghost use Rattle.std.specs.Str.{bytes_eq};
 ghost use Rattle.indexmap.specs.IndexMap.{get_by};
 ghost use Rattle.object65.specs.Objects.{is_among};
-ghost use Rattle.library65.specs.Inner.Searching.{FindsMore, IsSearched, IsTable, Stands, marked_from};
+ghost use Rattle.library65.specs.Internal.Searching.{FindsMore, IsSearched, IsTable, SearchInvariant, marked_from};
 ghost use Rattle.library65.specs.Selection.{first_exporter, imports_at, IsSelection};
 ghost use Rattle.std.specs.List.{AllByRecursion};
 
 use crate::LibraryFault;
 use crate::index::{Entry, Index, Names, has_name};
-use base65::Sequence;
+use base65::ListVec;
 use indexmap::IndexMap;
 use std::alloc::{AllocError, Global};
 
@@ -24,7 +24,7 @@ pub struct Exporters<'a> {
 /// Puts a member in the place of those that export the same names.
 fn add_exports<'a>(
     by_name: &mut IndexMap<&'a [u8], usize>,
-    names: &'a [Sequence<u8>],
+    names: &'a [ListVec<u8>],
     place: usize,
 ) -> Result<(), AllocError>
     ensures { OnOk result ((name : List ℕ) → get_by (λ k. bytes_eq name k.now) by_name.new ≡ (if is_among names.entry.now name then Some place else get_by (λ k. bytes_eq name k.now) by_name.old)) }
@@ -59,7 +59,7 @@ impl<'a> Exporters<'a> {
     }
 
     /// What the member at a place imports.
-    pub fn imports(&self, place: usize) -> &'a [Sequence<u8>]
+    pub fn imports(&self, place: usize) -> &'a [ListVec<u8>]
         ensures { result.now ≡ imports_at self.now.entries.now place }
     {
         match self.entries.get(place) {
@@ -85,7 +85,7 @@ fn find_name(
     found: &mut Found,
     name: &[u8],
 ) -> Result<(), AllocError>
-    requires { Stands exporters.now found.old }
+    requires { SearchInvariant exporters.now found.old }
     ensures { OnOk result (FindsMore exporters.now (map (λ n. n.items) defined.now.keys) (name.now ∷ []) found.old found.new) }
 {
     if has_name(defined, name) {
@@ -109,9 +109,9 @@ fn find_imports(
     exporters: &Exporters<'_>,
     defined: &Names,
     found: &mut Found,
-    names: &[Sequence<u8>],
+    names: &[ListVec<u8>],
 ) -> Result<(), AllocError>
-    requires { Stands exporters.now found.old }
+    requires { SearchInvariant exporters.now found.old }
     ensures { OnOk result (FindsMore exporters.now (map (λ n. n.items) defined.now.keys) names.now found.old found.new) }
 {
     for name in names {
@@ -127,7 +127,7 @@ fn find_wanted(
     found: &mut Found,
     names: &[Vec<u8>],
 ) -> Result<(), AllocError>
-    requires { Stands exporters.now found.old }
+    requires { SearchInvariant exporters.now found.old }
     ensures { OnOk result (FindsMore exporters.now (map (λ n. n.items) defined.now.keys) (map (λ n. n.items) names.now) found.old found.new) }
 {
     for name in names {
@@ -143,10 +143,10 @@ pub fn find_all(
     defined: &Names,
     found: &mut Found,
 ) -> Result<(), AllocError>
-    requires stands { Stands exporters.now found.old }
+    requires stands { SearchInvariant exporters.now found.old }
     requires none { found.old.places.items ≡ [] }
     ensures found { OnOk result (IsSearched exporters.now.entries.now (map (λ n. n.items) wanted.now.keys) (map (λ n. n.items) defined.now.keys) found.new.places.items (length found.new.places.items)) }
-    ensures stands { OnOk result (Stands exporters.now found.new) }
+    ensures stands { OnOk result (SearchInvariant exporters.now found.new) }
 {
     find_wanted(exporters, defined, found, wanted.as_slice())?;
     let mut next = 0;

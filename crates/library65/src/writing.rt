@@ -3,13 +3,13 @@
 ghost use Rattle.std.specs.Prelude.{◌≡◌, ◌≤◌, ◌<◌, ◌+◌, ◌++◌, ◌^◌, length, map, true, IfOk, IfErr, OnOk};
 ghost use Rattle.std.specs.List.{flat_map, list_all};
 ghost use Rattle.byteorder.specs.Endian.{little_bytes};
-ghost use Rattle.library65.specs.Libraries.{library_bytes, member_listing, IsSound, members_of};
-ghost use Rattle.library65.specs.Spelling.{is_name, listing_bytes, name_bytes, names_bytes, AreSymbols, Puts};
+ghost use Rattle.library65.specs.Libraries.{library_bytes, member_listing, IsWellFormedMember, members_of};
+ghost use Rattle.library65.specs.Spelling.{is_name, listing_bytes, name_bytes, names_bytes, AreSymbols, AppendsBytes};
 
 use crate::LibraryFault;
-use crate::indexing::HEAD;
+use crate::indexing::MAGIC;
 use crate::library::Stored;
-use base65::{Seed, Sequence};
+use base65::{ListVec, Seed};
 use byteorder::{ByteOrder, LittleEndian};
 use indexmap::IndexMap;
 use std::alloc::AllocError;
@@ -46,9 +46,9 @@ fn put_name(out: &mut Vec<u8>, name: &[u8]) -> Result<(), AllocError>
 }
 
 /// Adds names behind their number, each behind its length.
-fn put_names(out: &mut Vec<u8>, names: &[Sequence<u8>]) -> Result<(), LibraryFault>
+fn put_names(out: &mut Vec<u8>, names: &[ListVec<u8>]) -> Result<(), LibraryFault>
     requires { list_all is_name names.now ≡ true }
-    ensures { Puts (names_bytes names.now) (length (names_bytes names.now)) out.old.items out.new.items result }
+    ensures { AppendsBytes (names_bytes names.now) (length (names_bytes names.now)) out.old.items out.new.items result }
 {
     let count = count_of(names.len())?;
     put_number(out, count)?;
@@ -62,7 +62,7 @@ fn put_names(out: &mut Vec<u8>, names: &[Sequence<u8>]) -> Result<(), LibraryFau
 fn put_listing(out: &mut Vec<u8>, name: &[u8], stored: &Stored) -> Result<(), LibraryFault>
     requires name { length name.now < 256 }
     requires symbols { AreSymbols stored.now.contents }
-    ensures { Puts (listing_bytes name.now (length stored.now.bytes.items) stored.now.contents.exports stored.now.contents.imports) (length (listing_bytes name.now (length stored.now.bytes.items) stored.now.contents.exports stored.now.contents.imports) + length stored.now.bytes.items) out.old.items out.new.items result }
+    ensures { AppendsBytes (listing_bytes name.now (length stored.now.bytes.items) stored.now.contents.exports stored.now.contents.imports) (length (listing_bytes name.now (length stored.now.bytes.items) stored.now.contents.exports stored.now.contents.imports) + length stored.now.bytes.items) out.old.items out.new.items result }
 {
     let size = count_of(stored.bytes.len())?;
     put_name(out, name)?;
@@ -76,8 +76,8 @@ fn put_listings(
     out: &mut Vec<u8>,
     members: &IndexMap<Vec<u8>, Stored, Seed>,
 ) -> Result<(), LibraryFault>
-    requires { IsSound members.now }
-    ensures { Puts (flat_map member_listing (members_of members.now)) (length (flat_map member_listing (members_of members.now)) + length (flat_map (λ m. m.1) (members_of members.now))) out.old.items out.new.items result }
+    requires { IsWellFormedMember members.now }
+    ensures { AppendsBytes (flat_map member_listing (members_of members.now)) (length (flat_map member_listing (members_of members.now)) + length (flat_map (λ m. m.1) (members_of members.now))) out.old.items out.new.items result }
 {
     for (name, stored) in members.iter() {
         put_listing(out, name.as_slice(), stored)?;
@@ -90,11 +90,11 @@ pub fn put_library(
     out: &mut Vec<u8>,
     members: &IndexMap<Vec<u8>, Stored, Seed>,
 ) -> Result<(), LibraryFault>
-    requires { IsSound members.now }
-    ensures { Puts (library_bytes (members_of members.now)) (length (library_bytes (members_of members.now))) out.old.items out.new.items result }
+    requires { IsWellFormedMember members.now }
+    ensures { AppendsBytes (library_bytes (members_of members.now)) (length (library_bytes (members_of members.now))) out.old.items out.new.items result }
 {
     let count = count_of(members.len())?;
-    out.extend_from_slice(&HEAD)?;
+    out.extend_from_slice(&MAGIC)?;
     put_number(out, count)?;
     put_listings(out, members)?;
     for stored in members.values() {

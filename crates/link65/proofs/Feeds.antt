@@ -3,11 +3,11 @@ use Rattle.std.proofs.lemmas.Grind.{common_steps}
 use Rattle.std.proofs.Common.{arith, ◌≡◌, ◌∙◌, List, length, map, inl, Option, sym, ap, ◌<◌, ℕ, false, ◌∷◌, drop, get_or, [], ◌++◌, Some, None, Bool, true, Result, Ok, Err, if◌then◌else◌, refl, subst}
 use Rattle.std.proofs.Math.Seq.{drop-append_seam}
 use Rattle.link65.specs.Names.{given_names, first_again}
-use Rattle.link65.specs.Growing.{Growth, at_rest, ended, grown_by}
+use Rattle.link65.specs.Growing.{PartialProgram, at_rest, closed_program, grown_by}
 use Rattle.link65.specs.Programs.{Module, program_of, Program, with_module, with_modules}
-use Rattle.link65.specs.Inner.Fields.{Comes, are_listed, exports_from, matched}
-use Rattle.link65.specs.Standing.{Feeding, HaveEnded, Opened, IsFed, IsFeeding, Leads, agreed, agrees_with, as_link, joined, listed_of, module_of, whole, all_once}
-use Rattle.link65.proofs.GivenLemmas.{given_all, map_behind, module_gives, once_behind}
+use Rattle.link65.specs.Internal.Fields.{RepresentsOpenModule, are_listed, exports_from, matching_object}
+use Rattle.link65.specs.Representation.{LinkerView, HaveEnded, OpenModuleView, IsFed, IsFeeding, RefinesThen, agreeing_object, agrees_with, as_link, module_without_duplicates, listed_of, module_of, closed_module, all_once}
+use Rattle.link65.proofs.GivenLemmas.{given_all, map_after, module_gives, once_after}
 use Rattle.std.specs.Str.{bytes_eq}
 use Rattle.library65.specs.Libraries.{are_same}
 use Rattle.link65.specs.declared.parts.Exported.{Exported}
@@ -17,30 +17,30 @@ use Rattle.object65.specs.declared.fault.ObjectFault.{ObjectFault}
 use Rattle.object65.specs.declared.record.Item.{Item}
 use Rattle.object65.specs.declared.object.Object.{Object}
 use Rattle.object65.specs.declared.fault.ObjectFault.TheVariants as object
-use Rattle.base65.specs.Outcome.{◌>>=◌, Finds, Refuses, Unless}
+use Rattle.base65.specs.Outcome.{◌>>=◌, RefinesProp, RefinesErr, Unless}
 use Rattle.link65.specs.declared.linking.Linked.{Linked}
 use Rattle.link65.specs.Links.{IsProgramLink, LinkOf, no_name_again}
 use Rattle.script65.specs.declared.script.Script.{Script}
 use Rattle.std.specs.Prelude.{IfErr, OnOk}
 use Rattle.object65.specs.Items.{with_item}
-use Rattle.object65.specs.Record.{Entry}
-use Rattle.object65.specs.Scanning.{IsWithin, Outline, scanned}
+use Rattle.object65.specs.Record.{RawRecord}
+use Rattle.object65.specs.Scanning.{IsWithin, Outline, scan_step}
 use Rattle.object65.specs.Scanning
 use Rattle.object65.proofs.Withins.{reached_next, reached_parts, led}
 use Rattle.link65.specs.declared.fault.LinkFault.{LinkFault}
 use Rattle.link65.specs.declared.fault.LinkFault.TheVariants as fault
 use Rattle.link65.specs.Faults.{is_memory}
 use Rattle.link65.proofs.GrowingLaw.{growth_law}
-use Rattle.link65.specs.declared.feeding.Listed.{Listed}
+use Rattle.link65.specs.declared.feeding.OpenEntry.{OpenEntry}
 
 -- ---- What a linker keeps of the modules that have ended, whether one is open behind them or none.
 
 -- their members
-pub their_members : (f : Feeding) (modules : List Module) → HaveEnded f modules → (program_of modules).members ≡ f.growth.program.members
+pub their_members : (f : LinkerView) (modules : List Module) → HaveEnded f modules → (program_of modules).members ≡ f.growth.program.members
 their_members f modules x = grind (arith, common_steps)
 
 -- the names that they and the script give
-pub their_names : (f : Feeding) (modules : List Module) → HaveEnded f modules → f.given ≡ given_names f.script (program_of modules)
+pub their_names : (f : LinkerView) (modules : List Module) → HaveEnded f modules → f.given ≡ given_names f.script (program_of modules)
 their_names f modules x = grind (arith, common_steps, given_all)
 
 -- ---- Names of exports beside those listed.
@@ -68,15 +68,15 @@ one_more ms m = with_last _ ms m
 
 -- ---- Calls.
 
-out_of_memory : {A : Type 0} (f : LinkFault) (read : Result A LinkFault) → is_memory f ≡ true → Refuses is_memory f read
+out_of_memory : {A : Type 0} (f : LinkFault) (read : Result A LinkFault) → is_memory f ≡ true → RefinesErr is_memory f read
 out_of_memory f read m = subst (λ b. Unless b (read ≡ Err f)) (sym m) tt
 
 -- an item of the open module leads on as its record does
-pub took : (p : Program) (s : Scanning.State) (e : Entry) (old new : Growth) (o n : Outline) (i : Item) → Comes p s old o → scanned o e ≡ Ok (n, i) → new ≡ grown_by old i → (t : Scanning.State) × (as_link (Scanning.after s e) ≡ Ok t) × Comes p t new n
+pub took : (p : Program) (s : Scanning.State) (e : RawRecord) (old new : PartialProgram) (o n : Outline) (i : Item) → RepresentsOpenModule p s old o → scan_step o e ≡ Ok (n, i) → new ≡ grown_by old i → (t : Scanning.State) × (as_link (Scanning.after s e) ≡ Ok t) × RepresentsOpenModule p t new n
 took p s e old new o n i h scan grown =
     let t = with_item s i in
     let l = led s o e (n, i) h.scan scan in
-    let law = growth_law.0 p s e (n, i) h.reached (ap (λ q. scanned q e) (sym h.scan) ∙ scan) in (
+    let law = growth_law.0 p s e (n, i) h.reached (ap (λ q. scan_step q e) (sym h.scan) ∙ scan) in (
       t,
       ap as_link l.0,
       record {
@@ -86,10 +86,10 @@ took p s e old new o n i h scan grown =
       },
     )
 
-finishes : (s : Scanning.State) (b : Bool) → s.failed ≡ false → s.ended ≡ b → Scanning.finished s ≡ (if b then Ok (Scanning.object_from s) else Err object.CutShort)
+finishes : (s : Scanning.State) (b : Bool) → s.failed ≡ false → s.ended ≡ b → Scanning.object_of_state s ≡ (if b then Ok (Scanning.object_from s) else Err object.CutShort)
 finishes s b runs e = grind (arith, common_steps)
 
-ends_whole : (p : Program) (s : Scanning.State) (old : Growth) (o : Outline) → Comes p s old o → o.ended ≡ true → Scanning.finished s ≡ Ok (Scanning.object_from s)
+ends_whole : (p : Program) (s : Scanning.State) (old : PartialProgram) (o : Outline) → RepresentsOpenModule p s old o → o.ended ≡ true → Scanning.object_of_state s ≡ Ok (Scanning.object_from s)
 ends_whole p s old o h end = finishes s true (reached_runs s h.reached) (ap (λ (q : Outline). q.ended) (sym h.scan) ∙ end)
 
 passed : {A B : Type 0} (b : Bool) (f : LinkFault) (read : Result A LinkFault) (k : A → Result B LinkFault) → Unless b (read ≡ Err f) → Unless b ((read >>= k) ≡ Err f)
@@ -97,52 +97,52 @@ passed true f read k h = tt
 passed false f read k h = ap (λ r. r >>= k) h
 
 -- the names listed of a module, if any are, and those that it exports and imports, behind those that were given before
-module _ (listed : Option Listed) (imports before names : List (List ℕ)) where
+module _ (listed : Option OpenEntry) (imports before names : List (List ℕ)) where
   abbrev given_whole : Object → Result Object LinkFault
   given_whole object = all_once before names >>= (λ u. Ok object)
 
   -- the object of a module, where its names are those listed and may be given
   abbrev admitted : Result Object ObjectFault → Result Object LinkFault
-  admitted r = as_link r >>= matched listed names imports >>= given_whole
+  admitted r = as_link r >>= matching_object listed names imports >>= given_whole
 
-  module _ (p : Program) (s : Scanning.State) (old : Growth) (o : Outline) (h : Comes p s old o) where
+  module _ (p : Program) (s : Scanning.State) (old : PartialProgram) (o : Outline) (h : RepresentsOpenModule p s old o) where
     -- an object that has come to its end
-    by_names : (b : Bool) → o.ended ≡ true → are_listed listed names imports ≡ b → admitted (Scanning.finished s) ≡ ((if b then Ok (Scanning.object_from s) else Err fault.IndexDisagrees) >>= given_whole)
+    by_names : (b : Bool) → o.ended ≡ true → are_listed listed names imports ≡ b → admitted (Scanning.object_of_state s) ≡ ((if b then Ok (Scanning.object_from s) else Err fault.IndexDisagrees) >>= given_whole)
     by_names b end e = grind (arith, common_steps, ends_whole)
 
     -- a module whose END has come stands behind the others
-    pub closed_whole : (new : Growth) (name : List ℕ) (given : List (List ℕ)) (r : Result (Unit {0}) LinkFault) → o.ended ≡ true → are_listed listed names imports ≡ true → all_once before names ≡ Ok given → OnOk r (new ≡ at_rest (ended old name)) → IfErr r (λ f. is_memory f ≡ true) → Leads (λ object. (new ≡ at_rest (with_module p (module_of name object))) × (all_once before names ≡ Ok given)) r (admitted (Scanning.finished s))
+    pub closed_whole : (new : PartialProgram) (name : List ℕ) (given : List (List ℕ)) (r : Result (Unit {0}) LinkFault) → o.ended ≡ true → are_listed listed names imports ≡ true → all_once before names ≡ Ok given → OnOk r (new ≡ at_rest (closed_program old name)) → IfErr r (λ f. is_memory f ≡ true) → RefinesThen (λ object. (new ≡ at_rest (with_module p (module_of name object))) × (all_once before names ≡ Ok given)) r (admitted (Scanning.object_of_state s))
     closed_whole new name given (Ok u) end is once grown memory =
         let object = Scanning.object_from s in
-        (object, by_names true end is ∙ ap (λ q. q >>= (λ v. Ok object)) once, (grown ∙ ap (λ g. at_rest (ended g name)) h.growth ∙ ap at_rest (growth_law.2 p name s), once))
+        (object, by_names true end is ∙ ap (λ q. q >>= (λ v. Ok object)) once, (grown ∙ ap (λ g. at_rest (closed_program g name)) h.growth ∙ ap at_rest (growth_law.2 p name s), once))
     closed_whole new name given (Err f) end is once grown memory = out_of_memory f _ memory
 
     -- one whose names aren't those listed is refused
-    pub disagrees : (f : LinkFault) → o.ended ≡ true → are_listed listed names imports ≡ false → f ≡ fault.IndexDisagrees → Refuses is_memory f (admitted (Scanning.finished s))
-    disagrees f end differ is = subst (λ g. Refuses is_memory g (admitted (Scanning.finished s))) (sym is) (by_names false end differ)
+    pub disagrees : (f : LinkFault) → o.ended ≡ true → are_listed listed names imports ≡ false → f ≡ fault.IndexDisagrees → RefinesErr is_memory f (admitted (Scanning.object_of_state s))
+    disagrees f end differ is = subst (λ g. RefinesErr is_memory g (admitted (Scanning.object_of_state s))) (sym is) (by_names false end differ)
 
     -- one that gives a name twice is refused
-    pub given_twice : (f : LinkFault) → o.ended ≡ true → are_listed listed names imports ≡ true → Refuses is_memory f (all_once before names) → Refuses is_memory f (admitted (Scanning.finished s))
-    given_twice f end is refused = subst (λ r. Refuses is_memory f r) (sym (by_names true end is)) (passed (is_memory f) f (all_once before names) (λ u. Ok (Scanning.object_from s)) refused)
+    pub given_twice : (f : LinkFault) → o.ended ≡ true → are_listed listed names imports ≡ true → RefinesErr is_memory f (all_once before names) → RefinesErr is_memory f (admitted (Scanning.object_of_state s))
+    given_twice f end is refused = subst (λ r. RefinesErr is_memory f r) (sym (by_names true end is)) (passed (is_memory f) f (all_once before names) (λ u. Ok (Scanning.object_from s)) refused)
 
     -- one whose END hasn't come is cut short
-    pub cut_short : (f : LinkFault) → o.ended ≡ false → f ≡ fault.Malformed object.CutShort → Refuses is_memory f (admitted (Scanning.finished s))
+    pub cut_short : (f : LinkFault) → o.ended ≡ false → f ≡ fault.Malformed object.CutShort → RefinesErr is_memory f (admitted (Scanning.object_of_state s))
     cut_short f going is =
         let cut = finishes s false (reached_runs s h.reached) (ap (λ (q : Outline). q.ended) (sym h.scan) ∙ going) in
-        subst (λ g. Refuses is_memory g (admitted (Scanning.finished s))) (sym is) (ap admitted cut)
+        subst (λ g. RefinesErr is_memory g (admitted (Scanning.object_of_state s))) (sym is) (ap admitted cut)
 
 -- ---- The module that ends.
 
 -- the names of the open module's exports stand behind those of the modules before it
-own_exports : (p : Program) (s : Scanning.State) (g : Growth) (o : Outline) → Comes p s g o → exports_from (length p.exports) g ≡ map (λ e. e.name) s.exports
-own_exports p s g o h = grind (arith, common_steps, drop-append_seam, map_behind)
+own_exports : (p : Program) (s : Scanning.State) (g : PartialProgram) (o : Outline) → RepresentsOpenModule p s g o → exports_from (length p.exports) g ≡ map (λ e. e.name) s.exports
+own_exports p s g o h = grind (arith, common_steps, drop-append_seam, map_after)
 
 -- the names given behind a module: what was given before it, and its exports
-given_behind : (script : Script) (modules : List Module) (name : List ℕ) (object : Object) (given : List (List ℕ)) → all_once [] (given_names script (program_of modules)) ≡ Ok given → all_once [] (given_names script (program_of (modules ++ module_of name object ∷ []))) ≡ all_once given (map (λ e. e.name) object.exports)
-given_behind script modules name object given h =
+given_after : (script : Script) (modules : List Module) (name : List ℕ) (object : Object) (given : List (List ℕ)) → all_once [] (given_names script (program_of modules)) ≡ Ok given → all_once [] (given_names script (program_of (modules ++ module_of name object ∷ []))) ≡ all_once given (map (λ e. e.name) object.exports)
+given_after script modules name object given h =
     ap (λ p. all_once [] (given_names script p)) (one_more modules (module_of name object))
     ∙ ap (all_once []) (module_gives script (program_of modules) (module_of name object))
-    ∙ once_behind given (given_names script (program_of modules)) (map (λ e. e.name) object.exports) h
+    ∙ once_after given (given_names script (program_of modules)) (map (λ e. e.name) object.exports) h
 
 with_names : {A : Type 0} (r : Result (Unit {0}) LinkFault) (all : List (List ℕ)) (x : A) → (r >>= (λ u. Ok x)) ≡ ((r >>= (λ u. Ok all)) >>= (λ u. Ok x))
 with_names y all x = grind (arith, common_steps)
@@ -153,7 +153,7 @@ at_object r true o f g is same cut = subst (λ (q : Result Object ObjectFault). 
 at_object r false o f g is same cut = subst (λ (q : Result Object ObjectFault). f (as_link q) ≡ g (as_link q)) (sym is) cut
 
 abbrev made_from : Scanning.State → Bool → Type 0
-made_from s b = Scanning.finished s ≡ (if b then Ok (Scanning.object_from s) else Err object.CutShort)
+made_from s b = Scanning.object_of_state s ≡ (if b then Ok (Scanning.object_from s) else Err object.CutShort)
 
 -- an entry agrees with an object where the names that are kept of it do
 listed_so : (entry : Option Listing) (o : Object) → agrees_with entry o ≡ are_listed (option_map listed_of entry) (map (λ e. e.name) o.exports) o.imports
@@ -163,39 +163,39 @@ agreeing : (b c : Bool) (o : Object) (f g : Object → Result Object LinkFault) 
 agreeing b c o f g e same = grind (arith, common_steps)
 
 -- a module is whole where its names may be given behind those before it
-whole_admits : (script : Script) (modules : List Module) (name : List ℕ) (entry : Option Listing) (s : Scanning.State) (given : List (List ℕ)) (b : Bool) → made_from s b → all_once [] (given_names script (program_of modules)) ≡ Ok given → whole script modules name entry s ≡ admitted (option_map listed_of entry) s.imports given (map (λ e. e.name) s.exports) (Scanning.finished s)
+whole_admits : (script : Script) (modules : List Module) (name : List ℕ) (entry : Option Listing) (s : Scanning.State) (given : List (List ℕ)) (b : Bool) → made_from s b → all_once [] (given_names script (program_of modules)) ≡ Ok given → closed_module script modules name entry s ≡ admitted (option_map listed_of entry) s.imports given (map (λ e. e.name) s.exports) (Scanning.object_of_state s)
 whole_admits script modules name entry s given b is h =
     let object = Scanning.object_from s in
     let exports = map (λ e. e.name) s.exports in
     let all = given_names script (program_of (modules ++ module_of name object ∷ [])) in
-    let behind = with_names (no_name_again (first_again [] all)) all object ∙ ap (λ r. r >>= (λ u. Ok object)) (given_behind script modules name object given h) in
-    at_object (Scanning.finished s) b object
-    (λ r. r >>= agreed entry >>= joined script modules name)
-    (λ r. r >>= matched (option_map listed_of entry) exports s.imports >>= given_whole (option_map listed_of entry) s.imports given exports)
+    let following = with_names (no_name_again (first_again [] all)) all object ∙ ap (λ r. r >>= (λ u. Ok object)) (given_after script modules name object given h) in
+    at_object (Scanning.object_of_state s) b object
+    (λ r. r >>= agreeing_object entry >>= module_without_duplicates script modules name)
+    (λ r. r >>= matching_object (option_map listed_of entry) exports s.imports >>= given_whole (option_map listed_of entry) s.imports given exports)
     is
-    (agreeing (agrees_with entry object) _ object (joined script modules name) (given_whole (option_map listed_of entry) s.imports given exports) (listed_so entry object) behind)
+    (agreeing (agrees_with entry object) _ object (module_without_duplicates script modules name) (given_whole (option_map listed_of entry) s.imports given exports) (listed_so entry object) following)
     refl
 
 kept_whole : {A : Type 0} (q : Result A LinkFault) (o x : Object) → (q >>= (λ u. Ok o)) ≡ Ok x → x ≡ o
 kept_whole y o x h = grind (arith, common_steps)
 
 -- the object that is admitted is the module's
-admits : (r : Result Object ObjectFault) (b : Bool) (o x : Object) (listed : Option Listed) (imports before names : List (List ℕ)) → r ≡ (if b then Ok o else Err object.CutShort) → admitted listed imports before names r ≡ Ok x → x ≡ o
+admits : (r : Result Object ObjectFault) (b : Bool) (o x : Object) (listed : Option OpenEntry) (imports before names : List (List ℕ)) → r ≡ (if b then Ok o else Err object.CutShort) → admitted listed imports before names r ≡ Ok x → x ≡ o
 admits r true o x listed imports before names is h = grind (arith, common_steps, imports, names, kept_whole)
 admits r false o x listed imports before names is h = let k : admitted listed imports before names (Err object.CutShort) ≡ Ok x = ap (admitted listed imports before names) (sym is) ∙ h in absurd cc
 
 -- what a linker stands for has come of the open module
-record Coming (p : Program) (name : List ℕ) (entry : Option Listing) (s : Scanning.State) (g : Growth) (o : Opened) : Type 0 where
-  pub comes : Comes p s g o.scan
+record Coming (p : Program) (name : List ℕ) (entry : Option Listing) (s : Scanning.State) (g : PartialProgram) (o : OpenModuleView) : Type 0 where
+  pub comes : RepresentsOpenModule p s g o.scan
   pub called : o.name ≡ name
   pub first : o.first_export ≡ length p.exports
   pub names : o.listed ≡ option_map listed_of entry
 
-coming : (f : Feeding) (modules : List Module) (name : List ℕ) (entry : Option Listing) (s : Scanning.State) (g : Growth) (o : Opened) → f.growth ≡ g → f.opened ≡ Some o → IsFeeding f modules name entry s → Coming (program_of modules) name entry s g o
+coming : (f : LinkerView) (modules : List Module) (name : List ℕ) (entry : Option Listing) (s : Scanning.State) (g : PartialProgram) (o : OpenModuleView) → f.growth ≡ g → f.opened ≡ Some o → IsFeeding f modules name entry s → Coming (program_of modules) name entry s g o
 coming f modules name entry s g o grown there h = grind (arith, common_steps)
 
 -- what the open module comes to, as the linker keeps it
-module _ (old : Feeding) (modules : List Module) (name : List ℕ) (entry : Option Listing) (s : Scanning.State) (g : Growth) (o : Opened) (before : List (List ℕ)) (grown : old.growth ≡ g) (there : old.opened ≡ Some o) (gave : old.given ≡ before) (h : IsFeeding old modules name entry s) where
+module _ (old : LinkerView) (modules : List Module) (name : List ℕ) (entry : Option Listing) (s : Scanning.State) (g : PartialProgram) (o : OpenModuleView) (before : List (List ℕ)) (grown : old.growth ≡ g) (there : old.opened ≡ Some o) (gave : old.given ≡ before) (h : IsFeeding old modules name entry s) where
   come : Coming (program_of modules) name entry s g o
   come = coming old modules name entry s g o grown there h
 
@@ -206,33 +206,33 @@ module _ (old : Feeding) (modules : List Module) (name : List ℕ) (entry : Opti
   names = ap (λ k. exports_from k g) come.first ∙ own_exports (program_of modules) s g o.scan come.comes
 
   imports : g.imports ≡ s.imports
-  imports = ap (λ (q : Growth). q.imports) come.comes.growth
+  imports = ap (λ (q : PartialProgram). q.imports) come.comes.growth
 
   all : all_once [] (given_names old.script (program_of modules)) ≡ Ok before
   all = h.given ∙ ap (λ ns. let given : Result (List (List ℕ)) LinkFault = Ok ns in given) gave
 
-  kept : whole old.script modules name entry s ≡ admitted o.listed g.imports before (exports_from o.first_export g) (Scanning.finished s)
+  kept : closed_module old.script modules name entry s ≡ admitted o.listed g.imports before (exports_from o.first_export g) (Scanning.object_of_state s)
   kept =
       whole_admits old.script modules name entry s before s.ended made all
-      ∙ ap (λ ns. admitted (option_map listed_of entry) s.imports before ns (Scanning.finished s)) (sym names)
-      ∙ ap (λ ns. admitted (option_map listed_of entry) ns before (exports_from o.first_export g) (Scanning.finished s)) (sym imports)
-      ∙ ap (λ l. admitted l g.imports before (exports_from o.first_export g) (Scanning.finished s)) (sym come.names)
+      ∙ ap (λ ns. admitted (option_map listed_of entry) s.imports before ns (Scanning.object_of_state s)) (sym names)
+      ∙ ap (λ ns. admitted (option_map listed_of entry) ns before (exports_from o.first_export g) (Scanning.object_of_state s)) (sym imports)
+      ∙ ap (λ l. admitted l g.imports before (exports_from o.first_export g) (Scanning.object_of_state s)) (sym come.names)
 
   -- the module that ends stands behind the others
-  pub ended_next : (new : Feeding) → new.opened ≡ None → new.failed ≡ false → new.script ≡ old.script
-      → ((p : Program) (t : Scanning.State) → Comes p t g o.scan → (x : Object) × (admitted o.listed g.imports before (exports_from o.first_export g) (Scanning.finished t) ≡ Ok x) × ((new.growth ≡ at_rest (with_module p (module_of o.name x))) × (all_once before (exports_from o.first_export g) ≡ Ok new.given)))
-      → (x : Object) × (whole old.script modules name entry s ≡ Ok x) × IsFed new (modules ++ module_of name x ∷ [])
+  pub ended_next : (new : LinkerView) → new.opened ≡ None → new.failed ≡ false → new.script ≡ old.script
+      → ((p : Program) (t : Scanning.State) → RepresentsOpenModule p t g o.scan → (x : Object) × (admitted o.listed g.imports before (exports_from o.first_export g) (Scanning.object_of_state t) ≡ Ok x) × ((new.growth ≡ at_rest (with_module p (module_of o.name x))) × (all_once before (exports_from o.first_export g) ≡ Ok new.given)))
+      → (x : Object) × (closed_module old.script modules name entry s ≡ Ok x) × IsFed new (modules ++ module_of name x ∷ [])
   ended_next new none runs script ends =
       let end = ends (program_of modules) s come.comes in
       let x = end.0 in
-      let is : x ≡ Scanning.object_from s = admits (Scanning.finished s) s.ended (Scanning.object_from s) x o.listed g.imports before (exports_from o.first_export g) made end.1 in
+      let is : x ≡ Scanning.object_from s = admits (Scanning.object_of_state s) s.ended (Scanning.object_from s) x o.listed g.imports before (exports_from o.first_export g) made end.1 in
       let exports = ap (λ (y : Object). map (λ e. e.name) y.exports) is ∙ sym names in
-      let behind = ap (λ n. at_rest (with_module (program_of modules) (module_of n x))) come.called ∙ ap at_rest (sym (one_more modules (module_of name x))) in
-      let given = given_behind old.script modules name x before all ∙ ap (all_once before) exports ∙ end.2.1 in (
+      let following = ap (λ n. at_rest (with_module (program_of modules) (module_of n x))) come.called ∙ ap at_rest (sym (one_more modules (module_of name x))) in
+      let given = given_after old.script modules name x before all ∙ ap (all_once before) exports ∙ end.2.1 in (
         x,
         kept ∙ end.1,
         record {
-          growth = end.2.0 ∙ behind;
+          growth = end.2.0 ∙ following;
           given = subst (λ (q : Script). all_once [] (given_names q (program_of (modules ++ module_of name x ∷ []))) ≡ Ok new.given) (sym script) given;
           opened = none;
           failed = runs;
@@ -240,13 +240,13 @@ module _ (old : Feeding) (modules : List Module) (name : List ℕ) (entry : Opti
       )
 
   -- one that is refused isn't whole
-  pub ended_refused : (e : LinkFault) → ((p : Program) (t : Scanning.State) → Comes p t g o.scan → Refuses is_memory e (admitted o.listed g.imports before (exports_from o.first_export g) (Scanning.finished t))) → Refuses is_memory e (whole old.script modules name entry s)
-  ended_refused e ends = subst (λ (r : Result Object LinkFault). Refuses is_memory e r) (sym kept) (ends (program_of modules) s come.comes)
+  pub ended_refused : (e : LinkFault) → ((p : Program) (t : Scanning.State) → RepresentsOpenModule p t g o.scan → RefinesErr is_memory e (admitted o.listed g.imports before (exports_from o.first_export g) (Scanning.object_of_state t))) → RefinesErr is_memory e (closed_module old.script modules name entry s)
+  ended_refused e ends = subst (λ (r : Result Object LinkFault). RefinesErr is_memory e r) (sym kept) (ends (program_of modules) s come.comes)
 
 -- ---- The link.
 
 -- what is linked of what is kept is what the modules come to
-pub linked : (f : Feeding) (modules : List Module) (kept : Program) (r : Result Linked LinkFault) → kept ≡ f.growth.program → (f.given ≡ given_names f.script kept → Finds is_memory (IsProgramLink f.output f.script kept) r) → IsFed f modules → Finds is_memory (LinkOf f.output f.script modules) r
+pub linked : (f : LinkerView) (modules : List Module) (kept : Program) (r : Result Linked LinkFault) → kept ≡ f.growth.program → (f.given ≡ given_names f.script kept → RefinesProp is_memory (IsProgramLink f.output f.script kept) r) → IsFed f modules → RefinesProp is_memory (LinkOf f.output f.script modules) r
 linked f modules p r is found h =
-    let named : f.given ≡ given_names f.script p = their_names f modules (inl h) ∙ ap (given_names f.script) (sym (is ∙ ap (λ (g : Growth). g.program) h.growth)) in
+    let named : f.given ≡ given_names f.script p = their_names f modules (inl h) ∙ ap (given_names f.script) (sym (is ∙ ap (λ (g : PartialProgram). g.program) h.growth)) in
     grind (arith, common_steps, found named)

@@ -5,15 +5,15 @@ use Rattle.std.specs.Prelude.{◌&&◌, ◌==◌, filter, if◌then◌else◌, n
 use Rattle.std.proofs.lemmas.Bool.Decides.{nat_tests}
 use Rattle.std.proofs.lemmas.List.{drop_all, map-append}
 use Rattle.script65.proofs.Eaches.{drop_item, drop_at}
-use Rattle.script65.specs.declared.placement.AreaPlace.{AreaPlace}
-use Rattle.script65.specs.declared.script.Area.{Area}
-use Rattle.link65.specs.declared.files.Load.{Load}
-use Rattle.link65.specs.Files.{IsFileBy, IsImage, Piece, Placed, RowBytes, area_pieces, byte_over, file_len, laid_over, offset_of, is_loaded, loaded_in, written, AddsArea, AddsAreas, IsAreaFile, area_at, file_name, with_bytes}
-use Rattle.link65.specs.Inner.Loads.{IsWhole, LaysAll, Overlays, Held, IsFileOf, has_bytes, held_by, piece_at, placed_in, view, HoldsLoads}
+use Rattle.script65.specs.declared.placement.AreaPlacement.{AreaPlacement}
+use Rattle.script65.specs.declared.script.MemoryArea.{MemoryArea}
+use Rattle.link65.specs.declared.files.RowImage.{RowImage}
+use Rattle.link65.specs.Files.{IsFileBy, IsImage, RowPiece, PlacedRow, RowBytes, area_pieces, byte_over, file_len, laid_over, offset_of, is_loaded, loaded_in, written_row_bytes, AddsArea, AddsAreas, IsAreaFile, area_at, file_name, with_bytes}
+use Rattle.link65.specs.Internal.Loads.{IsWhole, LaysAll, OverlaysBytes, PlacedBytes, IsFileOf, has_bytes, held_by, piece_at, placed_in, view, HoldsLoads}
 use Rattle.std.specs.Option.{option_map}
 use Rattle.std.proofs.lemmas.Option.{slice_get_cases}
-use Rattle.script65.specs.declared.placement.RowPlace.{RowPlace}
-use Rattle.script65.specs.declared.script.Row.{Row}
+use Rattle.script65.specs.declared.placement.RowPlacement.{RowPlacement}
+use Rattle.script65.specs.declared.script.SegmentRow.{SegmentRow}
 use Rattle.std.specs.Borrow.{Bor}
 use Rattle.std.specs.List.{list_any, position_or_len}
 use Rattle.std.specs.Str.{bytes_eq}
@@ -21,8 +21,8 @@ use Rattle.std.proofs.lemmas.Str.{is_utf8-from_IsUtf8}
 use Rattle.base65.proofs.Texts.{not_utf8}
 use Rattle.script65.proofs.Walks.{there}
 use Rattle.script65.specs.declared.placement.Placement.{Placement}
-use Rattle.script65.specs.declared.script.AreaFile.{AreaFile}
-use Rattle.script65.specs.declared.script.AreaFile.TheVariants.{Named}
+use Rattle.script65.specs.declared.script.AreaOutput.{AreaOutput}
+use Rattle.script65.specs.declared.script.AreaOutput.TheVariants.{Named}
 use Rattle.base65.specs.declared.output.OutputFile.{OutputFile}
 
 -- ---- Pieces over pieces.
@@ -31,32 +31,32 @@ pub laid_none : (image : List ℕ) → LaysAll [] image image
 laid_none image = record { len = refl; each = λ i inside. refl }
 
 -- the pieces of rows in the file of an area that begins here
-abbrev pub pieces_in : ℕ → List Load → List Piece
+abbrev pub pieces_in : ℕ → List RowImage → List RowPiece
 pieces_in start ls = map (piece_at start) (map view ls)
 
-pub next_row : (start offset : ℕ) (ls : List Load) (i : ℕ) (l : Load) (bytes mid image new : List ℕ) → i < length ls → l ≡ get_or ls i l → offset ≡ offset_of start (placed_in l) → bytes ≡ l.bytes → Overlays mid offset bytes image → LaysAll (pieces_in start (drop (i + 1) ls)) image new → LaysAll (pieces_in start (drop i ls)) mid new
+pub next_row : (start offset : ℕ) (ls : List RowImage) (i : ℕ) (l : RowImage) (bytes mid image new : List ℕ) → i < length ls → l ≡ get_or ls i l → offset ≡ offset_of start (placed_in l) → bytes ≡ l.bytes → OverlaysBytes mid offset bytes image → LaysAll (pieces_in start (drop (i + 1) ls)) image new → LaysAll (pieces_in start (drop i ls)) mid new
 next_row start offset ls i l bytes mid image new lt is at same laid rest = grind (arith, common_steps)
 
-pub no_row : (start : ℕ) (ls : List Load) (i : ℕ) (image : List ℕ) → length ls ≤ i → LaysAll (pieces_in start (drop i ls)) image image
-no_row start ls i image le = subst (λ (xs : List Load). LaysAll (pieces_in start xs) image image) (sym (drop_all i ls le)) (laid_none image)
+pub no_row : (start : ℕ) (ls : List RowImage) (i : ℕ) (image : List ℕ) → length ls ≤ i → LaysAll (pieces_in start (drop i ls)) image image
+no_row start ls i image le = subst (λ (xs : List RowImage). LaysAll (pieces_in start xs) image image) (sym (drop_all i ls le)) (laid_none image)
 
 -- ---- A file that is one row.
 
 inside : (i at len : ℕ) → at ≡ 0 → i < len → (nat_le at i && nat_lt i (at + len)) ≡ true
 inside i at len e lt = grind (arith, nat_tests)
 
-pub whole_image : (len fill : ℕ) (pieces : List Piece) (image : List ℕ) (w : IsWhole len pieces) → image ≡ (w.0).bytes → IsImage len fill pieces image
+pub whole_image : (len fill : ℕ) (pieces : List RowPiece) (image : List ℕ) (w : IsWhole len pieces) → image ≡ (w.0).bytes → IsImage len fill pieces image
 whole_image len fill pieces image x same = grind (arith, common_steps)
 
-pub first_bytes : (len start : ℕ) (ls : List Load) (l : Load) (w : IsWhole len (pieces_in start ls)) → l ≡ get_or ls 0 l → l.bytes ≡ (w.0).bytes
+pub first_bytes : (len start : ℕ) (ls : List RowImage) (l : RowImage) (w : IsWhole len (pieces_in start ls)) → l ≡ get_or ls 0 l → l.bytes ≡ (w.0).bytes
 first_bytes len start x l y e = grind (arith, common_steps)
 
-pub one_row : (len start : ℕ) (ls : List Load) (l : Load) → 1 ≤ length ls → length ls < 2 → l ≡ get_or ls 0 l → l.place.load ≤ start → length l.bytes ≡ len → IsWhole len (pieces_in start ls)
+pub one_row : (len start : ℕ) (ls : List RowImage) (l : RowImage) → 1 ≤ length ls → length ls < 2 → l ≡ get_or ls 0 l → l.place.load ≤ start → length l.bytes ≡ len → IsWhole len (pieces_in start ls)
 one_row len start [] l some few is le long = absurd (omega arith)
 one_row len start (x ∷ y ∷ ls) l some few is le long = absurd (omega arith)
-one_row len start (x ∷ []) l some few is le long = (piece_at start (view l), ap (λ (z : Load). piece_at start (view z) ∷ []) (sym is), omega arith, long)
+one_row len start (x ∷ []) l some few is le long = (piece_at start (view l), ap (λ (z : RowImage). piece_at start (view z) ∷ []) (sym is), omega arith, long)
 
-placed_all : (ls : List Load) → map (λ h. h.0) (map view ls) ≡ map placed_in ls
+placed_all : (ls : List RowImage) → map (λ h. h.0) (map view ls) ≡ map placed_in ls
 placed_all [] = refl
 placed_all (l ∷ ls) = ap (λ ps. placed_in l ∷ ps) (placed_all ls)
 
@@ -65,26 +65,26 @@ placed_all (l ∷ ls) = ap (λ ps. placed_in l ∷ ps) (placed_all ls)
 none_laid : (i at : ℕ) (bytes : List ℕ) (before : ℕ) → not (length bytes == 0) ≡ false → laid_over i at bytes before ≡ before
 none_laid i at x before e = grind (arith, common_steps)
 
-full_over : (start : ℕ) (ls : List Load) (i before : ℕ) → byte_over (pieces_in start (filter has_bytes ls)) i before ≡ byte_over (pieces_in start ls) i before
+full_over : (start : ℕ) (ls : List RowImage) (i before : ℕ) → byte_over (pieces_in start (filter has_bytes ls)) i before ≡ byte_over (pieces_in start ls) i before
 full_over start [] i before = refl
 full_over start (l ∷ ls) i before = grind (arith, common_steps, (full_over start ls i), none_laid)
 
 -- the file of an area's rows, by its length and those that have bytes
-pub file_of : (a : Area) (place : AreaPlace) (ls items : List Load) (len : ℕ) (image : List ℕ) → items ≡ filter has_bytes ls → len ≡ file_len a place (map placed_in ls) → IsImage len a.fill_value (pieces_in place.start items) image → IsFileOf a place (map view ls) image
+pub file_of : (a : MemoryArea) (place : AreaPlacement) (ls items : List RowImage) (len : ℕ) (image : List ℕ) → items ≡ filter has_bytes ls → len ≡ file_len a place (map placed_in ls) → IsImage len a.fill_value (pieces_in place.start items) image → IsFileOf a place (map view ls) image
 file_of a place ls items len image are long file = grind (arith, common_steps, there, full_over, placed_all)
 
 -- ---- By what rows hold.
 
-firsts : (bytes : RowBytes) (ps : List Placed) → map (λ h. h.0) (map (held_by bytes) ps) ≡ ps
+firsts : (bytes : RowBytes) (ps : List PlacedRow) → map (λ h. h.0) (map (held_by bytes) ps) ≡ ps
 firsts bytes [] = refl
 firsts bytes (p ∷ ps) = ap (λ qs. p ∷ qs) (firsts bytes ps)
 
-all_pieces : (start : ℕ) (bytes : RowBytes) (ps : List Placed) → map (piece_at start) (map (held_by bytes) ps) ≡ area_pieces start bytes ps
+all_pieces : (start : ℕ) (bytes : RowBytes) (ps : List PlacedRow) → map (piece_at start) (map (held_by bytes) ps) ≡ area_pieces start bytes ps
 all_pieces start bytes [] = refl
 all_pieces start bytes (p ∷ ps) = ap (λ qs. record { offset = offset_of start p; bytes = bytes p.row } ∷ qs) (all_pieces start bytes ps)
 
 -- the file of rows with their bytes is that of the rows
-pub file_by : (bytes : RowBytes) (a : Area) (place : AreaPlace) (hs : List Held) (ps : List Placed) (image : List ℕ) → hs ≡ map (held_by bytes) ps → IsFileOf a place hs image → IsFileBy bytes a place ps image
+pub file_by : (bytes : RowBytes) (a : MemoryArea) (place : AreaPlacement) (hs : List PlacedBytes) (ps : List PlacedRow) (image : List ℕ) → hs ≡ map (held_by bytes) ps → IsFileOf a place hs image → IsFileBy bytes a place ps image
 file_by bytes a place hs ps image are file = grind (arith, common_steps, firsts, all_pieces)
 
 -- ---- The rows of each area's file.
@@ -93,7 +93,7 @@ file_by bytes a place hs ps image are file = grind (arith, common_steps, firsts,
 abbrev pub with_if : {A : Type 0} → Bool → A → List A → List A
 with_if b x m = if b then m ++ x ∷ [] else m
 
-loaded_none : (k : ℕ) (rows : List Row) → loaded_in k rows [] ≡ []
+loaded_none : (k : ℕ) (rows : List SegmentRow) → loaded_in k rows [] ≡ []
 loaded_none k [] = refl
 loaded_none k (r ∷ rows) = refl
 
@@ -101,26 +101,26 @@ none_past : {A : Type 0} (xs : List A) (i : ℕ) → slice_get xs i ≡ None →
 none_past xs i e = elim (slice_get_cases xs i).1 [ inl h ↦ absurd (let n : Some h.0 ≡ None = sym h.2 ∙ e in cc) | inr h ↦ h.0 ]
 
 -- a row that is in a file is written, so it has its bytes
-own_bytes : (bytes : RowBytes) (k : ℕ) (r : Row) → is_loaded k r ≡ true → written bytes r ≡ bytes r
+own_bytes : (bytes : RowBytes) (k : ℕ) (r : SegmentRow) → is_loaded k r ≡ true → written_row_bytes bytes r ≡ bytes r
 own_bytes bytes k r e = grind (arith, common_steps)
 
 -- the rows of an area's file among some, with their bytes
-abbrev held_in : RowBytes → ℕ → List Row → List RowPlace → List Held
+abbrev held_in : RowBytes → ℕ → List SegmentRow → List RowPlacement → List PlacedBytes
 held_in bytes k rows places = map (held_by bytes) (loaded_in k rows places)
 
 -- what the rows so far and the rest are
-abbrev pub Collects : RowBytes → ℕ → List Row → List RowPlace → ℕ → Option (List Load) → Type 0
-Collects bytes k rows places i o = (m : List Load) × (o ≡ Some m) × (map view m ++ held_in bytes k (drop i rows) (drop i places) ≡ held_in bytes k rows places)
+abbrev pub Collects : RowBytes → ℕ → List SegmentRow → List RowPlacement → ℕ → Option (List RowImage) → Type 0
+Collects bytes k rows places i o = (m : List RowImage) × (o ≡ Some m) × (map view m ++ held_in bytes k (drop i rows) (drop i places) ≡ held_in bytes k rows places)
 
-module _ (bytes : RowBytes) (k : ℕ) (rows : List Row) (places : List RowPlace) where
-  pub collects_none : (o : Option (List Load)) → o ≡ Some [] → Collects bytes k rows places 0 o
+module _ (bytes : RowBytes) (k : ℕ) (rows : List SegmentRow) (places : List RowPlacement) where
+  pub collects_none : (o : Option (List RowImage)) → o ≡ Some [] → Collects bytes k rows places 0 o
   collects_none o e = grind (arith, common_steps)
 
-  pub collects_more : (i : ℕ) (l : Load) (old new : Option (List Load)) → i < length rows → l.row.now ≡ get_or rows i l.row.now → slice_get places i ≡ Some l.place → l.bytes ≡ written bytes l.row.now → new ≡ option_map (with_if (is_loaded k l.row.now) l) old → Collects bytes k rows places i old → Collects bytes k rows places (i + 1) new
+  pub collects_more : (i : ℕ) (l : RowImage) (old new : Option (List RowImage)) → i < length rows → l.row.now ≡ get_or rows i l.row.now → slice_get places i ≡ Some l.place → l.bytes ≡ written_row_bytes bytes l.row.now → new ≡ option_map (with_if (is_loaded k l.row.now) l) old → Collects bytes k rows places i old → Collects bytes k rows places (i + 1) new
   collects_more i l old new lt at there own e h =
       (with_if (is_loaded k l.row.now) l h.0, e ∙ ap (option_map (with_if (is_loaded k l.row.now) l)) h.1, by (is_loaded k l.row.now) mine (front ∙ h.2))
     where
-      rest : List Placed
+      rest : List PlacedRow
       rest = loaded_in k (drop (i + 1) rows) (drop (i + 1) places)
 
       mine : is_loaded k l.row.now ≡ true → view l ≡ held_by bytes (placed_in l)
@@ -134,27 +134,27 @@ module _ (bytes : RowBytes) (k : ℕ) (rows : List Row) (places : List RowPlace)
       by false same t = t
 
   -- a row without a place
-  pub collects_past : (i : ℕ) (o : Option (List Load)) → slice_get places i ≡ None → Collects bytes k rows places i o → Collects bytes k rows places (i + 1) o
+  pub collects_past : (i : ℕ) (o : Option (List RowImage)) → slice_get places i ≡ None → Collects bytes k rows places i o → Collects bytes k rows places (i + 1) o
   collects_past i o past h = grind (arith, common_steps, none_past, drop_all, loaded_none)
 
-  pub collects_all : (i : ℕ) (o : Option (List Load)) → length rows ≤ i → Collects bytes k rows places i o → HoldsLoads bytes k rows places o
+  pub collects_all : (i : ℕ) (o : Option (List RowImage)) → length rows ≤ i → Collects bytes k rows places i o → HoldsLoads bytes k rows places o
   collects_all i o le h = grind (arith, common_steps)
 
 -- the bytes of a row, by what was taken of all at its place
-pub taken_bytes : (bytes : RowBytes) (rows : List Row) (all : List (List ℕ)) (i : ℕ) (r : Row) (b : List ℕ) → all ≡ map (written bytes) rows → i < length rows → r ≡ get_or rows i r → ((x : List ℕ) → slice_get all i ≡ Some x → b ≡ x) → b ≡ written bytes r
-taken_bytes bytes rows all i r b are lt at h = h (written bytes r) (ap (λ (xs : List (List ℕ)). slice_get xs i) are ∙ there rows i lt at)
+pub taken_bytes : (bytes : RowBytes) (rows : List SegmentRow) (all : List (List ℕ)) (i : ℕ) (r : SegmentRow) (b : List ℕ) → all ≡ map (written_row_bytes bytes) rows → i < length rows → r ≡ get_or rows i r → ((x : List ℕ) → slice_get all i ≡ Some x → b ≡ x) → b ≡ written_row_bytes bytes r
+taken_bytes bytes rows all i r b are lt at h = h (written_row_bytes bytes r) (ap (λ (xs : List (List ℕ)). slice_get xs i) are ∙ there rows i lt at)
   where
-    there : (rs : List Row) (n : ℕ) → n < length rs → r ≡ get_or rs n r → slice_get (map (written bytes) rs) n ≡ Some (written bytes r)
+    there : (rs : List SegmentRow) (n : ℕ) → n < length rs → r ≡ get_or rs n r → slice_get (map (written_row_bytes bytes) rs) n ≡ Some (written_row_bytes bytes r)
     there [] n lt at = absurd (omega arith)
-    there (x ∷ rs) zero lt at = ap (λ y. Some (written bytes y)) (sym at)
+    there (x ∷ rs) zero lt at = ap (λ y. Some (written_row_bytes bytes y)) (sym at)
     there (x ∷ rs) (suc n) lt at = there rs n (omega arith) at
 
 -- ---- The files of areas.
 
-pub named_ok : (output name bytes got : List ℕ) (f : AreaFile) → f ≡ Named name → bytes ≡ name → got ≡ bytes → IsUtf8 bytes → got ≡ file_name output f
+pub named_ok : (output name bytes got : List ℕ) (f : AreaOutput) → f ≡ Named name → bytes ≡ name → got ≡ bytes → IsUtf8 bytes → got ≡ file_name output f
 named_ok output name bytes got f is same e utf8 = rw (is, sym same, is_utf8-from_IsUtf8 bytes utf8) e
 
-pub named_err : (output name bytes : List ℕ) (f : AreaFile) → f ≡ Named name → bytes ≡ name → ¬ (IsUtf8 bytes) → ◌≡◌ {A = List ℕ} [] (file_name output f)
+pub named_err : (output name bytes : List ℕ) (f : AreaOutput) → f ≡ Named name → bytes ≡ name → ¬ (IsUtf8 bytes) → ◌≡◌ {A = List ℕ} [] (file_name output f)
 named_err output name bytes f is same never = rw (is, sym same, not_utf8 bytes never) refl
 
 none_within : {A : Type 0} (xs : List A) (i : ℕ) → i < length xs → slice_get xs i ≡ None → ⊥
@@ -229,20 +229,20 @@ names_stay bytes os new place lt h = by (slice_get os place) refl
     by (Some o) e = ap names (h o e) ∙ same_name os place o (o.bytes ++ bytes) e
 
 -- one area more
-module _ (output : List ℕ) (bytes : RowBytes) (rows : List Row) (p : Placement) where
-  abbrev Adds : ℕ → List Area → List OutputFile → List OutputFile → Type 0
+module _ (output : List ℕ) (bytes : RowBytes) (rows : List SegmentRow) (p : Placement) where
+  abbrev Adds : ℕ → List MemoryArea → List OutputFile → List OutputFile → Type 0
   Adds = AddsAreas output (IsAreaFile rows p bytes)
 
-  by_rows : (b : Bool) (name : List ℕ) (a : Area) (place : AreaPlace) (hs : List Held) (ps : List Placed) (before after : List OutputFile) → hs ≡ map (held_by bytes) ps → AddsArea b name (IsFileOf a place hs) before after → AddsArea b name (IsFileBy bytes a place ps) before after
+  by_rows : (b : Bool) (name : List ℕ) (a : MemoryArea) (place : AreaPlacement) (hs : List PlacedBytes) (ps : List PlacedRow) (before after : List OutputFile) → hs ≡ map (held_by bytes) ps → AddsArea b name (IsFileOf a place hs) before after → AddsArea b name (IsFileBy bytes a place ps) before after
   by_rows true name a place hs ps before after are e = e
   by_rows false name a place hs ps before after are e = (e.0, file_by bytes a place hs ps e.0 are e.1, e.2)
 
-  pub next_area : (areas : List Area) (k : ℕ) (a : Area) (name : List ℕ) (place : AreaPlace) (loads : List Held) (before mid after : List OutputFile) → k < length areas → a ≡ get_or areas k a → name ≡ file_name output a.file → place ≡ area_at p k → loads ≡ map (held_by bytes) (loaded_in k rows p.rows) → AddsArea (length name == 0) name (IsFileOf a place loads) before mid → Adds (k + 1) (drop (k + 1) areas) mid after → Adds k (drop k areas) before after
+  pub next_area : (areas : List MemoryArea) (k : ℕ) (a : MemoryArea) (name : List ℕ) (place : AreaPlacement) (loads : List PlacedBytes) (before mid after : List OutputFile) → k < length areas → a ≡ get_or areas k a → name ≡ file_name output a.file → place ≡ area_at p k → loads ≡ map (held_by bytes) (loaded_in k rows p.rows) → AddsArea (length name == 0) name (IsFileOf a place loads) before mid → Adds (k + 1) (drop (k + 1) areas) mid after → Adds k (drop k areas) before after
   next_area areas k a name place loads before mid after lt is named stands are adds rest =
       let so = subst (λ (n : List ℕ). AddsArea (length n == 0) n (IsFileOf a place loads) before mid) named adds in
-      let there = subst (λ (q : AreaPlace). AddsArea (length (file_name output a.file) == 0) (file_name output a.file) (IsFileOf a q loads) before mid) stands so in
+      let there = subst (λ (q : AreaPlacement). AddsArea (length (file_name output a.file) == 0) (file_name output a.file) (IsFileOf a q loads) before mid) stands so in
       let here = by_rows (length (file_name output a.file) == 0) (file_name output a.file) a (area_at p k) loads (loaded_in k rows p.rows) before mid are there in
-      subst (λ (l : List Area). Adds k l before after) (sym (drop_item areas k a lt is)) (mid, here, rest)
+      subst (λ (l : List MemoryArea). Adds k l before after) (sym (drop_item areas k a lt is)) (mid, here, rest)
 
-  pub no_area : (areas : List Area) (k : ℕ) (files : List OutputFile) → length areas ≤ k → Adds k (drop k areas) files files
-  no_area areas k files le = subst (λ (l : List Area). Adds k l files files) (sym (drop_all k areas le)) refl
+  pub no_area : (areas : List MemoryArea) (k : ℕ) (files : List OutputFile) → length areas ≤ k → Adds k (drop k areas) files files
+  no_area areas k files le = subst (λ (l : List MemoryArea). Adds k l files files) (sym (drop_all k areas le)) refl

@@ -4,8 +4,8 @@ use Rattle.std.proofs.Common.{arith, ◌≡◌, ◌∙◌, ℕ, Bool, true, fals
 use Rattle.base65.specs.Outcome.{◌>>=◌}
 use Rattle.link65.specs.declared.fault.LinkFault.{LinkFault}
 use Rattle.link65.specs.declared.fault.LinkFault.TheVariants.{DuplicateExport, Unresolved}
-use Rattle.link65.specs.Standing.{all_once, with_each, with_new}
-use Rattle.link65.specs.Names.{first_again, is_among, given_names, each_once, is_given, open_names, references, unresolved, weak_definition, weak_symbols, symbol_imports}
+use Rattle.link65.specs.Representation.{all_once, with_each, with_new}
+use Rattle.link65.specs.Names.{first_again, is_among, given_names, each_once, is_given, open_names, references, unresolved_names, weak_definition, weak_symbols, symbol_imports}
 use Rattle.link65.specs.Links.{no_name_again, none_unresolved}
 use Rattle.link65.specs.Programs.{Module, Program, with_module}
 use Rattle.script65.specs.declared.script.Script.{Script}
@@ -13,7 +13,7 @@ use Rattle.script65.specs.declared.script.Symbol.{Symbol}
 use Rattle.script65.specs.declared.script.SymbolKind.{SymbolKind}
 use Rattle.script65.specs.declared.script.SymbolKind.TheVariants as kind
 use Rattle.script65.proofs.Eaches.{drop_item}
-use Rattle.link65.specs.declared.parts.Definition.{Definition}
+use Rattle.link65.specs.declared.parts.ScriptSymbol.{ScriptSymbol}
 use Rattle.std.proofs.lemmas.Cmp.{nat_list_eq_equiv}
 use Rattle.std.proofs.lemmas.List.{map-append}
 use Rattle.std.proofs.lemmas.List.Elements.{filter-append}
@@ -21,8 +21,8 @@ use Rattle.std.proofs.lemmas.List.Folds.{list_any-append}
 use Rattle.std.proofs.lemmas.Slice.Eq.{bytes_eq-Decides}
 use Rattle.std.specs.List.{list_any, flat_map}
 use Rattle.std.specs.Str.{bytes_eq}
-use Rattle.link65.specs.declared.parts.Member.{Member}
-use Rattle.link65.specs.Inner.Fields.{missing_behind}
+use Rattle.link65.specs.declared.parts.LinkedModule.{LinkedModule}
+use Rattle.link65.specs.Internal.Fields.{missing_after}
 
 -- ---- Names of which none is given twice.
 
@@ -60,28 +60,28 @@ taken_new before after name is same = let made : Names → Result Names LinkFaul
 
 -- ---- Names that are given behind others, none twice.
 
-behind_one : (r : Result Names LinkFault) (xs ys : Names) → ((all : Names) → with_each all (xs ++ ys) ≡ (with_each all xs >>= (λ more. with_each more ys))) → (r >>= (λ all. with_each all (xs ++ ys))) ≡ ((r >>= (λ all. with_each all xs)) >>= (λ more. with_each more ys))
-behind_one x xs ys h = grind (arith, common_steps)
+after_one : (r : Result Names LinkFault) (xs ys : Names) → ((all : Names) → with_each all (xs ++ ys) ≡ (with_each all xs >>= (λ more. with_each more ys))) → (r >>= (λ all. with_each all (xs ++ ys))) ≡ ((r >>= (λ all. with_each all xs)) >>= (λ more. with_each more ys))
+after_one x xs ys h = grind (arith, common_steps)
 
-each_behind : (before xs ys : Names) → with_each before (xs ++ ys) ≡ (with_each before xs >>= (λ all. with_each all ys))
-each_behind before [] ys = refl
-each_behind before (x ∷ xs) ys = behind_one (with_new before x) xs ys (λ all. each_behind all xs ys)
+each_after : (before xs ys : Names) → with_each before (xs ++ ys) ≡ (with_each before xs >>= (λ all. with_each all ys))
+each_after before [] ys = refl
+each_after before (x ∷ xs) ys = after_one (with_new before x) xs ys (λ all. each_after all xs ys)
 
 -- where some are given, others behind them are given as they are by themselves
-pub once_behind : (given xs ys : Names) → all_once [] xs ≡ Ok given → all_once [] (xs ++ ys) ≡ all_once given ys
-once_behind given xs ys h =
-    sym (each_once_all (xs ++ ys) []) ∙ each_behind [] xs ys
+pub once_after : (given xs ys : Names) → all_once [] xs ≡ Ok given → all_once [] (xs ++ ys) ≡ all_once given ys
+once_after given xs ys h =
+    sym (each_once_all (xs ++ ys) []) ∙ each_after [] xs ys
     ∙ ap (λ r. r >>= (λ all. with_each all ys)) (each_once_all xs [] ∙ h)
     ∙ each_once_all ys given
 
-pub map_behind : {A B C : Type 0} (f : B → C) (g : A → B) (old : List B) (xs : List A) → map f (old ++ map g xs) ≡ map f old ++ map (λ x. f (g x)) xs
-map_behind f g [] [] = refl
-map_behind f g [] (x ∷ xs) = ap (λ ys. f (g x) ∷ ys) (map_behind f g [] xs)
-map_behind f g (y ∷ old) xs = ap (λ ys. f y ∷ ys) (map_behind f g old xs)
+pub map_after : {A B C : Type 0} (f : B → C) (g : A → B) (old : List B) (xs : List A) → map f (old ++ map g xs) ≡ map f old ++ map (λ x. f (g x)) xs
+map_after f g [] [] = refl
+map_after f g [] (x ∷ xs) = ap (λ ys. f (g x) ∷ ys) (map_after f g [] xs)
+map_after f g (y ∷ old) xs = ap (λ ys. f y ∷ ys) (map_after f g old xs)
 
 -- what is given behind a module: what was given before it, and its exports
 pub module_gives : (s : Script) (p : Program) (m : Module) → given_names s (with_module p m) ≡ given_names s p ++ map (λ e. e.name) m.object.exports
-module_gives s p m = grind (arith, common_steps, map_behind, append_assoc)
+module_gives s p m = grind (arith, common_steps, map_after, append_assoc)
 
 -- ---- A name goes behind others, if it isn't among them.
 
@@ -115,7 +115,7 @@ given_all names given h = again_none (first_again [] names) names given h
 
 -- ---- Names that nobody gives, each once.
 
-pub missing_append : (given xs before ys : Names) → missing_behind given (missing_behind given before xs) ys ≡ missing_behind given before (xs ++ ys)
+pub missing_append : (given xs before ys : Names) → missing_after given (missing_after given before xs) ys ≡ missing_after given before (xs ++ ys)
 missing_append given [] before ys = refl
 missing_append given (x ∷ xs) before ys = missing_append given xs (if is_among given x || is_among before x then before else before ++ x ∷ []) ys
 
@@ -144,17 +144,17 @@ once_step gives before x true true is there = refl
 once_step gives before x true false is there = grind (arith, common_steps, there, filter-append, filter_one, nil)
 once_step gives before x false a is there = grind (arith, common_steps, there, kept_among, filter-append, filter_one)
 
-once_missing : (given xs before : Names) → filter (λ n. not (is_among given n)) (each_once before xs) ≡ missing_behind given (filter (λ n. not (is_among given n)) before) xs
+once_missing : (given xs before : Names) → filter (λ n. not (is_among given n)) (each_once before xs) ≡ missing_after given (filter (λ n. not (is_among given n)) before) xs
 once_missing given [] before = refl
 once_missing given (x ∷ xs) before =
     once_missing given xs (if is_among before x then before else before ++ x ∷ [])
-    ∙ ap (λ ns. missing_behind given ns xs) (once_step (is_among given) before x (is_among given x) (is_among before x) refl refl)
+    ∙ ap (λ ns. missing_after given ns xs) (once_step (is_among given) before x (is_among given x) (is_among before x) refl refl)
 
-abbrev pub wanted : List Symbol → List Member → Names
+abbrev pub wanted : List Symbol → List LinkedModule → Names
 wanted symbols members = symbol_imports symbols ++ flat_map (λ m. m.imports) members
 
 -- what is wanted and not among what a script and modules give
-pub open_missing : (s : Script) (p : Program) (given : Names) (members : List Member) → given ≡ given_names s p → p.members ≡ members → missing_behind given [] (wanted s.symbols members) ≡ open_names s p
+pub open_missing : (s : Script) (p : Program) (given : Names) (members : List LinkedModule) → given ≡ given_names s p → p.members ≡ members → missing_after given [] (wanted s.symbols members) ≡ open_names s p
 open_missing s p given members e f = rw (e, ← f) (sym (once_missing (given_names s p) (wanted s.symbols p.members) []))
 
 -- ---- Weak names behind those that are given.
@@ -183,9 +183,9 @@ filter_same f g same [] = refl
 filter_same f g same (x ∷ xs) = rw (same x, filter_same f g same xs) refl
 
 -- what is wanted and nobody gives, not even the script as a weak name
-pub none_gives : (s : Script) (p : Program) (given : Names) (members : List Member) → given ≡ given_names s p → p.members ≡ members → missing_behind (each_once given (map (λ d. d.name) (weak_symbols s.symbols))) [] (wanted s.symbols members) ≡ unresolved s p
+pub none_gives : (s : Script) (p : Program) (given : Names) (members : List LinkedModule) → given ≡ given_names s p → p.members ≡ members → missing_after (each_once given (map (λ d. d.name) (weak_symbols s.symbols))) [] (wanted s.symbols members) ≡ unresolved_names s p
 none_gives s p given members e f =
-    let weak = map (λ (d : Definition). d.name) (weak_symbols s.symbols) in
+    let weak = map (λ (d : ScriptSymbol). d.name) (weak_symbols s.symbols) in
     rw (e, ← f)
     (sym (once_missing (each_once (given_names s p) weak) (wanted s.symbols p.members) [])
     ∙ filter_same (λ n. not (is_among (each_once (given_names s p) weak) n)) (λ n. not (is_given s p n)) (λ n. ap not (once_among weak (given_names s p) n)) (references s p))
@@ -210,11 +210,11 @@ not_weak kind.Import before name h = refl
 
 pub weak_next : (symbols : List Symbol) (i : ℕ) (s : Symbol) (before after target : Names) → i < length symbols → s ≡ get_or symbols i s → after ≡ with_weak s.kind before s.name → each_once before (map (λ d. d.name) (weak_symbols (drop i symbols))) ≡ target → each_once after (map (λ d. d.name) (weak_symbols (drop (i + 1) symbols))) ≡ target
 weak_next symbols i s before after target lt at new inv =
-    let names = λ (ss : List Symbol). map (λ (d : Definition). d.name) (weak_symbols ss) in
+    let names = λ (ss : List Symbol). map (λ (d : ScriptSymbol). d.name) (weak_symbols ss) in
     let rest = drop (i + 1) symbols in
     ap (λ b. each_once b (names rest)) new
     ∙ sym (weak_step s.kind s.name before (names rest))
-    ∙ sym (ap (each_once before) (map-append (λ (d : Definition). d.name) (weak_definition s.kind s.name) (weak_symbols rest)))
+    ∙ sym (ap (each_once before) (map-append (λ (d : ScriptSymbol). d.name) (weak_definition s.kind s.name) (weak_symbols rest)))
     ∙ sym (ap (λ ss. each_once before (names ss)) (drop_item symbols i s lt at))
     ∙ inv
 

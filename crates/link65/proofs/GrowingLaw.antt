@@ -23,7 +23,7 @@ use Rattle.object65.specs.Scanning.{outline_of}
 use Rattle.object65.proofs.Withins.{reached_parts, led}
 use Rattle.link65.specs.declared.parts.SectionPlace.{SectionPlace}
 use Rattle.link65.specs.Growing
-use Rattle.link65.specs.Programs.{Program, asserted, exported, with_module}
+use Rattle.link65.specs.Programs.{Program, linked_assertion, linked_export, with_module}
 use Rattle.link65.specs.Programs
 
 -- ---- A section behind others.
@@ -45,30 +45,30 @@ pub record IsLonger (owner : ℕ) (f : Fragment) (s t : Section) : Type 0 where
   pub len : section_len t ≡ section_len s + fragment_len f
   pub cells : flat_map (Programs.fragment_cells owner) t.fragments ≡ flat_map (Programs.fragment_cells owner) s.fragments ++ Programs.fragment_cells owner f
 
-pub grown_longer : (owner : ℕ) (d : Draft) (f : Fragment) → IsLonger owner f (Scanning.section_from d) (Scanning.section_from (Items.grown d f))
+pub grown_longer : (owner : ℕ) (d : Draft) (f : Fragment) → IsLonger owner f (Scanning.section_from d) (Scanning.section_from (Items.draft_with_fragment d f))
 grown_longer owner d x = grind (arith, common_steps)
 
 -- the segment of the section has the fragment's bytes behind its own
-segment_longer : (owner : ℕ) (f : Fragment) (s t : Section) (g : Programs.Segment) → IsLonger owner f s t → Programs.grown owner g t ≡ Growing.with_cells (fragment_len f) (Programs.fragment_cells owner f) (Programs.grown owner g s)
+segment_longer : (owner : ℕ) (f : Fragment) (s t : Section) (g : Programs.Segment) → IsLonger owner f s t → Programs.segment_with_section owner g t ≡ Growing.with_cells (fragment_len f) (Programs.fragment_cells owner f) (Programs.segment_with_section owner g s)
 segment_longer owner f s t g l = grind (arith, common_steps)
 
 same_names : (n : List ℕ) → bytes_eq n n ≡ true
 same_names n = (nat_list_eq_equiv).refl n
 
 -- where the section goes
-head_step : (owner : ℕ) (f : Fragment) (s t : Section) (g : Programs.Segment) (gs : List Programs.Segment) (b : Bool) → IsLonger owner f s t → bytes_eq g.name s.name ≡ b → Programs.with_section owner gs t ≡ Growing.with_more s.name (fragment_len f) (Programs.fragment_cells owner f) (Programs.with_section owner gs s) → (if b then Programs.grown owner g t ∷ gs else g ∷ Programs.with_section owner gs t) ≡ Growing.with_more s.name (fragment_len f) (Programs.fragment_cells owner f) (if b then Programs.grown owner g s ∷ gs else g ∷ Programs.with_section owner gs s)
+head_step : (owner : ℕ) (f : Fragment) (s t : Section) (g : Programs.Segment) (gs : List Programs.Segment) (b : Bool) → IsLonger owner f s t → bytes_eq g.name s.name ≡ b → Programs.with_section owner gs t ≡ Growing.with_more s.name (fragment_len f) (Programs.fragment_cells owner f) (Programs.with_section owner gs s) → (if b then Programs.segment_with_section owner g t ∷ gs else g ∷ Programs.with_section owner gs t) ≡ Growing.with_more s.name (fragment_len f) (Programs.fragment_cells owner f) (if b then Programs.segment_with_section owner g s ∷ gs else g ∷ Programs.with_section owner gs s)
 head_step owner f s t g gs true l is rest = rw is (ap (λ x. x ∷ gs) (segment_longer owner f s t g l))
 head_step owner f s t g gs false l is rest = rw is (ap (λ xs. g ∷ xs) rest)
 
 head_longer : (owner : ℕ) (f : Fragment) (s t : Section) (gs : List Programs.Segment) → IsLonger owner f s t → Programs.with_section owner gs t ≡ Growing.with_more s.name (fragment_len f) (Programs.fragment_cells owner f) (Programs.with_section owner gs s)
 head_longer owner f s t [] l = grind (arith, common_steps, same_names, segment_longer)
-head_longer owner f s t (g ∷ gs) l = ap (λ (n : List ℕ). if bytes_eq g.name n then Programs.grown owner g t ∷ gs else g ∷ Programs.with_section owner gs t) l.name ∙ (head_step owner f s t g gs (bytes_eq g.name s.name) l refl (head_longer owner f s t gs l))
+head_longer owner f s t (g ∷ gs) l = ap (λ (n : List ℕ). if bytes_eq g.name n then Programs.segment_with_section owner g t ∷ gs else g ∷ Programs.with_section owner gs t) l.name ∙ (head_step owner f s t g gs (bytes_eq g.name s.name) l refl (head_longer owner f s t gs l))
 
 -- a segment of one name isn't one of another
 not_both : (x y z : List ℕ) → bytes_eq x y ≡ true → bytes_eq x z ≡ true → bytes_eq y z ≡ false → ⊥
 not_both x y z e f other = grind (arith, common_steps, nat_list_eq_equiv)
 
-apart_step : (owner : ℕ) (name : List ℕ) (len : ℕ) (cells : List Programs.Cell) (r : Section) (g : Programs.Segment) (gs : List Programs.Segment) (b c : Bool) → bytes_eq name r.name ≡ false → bytes_eq g.name name ≡ b → bytes_eq g.name r.name ≡ c → Programs.with_section owner (Growing.with_more name len cells gs) r ≡ Growing.with_more name len cells (Programs.with_section owner gs r) → Programs.with_section owner (if b then Growing.with_cells len cells g ∷ gs else g ∷ Growing.with_more name len cells gs) r ≡ Growing.with_more name len cells (if c then Programs.grown owner g r ∷ gs else g ∷ Programs.with_section owner gs r)
+apart_step : (owner : ℕ) (name : List ℕ) (len : ℕ) (cells : List Programs.Cell) (r : Section) (g : Programs.Segment) (gs : List Programs.Segment) (b c : Bool) → bytes_eq name r.name ≡ false → bytes_eq g.name name ≡ b → bytes_eq g.name r.name ≡ c → Programs.with_section owner (Growing.with_more name len cells gs) r ≡ Growing.with_more name len cells (Programs.with_section owner gs r) → Programs.with_section owner (if b then Growing.with_cells len cells g ∷ gs else g ∷ Growing.with_more name len cells gs) r ≡ Growing.with_more name len cells (if c then Programs.segment_with_section owner g r ∷ gs else g ∷ Programs.with_section owner gs r)
 apart_step owner name len cells r g gs true true other e f rest = absurd (not_both g.name name r.name e f other)
 apart_step owner name len cells r g gs true false other e f rest = rw (f, e) refl
 apart_step owner name len cells r g gs false true other e f rest = rw (f, e) refl
@@ -89,7 +89,7 @@ ends name len cells r [] other = refl
 ends name len cells r (g ∷ gs) other = ends_step name len cells r g gs (bytes_eq g.name name) (bytes_eq g.name r) other refl refl (ends name len cells r gs other)
 
 place_apart : (name : List ℕ) (len : ℕ) (cells : List Programs.Cell) (r : Section) (gs : List Programs.Segment) → bytes_eq name r.name ≡ false → Programs.section_place (Growing.with_more name len cells gs) r ≡ Programs.section_place gs r
-place_apart name len cells r gs other = ap (λ (n : ℕ). record { segment = r.name; offset = Programs.begin_behind n r; size = section_len r }) (ends name len cells r.name gs other)
+place_apart name len cells r gs other = ap (λ (n : ℕ). record { segment = r.name; offset = Programs.begin_after n r; size = section_len r }) (ends name len cells r.name gs other)
 
 -- no section has this name
 abbrev pub IsOther : List ℕ → List Section → Type 0
@@ -180,9 +180,9 @@ names_apart (d ∷ ds) names =
     (others d.name ds other, names_apart ds (right (is_name d.name && not (is_among rest d.name)) (are_names rest) names))
 
 -- what has come of a module, by its sections
-abbrev made : Program → Scanning.State → List Programs.Segment → List SectionPlace → Growing.Growth
+abbrev made : Program → Scanning.State → List Programs.Segment → List SectionPlace → Growing.PartialProgram
 made p s gs places = record {
-  program = record { members = p.members; segments = gs; exports = p.exports ++ map (exported (length p.members)) s.exports; asserts = p.asserts ++ map (asserted (length p.members)) s.asserts };
+  program = record { members = p.members; segments = gs; exports = p.exports ++ map (linked_export (length p.members)) s.exports; asserts = p.asserts ++ map (linked_assertion (length p.members)) s.asserts };
   sections = places;
   imports = s.imports;
   files = s.files;
@@ -200,10 +200,10 @@ part_step p s k offset f d names there =
     let ss = map Scanning.section_from s.drafts in
     let gs = Programs.with_sections owner p.segments ss in
     let places = Programs.section_places owner p.segments ss in
-    let t = Scanning.section_from (Items.grown d f) in
+    let t = Scanning.section_from (Items.draft_with_fragment d f) in
     let found : slice_get ss k ≡ Some (Scanning.section_from d) = slice_get-map Scanning.section_from s.drafts k ∙ ap (option_map Scanning.section_from) there in
     let g = grows owner f (Scanning.section_from d) t p.segments ss k found (grown_longer owner d f) (names_apart s.drafts names) in
-    let now : map Scanning.section_from (Items.with_piece s.drafts k f) ≡ slice_set ss k t = ap (λ (o : Option Draft). map Scanning.section_from (Items.with_piece_in s.drafts k f o)) there ∙ map-set Scanning.section_from s.drafts k (Items.grown d f) in
+    let now : map Scanning.section_from (Items.with_piece s.drafts k f) ≡ slice_set ss k t = ap (λ (o : Option Draft). map Scanning.section_from (Items.with_piece_in s.drafts k f o)) there ∙ map-set Scanning.section_from s.drafts k (Items.draft_with_fragment d f) in
     by_sections p s (map Scanning.section_from (Items.with_piece s.drafts k f)) (slice_set ss k t) now
     ∙ ap (λ (hs : List Programs.Segment). made p s hs (Programs.section_places owner p.segments (slice_set ss k t))) g.segments
     ∙ ap (made p s (Growing.with_more d.name len cells gs)) g.places
@@ -227,7 +227,7 @@ item_step p s (item.Assert action origin text form) names placed = grind (arith,
 item_step p s item.End names placed = refl
 
 -- what has come of a whole module makes the program with the module behind
-pub whole_module : (p : Program) (name : List ℕ) (s : Scanning.State) → Growing.ended (Growing.growth_of p s) name ≡ with_module p (Growing.module_from name s)
+pub whole_module : (p : Program) (name : List ℕ) (s : Scanning.State) → Growing.closed_program (Growing.growth_of p s) name ≡ with_module p (Growing.module_from name s)
 whole_module p name s = refl
 
 -- nothing has come yet

@@ -3,16 +3,16 @@ use Rattle.std.proofs.Common.{◌≡◌, ◌∙◌, ℕ, zero, suc, ◌+◌, ◌
 use Rattle.std.specs.Prelude.{ℤ, ◌==◌}
 use Rattle.base65.proofs.Outcome.{first_once}
 use Rattle.script65.specs.declared.placement.Placement.{Placement}
-use Rattle.script65.specs.declared.script.Area.{Area}
+use Rattle.script65.specs.declared.script.MemoryArea.{MemoryArea}
 use Rattle.script65.specs.declared.script.Script.{Script}
 use Rattle.link65.specs.declared.fault.LinkFault.{LinkFault}
 use Rattle.link65.specs.declared.linking.Linked.{Linked}
 use Rattle.base65.specs.declared.output.OutputFile.{OutputFile}
 use Rattle.link65.specs.declared.parts.ValueFault.{ValueFault}
 use Rattle.link65.specs.declared.parts.ValueFault.TheVariants.{Unresolved}
-use Rattle.link65.specs.Files.{AddsArea, AddsAreas, IsAreaFile, IsImage, Piece, file_name, with_bytes}
-use Rattle.link65.specs.Values.{row_bytes, linkage_of, needs_of, resolved, AreExports, Exports, Linkage, exports_through, in_table, linkage}
-use Rattle.link65.specs.Links.{IsFinished, IsImaged, IsPlacedLink, IsProgramLink, LinkOf, checked, names_once, placed, as_placement, no_name_again, none_unresolved}
+use Rattle.link65.specs.Files.{AddsArea, AddsAreas, IsAreaFile, IsImage, RowPiece, file_name, with_bytes}
+use Rattle.link65.specs.Values.{row_bytes, linkage_of, needs_of, module_bindings, AreExports, Exports, Linkage, exports_through, in_table, linkage}
+use Rattle.link65.specs.Links.{IsFinished, IsImaged, IsPlacedLink, IsProgramLink, LinkOf, check_result, names_once, placement_result, as_placement, no_name_again, none_unresolved}
 use Rattle.link65.specs.Texts.{map_text, warnings_of_rows}
 use Rattle.link65.specs.Programs.{Module, Program, program_of}
 use Rattle.link65.proofs.Tries.{exports_grow, settles_once}
@@ -23,16 +23,16 @@ use Rattle.std.proofs.lemmas.Cmp.{nat_list_eq_equiv}
 use Rattle.std.specs.Int.{w64, cast_signed}
 use Rattle.std.specs.List.{flat_map, position_from}
 use Rattle.std.specs.Str.{bytes_eq}
-use Rattle.base65.specs.Outcome.{◌>>=◌, First}
+use Rattle.base65.specs.Outcome.{◌>>=◌, AndThen}
 use Rattle.script65.specs.Placing.{place_of}
 use Rattle.script65.specs.declared.script.Symbol.{Symbol}
 use Rattle.script65.specs.declared.script.SymbolKind.TheVariants as kind
-use Rattle.link65.specs.declared.parts.Definition.{Definition}
+use Rattle.link65.specs.declared.parts.ScriptSymbol.{ScriptSymbol}
 use Rattle.link65.specs.declared.parts.Exported.{Exported}
 use Rattle.link65.specs.declared.parts.Provider.{Provider}
-use Rattle.link65.specs.declared.parts.Member.{Member}
+use Rattle.link65.specs.declared.parts.LinkedModule.{LinkedModule}
 use Rattle.link65.specs.declared.parts.Resolved.{Resolved}
-use Rattle.link65.specs.Names.{by_definition, defined_at, each_once, first_again, given_names, provider_of, is_among, is_given, references, unresolved, script_definitions, symbol_imports, weak_symbols, SameImages, is_used, with_weak}
+use Rattle.link65.specs.Names.{by_definition, defined_at, each_once, first_again, given_names, provider_of, is_among, is_given, references, unresolved_names, script_definitions, symbol_imports, weak_symbols, SameImages, is_used, with_weak}
 use Rattle.link65.specs.Laws.{UnusedWeakLaw, UnusedWeakLinks}
 
 -- ---- A link has one outcome.
@@ -47,7 +47,7 @@ same_list (x ∷ xs) (y ∷ ys) d n h =
     let rest : xs ≡ ys = same_list xs ys d (omega arith) (λ i lt. h (suc i) (omega arith)) in
     cc
 
-image_once : (len fill : ℕ) (pieces : List Piece) (a b : List ℕ) → IsImage len fill pieces a → IsImage len fill pieces b → a ≡ b
+image_once : (len fill : ℕ) (pieces : List RowPiece) (a b : List ℕ) → IsImage len fill pieces a → IsImage len fill pieces b → a ≡ b
 image_once len fill pieces a b h k =
     same_list a b 0 (h.size ∙ sym k.size)
     (λ i lt. let inside : i < len = omega (arith, h.size) in h.bytes i inside ∙ sym (k.bytes i inside))
@@ -56,7 +56,7 @@ area_once : (unnamed : Bool) (name : List ℕ) (IsFile : List ℕ → Type 0) (b
 area_once true name IsFile before a b once h k = h ∙ sym k
 area_once false name IsFile before a b once (x, hx, e) (y, hy, f) = e ∙ ap (λ i. with_bytes name i before) (once x y hx hy) ∙ sym f
 
-areas_once : (output : List ℕ) (IsFile : ℕ → Area → List ℕ → Type 0) → ((k : ℕ) (a : Area) (x y : List ℕ) → IsFile k a x → IsFile k a y → x ≡ y) → (areas : List Area) (k : ℕ) (before a b : List OutputFile) → AddsAreas output IsFile k areas before a → AddsAreas output IsFile k areas before b → a ≡ b
+areas_once : (output : List ℕ) (IsFile : ℕ → MemoryArea → List ℕ → Type 0) → ((k : ℕ) (a : MemoryArea) (x y : List ℕ) → IsFile k a x → IsFile k a y → x ≡ y) → (areas : List MemoryArea) (k : ℕ) (before a b : List OutputFile) → AddsAreas output IsFile k areas before a → AddsAreas output IsFile k areas before b → a ≡ b
 areas_once output IsFile once [] k before a b h g = h ∙ sym g
 areas_once output IsFile once (x ∷ rest) k before a b (m, hm, h) (n, hn, g) =
     let same : m ≡ n = area_once (length (file_name output x.file) == 0) (file_name output x.file) (IsFile k x) before m n (once k x) hm hn in
@@ -77,7 +77,7 @@ tables_once l t u h k =
 
 finished_once : (output : List ℕ) (s : Script) (p : Program) (placement : Placement) (l : Linkage) (exports : Exports) (r q : Result Linked LinkFault) → IsFinished output s p placement l exports r → IsFinished output s p placement l exports q → r ≡ q
 finished_once output s p placement l exports r q h k =
-    first_once (checked s p l exports) (IsImaged output s p placement l exports) r q (λ w. imaged_once output s p placement l exports w r q) h k
+    first_once (check_result s p l exports) (IsImaged output s p placement l exports) r q (λ w. imaged_once output s p placement l exports w r q) h k
 
 placed_once : (output : List ℕ) (s : Script) (p : Program) (placement : Placement) (r q : Result Linked LinkFault) → IsPlacedLink output s p placement r → IsPlacedLink output s p placement q → r ≡ q
 placed_once output s p placement r q (t, ht, h) (u, hu, k) =
@@ -86,7 +86,7 @@ placed_once output s p placement r q (t, ht, h) (u, hu, k) =
     finished_once output s p placement (linkage_of s p placement) (in_table u) r q (subst P same h) k
 
 program_once : (output : List ℕ) (s : Script) (p : Program) (r q : Result Linked LinkFault) → IsProgramLink output s p r → IsProgramLink output s p q → r ≡ q
-program_once output s p r q h k = first_once (placed s p) (IsPlacedLink output s p) r q (λ x. placed_once output s p x r q) h k
+program_once output s p r q h k = first_once (placement_result s p) (IsPlacedLink output s p) r q (λ x. placed_once output s p x r q) h k
 
 pub link_once : (output : List ℕ) (s : Script) (modules : List Module) (r q : Result Linked LinkFault) → LinkOf output s modules r → LinkOf output s modules q → r ≡ q
 link_once output s modules r q h k = grind (arith, common_steps, first_once, program_once)
@@ -97,7 +97,7 @@ link_once output s modules r q h k = grind (arith, common_steps, first_once, pro
 abbrev symbol : List ℕ → ℕ → Symbol
 symbol name value = record { name = name; kind = kind.Weak value }
 
-abbrev definition : List ℕ → ℕ → Definition
+abbrev definition : List ℕ → ℕ → ScriptSymbol
 definition name value = record { name = name; value = cast_signed w64 value }
 
 imports_same : (symbols : List Symbol) (name : List ℕ) (value : ℕ) → symbol_imports (symbols ++ symbol name value ∷ []) ≡ symbol_imports symbols
@@ -168,25 +168,25 @@ found_inside : (p : List ℕ → Bool) (i : ℕ) (names : List (List ℕ)) (k : 
 found_inside p i [] k e = cc
 found_inside p i (n ∷ names) k e = grind (arith, common_steps, (found_inside p (i + 1) names k))
 
-get_before : (ds more : List Definition) (i : ℕ) → i < length ds → slice_get (ds ++ more) i ≡ slice_get ds i
+get_before : (ds more : List ScriptSymbol) (i : ℕ) → i < length ds → slice_get (ds ++ more) i ≡ slice_get ds i
 get_before [] more i lt = absurd (omega arith)
 get_before (d ∷ ds) more zero lt = refl
 get_before (d ∷ ds) more (suc i) lt = get_before ds more i (omega arith)
 
-by_same : (ds : List Definition) (d : Definition) (o : Option ℕ) (other : Provider) → ((k : ℕ) → o ≡ Some k → k < length ds) → by_definition (ds ++ d ∷ []) o other ≡ by_definition ds o other
+by_same : (ds : List ScriptSymbol) (d : ScriptSymbol) (o : Option ℕ) (other : Provider) → ((k : ℕ) → o ≡ Some k → k < length ds) → by_definition (ds ++ d ∷ []) o other ≡ by_definition ds o other
 by_same ds d x other inside = grind (arith, common_steps, get_before)
 
-length_names : (ds : List Definition) → length (map (λ d. d.name) ds) ≡ length ds
+length_names : (ds : List ScriptSymbol) → length (map (λ d. d.name) ds) ≡ length ds
 length_names [] = refl
 length_names (d ∷ ds) = ap suc (length_names ds)
 
-at_same : (ds : List Definition) (d : Definition) (n : List ℕ) → bytes_eq n d.name ≡ false → defined_at (ds ++ d ∷ []) n ≡ defined_at ds n
+at_same : (ds : List ScriptSymbol) (d : ScriptSymbol) (n : List ℕ) → bytes_eq n d.name ≡ false → defined_at (ds ++ d ∷ []) n ≡ defined_at ds n
 at_same ds d n e = grind (arith, common_steps, map-append, found_before, nat_list_eq_equiv)
 
-at_inside : (ds : List Definition) (n : List ℕ) (k : ℕ) → defined_at ds n ≡ Some k → k < length ds
+at_inside : (ds : List ScriptSymbol) (n : List ℕ) (k : ℕ) → defined_at ds n ≡ Some k → k < length ds
 at_inside ds n k e = grind (arith, common_steps, found_inside, length_names)
 
-provider_same : (own : List Definition) (exports : List Exported) (ds : List Definition) (d : Definition) → AgreeBut d.name (provider_of own exports (ds ++ d ∷ [])) (provider_of own exports ds)
+provider_same : (own : List ScriptSymbol) (exports : List Exported) (ds : List ScriptSymbol) (d : ScriptSymbol) → AgreeBut d.name (provider_of own exports (ds ++ d ∷ [])) (provider_of own exports ds)
 provider_same own exports ds d n e = grind (arith, common_steps, at_same, by_same, at_inside)
 
 -- ---- What the script gives, and who gives each import.
@@ -207,15 +207,15 @@ weak_among symbols name value n e = grind (arith, common_steps, weak_more, map-a
 is_given_same : (s : Script) (p : Program) (name : List ℕ) (value : ℕ) → AgreeBut name (is_given (with_weak s name value) p) (is_given s p)
 is_given_same s p name value n e = grind (arith, common_steps, given_same, weak_among)
 
-unresolved_same : (s : Script) (p : Program) (name : List ℕ) (value : ℕ) → is_used s p name ≡ false → unresolved (with_weak s name value) p ≡ unresolved s p
+unresolved_same : (s : Script) (p : Program) (name : List ℕ) (value : ℕ) → is_used s p name ≡ false → unresolved_names (with_weak s name value) p ≡ unresolved_names s p
 unresolved_same s p name value e =
     ap (λ names. filter (λ n. not (is_given (with_weak s name value) p n)) (each_once [] (names ++ flat_map (λ m. m.imports) p.members))) (imports_same s.symbols name value)
     ∙ filter_same (λ n. not (is_given (with_weak s name value) p n)) (λ n. not (is_given s p n)) name (λ n f. ap not (is_given_same s p name value n f)) (references s p) (once_without (symbol_imports s.symbols ++ flat_map (λ m. m.imports) p.members) [] name refl e)
 
-resolved_same : (s : Script) (p : Program) (pl : Placement) (name : List ℕ) (value : ℕ) (m : Member) → is_among m.imports name ≡ false → resolved (with_weak s name value) p pl m ≡ resolved s p pl m
+resolved_same : (s : Script) (p : Program) (pl : Placement) (name : List ℕ) (value : ℕ) (m : LinkedModule) → is_among m.imports name ≡ false → module_bindings (with_weak s name value) p pl m ≡ module_bindings s p pl m
 resolved_same s p pl name value m e = grind (arith, common_steps, map_same, definitions_same, weak_more, provider_same)
 
-members_same : (f g : Member → Resolved) (name : List ℕ) → ((m : Member) → is_among m.imports name ≡ false → f m ≡ g m) → (members : List Member) → is_among (flat_map (λ m. m.imports) members) name ≡ false → map f members ≡ map g members
+members_same : (f g : LinkedModule → Resolved) (name : List ℕ) → ((m : LinkedModule) → is_among m.imports name ≡ false → f m ≡ g m) → (members : List LinkedModule) → is_among (flat_map (λ m. m.imports) members) name ≡ false → map f members ≡ map g members
 members_same f g name same [] e = refl
 members_same f g name same (m ∷ members) e =
     let two : (is_among m.imports name ≡ false) × (is_among (flat_map (λ y. y.imports) members) name ≡ false) = either_part m.imports (flat_map (λ y. y.imports) members) name e in
@@ -224,12 +224,12 @@ members_same f g name same (m ∷ members) e =
 linkage_same : (s : Script) (p : Program) (pl : Placement) (name : List ℕ) (value : ℕ) → is_used s p name ≡ false → linkage_of (with_weak s name value) p pl ≡ linkage_of s p pl
 linkage_same s p pl name value e =
     let two : (is_among (symbol_imports s.symbols) name ≡ false) × (is_among (flat_map (λ m. m.imports) p.members) name ≡ false) = either_part (symbol_imports s.symbols) (flat_map (λ m. m.imports) p.members) name e in
-    ap (λ ms. linkage ms p.exports) (members_same (resolved (with_weak s name value) p pl) (resolved s p pl) name (resolved_same s p pl name value) p.members two.1)
+    ap (λ ms. linkage ms p.exports) (members_same (module_bindings (with_weak s name value) p pl) (module_bindings s p pl) name (resolved_same s p pl name value) p.members two.1)
 
 names_once_same : (s : Script) (p : Program) (name : List ℕ) (value : ℕ) → names_once (with_weak s name value) p ≡ names_once s p
 names_once_same s p name value = ap (λ names. no_name_again (first_again [] names)) (given_same s p name value)
 
-placed_same : (s : Script) (p : Program) (name : List ℕ) (value : ℕ) → is_used s p name ≡ false → placed (with_weak s name value) p ≡ placed s p
+placed_same : (s : Script) (p : Program) (name : List ℕ) (value : ℕ) → is_used s p name ≡ false → placement_result (with_weak s name value) p ≡ placement_result s p
 placed_same s p name value e = ap (λ names. none_unresolved names >>= (λ u. as_placement (place_of s (needs_of p)))) (unresolved_same s p name value e)
 
 -- ---- Where a script links, it links with the weak name to the same.
@@ -238,7 +238,7 @@ placed_same s p name value e = ap (λ names. none_unresolved names >>= (λ u. as
 abbrev LinksAlike : (Result Linked LinkFault → Type 0) → Result Linked LinkFault → Type 0
 LinksAlike Answers r = (q : Result Linked LinkFault) × Answers q × SameImages r q
 
-first_alike : {A : Type 0} (head : Result A LinkFault) (Next Other : A → Result Linked LinkFault → Type 0) (r : Result Linked LinkFault) → ((x : A) → Next x r → LinksAlike (Other x) r) → First head Next r → LinksAlike (First head Other) r
+first_alike : {A : Type 0} (head : Result A LinkFault) (Next Other : A → Result Linked LinkFault → Type 0) (r : Result Linked LinkFault) → ((x : A) → Next x r → LinksAlike (Other x) r) → AndThen head Next r → LinksAlike (AndThen head Other) r
 first_alike (Ok x) Next Other r step h = step x h
 first_alike (Err e) Next Other r step h = grind (arith, common_steps)
 
@@ -249,7 +249,7 @@ imaged_alike output s name value p pl l exports warnings r (files, h, e) =
     (Ok made, (files, h, refl), subst P (sym e) (refl, refl))
 
 placed_alike : (output : List ℕ) (s : Script) (name : List ℕ) (value : ℕ) (p : Program) (pl : Placement) (r : Result Linked LinkFault) → is_used s p name ≡ false → IsPlacedLink output s p pl r → LinksAlike (IsPlacedLink output (with_weak s name value) p pl) r
-placed_alike output s name value p pl r unused (table, are, h) = go (first_alike (checked s p (linkage_of s p pl) (in_table table)) (IsImaged output s p pl (linkage_of s p pl) (in_table table)) (IsImaged output (with_weak s name value) p pl (linkage_of s p pl) (in_table table)) r (λ w. imaged_alike output s name value p pl (linkage_of s p pl) (in_table table) w r) h)
+placed_alike output s name value p pl r unused (table, are, h) = go (first_alike (check_result s p (linkage_of s p pl) (in_table table)) (IsImaged output s p pl (linkage_of s p pl) (in_table table)) (IsImaged output (with_weak s name value) p pl (linkage_of s p pl) (in_table table)) r (λ w. imaged_alike output s name value p pl (linkage_of s p pl) (in_table table) w r) h)
   where
     same : linkage_of s p pl ≡ linkage_of (with_weak s name value) p pl
     same = sym (linkage_same s p pl name value unused)
@@ -262,13 +262,13 @@ placed_alike output s name value p pl r unused (table, are, h) = go (first_alike
 
 program_alike : (output : List ℕ) (s : Script) (name : List ℕ) (value : ℕ) (p : Program) (r : Result Linked LinkFault) → is_used s p name ≡ false → IsProgramLink output s p r → LinksAlike (IsProgramLink output (with_weak s name value) p) r
 program_alike output s name value p r unused h =
-    let P : Result Placement LinkFault → Type 0 = λ z. LinksAlike (First z (IsPlacedLink output (with_weak s name value) p)) r in
+    let P : Result Placement LinkFault → Type 0 = λ z. LinksAlike (AndThen z (IsPlacedLink output (with_weak s name value) p)) r in
     subst P (sym (placed_same s p name value unused))
-    (first_alike (placed s p) (IsPlacedLink output s p) (IsPlacedLink output (with_weak s name value) p) r (λ pl. placed_alike output s name value p pl r unused) h)
+    (first_alike (placement_result s p) (IsPlacedLink output s p) (IsPlacedLink output (with_weak s name value) p) r (λ pl. placed_alike output s name value p pl r unused) h)
 
-link_alike : (output : List ℕ) (s : Script) (name : List ℕ) (value : ℕ) (p : Program) (r : Result Linked LinkFault) → is_used s p name ≡ false → First (names_once s p) (λ u. IsProgramLink output s p) r → LinksAlike (First (names_once (with_weak s name value) p) (λ u. IsProgramLink output (with_weak s name value) p)) r
+link_alike : (output : List ℕ) (s : Script) (name : List ℕ) (value : ℕ) (p : Program) (r : Result Linked LinkFault) → is_used s p name ≡ false → AndThen (names_once s p) (λ u. IsProgramLink output s p) r → LinksAlike (AndThen (names_once (with_weak s name value) p) (λ u. IsProgramLink output (with_weak s name value) p)) r
 link_alike output s name value p r unused h =
-    let P : Result (Unit {0}) LinkFault → Type 0 = λ z. LinksAlike (First z (λ u. IsProgramLink output (with_weak s name value) p)) r in
+    let P : Result (Unit {0}) LinkFault → Type 0 = λ z. LinksAlike (AndThen z (λ u. IsProgramLink output (with_weak s name value) p)) r in
     subst P (sym (names_once_same s p name value))
     (first_alike (names_once s p) (λ u. IsProgramLink output s p) (λ u. IsProgramLink output (with_weak s name value) p) r (λ u. program_alike output s name value p r unused) h)
 

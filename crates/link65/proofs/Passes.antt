@@ -3,15 +3,15 @@ use Rattle.std.proofs.lemmas.Grind.{common_steps}
 use Rattle.std.proofs.Common.{arith, ◌≡◌, ◌<◌, ℕ, zero, suc, ◌+◌, map, Bool, true, false, List, [], ◌∷◌, ◌++◌, length, drop, get_or, refl, sym, ap, ◌∙◌, Result, Ok, Err, Option, Some, append_assoc, if◌then◌else◌}
 use Rattle.std.specs.List.{flat_map}
 use Rattle.script65.proofs.Eaches.{drop_item}
-use Rattle.base65.specs.Outcome.{◌>>=◌, Refuses}
+use Rattle.base65.specs.Outcome.{◌>>=◌, RefinesErr}
 use Rattle.link65.specs.declared.fault.LinkFault.{LinkFault}
 use Rattle.std.specs.Prelude.{replicate}
-use Rattle.link65.specs.declared.parts.Piece.{Piece}
-use Rattle.link65.specs.declared.parts.Piece.TheVariants.{Known, Filled}
-use Rattle.link65.specs.declared.parts.Fixup.{Fixup}
+use Rattle.link65.specs.declared.parts.SegmentPiece.{SegmentPiece}
+use Rattle.link65.specs.declared.parts.SegmentPiece.TheVariants.{Known, Filled}
+use Rattle.link65.specs.declared.parts.ValueFixup.{ValueFixup}
 use Rattle.link65.specs.Links.{each_passes, fixups_in, fixups_of}
-use Rattle.link65.specs.declared.parts.Content.{Content}
-use Rattle.link65.specs.Grounds.{cells_of, piece_cells, piece_fixups, segment_from}
+use Rattle.link65.specs.declared.parts.SegmentContent.{SegmentContent}
+use Rattle.link65.specs.CodeInvariants.{cells_of, piece_cells, piece_fixups, segment_from}
 use Rattle.link65.specs.Programs.{Cell, known, filled, Segment}
 use Rattle.link65.specs.Faults.{is_memory}
 use Rattle.link65.specs.Values.{cell_bytes, Exports, Linkage}
@@ -19,7 +19,7 @@ use Rattle.link65.specs.Values.{cell_bytes, Exports, Linkage}
 -- ---- Checks in turn, and refusals that pass through.
 
 -- a refusal that is the first one of another reading too
-pub refuses_by : {A B : Type 0} (e : LinkFault) (r : Result A LinkFault) (q : Result B LinkFault) → (r ≡ Err e → q ≡ Err e) → Refuses is_memory e r → Refuses is_memory e q
+pub refuses_by : {A B : Type 0} (e : LinkFault) (r : Result A LinkFault) (q : Result B LinkFault) → (r ≡ Err e → q ≡ Err e) → RefinesErr is_memory e r → RefinesErr is_memory e q
 refuses_by e r q h k = grind (arith, common_steps)
 
 abbrev pub Check : Type 0 → Type 0
@@ -28,7 +28,7 @@ Check A = A → Result (Unit {0}) LinkFault
 pub passes_next : {A : Type 0} (check : Check A) (xs : List A) (i : ℕ) (x : A) (u : Unit {0}) (whole : Result (Unit {0}) LinkFault) → i < length xs → x ≡ get_or xs i x → check x ≡ Ok u → each_passes check (drop i xs) ≡ whole → each_passes check (drop (i + 1) xs) ≡ whole
 passes_next check xs i x u whole lt at e inv = grind (arith, common_steps)
 
-pub passes_stops : {A : Type 0} (check : Check A) (xs : List A) (i : ℕ) (x : A) (whole : Result (Unit {0}) LinkFault) (f : LinkFault) → i < length xs → x ≡ get_or xs i x → each_passes check (drop i xs) ≡ whole → Refuses is_memory f (check x) → Refuses is_memory f whole
+pub passes_stops : {A : Type 0} (check : Check A) (xs : List A) (i : ℕ) (x : A) (whole : Result (Unit {0}) LinkFault) (f : LinkFault) → i < length xs → x ≡ get_or xs i x → each_passes check (drop i xs) ≡ whole → RefinesErr is_memory f (check x) → RefinesErr is_memory f whole
 passes_stops check xs i x whole f lt at inv k = grind (arith, common_steps)
 
 pub passes_append : {A : Type 0} (check : Check A) (xs ys : List A) → each_passes check (xs ++ ys) ≡ (each_passes check xs >>= (λ u. each_passes check ys))
@@ -45,7 +45,7 @@ module _ {A B : Type 0} (check : Check B) (f : A → List B) where
   flat_next xs i x u whole lt at e inv =
       sym (ap (λ r. r >>= (λ z. each_passes check (flat_map f (drop (i + 1) xs)))) e) ∙ sym (flat_front xs i x lt at) ∙ inv
 
-  pub flat_stops : (xs : List A) (i : ℕ) (x : A) (whole : Result (Unit {0}) LinkFault) (e : LinkFault) → i < length xs → x ≡ get_or xs i x → each_passes check (flat_map f (drop i xs)) ≡ whole → Refuses is_memory e (each_passes check (f x)) → Refuses is_memory e whole
+  pub flat_stops : (xs : List A) (i : ℕ) (x : A) (whole : Result (Unit {0}) LinkFault) (e : LinkFault) → i < length xs → x ≡ get_or xs i x → each_passes check (flat_map f (drop i xs)) ≡ whole → RefinesErr is_memory e (each_passes check (f x)) → RefinesErr is_memory e whole
   flat_stops xs i x whole e lt at inv k =
       refuses_by e (each_passes check (f x)) whole
       (λ q. sym inv ∙ flat_front xs i x lt at ∙ ap (λ r. r >>= (λ z. each_passes check (flat_map f (drop (i + 1) xs)))) q) k
@@ -64,18 +64,18 @@ fixups-append : (xs ys : List Cell) → flat_map fixups_in (xs ++ ys) ≡ flat_m
 fixups-append [] ys = refl
 fixups-append (x ∷ xs) ys = ap (λ l. fixups_in x ++ l) (fixups-append xs ys) ∙ sym (append_assoc (fixups_in x) (flat_map fixups_in xs) (flat_map fixups_in ys))
 
-pub cells_wait : (pieces : List Piece) → flat_map fixups_in (cells_of pieces) ≡ flat_map piece_fixups pieces
+pub cells_wait : (pieces : List SegmentPiece) → flat_map fixups_in (cells_of pieces) ≡ flat_map piece_fixups pieces
 cells_wait [] = refl
 cells_wait (p ∷ ps) = fixups-append (piece_cells p) (cells_of ps) ∙ ap (λ l. piece_fixups p ++ l) (cells_wait ps)
 
-pub known_passes : (check : Check Fixup) (p : Piece) (bytes : List ℕ) → p ≡ Known bytes → each_passes check (piece_fixups p) ≡ Ok tt
+pub known_passes : (check : Check ValueFixup) (p : SegmentPiece) (bytes : List ℕ) → p ≡ Known bytes → each_passes check (piece_fixups p) ≡ Ok tt
 known_passes check p bytes is = rw is (ap (each_passes check) (known_waits bytes))
 
-pub filled_passes : (check : Check Fixup) (p : Piece) (n : ℕ) → p ≡ Filled n → each_passes check (piece_fixups p) ≡ Ok tt
+pub filled_passes : (check : Check ValueFixup) (p : SegmentPiece) (n : ℕ) → p ≡ Filled n → each_passes check (piece_fixups p) ≡ Ok tt
 filled_passes check p n is = rw is (ap (each_passes check) (filled_waits n))
 
 -- those of a segment are those of its pieces
-pub content_waits : (check : Check Fixup) (o : Option Segment) (c : Content) (pieces : List Piece) → Some (segment_from c) ≡ o → pieces ≡ c.pieces → each_passes check (fixups_of o) ≡ each_passes check (flat_map piece_fixups pieces)
+pub content_waits : (check : Check ValueFixup) (o : Option Segment) (c : SegmentContent) (pieces : List SegmentPiece) → Some (segment_from c) ≡ o → pieces ≡ c.pieces → each_passes check (fixups_of o) ≡ each_passes check (flat_map piece_fixups pieces)
 content_waits check o c pieces there same = ap (λ r. each_passes check (fixups_of r)) (sym there) ∙ ap (each_passes check) (cells_wait c.pieces ∙ ap (flat_map piece_fixups) (sym same))
 
 -- ---- The bytes of pieces and of rows.
@@ -92,13 +92,13 @@ module _ (l : Linkage) (exports : Exports) (fill : ℕ) where
   filled_bytes zero = refl
   filled_bytes (suc n) = ap (λ t. fill ∷ t) (filled_bytes n)
 
-  pub known_piece : (p : Piece) (bytes : List ℕ) → p ≡ Known bytes → bytes ≡ flat_map cell (piece_cells p)
+  pub known_piece : (p : SegmentPiece) (bytes : List ℕ) → p ≡ Known bytes → bytes ≡ flat_map cell (piece_cells p)
   known_piece p bytes is = rw is (sym (known_bytes bytes))
 
-  pub filled_piece : (p : Piece) (n : ℕ) → p ≡ Filled n → replicate n fill ≡ flat_map cell (piece_cells p)
+  pub filled_piece : (p : SegmentPiece) (n : ℕ) → p ≡ Filled n → replicate n fill ≡ flat_map cell (piece_cells p)
   filled_piece p n is = rw is (sym (filled_bytes n))
 
-  pub next_piece : (ps : List Piece) (i : ℕ) (p : Piece) (old new whole : List ℕ) → i < length ps → p ≡ get_or ps i p → new ≡ old ++ flat_map cell (piece_cells p) → old ++ flat_map cell (cells_of (drop i ps)) ≡ whole → new ++ flat_map cell (cells_of (drop (i + 1) ps)) ≡ whole
+  pub next_piece : (ps : List SegmentPiece) (i : ℕ) (p : SegmentPiece) (old new whole : List ℕ) → i < length ps → p ≡ get_or ps i p → new ≡ old ++ flat_map cell (piece_cells p) → old ++ flat_map cell (cells_of (drop i ps)) ≡ whole → new ++ flat_map cell (cells_of (drop (i + 1) ps)) ≡ whole
   next_piece ps i p old new whole lt at e inv = grind (arith, common_steps)
 
 pub next_mapped : {A B : Type 0} (f : A → B) (xs : List A) (i : ℕ) (x : A) (y : B) (old new whole : List B) → i < length xs → x ≡ get_or xs i x → new ≡ old ++ y ∷ [] → y ≡ f x → old ++ map f (drop i xs) ≡ whole → new ++ map f (drop (i + 1) xs) ≡ whole

@@ -8,9 +8,9 @@ use Rattle.std.proofs.lemmas.List.{length-map, map-set}
 use Rattle.std.specs.Option.{option_map}
 use Rattle.std.specs.Str.{bytes_eq}
 use Rattle.object65.specs.declared.object.Section.{Section}
-use Rattle.link65.specs.declared.parts.Content.{Content}
-use Rattle.link65.specs.Grounds.{segments_from, segment_from, place_in, with_name, growth_in, having, names_in, with_gap}
-use Rattle.link65.specs.Growing.{with_cells, with_more, longer, Growth, bare_section, with_bare, with_part, with_segments}
+use Rattle.link65.specs.declared.parts.SegmentContent.{SegmentContent}
+use Rattle.link65.specs.CodeInvariants.{segments_from, segment_from, place_in, with_name, growth_in, having, names_in, with_gap}
+use Rattle.link65.specs.Growing.{with_cells, with_more, longer, PartialProgram, bare_section, with_bare, with_part, with_segments}
 use Rattle.link65.specs.Programs
 use Rattle.link65.specs.Programs.{Segment, segment_of}
 use Rattle.std.proofs.lemmas.Option.{slice_get-map, slice_get_read}
@@ -19,19 +19,19 @@ use Rattle.object65.specs.declared.object.Fragment.{Fragment}
 use Rattle.object65.specs.Objects.{fragment_len}
 use Rattle.script65.specs.Placing.{rounded_up}
 use Rattle.link65.specs.declared.fault.LinkFault.{LinkFault}
-use Rattle.link65.specs.declared.growing.Growing.{Growing}
+use Rattle.link65.specs.declared.growing.ProgramBuilder.{ProgramBuilder}
 
 -- ---- Segments by their places.
 
 pub at_front : {X : Type 0} (p : X → Bool) (x : X) (xs : List X) → p x ≡ true → position p (x ∷ xs) ≡ Some 0
 at_front p x xs passes = grind (arith, common_steps)
 
-pub behind_front : {X : Type 0} (p : X → Bool) (x : X) (xs : List X) → p x ≡ false → position p (x ∷ xs) ≡ option_map suc (position p xs)
-behind_front p x xs stops = grind (arith, common_steps)
+pub after_front : {X : Type 0} (p : X → Bool) (x : X) (xs : List X) → p x ≡ false → position p (x ∷ xs) ≡ option_map suc (position p xs)
+after_front p x xs stops = grind (arith, common_steps)
 
 mapped_step : {A X : Type 0} (p : X → Bool) (f : A → X) (x : A) (xs : List A) (b : Bool) → p (f x) ≡ b → position p (map f xs) ≡ position (λ y. p (f y)) xs → position p (f x ∷ map f xs) ≡ position (λ y. p (f y)) (x ∷ xs)
 mapped_step p f x xs true is rest = at_front p (f x) (map f xs) is ∙ sym (at_front (λ y. p (f y)) x xs is)
-mapped_step p f x xs false is rest = behind_front p (f x) (map f xs) is ∙ ap (option_map suc) rest ∙ sym (behind_front (λ y. p (f y)) x xs is)
+mapped_step p f x xs false is rest = after_front p (f x) (map f xs) is ∙ ap (option_map suc) rest ∙ sym (after_front (λ y. p (f y)) x xs is)
 
 -- the place among what is mapped
 pub position_map : {A X : Type 0} (p : X → Bool) (f : A → X) (xs : List A) → position p (map f xs) ≡ position (λ y. p (f y)) xs
@@ -43,7 +43,7 @@ none_next x e = grind (arith, common_steps)
 
 none_step : {X : Type 0} (p : X → Bool) (x : X) (xs : List X) (b : Bool) → p x ≡ b → position p (x ∷ xs) ≡ None → (b ≡ false) × (position p xs ≡ None)
 none_step p x xs true is none = let e : ◌≡◌ {A = Option ℕ} (Some 0) None = sym (at_front p x xs is) ∙ none in cc
-none_step p x xs false is none = (refl, none_next (position p xs) (sym (behind_front p x xs is) ∙ none))
+none_step p x xs false is none = (refl, none_next (position p xs) (sym (after_front p x xs is) ∙ none))
 
 -- nothing passes where there is no place
 pub none_among : {X : Type 0} (p : X → Bool) (xs : List X) → position p xs ≡ None → list_any p xs ≡ false
@@ -57,7 +57,7 @@ pub place_last : {X : Type 0} (p : X → Bool) (xs : List X) (y : X) → positio
 place_last p [] y none passes = at_front p y [] passes
 place_last p (x ∷ xs) y none passes =
     let s = none_step p x xs (p x) refl none in
-    behind_front p x (xs ++ y ∷ []) s.0 ∙ ap (option_map suc) (place_last p xs y s.1 passes)
+    after_front p x (xs ++ y ∷ []) s.0 ∙ ap (option_map suc) (place_last p xs y s.1 passes)
 
 pub same_length : {A B X : Type 0} (f : A → X) (g : B → X) (xs : List A) (ys : List B) → map f xs ≡ map g ys → length xs ≡ length ys
 same_length f g xs ys e = sym (length-map xs f) ∙ ap length e ∙ length-map ys g
@@ -82,7 +82,7 @@ with_name_new name (g ∷ gs) none =
     let back : bytes_eq g.name name ≡ false = (nat_list_eq_equiv).symm g.name name ∙ s.0 in
     rw back (ap (λ hs. g ∷ hs) (with_name_new name gs s.1))
 
-pub segment_names : (cs : List Content) → names_of (segments_from cs) ≡ map (λ c. c.name) cs
+pub segment_names : (cs : List SegmentContent) → names_of (segments_from cs) ≡ map (λ c. c.name) cs
 segment_names [] = refl
 segment_names (c ∷ cs) = ap (λ ns. c.name ∷ ns) (segment_names cs)
 
@@ -92,7 +92,7 @@ pub record AtPlace (name : List ℕ) (gs : List Programs.Segment) (i : ℕ) : Ty
   pub segment : Programs.Segment
   pub there : slice_get gs i ≡ Some segment
   pub end : Programs.end_of gs name ≡ segment.size
-  pub section : (owner : ℕ) (s : Section) → s.name ≡ name → Programs.with_section owner gs s ≡ slice_set gs i (Programs.grown owner segment s)
+  pub section : (owner : ℕ) (s : Section) → s.name ≡ name → Programs.with_section owner gs s ≡ slice_set gs i (Programs.segment_with_section owner segment s)
   pub more : (len : ℕ) (cells : List Programs.Cell) → with_more name len cells gs ≡ slice_set gs i (with_cells len cells segment)
 
 here : (name : List ℕ) (g : Programs.Segment) (gs : List Programs.Segment) → bytes_eq g.name name ≡ true → AtPlace name (g ∷ gs) 0
@@ -100,7 +100,7 @@ here name g gs is = record {
   segment = g;
   there = refl;
   end = rw is refl;
-  section = λ owner s same. ap (λ (n : List ℕ). if bytes_eq g.name n then Programs.grown owner g s ∷ gs else g ∷ Programs.with_section owner gs s) same ∙ ap (λ b. if b then Programs.grown owner g s ∷ gs else g ∷ Programs.with_section owner gs s) is;
+  section = λ owner s same. ap (λ (n : List ℕ). if bytes_eq g.name n then Programs.segment_with_section owner g s ∷ gs else g ∷ Programs.with_section owner gs s) same ∙ ap (λ b. if b then Programs.segment_with_section owner g s ∷ gs else g ∷ Programs.with_section owner gs s) is;
   more = λ len cells. rw is refl;
 }
 
@@ -110,7 +110,7 @@ further name g gs i is a = grind (arith, common_steps)
 place_step : (name : List ℕ) (i : ℕ) (g : Programs.Segment) (gs : List Programs.Segment) (b : Bool) → bytes_eq name g.name ≡ b → ((j : ℕ) → place_in name (names_of gs) ≡ Some j → AtPlace name gs j) → place_in name (g.name ∷ names_of gs) ≡ Some i → AtPlace name (g ∷ gs) i
 place_step name i g gs true is rest there = grind (arith, common_steps, at_front, here, nat_list_eq_equiv)
 place_step name i g gs false is rest there =
-    let p = some_next (place_in name (names_of gs)) i (sym (behind_front (bytes_eq name) g.name (names_of gs) is) ∙ there) in
+    let p = some_next (place_in name (names_of gs)) i (sym (after_front (bytes_eq name) g.name (names_of gs) is) ∙ there) in
     subst (AtPlace name (g ∷ gs)) p.2 (further name g gs p.0 ((nat_list_eq_equiv).symm g.name name ∙ is) (rest p.0 p.1))
   where
     some_next : (r : Option ℕ) (i : ℕ) → option_map suc r ≡ Some i → (j : ℕ) × (r ≡ Some j) × (suc j ≡ i)
@@ -125,7 +125,7 @@ at_place name (g ∷ gs) i there = place_step name i g gs (bytes_eq name g.name)
 same_name : (n : List ℕ) → bytes_eq n n ≡ true
 same_name n = (nat_list_eq_equiv).refl n
 
-begun_step : (owner : ℕ) (s : Section) (g : Programs.Segment) (gs : List Programs.Segment) (b : Bool) → bytes_eq g.name s.name ≡ b → Programs.with_section owner (with_name s.name gs) s ≡ Programs.with_section owner gs s → Programs.with_section owner (if b then g ∷ gs else g ∷ with_name s.name gs) s ≡ (if b then Programs.grown owner g s ∷ gs else g ∷ Programs.with_section owner gs s)
+begun_step : (owner : ℕ) (s : Section) (g : Programs.Segment) (gs : List Programs.Segment) (b : Bool) → bytes_eq g.name s.name ≡ b → Programs.with_section owner (with_name s.name gs) s ≡ Programs.with_section owner gs s → Programs.with_section owner (if b then g ∷ gs else g ∷ with_name s.name gs) s ≡ (if b then Programs.segment_with_section owner g s ∷ gs else g ∷ Programs.with_section owner gs s)
 begun_step owner s g gs true is rest = rw is refl
 begun_step owner s g gs false is rest = rw is (ap (λ hs. g ∷ hs) rest)
 
@@ -144,22 +144,22 @@ begun_end name (g ∷ gs) = end_step name g gs (bytes_eq g.name name) refl (begu
 -- ---- Segments by name.
 
 -- what stands at a place, if any
-abbrev pub at_most : List Content → Option ℕ → Option Segment
+abbrev pub at_most : List SegmentContent → Option ℕ → Option Segment
 at_most cs None = None
 at_most cs (Some i) = option_map segment_from (slice_get cs i)
 
-abbrev content_names : List Content → List (List ℕ)
+abbrev content_names : List SegmentContent → List (List ℕ)
 content_names cs = map (λ c. c.name) cs
 
-place_further : (c : Content) (cs : List Content) (o : Option ℕ) → at_most (c ∷ cs) (option_map suc o) ≡ at_most cs o
+place_further : (c : SegmentContent) (cs : List SegmentContent) (o : Option ℕ) → at_most (c ∷ cs) (option_map suc o) ≡ at_most cs o
 place_further c cs x = grind (arith, common_steps)
 
-found_step : (name : List ℕ) (c : Content) (cs : List Content) (b : Bool) → bytes_eq c.name name ≡ b → segment_of (segments_from cs) name ≡ at_most cs (place_in name (content_names cs)) → cond b (Some (segment_from c)) (segment_of (segments_from cs) name) ≡ at_most (c ∷ cs) (place_in name (c.name ∷ content_names cs))
+found_step : (name : List ℕ) (c : SegmentContent) (cs : List SegmentContent) (b : Bool) → bytes_eq c.name name ≡ b → segment_of (segments_from cs) name ≡ at_most cs (place_in name (content_names cs)) → cond b (Some (segment_from c)) (segment_of (segments_from cs) name) ≡ at_most (c ∷ cs) (place_in name (c.name ∷ content_names cs))
 found_step name c cs true is rest = grind (arith, common_steps, at_front, nat_list_eq_equiv)
-found_step name c cs false is rest = grind (arith, common_steps, place_further, behind_front, nat_list_eq_equiv)
+found_step name c cs false is rest = grind (arith, common_steps, place_further, after_front, nat_list_eq_equiv)
 
 -- the segment of a name is that of the content at the name's place
-pub found_at : (name : List ℕ) (cs : List Content) → segment_of (segments_from cs) name ≡ at_most cs (place_in name (content_names cs))
+pub found_at : (name : List ℕ) (cs : List SegmentContent) → segment_of (segments_from cs) name ≡ at_most cs (place_in name (content_names cs))
 found_at name [] = refl
 found_at name (c ∷ cs) = ap (λ b. cond b (Some (segment_from c)) (segment_of (segments_from cs) name)) refl ∙ found_step name c cs (bytes_eq c.name name) refl (found_at name cs)
 
@@ -174,7 +174,7 @@ some_next (Some j) i e = let same : suc j ≡ i = cc in (j, refl, same)
 
 stay_step : {X : Type 0} (p : X → Bool) (x : X) (xs more : List X) (i : ℕ) (b : Bool) → p x ≡ b → position p (x ∷ xs) ≡ Some i → ((j : ℕ) → position p xs ≡ Some j → position p (xs ++ more) ≡ Some j) → position p (x ∷ (xs ++ more)) ≡ Some i
 stay_step p x xs more i true is e rest = at_front p x (xs ++ more) is ∙ sym (at_front p x xs is) ∙ e
-stay_step p x xs more i false is e rest = grind (arith, common_steps, some_next, behind_front)
+stay_step p x xs more i false is e rest = grind (arith, common_steps, some_next, after_front)
 
 -- what has a place keeps it where more comes behind
 place_stays : {X : Type 0} (p : X → Bool) (xs more : List X) (i : ℕ) → position p xs ≡ Some i → position p (xs ++ more) ≡ Some i
@@ -227,46 +227,46 @@ longer_stays names (x ∷ ss) (suc k) s n e = ap (λ l. place_in x.segment names
 -- ---- A section begins in its segment.
 
 -- a segment with a bare section
-opened_is : (owner m : ℕ) (g h : Programs.Segment) (name : List ℕ) (align : ℕ) → m ≡ 2 ^ align → h ≡ record (with_gap (rounded_up g.size m - g.size) g) { size = rounded_up g.size m; align = max g.align m } → h ≡ Programs.grown owner g (bare_section name align)
+opened_is : (owner m : ℕ) (g h : Programs.Segment) (name : List ℕ) (align : ℕ) → m ≡ 2 ^ align → h ≡ record (with_gap (rounded_up g.size m - g.size) g) { size = rounded_up g.size m; align = max g.align m } → h ≡ Programs.segment_with_section owner g (bare_section name align)
 opened_is owner m g h name align is opened = grind (arith, common_steps)
 
-abbrev pub put : Growth → List Programs.Segment → List SectionPlace → Growth
+abbrev pub put : PartialProgram → List Programs.Segment → List SectionPlace → PartialProgram
 put g gs places = record { program = with_segments g.program gs; sections = places; imports = g.imports; files = g.files }
 
-pub bare_begun : (g : Growth) (mid : Growing) (at m begin : ℕ) (c h : Content) (name : List ℕ) (align : ℕ) → growth_in mid ≡ having g (with_name name g.program.segments) → names_in mid ≡ map (λ x. x.name) mid.contents.items → place_in name (names_in mid) ≡ Some at → at < length mid.contents.items → c ≡ get_or mid.contents.items at c → m ≡ 2 ^ align → segment_from h ≡ record (with_gap (rounded_up c.size m - c.size) (segment_from c)) { size = rounded_up c.size m; align = max c.align m } → ◌≡◌ {A = Result ℕ LinkFault} (Ok (rounded_up c.size m)) (Ok begin) → put (growth_in mid) (segments_from (slice_set mid.contents.items at h)) (mid.sections.items ++ (record { segment = name; offset = begin; size = 0 }) ∷ []) ≡ with_bare g (bare_section name align)
-bare_begun g mid at m begin c h name align grew named there within is multiple opened answered =
+pub bare_begun : (g : PartialProgram) (mid : ProgramBuilder) (at m begin : ℕ) (c h : SegmentContent) (name : List ℕ) (align : ℕ) → growth_in mid ≡ having g (with_name name g.program.segments) → names_in mid ≡ map (λ x. x.name) mid.contents.items → place_in name (names_in mid) ≡ Some at → at < length mid.contents.items → c ≡ get_or mid.contents.items at c → m ≡ 2 ^ align → segment_from h ≡ record (with_gap (rounded_up c.size m - c.size) (segment_from c)) { size = rounded_up c.size m; align = max c.align m } → ◌≡◌ {A = Result ℕ LinkFault} (Ok (rounded_up c.size m)) (Ok begin) → put (growth_in mid) (segments_from (slice_set mid.contents.items at h)) (mid.sections.items ++ (record { segment = name; offset = begin; size = 0 }) ∷ []) ≡ with_bare g (bare_section name align)
+bare_begun g mid at m begin c h name align grew named there within is alignment opened answered =
     let begins : begin ≡ rounded_up c.size m = cc in
     let cs = mid.contents.items in
     let gs = g.program.segments in
     let owner = length g.program.members in
     let bare = bare_section name align in
-    let all : segments_from cs ≡ with_name name gs = ap (λ (x : Growth). x.program.segments) grew in
+    let all : segments_from cs ≡ with_name name gs = ap (λ (x : PartialProgram). x.program.segments) grew in
     let place : place_in name (map (λ (x : Programs.Segment). x.name) (segments_from cs)) ≡ Some at = ap (place_in name) (segment_names cs ∙ sym named) ∙ there in
     let a = at_place name (segments_from cs) at place in
     let found : slice_get (segments_from cs) at ≡ Some (segment_from c) = slice_get-map segment_from cs at ∙ ap (option_map segment_from) (slice_get_read cs (length cs) at c refl within is) in
     let same : a.segment ≡ segment_from c = some_same a.segment (segment_from c) (sym a.there ∙ found) in
     let now : segments_from (slice_set cs at h) ≡ Programs.with_section owner gs bare =
     map-set segment_from cs at h
-    ∙ ap (slice_set (segments_from cs) at) (opened_is owner m (segment_from c) (segment_from h) name align multiple opened)
-    ∙ ap (λ (x : Programs.Segment). slice_set (segments_from cs) at (Programs.grown owner x bare)) (sym same)
+    ∙ ap (slice_set (segments_from cs) at) (opened_is owner m (segment_from c) (segment_from h) name align alignment opened)
+    ∙ ap (λ (x : Programs.Segment). slice_set (segments_from cs) at (Programs.segment_with_section owner x bare)) (sym same)
     ∙ sym (a.section owner bare refl)
     ∙ ap (λ (hs : List Programs.Segment). Programs.with_section owner hs bare) all
     ∙ begun_section owner bare gs in
     let end : Programs.end_of gs name ≡ c.size = sym (begun_end name gs) ∙ ap (λ (hs : List Programs.Segment). Programs.end_of hs name) (sym all) ∙ a.end ∙ ap (λ (x : Programs.Segment). x.size) same in
-    let offset : begin ≡ Programs.begin_behind (Programs.end_of gs name) bare = begins ∙ ap (rounded_up c.size) multiple ∙ ap (λ n. rounded_up n (2 ^ align)) (sym end) in
+    let offset : begin ≡ Programs.begin_after (Programs.end_of gs name) bare = begins ∙ ap (rounded_up c.size) alignment ∙ ap (λ n. rounded_up n (2 ^ align)) (sym end) in
     let placed : List SectionPlace → ℕ → List SectionPlace = λ old b. old ++ (record { segment = name; offset = b; size = 0 }) ∷ [] in
-    let places : mid.sections.items ≡ g.sections = ap (λ (x : Growth). x.sections) grew in
-    ap (λ (x : Growth). put x (segments_from (slice_set cs at h)) (placed mid.sections.items begin)) grew
+    let places : mid.sections.items ≡ g.sections = ap (λ (x : PartialProgram). x.sections) grew in
+    ap (λ (x : PartialProgram). put x (segments_from (slice_set cs at h)) (placed mid.sections.items begin)) grew
     ∙ ap (λ (hs : List Programs.Segment). put g hs (placed mid.sections.items begin)) now
     ∙ ap (λ (old : List SectionPlace). put g (Programs.with_section owner gs bare) (placed old begin)) places
     ∙ ap (λ b. put g (Programs.with_section owner gs bare) (placed g.sections b)) offset
 
 -- ---- A fragment goes to its section's segment.
 
-of_content : (r : Option Content) (s : Programs.Segment) → option_map segment_from r ≡ Some s → (x : Content) × (r ≡ Some x) × (segment_from x ≡ s)
+of_content : (r : Option SegmentContent) (s : Programs.Segment) → option_map segment_from r ≡ Some s → (x : SegmentContent) × (r ≡ Some x) × (segment_from x ≡ s)
 of_content x s e = grind (arith, common_steps)
 
-pub part_added : (g : Growing) (k at : ℕ) (f : Fragment) (p : SectionPlace) (contents : List Content) (sections : List SectionPlace) → names_in g ≡ map (λ x. x.name) g.contents.items → slice_get g.sections.items k ≡ Some p → place_in p.segment (names_in g) ≡ Some at → ((x : Content) → slice_get g.contents.items at ≡ Some x → segments_from contents ≡ slice_set (segments_from g.contents.items) at (with_cells (fragment_len f) (Programs.fragment_cells (length g.members) f) (segment_from x))) → sections ≡ slice_set g.sections.items k (longer p (fragment_len f)) → put (growth_in g) (segments_from contents) sections ≡ with_part (growth_in g) k f (slice_get g.sections.items k)
+pub part_added : (g : ProgramBuilder) (k at : ℕ) (f : Fragment) (p : SectionPlace) (contents : List SegmentContent) (sections : List SectionPlace) → names_in g ≡ map (λ x. x.name) g.contents.items → slice_get g.sections.items k ≡ Some p → place_in p.segment (names_in g) ≡ Some at → ((x : SegmentContent) → slice_get g.contents.items at ≡ Some x → segments_from contents ≡ slice_set (segments_from g.contents.items) at (with_cells (fragment_len f) (Programs.fragment_cells (length g.members) f) (segment_from x))) → sections ≡ slice_set g.sections.items k (longer p (fragment_len f)) → put (growth_in g) (segments_from contents) sections ≡ with_part (growth_in g) k f (slice_get g.sections.items k)
 part_added g k at f p contents sections named there place added lengthened =
     let cs = g.contents.items in
     let len = fragment_len f in

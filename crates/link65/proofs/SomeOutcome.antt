@@ -5,32 +5,32 @@ use Rattle.std.specs.Ordering.{int_eq}
 use Rattle.std.specs.List.{range_with_len}
 use Rattle.std.proofs.lemmas.Bool.Decides.{nat_tests}
 use Rattle.std.proofs.lemmas.List.FromFn.{get_or-map-range_with_len, length-map-range_with_len}
-use Rattle.base65.proofs.Own.{Has, Own, bad, choice, first_own, good, next}
+use Rattle.base65.proofs.SystemErrors.{Has, Own, bad, choice, first_own, good, next}
 use Rattle.base65.specs.Outcome.{◌>>=◌}
 use Rattle.base65.specs.declared.output.OutputFile.{OutputFile}
 use Rattle.object65.specs.declared.object.Action.{Action}
 use Rattle.object65.specs.declared.object.Action.TheVariants as action
 use Rattle.object65.specs.Objects.{fits_width}
-use Rattle.script65.specs.Faults.{is_place_outside}
+use Rattle.script65.specs.Faults.{is_place_system_error}
 use Rattle.script65.specs.Placing.{place_of}
 use Rattle.script65.specs.declared.placement.PlaceFault.{PlaceFault}
 use Rattle.script65.specs.declared.placement.Placement.{Placement}
-use Rattle.script65.specs.declared.script.Area.{Area}
+use Rattle.script65.specs.declared.script.MemoryArea.{MemoryArea}
 use Rattle.script65.specs.declared.script.Script.{Script}
 use Rattle.link65.specs.declared.fault.LinkFault.{LinkFault}
-use Rattle.link65.specs.declared.fault.Site.{Site}
+use Rattle.link65.specs.declared.fault.ModuleLocation.{ModuleLocation}
 use Rattle.link65.specs.declared.parts.Asserted.{Asserted}
 use Rattle.link65.specs.declared.parts.Exported.{Exported}
-use Rattle.link65.specs.declared.parts.Fixup.{Fixup}
-use Rattle.link65.specs.declared.parts.Member.{Member}
+use Rattle.link65.specs.declared.parts.ValueFixup.{ValueFixup}
+use Rattle.link65.specs.declared.parts.LinkedModule.{LinkedModule}
 use Rattle.link65.specs.declared.parts.ValueFault.{ValueFault}
 use Rattle.link65.specs.declared.parts.ValueFault.TheVariants.{Circular, NoValue, Unresolved}
-use Rattle.link65.specs.Files.{AddsArea, AddsAreas, IsAreaFile, IsImage, Piece, byte_over, file_name, with_bytes}
-use Rattle.link65.specs.Laws.{SomeFilesLaw, SomeOutcomeLaw, SomeValueLaw, is_outside}
-use Rattle.link65.specs.Links.{IsImaged, IsPlacedLink, IsProgramLink, as_placement, assertion_result, check_assert, check_asserts, check_export, check_fixup, checked, each_passes, fixups_by_row, names_given, names_once, no_name_again, none_unresolved, placed, value_at}
+use Rattle.link65.specs.Files.{AddsArea, AddsAreas, IsAreaFile, IsImage, RowPiece, byte_over, file_name, with_bytes}
+use Rattle.link65.specs.Laws.{FilesExist, LinkOutcomeExists, LinkValueExists, is_system_error}
+use Rattle.link65.specs.Links.{IsImaged, IsPlacedLink, IsProgramLink, as_placement, assertion_result, check_assert, check_asserts, check_export, check_fixup, check_result, each_passes, fixups_by_row, names_given, names_once, no_name_again, none_unresolved, placement_result, value_at}
 use Rattle.link65.specs.Programs.{Program, program_of}
 use Rattle.link65.specs.Texts.{map_text, warnings_of_rows}
-use Rattle.link65.specs.Values.{AreExports, Exports, Linkage, Settles, export_value, exports_through, in_table, linkage_of, needs_of, row_bytes, value_by}
+use Rattle.link65.specs.Values.{AreExports, Exports, Linkage, ConvergesTo, export_value, exports_through, in_table, linkage_of, needs_of, row_bytes, value_by}
 use Rattle.script65.proofs.SomePlacement.{place_own}
 use Rattle.link65.proofs.Tries.{Answer, Grows, Known, circular_before, exports_grow, form_grows}
 
@@ -126,7 +126,7 @@ same_stands l n e x = by (nat_lt x (length l.exports)) refl
   where
     by : (b : Bool) → nat_lt x (length l.exports) ≡ b → exports_through l (suc (suc n)) x ≡ exports_through l (suc n) x
     by true lt = answered_same l (suc n) (length l.exports) e x (grind (arith, nat_tests))
-    by false le = let behind : length l.exports ≤ x = grind (arith, nat_tests) in past l (suc n) x behind ∙ sym (past l n x behind)
+    by false le = let following : length l.exports ≤ x = grind (arith, nat_tests) in past l (suc n) x following ∙ sym (past l n x following)
 
 search : (l : Linkage) (k : ℕ) → ((n : ℕ) × StandsStill l n) ⊎ (k ≤ answered l (suc k) (length l.exports))
 search l zero = inr (omega arith)
@@ -157,19 +157,19 @@ still_on l n still (suc k) x =
 
 -- ---- What stands still from some number on settles there.
 
-settles_at : (at : ℕ → Answer) → Grows at → (n : ℕ) → ((k : ℕ) → at (k + n) ≡ at n) → Settles at (at n)
+settles_at : (at : ℕ → Answer) → Grows at → (n : ℕ) → ((k : ℕ) → at (k + n) ≡ at n) → ConvergesTo at (at n)
 settles_at at g n still = by (at n) refl
   where
-    by : (r : Answer) → at n ≡ r → Settles at r
+    by : (r : Answer) → at n ≡ r → ConvergesTo at r
     by (Err Circular) e = λ m. (let same : n + m ≡ m + n = omega arith in circular_before at g n m (ap at same ∙ still m ∙ e))
     by (Err NoValue) e = (n, e)
     by (Err Unresolved) e = (n, e)
     by (Ok v) e = (n, e)
 
-export_settles : (l : Linkage) (n : ℕ) → StandsStill l n → (x : ℕ) → Settles (λ m. exports_through l m x) (exports_through l n x)
+export_settles : (l : Linkage) (n : ℕ) → StandsStill l n → (x : ℕ) → ConvergesTo (λ m. exports_through l m x) (exports_through l n x)
 export_settles l n still x = settles_at (λ m. exports_through l m x) (λ m. exports_grow l m x) n (λ k. still_on l n still k x)
 
-pub some_value : SomeValueLaw
+pub some_value : LinkValueExists
 some_value l owner f =
     let found = some_still l in
     let at : ℕ → Answer = λ m. value_by l (exports_through l m) owner f in
@@ -184,13 +184,13 @@ some_table l =
       table,
       record {
         long = length-map-range_with_len (exports_through l found.0) 0 size;
-        each = λ x lt. subst (λ (r : Answer). Settles (λ m. exports_through l m x) r) (sym (get_or-map-range_with_len (exports_through l found.0) 0 size x x (Err Unresolved) lt (omega arith))) (export_settles l found.0 found.1 x);
+        each = λ x lt. subst (λ (r : Answer). ConvergesTo (λ m. exports_through l m x) r) (sym (get_or-map-range_with_len (exports_through l found.0) 0 size x x (Err Unresolved) lt (omega arith))) (export_settles l found.0 found.1 x);
       },
     )
 
 -- ---- Files.
 
-some_image : (size fill : ℕ) (pieces : List Piece) → (image : List ℕ) × IsImage size fill pieces image
+some_image : (size fill : ℕ) (pieces : List RowPiece) → (image : List ℕ) × IsImage size fill pieces image
 some_image size fill pieces =
     let byte : ℕ → ℕ = λ i. byte_over pieces i fill in (
       map byte (range_with_len 0 size),
@@ -204,62 +204,62 @@ some_area : (unnamed : Bool) (name : List ℕ) (IsFile : List ℕ → Type 0) (b
 some_area true name IsFile before x = (before, refl)
 some_area false name IsFile before (image, is) = (with_bytes name image before, (image, is, refl))
 
-some_areas : (output : List ℕ) (IsFile : ℕ → Area → List ℕ → Type 0) → ((k : ℕ) (a : Area) → (image : List ℕ) × IsFile k a image) → (areas : List Area) (k : ℕ) (before : List OutputFile) → (after : List OutputFile) × AddsAreas output IsFile k areas before after
+some_areas : (output : List ℕ) (IsFile : ℕ → MemoryArea → List ℕ → Type 0) → ((k : ℕ) (a : MemoryArea) → (image : List ℕ) × IsFile k a image) → (areas : List MemoryArea) (k : ℕ) (before : List OutputFile) → (after : List OutputFile) × AddsAreas output IsFile k areas before after
 some_areas output IsFile some [] k before = (before, refl)
 some_areas output IsFile some (a ∷ rest) k before =
     let mid = some_area (length (file_name output a.file) == 0) (file_name output a.file) (IsFile k a) before (some k a) in
     let more = some_areas output IsFile some rest (k + 1) mid.0 in
     (more.0, (mid.0, mid.1, more.1))
 
-pub some_files : SomeFilesLaw
+pub some_files : FilesExist
 some_files output s placement bytes = some_areas output (IsAreaFile s.rows placement bytes) (λ k a. some_image _ _ _) s.areas 0 []
 
 -- ---- Faults that aren't want of memory.
 
-once_own : (o : Option (List ℕ)) → Own is_outside (no_name_again o)
+once_own : (o : Option (List ℕ)) → Own is_system_error (no_name_again o)
 once_own None = good _
 once_own (Some name) = bad _ refl
 
-unresolved_own : (names : List (List ℕ)) → Own is_outside (none_unresolved names)
+unresolved_own : (names : List (List ℕ)) → Own is_system_error (none_unresolved names)
 unresolved_own [] = good _
 unresolved_own (name ∷ names) = bad _ refl
 
-placement_own : (r : Result Placement PlaceFault) → Own is_place_outside r → Own is_outside (as_placement r)
+placement_own : (r : Result Placement PlaceFault) → Own is_place_system_error r → Own is_system_error (as_placement r)
 placement_own (Ok p) h = good p
 placement_own (Err e) h = bad _ h.own
 
-placed_own : (s : Script) (p : Program) → Own is_outside (placed s p)
+placed_own : (s : Script) (p : Program) → Own is_system_error (placement_result s p)
 placed_own s p = next (names_given s p) _ (unresolved_own _) (λ u. placement_own (place_of s (needs_of p)) (place_own s (needs_of p)))
 
-value_own : (s : Site) (r : Result ℤ ValueFault) → Own is_outside (value_at s r)
+value_own : (s : ModuleLocation) (r : Result ℤ ValueFault) → Own is_system_error (value_at s r)
 value_own s (Ok v) = good v
 value_own s (Err Circular) = bad _ refl
 value_own s (Err NoValue) = bad _ refl
 value_own s (Err Unresolved) = bad _ refl
 
-passes_own : {A : Type 0} (check : A → Result (Unit {0}) LinkFault) → ((x : A) → Own is_outside (check x)) → (xs : List A) → Own is_outside (each_passes check xs)
+passes_own : {A : Type 0} (check : A → Result (Unit {0}) LinkFault) → ((x : A) → Own is_system_error (check x)) → (xs : List A) → Own is_system_error (each_passes check xs)
 passes_own check own [] = good _
 passes_own check own (x ∷ xs) = next (check x) _ (own x) (λ u. passes_own check own xs)
 
-module _ (l : Linkage) (members : List Member) (exports : Exports) where
-  fixup_own : (w : Fixup) → Own is_outside (check_fixup l members exports w)
+module _ (l : Linkage) (members : List LinkedModule) (exports : Exports) where
+  fixup_own : (w : ValueFixup) → Own is_system_error (check_fixup l members exports w)
   fixup_own w = next (value_at _ _) _ (value_own _ (value_by l exports w.owner w.form)) (λ v. choice (fits_width w.width v) _ _ (good _) (bad _ refl))
 
-  export_own : (e : Exported) → Own is_outside (check_export l members exports e)
+  export_own : (e : Exported) → Own is_system_error (check_export l members exports e)
   export_own e = next (value_at _ _) _ (value_own _ (value_by l exports e.owner e.form)) (λ v. good _)
 
-  result_own : (at : Site) (action : Action) (text : List ℕ) (v : ℤ) → Own is_outside (assertion_result at action text v)
+  result_own : (at : ModuleLocation) (action : Action) (text : List ℕ) (v : ℤ) → Own is_system_error (assertion_result at action text v)
   result_own at action.Warning text v = choice (int_eq v (pos 0)) _ _ (good _) (good _)
   result_own at action.Error text v = choice (int_eq v (pos 0)) _ _ (bad _ refl) (good _)
 
-  assert_own : (a : Asserted) → Own is_outside (check_assert l members exports a)
+  assert_own : (a : Asserted) → Own is_system_error (check_assert l members exports a)
   assert_own a = next (value_at _ _) _ (value_own _ (value_by l exports a.owner a.form)) (λ v. result_own _ a.action a.text v)
 
-  asserts_own : (asserts : List Asserted) → Own is_outside (check_asserts l members exports asserts)
+  asserts_own : (asserts : List Asserted) → Own is_system_error (check_asserts l members exports asserts)
   asserts_own [] = good _
   asserts_own (a ∷ rest) = next (check_assert l members exports a) _ (assert_own a) (λ text. next (check_asserts l members exports rest) _ (asserts_own rest) (λ more. good _))
 
-checked_own : (s : Script) (p : Program) (l : Linkage) (exports : Exports) → Own is_outside (checked s p l exports)
+checked_own : (s : Script) (p : Program) (l : Linkage) (exports : Exports) → Own is_system_error (check_result s p l exports)
 checked_own s p l exports =
     next (each_passes (check_fixup l p.members exports) (fixups_by_row s.rows p.segments) >>= (λ u. each_passes (check_export l p.members exports) p.exports)) _
     (next (each_passes (check_fixup l p.members exports) (fixups_by_row s.rows p.segments)) _ (passes_own _ (fixup_own l p.members exports) (fixups_by_row s.rows p.segments)) (λ u. passes_own _ (export_own l p.members exports) p.exports))
@@ -267,22 +267,22 @@ checked_own s p l exports =
 
 -- ---- Outcomes.
 
-some_imaged : (output : List ℕ) (s : Script) (p : Program) (placement : Placement) (l : Linkage) (exports : Exports) (warnings : List ℕ) → Has is_outside (IsImaged output s p placement l exports warnings)
+some_imaged : (output : List ℕ) (s : Script) (p : Program) (placement : Placement) (l : Linkage) (exports : Exports) (warnings : List ℕ) → Has is_system_error (IsImaged output s p placement l exports warnings)
 some_imaged output s p placement l exports warnings =
     let made = some_files output s placement (row_bytes l exports p.segments) in
     (Ok (record { files = made.0; warnings = warnings_of_rows s.rows p.segments ++ warnings; map = map_text s p placement l exports }), (made.0, made.1, refl), good _)
 
-some_placed : (output : List ℕ) (s : Script) (p : Program) (placement : Placement) → Has is_outside (IsPlacedLink output s p placement)
+some_placed : (output : List ℕ) (s : Script) (p : Program) (placement : Placement) → Has is_system_error (IsPlacedLink output s p placement)
 some_placed output s p placement =
     let l = linkage_of s p placement in
     let made = some_table l in
-    let end = first_own is_outside (checked s p l (in_table made.0)) (IsImaged output s p placement l (in_table made.0)) (checked_own s p l (in_table made.0)) (some_imaged output s p placement l (in_table made.0)) in
+    let end = first_own is_system_error (check_result s p l (in_table made.0)) (IsImaged output s p placement l (in_table made.0)) (checked_own s p l (in_table made.0)) (some_imaged output s p placement l (in_table made.0)) in
     (end.0, (made.0, made.1, end.1), end.2)
 
-some_program : (output : List ℕ) (s : Script) (p : Program) → Has is_outside (IsProgramLink output s p)
-some_program output s p = first_own is_outside (placed s p) (IsPlacedLink output s p) (placed_own s p) (some_placed output s p)
+some_program : (output : List ℕ) (s : Script) (p : Program) → Has is_system_error (IsProgramLink output s p)
+some_program output s p = first_own is_system_error (placement_result s p) (IsPlacedLink output s p) (placed_own s p) (some_placed output s p)
 
-pub some_outcome : SomeOutcomeLaw
+pub some_outcome : LinkOutcomeExists
 some_outcome output s modules =
-    let r = first_own is_outside (names_once s (program_of modules)) (λ u. IsProgramLink output s (program_of modules)) (once_own _) (λ u. some_program output s (program_of modules)) in
+    let r = first_own is_system_error (names_once s (program_of modules)) (λ u. IsProgramLink output s (program_of modules)) (once_own _) (λ u. some_program output s (program_of modules)) in
     (r.0, r.1, (r.2).own)

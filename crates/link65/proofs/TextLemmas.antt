@@ -9,11 +9,11 @@ use Rattle.std.specs.List.{flat_map, list_any}
 use Rattle.script65.proofs.Eaches.{drop_item}
 use Rattle.std.specs.Prelude.{codes, encode_utf8, encode_utf8_all, not, replicate}
 use Rattle.script65.proofs.Walks.{take_more}
-use Rattle.link65.specs.Faults.{listed, separator_behind}
+use Rattle.link65.specs.Faults.{comma_separated, separator_after}
 use Rattle.std.proofs.lemmas.Bool.Decides.{nat_tests}
-use Rattle.link65.specs.declared.parts.Piece.{Piece}
-use Rattle.link65.specs.declared.parts.Piece.TheVariants.{Known, Filled}
-use Rattle.link65.specs.Grounds.{piece_cells}
+use Rattle.link65.specs.declared.parts.SegmentPiece.{SegmentPiece}
+use Rattle.link65.specs.declared.parts.SegmentPiece.TheVariants.{Known, Filled}
+use Rattle.link65.specs.CodeInvariants.{piece_cells}
 use Rattle.link65.specs.Programs.{known, filled}
 
 -- ---- Hex digits.
@@ -59,12 +59,12 @@ encoded : (a b : List ℕ) → encode_utf8_all (a ++ b) ≡ encode_utf8_all a ++
 encoded [] b = refl
 encoded (x ∷ a) b = ap (λ l. encode_utf8 x ++ l) (encoded a b) ∙ sym (append_assoc (encode_utf8 x) (encode_utf8_all a) (encode_utf8_all b))
 
-listed_push : (names : List (List ℕ)) (name : List ℕ) → listed (names ++ name ∷ []) ≡ listed names ++ (separator_behind names ++ name)
+listed_push : (names : List (List ℕ)) (name : List ℕ) → comma_separated (names ++ name ∷ []) ≡ comma_separated names ++ (separator_after names ++ name)
 listed_push [] name = refl
 listed_push (x ∷ []) name = append_assoc x (codes ", ") name
 listed_push (x ∷ y ∷ names) name = grind (arith, common_steps, (listed_push (y ∷ names) name), append_assoc)
 
-separator_encoded : (names : List (List ℕ)) → encode_utf8_all (separator_behind names) ≡ separator_behind names
+separator_encoded : (names : List (List ℕ)) → encode_utf8_all (separator_after names) ≡ separator_after names
 unfolding lib.Utf8.encode
 separator_encoded x = grind (arith, common_steps)
 
@@ -72,14 +72,14 @@ pub next_names : (names : List (List ℕ)) (i : ℕ) (name : List ℕ) → i < l
 next_names names i name lt at = sym (rw add-one (take_more names i name _ (drop_item names i name lt at)))
 
 -- one name more
-pub names_more : (names : List (List ℕ)) (i : ℕ) (name separator : List ℕ) → i < length names → name ≡ get_or names i name → separator ≡ separator_behind (take i names) → encode_utf8_all (listed (take i names)) ++ (separator ++ encode_utf8_all name) ≡ encode_utf8_all (listed (take (i + 1) names))
+pub names_more : (names : List (List ℕ)) (i : ℕ) (name separator : List ℕ) → i < length names → name ≡ get_or names i name → separator ≡ separator_after (take i names) → encode_utf8_all (comma_separated (take i names)) ++ (separator ++ encode_utf8_all name) ≡ encode_utf8_all (comma_separated (take (i + 1) names))
 names_more names i name separator lt at is = grind (arith, common_steps, separator_encoded, encoded, listed_push, next_names)
 
-pub next_separator : (names : List (List ℕ)) (name : List ℕ) → codes ", " ≡ separator_behind (names ++ name ∷ [])
+pub next_separator : (names : List (List ℕ)) (name : List ℕ) → codes ", " ≡ separator_after (names ++ name ∷ [])
 next_separator x name = grind (arith, common_steps)
 
 -- the same as bytes
-pub next_listed : (names : List (List ℕ)) (i : ℕ) (name separator : List ℕ) → i < length names → name ≡ get_or names i name → separator ≡ separator_behind (take i names) → (listed (take i names) ++ separator) ++ name ≡ listed (take (i + 1) names)
+pub next_listed : (names : List (List ℕ)) (i : ℕ) (name separator : List ℕ) → i < length names → name ≡ get_or names i name → separator ≡ separator_after (take i names) → (comma_separated (take i names) ++ separator) ++ name ≡ comma_separated (take (i + 1) names)
 next_listed names i name separator lt at is = grind (arith, common_steps, append_assoc, listed_push, next_names)
 
 -- ---- Data in pieces.
@@ -92,8 +92,8 @@ filled_data : (n : ℕ) → false ≡ list_any is_data (replicate n filled)
 filled_data zero = refl
 filled_data (suc n) = filled_data n
 
-pub known_piece : (p : Piece) (bytes : List ℕ) (n : ℕ) → p ≡ Known bytes → n ≡ length bytes → not (nat_eq n 0) ≡ list_any is_data (piece_cells p)
+pub known_piece : (p : SegmentPiece) (bytes : List ℕ) (n : ℕ) → p ≡ Known bytes → n ≡ length bytes → not (nat_eq n 0) ≡ list_any is_data (piece_cells p)
 known_piece p bytes n is e = rw (is, e) (known_data bytes)
 
-pub filled_piece : (p : Piece) (n : ℕ) → p ≡ Filled n → false ≡ list_any is_data (piece_cells p)
+pub filled_piece : (p : SegmentPiece) (n : ℕ) → p ≡ Filled n → false ≡ list_any is_data (piece_cells p)
 filled_piece p n is = rw is (filled_data n)

@@ -4,19 +4,19 @@ use Rattle.std.proofs.Common.{◌≡◌, ℕ, zero, suc, ◌+◌, refl, sym, ◌
 use Rattle.std.specs.Prelude.{ℤ, ⊤, ◌+ℤ◌}
 use Rattle.link65.specs.declared.parts.ValueFault.{ValueFault}
 use Rattle.link65.specs.declared.parts.ValueFault.TheVariants.{Circular, NoValue, Unresolved}
-use Rattle.link65.specs.Values.{Settles, ExportComesTo, Exports, Linkage, base_of, export_value, exports_through, provider_at, import_value, value_by}
+use Rattle.link65.specs.Values.{ConvergesTo, ExportComesTo, Exports, Linkage, base_of, export_value, exports_through, provider_at, import_value, value_by}
 use Rattle.base65.specs.Outcome.{◌>>=◌}
-use Rattle.base65.specs.Values.{value2, wrapped}
+use Rattle.base65.specs.Values.{value2, wrap_signed}
 use Rattle.object65.specs.Form.{Form, lit, sec, imp, prefix, binary}
 use Rattle.object65.specs.FormValue.{or_none, value_in}
-use Rattle.link65.specs.declared.evaluation.Mark.{Mark}
-use Rattle.link65.specs.declared.evaluation.Mark.TheVariants.{Untouched, BeingEvaluated, Found}
-use Rattle.link65.specs.declared.evaluation.Stop.{Stop}
-use Rattle.link65.specs.declared.evaluation.Stop.TheVariants.{Fault, Needs}
+use Rattle.link65.specs.declared.evaluation.ExportState.{ExportState}
+use Rattle.link65.specs.declared.evaluation.ExportState.TheVariants.{Untouched, BeingEvaluated, Found}
+use Rattle.link65.specs.declared.evaluation.EvalBlocked.{EvalBlocked}
+use Rattle.link65.specs.declared.evaluation.EvalBlocked.TheVariants.{Fault, Needs}
 use Rattle.link65.specs.declared.parts.Exported.{Exported}
 use Rattle.link65.specs.declared.parts.Provider.{Provider}
 use Rattle.link65.specs.declared.parts.Provider.TheVariants.{ByModule, ByScript, Nobody}
-use Rattle.link65.specs.Placed.{AreTrue, as_found, import_tried, marked, tried}
+use Rattle.link65.specs.Placed.{AreTrue, as_found, import_tried, circular_if_active, form_attempt}
 
 -- ---- Answers that are found at some number of exports one inside the other, and stay.
 
@@ -68,13 +68,13 @@ stands_or at r g h n = go (known_or (at n) (at (h.turns + n)) (further at g h.tu
     go (inl e) = inl (e ∙ later)
     go (inr e) = inr e
 
-pub reaches_value : (at : ℕ → Answer) (v : ℤ) → Settles at (Ok v) → Reaches at (Ok v)
+pub reaches_value : (at : ℕ → Answer) (v : ℤ) → ConvergesTo at (Ok v) → Reaches at (Ok v)
 reaches_value at v (n, e) = record { turns = n; found = e; firm = λ s h. h }
 
-pub reaches_no_value : (at : ℕ → Answer) → Settles at (Err NoValue) → Reaches at (Err NoValue)
+pub reaches_no_value : (at : ℕ → Answer) → ConvergesTo at (Err NoValue) → Reaches at (Err NoValue)
 reaches_no_value at (n, e) = record { turns = n; found = e; firm = λ s h. h }
 
-pub reaches_unresolved : (at : ℕ → Answer) → Settles at (Err Unresolved) → Reaches at (Err Unresolved)
+pub reaches_unresolved : (at : ℕ → Answer) → ConvergesTo at (Err Unresolved) → Reaches at (Err Unresolved)
 reaches_unresolved at (n, e) = record { turns = n; found = e; firm = λ s h. h }
 
 -- with fewer turns what is circular stays so
@@ -102,7 +102,7 @@ two_reach at r q g h k =
 never : (at : ℕ → Answer) (r : Answer) → ((n : ℕ) → at n ≡ Err Circular) → Reaches at r → r ≡ Err Circular
 never at r h k = sym k.found ∙ h k.turns
 
-pub settles_once : (at : ℕ → Answer) (r q : Answer) → Grows at → Settles at r → Settles at q → r ≡ q
+pub settles_once : (at : ℕ → Answer) (r q : Answer) → Grows at → ConvergesTo at r → ConvergesTo at q → r ≡ q
 settles_once at (Err Circular) (Err Circular) g h k = refl
 settles_once at (Err Circular) (Ok w) g h k = sym (never at (Ok w) h (reaches_value at w k))
 settles_once at (Err Circular) (Err NoValue) g h k = sym (never at (Err NoValue) h (reaches_no_value at k))
@@ -156,15 +156,15 @@ abbrev pub Follows : Linkage → (ℕ → Answer) → ℕ → Type 0
 Follows l at x = (n : ℕ) → exports_through l n x ≡ Err Circular → at n ≡ Err Circular
 
 -- an export that is being evaluated, and is needed
-pub record Meets (l : Linkage) (marks : List Mark) (at : ℕ → Answer) : Type 0 where
+pub record Meets (l : Linkage) (marks : List ExportState) (at : ℕ → Answer) : Type 0 where
   pub export : ℕ
   pub is : slice_get marks export ≡ Some BeingEvaluated
   pub follows : Follows l at export
 
 -- what an attempt says
-abbrev pub Tells : Linkage → List Mark → (ℕ → Answer) → Result ℤ Stop → Type 0
+abbrev pub Tells : Linkage → List ExportState → (ℕ → Answer) → Result ℤ EvalBlocked → Type 0
 Tells l marks at (Ok v) = Reaches at (Ok v)
-Tells l marks at (Err (Fault Circular)) = Settles at (Err Circular) ⊎ Meets l marks at
+Tells l marks at (Err (Fault Circular)) = ConvergesTo at (Err Circular) ⊎ Meets l marks at
 Tells l marks at (Err (Fault e)) = Reaches at (Err e)
 Tells l marks at (Err (Needs x)) = (slice_get marks x ≡ Some Untouched) × Follows l at x
 
@@ -173,23 +173,23 @@ at_once r h = record { turns = 0; found = refl; firm = h }
 
 -- ---- An attempt at an import.
 
-found_tells : (l : Linkage) (marks : List Mark) (x : ℕ) (r : Answer) → ExportComesTo l x r → Tells l marks (λ n. exports_through l n x) (as_found r)
+found_tells : (l : Linkage) (marks : List ExportState) (x : ℕ) (r : Answer) → ExportComesTo l x r → Tells l marks (λ n. exports_through l n x) (as_found r)
 found_tells l marks x y h = grind (arith, common_steps)
 
 -- no mark, no export
-abbrev pub AreLong : Linkage → List Mark → Type 0
+abbrev pub AreLong : Linkage → List ExportState → Type 0
 AreLong l marks = (x : ℕ) → slice_get marks x ≡ None → slice_get l.exports x ≡ None
 
 none_reaches : (l : Linkage) (x : ℕ) → slice_get l.exports x ≡ None → Reaches (λ n. exports_through l n x) (Err Unresolved)
 none_reaches l x e = record { turns = 1; found = rw e refl; firm = λ s h. h }
 
-marked_tells : (l : Linkage) (marks : List Mark) → AreTrue l marks → AreLong l marks → (x : ℕ) (o : Option Mark) → slice_get marks x ≡ o → Tells l marks (λ n. exports_through l n x) (marked x o)
+marked_tells : (l : Linkage) (marks : List ExportState) → AreTrue l marks → AreLong l marks → (x : ℕ) (o : Option ExportState) → slice_get marks x ≡ o → Tells l marks (λ n. exports_through l n x) (circular_if_active x o)
 marked_tells l marks h long x None e = none_reaches l x (long x e)
 marked_tells l marks h long x (Some Untouched) e = (e, λ n c. c)
 marked_tells l marks h long x (Some BeingEvaluated) e = inr (record { export = x; is = e; follows = λ n c. c })
 marked_tells l marks h long x (Some (Found r)) e = found_tells l marks x r (h x r e)
 
-import_tells : (l : Linkage) (marks : List Mark) → AreTrue l marks → AreLong l marks → (g : Provider) → Tells l marks (λ n. import_value (exports_through l n) g) (import_tried marks g)
+import_tells : (l : Linkage) (marks : List ExportState) → AreTrue l marks → AreLong l marks → (g : Provider) → Tells l marks (λ n. import_value (exports_through l n) g) (import_tried marks g)
 import_tells l marks h long (ByModule x) = marked_tells l marks h long x (slice_get marks x) refl
 import_tells l marks h long (ByScript v) = at_once (Ok v) (λ s k. k)
 import_tells l marks h long Nobody = at_once (Err Unresolved) (λ s k. k)
@@ -220,7 +220,7 @@ then_reaches at b v r g k h t = record {
   firm = t.firm;
 }
 
-bind_ok : (l : Linkage) (marks : List Mark) (at : ℕ → Answer) (b : ℕ → ℤ → Answer) (v : ℤ) (u : Result ℤ Stop) → Grows at → Grows (λ n. b n v) → Reaches at (Ok v) → Tells l marks (λ n. b n v) u → Tells l marks (λ n. at n >>= b n) u
+bind_ok : (l : Linkage) (marks : List ExportState) (at : ℕ → Answer) (b : ℕ → ℤ → Answer) (v : ℤ) (u : Result ℤ EvalBlocked) → Grows at → Grows (λ n. b n v) → Reaches at (Ok v) → Tells l marks (λ n. b n v) u → Tells l marks (λ n. at n >>= b n) u
 bind_ok l marks at b v (Ok w) g k h t = then_reaches at b v (Ok w) g k h t
 bind_ok l marks at b v (Err (Fault NoValue)) g k h t = then_reaches at b v (Err NoValue) g k h t
 bind_ok l marks at b v (Err (Fault Unresolved)) g k h t = then_reaches at b v (Err Unresolved) g k h t
@@ -229,24 +229,24 @@ bind_ok l marks at b v (Err (Fault Circular)) g k h (inr t) =
     inr (record { export = t.export; is = t.is; follows = λ n c. then_circular at b v g h n (t.follows n c) })
 bind_ok l marks at b v (Err (Needs x)) g k h t = (t.0, λ n c. then_circular at b v g h n (t.1 n c))
 
-bind_tells : (l : Linkage) (marks : List Mark) (at : ℕ → Answer) (b : ℕ → ℤ → Answer) (t : Result ℤ Stop) (u : ℤ → Result ℤ Stop) → Grows at → ((v : ℤ) → Grows (λ n. b n v)) → Tells l marks at t → ((v : ℤ) → Tells l marks (λ n. b n v) (u v)) → Tells l marks (λ n. at n >>= b n) (t >>= u)
+bind_tells : (l : Linkage) (marks : List ExportState) (at : ℕ → Answer) (b : ℕ → ℤ → Answer) (t : Result ℤ EvalBlocked) (u : ℤ → Result ℤ EvalBlocked) → Grows at → ((v : ℤ) → Grows (λ n. b n v)) → Tells l marks at t → ((v : ℤ) → Tells l marks (λ n. b n v) (u v)) → Tells l marks (λ n. at n >>= b n) (t >>= u)
 bind_tells l marks at b x u g k h f = grind (arith, common_steps, bind_ok, first_refuses, first_circular)
 
 -- ---- An attempt at a form.
 
-operation_tells : (l : Linkage) (marks : List Mark) (o : Option ℤ) → Tells l marks (λ n. or_none NoValue o) (or_none (Fault NoValue) o)
+operation_tells : (l : Linkage) (marks : List ExportState) (o : Option ℤ) → Tells l marks (λ n. or_none NoValue o) (or_none (Fault NoValue) o)
 operation_tells l marks x = grind (arith, common_steps)
 
-pub form_tells : (l : Linkage) (marks : List Mark) → AreTrue l marks → AreLong l marks → (owner : ℕ) (f : Form) → Tells l marks (λ n. value_by l (exports_through l n) owner f) (tried (slice_get l.modules owner) marks f)
+pub form_tells : (l : Linkage) (marks : List ExportState) → AreTrue l marks → AreLong l marks → (owner : ℕ) (f : Form) → Tells l marks (λ n. value_by l (exports_through l n) owner f) (form_attempt (slice_get l.modules owner) marks f)
 form_tells l marks h long owner (lit v) = at_once (Ok v) (λ s k. k)
-form_tells l marks h long owner (sec k a) = at_once (Ok (wrapped (base_of (slice_get l.modules owner) k +ℤ a))) (λ s e. e)
+form_tells l marks h long owner (sec k a) = at_once (Ok (wrap_signed (base_of (slice_get l.modules owner) k +ℤ a))) (λ s e. e)
 form_tells l marks h long owner (imp j) = import_tells l marks h long (provider_at (slice_get l.modules owner) j)
 form_tells l marks h long owner (prefix op f) = grind (arith, common_steps, (form_tells l marks h long owner f), bind_tells, form_grows, at_once)
 form_tells l marks h long owner (binary op f g) =
-    bind_tells l marks (λ n. value_by l (exports_through l n) owner f) (λ n a. value_by l (exports_through l n) owner g >>= (λ b. or_none NoValue (value2 op a b))) (tried (slice_get l.modules owner) marks f) (λ a. tried (slice_get l.modules owner) marks g >>= (λ b. or_none (Fault NoValue) (value2 op a b))) (form_grows l owner f)
+    bind_tells l marks (λ n. value_by l (exports_through l n) owner f) (λ n a. value_by l (exports_through l n) owner g >>= (λ b. or_none NoValue (value2 op a b))) (form_attempt (slice_get l.modules owner) marks f) (λ a. form_attempt (slice_get l.modules owner) marks g >>= (λ b. or_none (Fault NoValue) (value2 op a b))) (form_grows l owner f)
     (λ v n. bind_known (value_by l (exports_through l n) owner g) (value_by l (exports_through l (suc n)) owner g) (λ b. or_none NoValue (value2 op v b)) (λ b. or_none NoValue (value2 op v b)) (form_grows l owner g n) (λ b. known_same (or_none NoValue (value2 op v b))))
     (form_tells l marks h long owner f)
-    (λ v. bind_tells l marks (λ n. value_by l (exports_through l n) owner g) (λ n b. or_none NoValue (value2 op v b)) (tried (slice_get l.modules owner) marks g) (λ b. or_none (Fault NoValue) (value2 op v b)) (form_grows l owner g) (λ b n. known_same (or_none NoValue (value2 op v b))) (form_tells l marks h long owner g) (λ b. operation_tells l marks (value2 op v b)))
+    (λ v. bind_tells l marks (λ n. value_by l (exports_through l n) owner g) (λ n b. or_none NoValue (value2 op v b)) (form_attempt (slice_get l.modules owner) marks g) (λ b. or_none (Fault NoValue) (value2 op v b)) (form_grows l owner g) (λ b n. known_same (or_none NoValue (value2 op v b))) (form_tells l marks h long owner g) (λ b. operation_tells l marks (value2 op v b)))
 
 -- ---- Exports that wait for one another.
 

@@ -6,18 +6,18 @@ use Rattle.std.proofs.lemmas.List.Sums.{sum_by-set}
 use Rattle.std.proofs.lemmas.Option.{gets}
 use Rattle.std.proofs.lemmas.Bool.Decides.{nat_tests}
 use Rattle.link65.specs.declared.evaluation.Attempt.TheVariants as attempt
-use Rattle.link65.specs.declared.evaluation.Mark.{Mark}
-use Rattle.link65.specs.declared.evaluation.Mark.TheVariants.{Untouched, BeingEvaluated, Found}
-use Rattle.link65.specs.declared.evaluation.Stop.{Stop}
-use Rattle.link65.specs.declared.evaluation.Stop.TheVariants.{Fault, Needs}
+use Rattle.link65.specs.declared.evaluation.ExportState.{ExportState}
+use Rattle.link65.specs.declared.evaluation.ExportState.TheVariants.{Untouched, BeingEvaluated, Found}
+use Rattle.link65.specs.declared.evaluation.EvalBlocked.{EvalBlocked}
+use Rattle.link65.specs.declared.evaluation.EvalBlocked.TheVariants.{Fault, Needs}
 use Rattle.link65.specs.declared.parts.Exported.{Exported}
 use Rattle.link65.specs.declared.parts.ValueFault.{ValueFault}
 use Rattle.link65.specs.declared.parts.ValueFault.TheVariants.{Circular, NoValue, Unresolved}
-use Rattle.link65.specs.Placed.{AreSettled, AreTrue, IsFound, KeepsFound, attempt_of, export_tried, tried}
+use Rattle.link65.specs.Placed.{AreSettled, AreTrue, IsFound, KeepsFound, attempt_of, export_tried, form_attempt}
 use Rattle.link65.specs.Values.{ExportComesTo, Linkage, exports_through, value_by}
 use Rattle.link65.proofs.Tries.{Among, IsChain, Leads, chain_less, chain_more, leads_to, met_again, AreLong, Meets, Tells, form_tells, Reaches}
 
-pub record IsWalk (l : Linkage) (old marks : List Mark) (waiting : List ℕ) (root top : ℕ) : Type 0 where
+pub record IsWalk (l : Linkage) (old marks : List ExportState) (waiting : List ℕ) (root top : ℕ) : Type 0 where
   pub long : length marks ≡ length l.exports
   pub all_true : AreTrue l marks
   pub top_inside : top < length marks
@@ -28,22 +28,22 @@ pub record IsWalk (l : Linkage) (old marks : List Mark) (waiting : List ℕ) (ro
 
 -- ---- Lists of marks.
 
-get_set_same : (marks : List Mark) (x : ℕ) (m : Mark) → x < length marks → slice_get (slice_set marks x m) x ≡ Some m
+get_set_same : (marks : List ExportState) (x : ℕ) (m : ExportState) → x < length marks → slice_get (slice_set marks x m) x ≡ Some m
 get_set_same marks x m h = grind (arith, common_steps, gets)
 
-get_set_other : (marks : List Mark) (x y : ℕ) (m : Mark) → y ≢ x → slice_get (slice_set marks x m) y ≡ slice_get marks y
+get_set_other : (marks : List ExportState) (x y : ℕ) (m : ExportState) → y ≢ x → slice_get (slice_set marks x m) y ≡ slice_get marks y
 get_set_other marks x y m h = grind (arith, common_steps, gets)
 
-pub long_marks : (l : Linkage) (marks : List Mark) → length marks ≡ length l.exports → AreLong l marks
+pub long_marks : (l : Linkage) (marks : List ExportState) → length marks ≡ length l.exports → AreLong l marks
 long_marks l marks h x e = grind (arith, common_steps, gets)
 
-found_true : (l : Linkage) (marks : List Mark) (top : ℕ) (r : Result ℤ ValueFault) → top < length marks → AreTrue l marks → ExportComesTo l top r → AreTrue l (slice_set marks top (Found r))
+found_true : (l : Linkage) (marks : List ExportState) (top : ℕ) (r : Result ℤ ValueFault) → top < length marks → AreTrue l marks → ExportComesTo l top r → AreTrue l (slice_set marks top (Found r))
 found_true l marks top r h t c x q e = grind (arith, common_steps, nat_tests, get_set_same, get_set_other)
 
-begun_true : (l : Linkage) (marks : List Mark) (next : ℕ) → next < length marks → AreTrue l marks → AreTrue l (slice_set marks next BeingEvaluated)
+begun_true : (l : Linkage) (marks : List ExportState) (next : ℕ) → next < length marks → AreTrue l marks → AreTrue l (slice_set marks next BeingEvaluated)
 begun_true l marks next h t x q e = grind (arith, common_steps, nat_tests, get_set_same, get_set_other)
 
-found_kept : (old marks : List Mark) (top : ℕ) (r : Result ℤ ValueFault) → top < length marks → KeepsFound old marks → KeepsFound old (slice_set marks top (Found r))
+found_kept : (old marks : List ExportState) (top : ℕ) (r : Result ℤ ValueFault) → top < length marks → KeepsFound old marks → KeepsFound old (slice_set marks top (Found r))
 found_kept old marks top r h k x f = go (nat_eq x top) refl (k x f)
   where
     go : (b : Bool) → nat_eq x top ≡ b → IsFound marks x → IsFound (slice_set marks top (Found r)) x
@@ -54,7 +54,7 @@ found_kept old marks top r h k x f = go (nat_eq x top) refl (k x f)
         let other : x ≢ top = grind (arith, nat_tests) in
         (q, get_set_other marks top x (Found r) other ∙ g)
 
-begun_kept : (old marks : List Mark) (next : ℕ) → slice_get marks next ≡ Some Untouched → KeepsFound old marks → KeepsFound old (slice_set marks next BeingEvaluated)
+begun_kept : (old marks : List ExportState) (next : ℕ) → slice_get marks next ≡ Some Untouched → KeepsFound old marks → KeepsFound old (slice_set marks next BeingEvaluated)
 begun_kept old marks next u k x f = go (nat_eq x next) refl (k x f)
   where
     go : (b : Bool) → nat_eq x next ≡ b → IsFound marks x → IsFound (slice_set marks next BeingEvaluated) x
@@ -83,10 +83,10 @@ among_cases x w (v ∷ ws) (inr h) = grind (arith, common_steps, (among_cases x 
 
 -- ---- What an attempt at the top gives.
 
-attempt_settled : (t : Result ℤ Stop) (r : Result ℤ ValueFault) → attempt_of t ≡ attempt.Settled r → ((v : ℤ) × (t ≡ Ok v) × (r ≡ Ok v)) ⊎ ((e : ValueFault) × (t ≡ Err (Fault e)) × (r ≡ Err e))
+attempt_settled : (t : Result ℤ EvalBlocked) (r : Result ℤ ValueFault) → attempt_of t ≡ attempt.Settled r → ((v : ℤ) × (t ≡ Ok v) × (r ≡ Ok v)) ⊎ ((e : ValueFault) × (t ≡ Err (Fault e)) × (r ≡ Err e))
 attempt_settled x r e = grind (arith, common_steps)
 
-attempt_needs : (t : Result ℤ Stop) (x : ℕ) → attempt_of t ≡ attempt.Needs x → t ≡ Err (Needs x)
+attempt_needs : (t : Result ℤ EvalBlocked) (x : ℕ) → attempt_of t ≡ attempt.Needs x → t ≡ Err (Needs x)
 attempt_needs y x e = grind (arith, common_steps)
 
 -- the form of an export
@@ -100,68 +100,68 @@ circular_next : (l : Linkage) (top : ℕ) (e : Exported) → slice_get l.exports
 circular_next l top e is h zero = refl
 circular_next l top e is h (suc n) = rw is (h n)
 
-meets_circular : (l : Linkage) (old marks : List Mark) (waiting : List ℕ) (root top : ℕ) (e : Exported) → IsWalk l old marks waiting root top → slice_get l.exports top ≡ Some e → Meets l marks (form_at l e) → (n : ℕ) → exports_through l n top ≡ Err Circular
+meets_circular : (l : Linkage) (old marks : List ExportState) (waiting : List ℕ) (root top : ℕ) (e : Exported) → IsWalk l old marks waiting root top → slice_get l.exports top ≡ Some e → Meets l marks (form_at l e) → (n : ℕ) → exports_through l n top ≡ Err Circular
 meets_circular l old marks waiting root top e w is m =
     met_again l root waiting top m.export w.chain (leads_to l top m.export e is m.follows) (w.evaluated m.export m.is)
 
-fault_comes : (l : Linkage) (old marks : List Mark) (waiting : List ℕ) (root top : ℕ) (e : Exported) (f : ValueFault) → IsWalk l old marks waiting root top → slice_get l.exports top ≡ Some e → Tells l marks (form_at l e) (Err (Fault f)) → ExportComesTo l top (Err f)
+fault_comes : (l : Linkage) (old marks : List ExportState) (waiting : List ℕ) (root top : ℕ) (e : Exported) (f : ValueFault) → IsWalk l old marks waiting root top → slice_get l.exports top ≡ Some e → Tells l marks (form_at l e) (Err (Fault f)) → ExportComesTo l top (Err f)
 fault_comes l old marks waiting root top e NoValue w is t = (suc t.turns, later_value l top e (Err NoValue) is t)
 fault_comes l old marks waiting root top e Unresolved w is t = (suc t.turns, later_value l top e (Err Unresolved) is t)
 fault_comes l old marks waiting root top e Circular w is (inl t) = circular_next l top e is t
 fault_comes l old marks waiting root top e Circular w is (inr t) = meets_circular l old marks waiting root top e w is t
 
 -- what an attempt at the top tells
-top_tells : (l : Linkage) (old marks : List Mark) (waiting : List ℕ) (root top : ℕ) (e : Exported) → IsWalk l old marks waiting root top → Tells l marks (form_at l e) (tried (slice_get l.modules e.owner) marks e.form)
+top_tells : (l : Linkage) (old marks : List ExportState) (waiting : List ℕ) (root top : ℕ) (e : Exported) → IsWalk l old marks waiting root top → Tells l marks (form_at l e) (form_attempt (slice_get l.modules e.owner) marks e.form)
 top_tells l old marks waiting root top e w = form_tells l marks w.all_true (long_marks l marks w.long) e.owner e.form
 
-export_there : (l : Linkage) (marks : List Mark) (top : ℕ) → length marks ≡ length l.exports → top < length marks → (e : Exported) × (slice_get l.exports top ≡ Some e)
+export_there : (l : Linkage) (marks : List ExportState) (top : ℕ) → length marks ≡ length l.exports → top < length marks → (e : Exported) × (slice_get l.exports top ≡ Some e)
 export_there l marks top n h = go (slice_get l.exports top) refl
   where
     go : (o : Option Exported) → slice_get l.exports top ≡ o → (e : Exported) × (slice_get l.exports top ≡ Some e)
     go (Some e) q = (e, q)
     go None q = absurd (grind (arith, common_steps, gets))
 
-settled_comes : (l : Linkage) (old marks : List Mark) (waiting : List ℕ) (root top : ℕ) (e : Exported) (r : Result ℤ ValueFault) → IsWalk l old marks waiting root top → slice_get l.exports top ≡ Some e → attempt_of (tried (slice_get l.modules e.owner) marks e.form) ≡ attempt.Settled r → ExportComesTo l top r
-settled_comes l old marks waiting root top e r w is a = go (attempt_settled (tried (slice_get l.modules e.owner) marks e.form) r a)
+settled_comes : (l : Linkage) (old marks : List ExportState) (waiting : List ℕ) (root top : ℕ) (e : Exported) (r : Result ℤ ValueFault) → IsWalk l old marks waiting root top → slice_get l.exports top ≡ Some e → attempt_of (form_attempt (slice_get l.modules e.owner) marks e.form) ≡ attempt.Settled r → ExportComesTo l top r
+settled_comes l old marks waiting root top e r w is a = go (attempt_settled (form_attempt (slice_get l.modules e.owner) marks e.form) r a)
   where
-    tells : Tells l marks (form_at l e) (tried (slice_get l.modules e.owner) marks e.form)
+    tells : Tells l marks (form_at l e) (form_attempt (slice_get l.modules e.owner) marks e.form)
     tells = top_tells l old marks waiting root top e w
 
-    go : (((v : ℤ) × (tried (slice_get l.modules e.owner) marks e.form ≡ Ok v) × (r ≡ Ok v)) ⊎ ((f : ValueFault) × (tried (slice_get l.modules e.owner) marks e.form ≡ Err (Fault f)) × (r ≡ Err f))) → ExportComesTo l top r
+    go : (((v : ℤ) × (form_attempt (slice_get l.modules e.owner) marks e.form ≡ Ok v) × (r ≡ Ok v)) ⊎ ((f : ValueFault) × (form_attempt (slice_get l.modules e.owner) marks e.form ≡ Err (Fault f)) × (r ≡ Err f))) → ExportComesTo l top r
     go (inl (v, t, q)) =
-        let P : Result ℤ Stop → Type 0 = λ z. Tells l marks (form_at l e) z in
+        let P : Result ℤ EvalBlocked → Type 0 = λ z. Tells l marks (form_at l e) z in
         let reached = subst P t tells in
         let Q : Result ℤ ValueFault → Type 0 = λ z. ExportComesTo l top z in
         subst Q (sym q) (suc reached.turns, later_value l top e (Ok v) is reached)
     go (inr (f, t, q)) =
-        let P : Result ℤ Stop → Type 0 = λ z. Tells l marks (form_at l e) z in
+        let P : Result ℤ EvalBlocked → Type 0 = λ z. Tells l marks (form_at l e) z in
         let Q : Result ℤ ValueFault → Type 0 = λ z. ExportComesTo l top z in
         subst Q (sym q) (fault_comes l old marks waiting root top e f w is (subst P t tells))
 
 -- what the top comes to
-pub top_comes : (l : Linkage) (old marks : List Mark) (waiting : List ℕ) (root top : ℕ) (r : Result ℤ ValueFault) → IsWalk l old marks waiting root top → attempt.Settled r ≡ export_tried l.modules marks (slice_get l.exports top) → ExportComesTo l top r
+pub top_comes : (l : Linkage) (old marks : List ExportState) (waiting : List ℕ) (root top : ℕ) (r : Result ℤ ValueFault) → IsWalk l old marks waiting root top → attempt.Settled r ≡ export_tried l.modules marks (slice_get l.exports top) → ExportComesTo l top r
 top_comes l old marks waiting root top r w a =
     let (e, is) = export_there l marks top w.long w.top_inside in
     settled_comes l old marks waiting root top e r w is (sym (rw is at a))
 
 -- what the top needs is untouched, and the top waits for it
-pub top_needs : (l : Linkage) (old marks : List Mark) (waiting : List ℕ) (root top next : ℕ) → IsWalk l old marks waiting root top → attempt.Needs next ≡ export_tried l.modules marks (slice_get l.exports top) → (slice_get marks next ≡ Some Untouched) × Leads l top next
+pub top_needs : (l : Linkage) (old marks : List ExportState) (waiting : List ℕ) (root top next : ℕ) → IsWalk l old marks waiting root top → attempt.Needs next ≡ export_tried l.modules marks (slice_get l.exports top) → (slice_get marks next ≡ Some Untouched) × Leads l top next
 top_needs l old marks waiting root top next w a =
     let (e, is) = export_there l marks top w.long w.top_inside in
-    let t = attempt_needs (tried (slice_get l.modules e.owner) marks e.form) next (sym (rw is at a)) in
-    let P : Result ℤ Stop → Type 0 = λ z. Tells l marks (form_at l e) z in
+    let t = attempt_needs (form_attempt (slice_get l.modules e.owner) marks e.form) next (sym (rw is at a)) in
+    let P : Result ℤ EvalBlocked → Type 0 = λ z. Tells l marks (form_at l e) z in
     let told = subst P t (top_tells l old marks waiting root top e w) in
     (told.0, leads_to l top next e is told.1)
 
 -- ---- Steps.
 
-untouched_inside : (marks : List Mark) (x : ℕ) → slice_get marks x ≡ Some Untouched → x < length marks
+untouched_inside : (marks : List ExportState) (x : ℕ) → slice_get marks x ≡ Some Untouched → x < length marks
 untouched_inside marks x e = grind (arith, common_steps, gets)
 
-pub next_inside : (l : Linkage) (old marks : List Mark) (waiting : List ℕ) (root top next : ℕ) → IsWalk l old marks waiting root top → attempt.Needs next ≡ export_tried l.modules marks (slice_get l.exports top) → next < length marks
+pub next_inside : (l : Linkage) (old marks : List ExportState) (waiting : List ℕ) (root top next : ℕ) → IsWalk l old marks waiting root top → attempt.Needs next ≡ export_tried l.modules marks (slice_get l.exports top) → next < length marks
 next_inside l old marks waiting root top next w a = untouched_inside marks next (top_needs l old marks waiting root top next w a).0
 
-pub walk_down : (l : Linkage) (old marks : List Mark) (waiting : List ℕ) (root top next : ℕ) → IsWalk l old marks waiting root top → attempt.Needs next ≡ export_tried l.modules marks (slice_get l.exports top) → IsWalk l old (slice_set marks next BeingEvaluated) (waiting ++ top ∷ []) root next
+pub walk_down : (l : Linkage) (old marks : List ExportState) (waiting : List ℕ) (root top next : ℕ) → IsWalk l old marks waiting root top → attempt.Needs next ≡ export_tried l.modules marks (slice_get l.exports top) → IsWalk l old (slice_set marks next BeingEvaluated) (waiting ++ top ∷ []) root next
 walk_down l old marks waiting root top next w a = record {
   long = (let long = w.long in grind (arith, common_steps));
   all_true = begun_true l marks next there w.all_true;
@@ -192,7 +192,7 @@ walk_down l old marks waiting root top next w a = record {
         let other : x ≢ next = grind (arith, nat_tests) in
         older x (w.evaluated x (sym (get_set_other marks next x BeingEvaluated other) ∙ e))
 
-pub walk_up : (l : Linkage) (old marks : List Mark) (waiting others : List ℕ) (root top below : ℕ) (r : Result ℤ ValueFault) → IsWalk l old marks waiting root top → waiting ≡ others ++ below ∷ [] → attempt.Settled r ≡ export_tried l.modules marks (slice_get l.exports top) → IsWalk l old (slice_set marks top (Found r)) others root below
+pub walk_up : (l : Linkage) (old marks : List ExportState) (waiting others : List ℕ) (root top below : ℕ) (r : Result ℤ ValueFault) → IsWalk l old marks waiting root top → waiting ≡ others ++ below ∷ [] → attempt.Settled r ≡ export_tried l.modules marks (slice_get l.exports top) → IsWalk l old (slice_set marks top (Found r)) others root below
 walk_up l old marks waiting others root top below r w q a = record {
   long = (let long = w.long in grind (arith, common_steps));
   all_true = found_true l marks top r w.top_inside w.all_true (top_comes l old marks waiting root top r w a);
@@ -216,12 +216,12 @@ walk_up l old marks waiting others root top below r w q a = record {
         let other : x ≢ top = grind (arith, nat_tests) in
         spread x (w.evaluated x (sym (get_set_other marks top x (Found r) other) ∙ e)) other
 
-pub record Ends (l : Linkage) (old marks : List Mark) (root : ℕ) : Type 0 where
+pub record Ends (l : Linkage) (old marks : List ExportState) (root : ℕ) : Type 0 where
   pub settled : AreSettled l marks
   pub found : IsFound marks root
   pub kept : KeepsFound old marks
 
-pub walk_ends : (l : Linkage) (old marks : List Mark) (waiting : List ℕ) (root top : ℕ) (r : Result ℤ ValueFault) → IsWalk l old marks waiting root top → waiting ≡ [] → attempt.Settled r ≡ export_tried l.modules marks (slice_get l.exports top) → Ends l old (slice_set marks top (Found r)) root
+pub walk_ends : (l : Linkage) (old marks : List ExportState) (waiting : List ℕ) (root top : ℕ) (r : Result ℤ ValueFault) → IsWalk l old marks waiting root top → waiting ≡ [] → attempt.Settled r ≡ export_tried l.modules marks (slice_get l.exports top) → Ends l old (slice_set marks top (Found r)) root
 walk_ends l old marks waiting root top r w q a = record {
   settled = record {
     long = (let long = w.long in grind (arith, common_steps));
@@ -250,18 +250,18 @@ walk_ends l old marks waiting root top r w q a = record {
 
 -- ---- The measure.
 
-abbrev pub weight : Mark → ℕ
+abbrev pub weight : ExportState → ℕ
 weight Untouched = 2
 weight BeingEvaluated = 0
 weight (Found r) = 0
 
-abbrev pub work : List Mark → List ℕ → ℕ
+abbrev pub work : List ExportState → List ℕ → ℕ
 work marks waiting = sum_by weight marks + length waiting
 
-pub get_or_some : (marks : List Mark) (x : ℕ) (m d : Mark) → slice_get marks x ≡ Some m → get_or marks x d ≡ m
+pub get_or_some : (marks : List ExportState) (x : ℕ) (m d : ExportState) → slice_get marks x ≡ Some m → get_or marks x d ≡ m
 get_or_some marks x m d e = grind (arith, common_steps, gets)
 
-pub work_down : (l : Linkage) (old marks : List Mark) (waiting : List ℕ) (root top next : ℕ) → IsWalk l old marks waiting root top → attempt.Needs next ≡ export_tried l.modules marks (slice_get l.exports top) → work (slice_set marks next BeingEvaluated) (waiting ++ top ∷ []) < work marks waiting
+pub work_down : (l : Linkage) (old marks : List ExportState) (waiting : List ℕ) (root top next : ℕ) → IsWalk l old marks waiting root top → attempt.Needs next ≡ export_tried l.modules marks (slice_get l.exports top) → work (slice_set marks next BeingEvaluated) (waiting ++ top ∷ []) < work marks waiting
 work_down l old marks waiting root top next w a =
     let untouched = (top_needs l old marks waiting root top next w a).0 in
     let inside : next < length marks = untouched_inside marks next untouched in
@@ -269,7 +269,7 @@ work_down l old marks waiting root top next w a =
     let before : weight (get_or marks next Untouched) ≡ 2 = ap weight (get_or_some marks next Untouched Untouched untouched) in
     simp length-append (omega (arith, change, before))
 
-pub work_up : (marks : List Mark) (waiting others : List ℕ) (top below : ℕ) (r : Result ℤ ValueFault) → top < length marks → waiting ≡ others ++ below ∷ [] → work (slice_set marks top (Found r)) others < work marks waiting
+pub work_up : (marks : List ExportState) (waiting others : List ℕ) (top below : ℕ) (r : Result ℤ ValueFault) → top < length marks → waiting ≡ others ++ below ∷ [] → work (slice_set marks top (Found r)) others < work marks waiting
 work_up marks waiting others top below r inside q =
     let change = sum_by-set weight marks top (Found r) (Found r) inside in
     let more : length waiting ≡ length others + 1 = simp length-append at (ap length q) in

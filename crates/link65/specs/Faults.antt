@@ -3,7 +3,7 @@ use Rattle.std.specs.Prelude.{ℕ, Bool, true, false, List, [], ◌∷◌, ◌++
 use Rattle.object65.specs.declared.fault.ObjectFault.{ObjectFault}
 use Rattle.script65.specs.declared.placement.PlaceFault.{PlaceFault}
 use Rattle.object65.specs.Record.{fault_text as object_words, is_memory as is_object_memory}
-use Rattle.script65.specs.Faults.{is_place_outside, place_fault_text}
+use Rattle.script65.specs.Faults.{is_place_system_error, place_fault_text}
 use Rattle.link65.specs.declared.fault.LinkFault.{LinkFault}
 use Rattle.link65.specs.declared.fault.LinkFault.TheVariants.{FailedBefore, OutOfMemory, Malformed, DuplicateExport, Unresolved, Place, Circular, OutOfRange, NoValue, Assertion, IndexDisagrees}
 use Rattle.object65.specs.declared.fault.ObjectFault.TheVariants.{CutShort}
@@ -20,20 +20,20 @@ abbrev pub of_object : ObjectFault → LinkFault
 of_object f = if is_object_memory f then OutOfMemory else Malformed f
 
 abbrev pub of_place : PlaceFault → LinkFault
-of_place f = if is_place_outside f then OutOfMemory else Place f
+of_place f = if is_place_system_error f then OutOfMemory else Place f
 
 -- names between commas and blanks
-abbrev pub listed : List (List ℕ) → List ℕ
-listed [] = []
-listed (name ∷ []) = name
-listed (name ∷ other ∷ names) = name ++ codes ", " ++ listed (other ∷ names)
+abbrev pub comma_separated : List (List ℕ) → List ℕ
+comma_separated [] = []
+comma_separated (name ∷ []) = name
+comma_separated (name ∷ other ∷ names) = name ++ codes ", " ++ comma_separated (other ∷ names)
 
 abbrev pub fault_text : LinkFault → List ℕ
 fault_text FailedBefore = codes "failed before"
 fault_text OutOfMemory = codes "out of memory"
 fault_text (Malformed f) = object_words f
 fault_text (DuplicateExport name) = codes "duplicate export: " ++ name
-fault_text (Unresolved names) = codes "unresolved: " ++ listed names
+fault_text (Unresolved names) = codes "unresolved: " ++ comma_separated names
 fault_text (Place f) = place_fault_text f
 fault_text (Circular s) = codes "circular definition"
 fault_text (OutOfRange s) = codes "out of range"
@@ -42,23 +42,23 @@ fault_text (Assertion s text) = text
 fault_text IndexDisagrees = codes "index disagrees with member"
 
 -- the same as characters: each byte of a name or of an assertion's text is the character of its code
-abbrev pub displayed : LinkFault → List ℕ
-displayed (DuplicateExport name) = codes "duplicate export: " ++ encode_utf8_all name
-displayed (Unresolved names) = codes "unresolved: " ++ encode_utf8_all (listed names)
-displayed (Assertion s text) = encode_utf8_all text
-displayed FailedBefore = codes "failed before"
-displayed OutOfMemory = codes "out of memory"
-displayed (Malformed f) = object_words f
-displayed (Place f) = place_fault_text f
-displayed (Circular s) = codes "circular definition"
-displayed (OutOfRange s) = codes "out of range"
-displayed (NoValue s) = codes "zero divisor or bad shift count"
-displayed IndexDisagrees = codes "index disagrees with member"
+abbrev pub display_text : LinkFault → List ℕ
+display_text (DuplicateExport name) = codes "duplicate export: " ++ encode_utf8_all name
+display_text (Unresolved names) = codes "unresolved: " ++ encode_utf8_all (comma_separated names)
+display_text (Assertion s text) = encode_utf8_all text
+display_text FailedBefore = codes "failed before"
+display_text OutOfMemory = codes "out of memory"
+display_text (Malformed f) = object_words f
+display_text (Place f) = place_fault_text f
+display_text (Circular s) = codes "circular definition"
+display_text (OutOfRange s) = codes "out of range"
+display_text (NoValue s) = codes "zero divisor or bad shift count"
+display_text IndexDisagrees = codes "index disagrees with member"
 
 -- what stands between names and one behind them
-abbrev pub separator_behind : List (List ℕ) → List ℕ
-separator_behind [] = []
-separator_behind (name ∷ names) = codes ", "
+abbrev pub separator_after : List (List ℕ) → List ℕ
+separator_after [] = []
+separator_after (name ∷ names) = codes ", "
 
 -- ---- Which faults a call of a linker answers at all, where none before it was refused.
 

@@ -7,14 +7,14 @@ use Rattle.object65.specs.declared.object.Fragment.{Fragment}
 use Rattle.object65.specs.declared.object.Section.{Section}
 use Rattle.object65.specs.Objects.{fragment_len}
 use Rattle.object65.specs.Items.{with_item}
-use Rattle.object65.specs.Record.{Entry}
-use Rattle.object65.specs.Scanning.{Outline, outline_of, scanned, IsReached, State, object_from, section_from, start}
+use Rattle.object65.specs.Record.{RawRecord}
+use Rattle.object65.specs.Scanning.{Outline, outline_of, scan_step, IsReached, State, object_from, section_from, start}
 use Rattle.link65.specs.declared.parts.SectionPlace.{SectionPlace}
-use Rattle.link65.specs.Programs.{Module, Program, asserted, exported, with_module, Cell, Segment, fragment_cells, section_place, section_places, with_section, with_sections}
+use Rattle.link65.specs.Programs.{Module, Program, linked_assertion, linked_export, with_module, Cell, Segment, fragment_cells, section_place, section_places, with_section, with_sections}
 
 -- The program of the modules before the open one, with what that one has put into segments, exports and assertions
 -- so far; the places of its sections, its imports, and the names of its files.
-pub record Growth : Type 0 where
+pub record PartialProgram : Type 0 where
   pub program : Program
   pub sections : List SectionPlace
   pub imports : List (List ℕ)
@@ -26,13 +26,13 @@ abbrev pub sections_in : State → List Section
 sections_in s = map section_from s.drafts
 
 -- a program with so much of a module behind it
-abbrev pub growth_of : Program → State → Growth
+abbrev pub growth_of : Program → State → PartialProgram
 growth_of p s = record {
   program = record {
     members = p.members;
     segments = with_sections (length p.members) p.segments (sections_in s);
-    exports = p.exports ++ map (exported (length p.members)) s.exports;
-    asserts = p.asserts ++ map (asserted (length p.members)) s.asserts;
+    exports = p.exports ++ map (linked_export (length p.members)) s.exports;
+    asserts = p.asserts ++ map (linked_assertion (length p.members)) s.asserts;
   };
   sections = section_places (length p.members) p.segments (sections_in s);
   imports = s.imports;
@@ -40,12 +40,12 @@ growth_of p s = record {
 }
 
 -- a program that no module is open behind
-abbrev pub at_rest : Program → Growth
+abbrev pub at_rest : Program → PartialProgram
 at_rest p = record { program = p; sections = []; imports = []; files = [] }
 
 -- the module of this name is whole
-abbrev pub ended : Growth → List ℕ → Program
-ended g name = record g.program { members = g.program.members ++ (record { name = name; sections = g.sections; imports = g.imports; files = g.files }) ∷ [] }
+abbrev pub closed_program : PartialProgram → List ℕ → Program
+closed_program g name = record g.program { members = g.program.members ++ (record { name = name; sections = g.sections; imports = g.imports; files = g.files }) ∷ [] }
 
 -- a module of this name and this object in the making
 abbrev pub module_from : List ℕ → State → Module
@@ -73,7 +73,7 @@ abbrev pub with_segments : Program → List Segment → Program
 with_segments p gs = record { members = p.members; segments = gs; exports = p.exports; asserts = p.asserts }
 
 -- a fragment more of the section at this place
-abbrev pub with_part : Growth → ℕ → Fragment → Option SectionPlace → Growth
+abbrev pub with_part : PartialProgram → ℕ → Fragment → Option SectionPlace → PartialProgram
 with_part g k f None = g
 with_part g k f (Some p) = record {
   program = with_segments g.program (with_more p.segment (fragment_len f) (fragment_cells (length g.program.members) f) g.program.segments);
@@ -82,7 +82,7 @@ with_part g k f (Some p) = record {
   files = g.files;
 }
 
-abbrev pub with_bare : Growth → Section → Growth
+abbrev pub with_bare : PartialProgram → Section → PartialProgram
 with_bare g s = record {
   program = with_segments g.program (with_section (length g.program.members) g.program.segments s);
   sections = g.sections ++ section_place g.program.segments s ∷ [];
@@ -91,7 +91,7 @@ with_bare g s = record {
 }
 
 -- with an item of the open module behind
-abbrev pub grown_by : Growth → Item → Growth
+abbrev pub grown_by : PartialProgram → Item → PartialProgram
 grown_by g (item.File name) = record g { files = g.files ++ name ∷ [] }
 grown_by g (item.Import name) = record g { imports = g.imports ++ name ∷ [] }
 grown_by g (item.Section name size align) = with_bare g (bare_section name align)
@@ -107,6 +107,6 @@ grown_by g item.End = g
 -- what a scan hands out grows a program as the module grows; when all has come the module stands behind the others
 abbrev pub GrowthLaw : Type 0
 GrowthLaw =
-    ((p : Program) (s : State) (e : Entry) (x : Outline × Item) → IsReached s → scanned (outline_of s) e ≡ Ok x → growth_of p (with_item s x.1) ≡ grown_by (growth_of p s) x.1)
+    ((p : Program) (s : State) (e : RawRecord) (x : Outline × Item) → IsReached s → scan_step (outline_of s) e ≡ Ok x → growth_of p (with_item s x.1) ≡ grown_by (growth_of p s) x.1)
     × ((p : Program) (version : ℕ) → growth_of p (start version) ≡ at_rest p)
-    × ((p : Program) (name : List ℕ) (s : State) → ended (growth_of p s) name ≡ with_module p (module_from name s))
+    × ((p : Program) (name : List ℕ) (s : State) → closed_program (growth_of p s) name ≡ with_module p (module_from name s))

@@ -1,11 +1,11 @@
 -- What holds of links, whatever the modules and the script are.
 use Rattle.std.specs.Prelude.{◌≡◌, ℕ, ℤ, Bool, false, List, [], Result}
-use Rattle.base65.specs.Own.{IsOwn}
+use Rattle.base65.specs.SystemErrors.{IsNoSystemError}
 use Rattle.object65.specs.Form.{Form}
 use Rattle.base65.specs.declared.output.OutputFile.{OutputFile}
 use Rattle.script65.specs.declared.placement.Placement.{Placement}
 use Rattle.script65.specs.declared.script.Script.{Script}
-use Rattle.script65.specs.Faults.{is_place_outside}
+use Rattle.script65.specs.Faults.{is_place_system_error}
 use Rattle.link65.specs.declared.fault.LinkFault.{LinkFault}
 use Rattle.link65.specs.declared.fault.LinkFault.TheVariants as fault
 use Rattle.link65.specs.declared.linking.Linked.{Linked}
@@ -18,32 +18,32 @@ use Rattle.link65.specs.Values.{ComesTo, Linkage}
 use Rattle.link65.specs.Names.{SameImages, is_used, with_weak}
 
 -- want of memory, also where segments are placed
-abbrev pub is_outside : LinkFault → Bool
-is_outside (fault.Place f) = is_place_outside f
-is_outside e = is_memory e
+abbrev pub is_system_error : LinkFault → Bool
+is_system_error (fault.Place f) = is_place_system_error f
+is_system_error e = is_memory e
 
 -- a link has one outcome
-abbrev pub OneOutcomeLaw : Type 0
-OneOutcomeLaw = (output : List ℕ) (s : Script) (modules : List Module) (r q : Result Linked LinkFault) → LinkOf output s modules r → LinkOf output s modules q → r ≡ q
+abbrev pub LinkOutcomeIsUnique : Type 0
+LinkOutcomeIsUnique = (output : List ℕ) (s : Script) (modules : List Module) (r q : Result Linked LinkFault) → LinkOf output s modules r → LinkOf output s modules q → r ≡ q
 
 -- and some outcome, which isn't want of memory
-abbrev pub SomeOutcomeLaw : Type 0
-SomeOutcomeLaw =
+abbrev pub LinkOutcomeExists : Type 0
+LinkOutcomeExists =
     (output : List ℕ) (s : Script) (modules : List Module) →
-    (r : Result Linked LinkFault) × LinkOf output s modules r × IsOwn is_outside r
+    (r : Result Linked LinkFault) × LinkOf output s modules r × IsNoSystemError is_system_error r
 
 -- a form comes to one answer
-abbrev pub OneValueLaw : Type 0
-OneValueLaw = (l : Linkage) (owner : ℕ) (f : Form) (r q : Result ℤ ValueFault) → ComesTo l owner f r → ComesTo l owner f q → r ≡ q
+abbrev pub LinkValueIsUnique : Type 0
+LinkValueIsUnique = (l : Linkage) (owner : ℕ) (f : Form) (r q : Result ℤ ValueFault) → ComesTo l owner f r → ComesTo l owner f q → r ≡ q
 
 -- and to some answer, also where it is circular
-abbrev pub SomeValueLaw : Type 0
-SomeValueLaw =
+abbrev pub LinkValueExists : Type 0
+LinkValueExists =
     (l : Linkage) (owner : ℕ) (f : Form) → (r : Result ℤ ValueFault) × ComesTo l owner f r
 
 -- wherever areas and rows are placed, and whatever bytes rows have, there are files of these
-abbrev pub SomeFilesLaw : Type 0
-SomeFilesLaw =
+abbrev pub FilesExist : Type 0
+FilesExist =
     (output : List ℕ) (s : Script) (placement : Placement) (bytes : RowBytes) →
     (files : List OutputFile)
     × AddsAreas output (IsAreaFile s.rows placement bytes) 0 s.areas [] files

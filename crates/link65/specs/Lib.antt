@@ -1,13 +1,13 @@
 pub mod Faults
 pub mod Files
-pub mod Grounds
+pub mod CodeInvariants
 pub mod Growing
-pub mod Inner
+pub mod Internal
 pub mod Laws
 pub mod Links
 pub mod Names
 pub mod Placed
 pub mod Programs
-pub mod Standing
+pub mod Representation
 pub mod Texts
 pub mod Values

@@ -3,21 +3,21 @@ use Rattle.std.specs.Prelude.{ℕ, ℤ, pos, List, [], ◌∷◌, ◌++◌, slic
 use Rattle.std.specs.List.{flat_map}
 use Rattle.std.specs.Option.{option_map_or}
 use Rattle.std.specs.Ordering.{int_eq}
-use Rattle.base65.specs.Outcome.{◌>>=◌, First}
+use Rattle.base65.specs.Outcome.{◌>>=◌, AndThen}
 use Rattle.object65.specs.declared.object.Action.{Action}
 use Rattle.object65.specs.declared.object.Action.TheVariants as action
 use Rattle.object65.specs.declared.object.Origin.{Origin}
 use Rattle.object65.specs.Objects.{fits_width}
-use Rattle.script65.specs.declared.script.Row.{Row}
+use Rattle.script65.specs.declared.script.SegmentRow.{SegmentRow}
 use Rattle.link65.specs.declared.fault.LinkFault.{LinkFault}
 use Rattle.link65.specs.declared.fault.LinkFault.TheVariants as fault
-use Rattle.link65.specs.declared.fault.Site.{Site}
+use Rattle.link65.specs.declared.fault.ModuleLocation.{ModuleLocation}
 use Rattle.link65.specs.declared.parts.Asserted.{Asserted}
 use Rattle.link65.specs.declared.parts.Exported.{Exported}
-use Rattle.link65.specs.declared.parts.Member.{Member}
+use Rattle.link65.specs.declared.parts.LinkedModule.{LinkedModule}
 use Rattle.link65.specs.declared.parts.ValueFault.{ValueFault}
 use Rattle.link65.specs.declared.parts.ValueFault.TheVariants.{Circular, NoValue, Unresolved}
-use Rattle.link65.specs.declared.parts.Fixup.{Fixup}
+use Rattle.link65.specs.declared.parts.ValueFixup.{ValueFixup}
 use Rattle.link65.specs.Programs.{Cell, known, filled, waits, Segment, segment_of, Module, Program, program_of}
 use Rattle.link65.specs.Values.{Exports, Linkage, value_by, AreExports, in_table, row_bytes, linkage_of, needs_of}
 use Rattle.link65.specs.Texts.{assertion_warning, warnings_of_rows, map_text}
@@ -28,7 +28,7 @@ use Rattle.script65.specs.declared.script.Script.{Script}
 use Rattle.link65.specs.declared.linking.Linked.{Linked}
 use Rattle.base65.specs.declared.output.OutputFile.{OutputFile}
 use Rattle.link65.specs.Files.{AddsAreas, IsAreaFile}
-use Rattle.link65.specs.Names.{first_again, given_names, unresolved}
+use Rattle.link65.specs.Names.{first_again, given_names, unresolved_names}
 
 -- ---- What is refused once all is placed: by the values of data, of exports and of assertions, in this order.
 
@@ -38,67 +38,67 @@ each_passes check [] = Ok tt
 each_passes check (x ∷ xs) = check x >>= (λ u. each_passes check xs)
 
 -- the name of a file of a member
-abbrev pub file_of : Option Member → Option ℕ → Option (List ℕ)
+abbrev pub file_of : Option LinkedModule → Option ℕ → Option (List ℕ)
 file_of (Some m) (Some k) = slice_get m.files k
 file_of (Some m) None = None
 file_of None file = None
 
 -- the module of a datum, an export or an assertion, the file in it where its object names one, and the line
-abbrev pub site : List Member → ℕ → Origin → Site
+abbrev pub site : List LinkedModule → ℕ → Origin → ModuleLocation
 site members owner origin = record { module_name = option_map_or (λ m. m.name) (slice_get members owner) []; file = file_of (slice_get members owner) origin.file; line = origin.line }
 
-abbrev pub value_fault : Site → ValueFault → LinkFault
+abbrev pub value_fault : ModuleLocation → ValueFault → LinkFault
 value_fault s Circular = fault.Circular s
 value_fault s NoValue = fault.NoValue s
 value_fault s Unresolved = fault.Unresolved []
 
 -- a value, or its fault at a place
-abbrev pub value_at : Site → Result ℤ ValueFault → Result ℤ LinkFault
+abbrev pub value_at : ModuleLocation → Result ℤ ValueFault → Result ℤ LinkFault
 value_at s (Ok v) = Ok v
 value_at s (Err e) = Err (value_fault s e)
 
 -- ---- Data.
 
-abbrev pub fixups_in : Cell → List Fixup
+abbrev pub fixups_in : Cell → List ValueFixup
 fixups_in (known b) = []
 fixups_in filled = []
 fixups_in (waits w) = w ∷ []
 
-abbrev pub fixups_of : Option Segment → List Fixup
+abbrev pub fixups_of : Option Segment → List ValueFixup
 fixups_of None = []
 fixups_of (Some g) = flat_map fixups_in g.cells
 
 -- the values that wait, by row, module and fragment
-abbrev pub fixups_by_row : List Row → List Segment → List Fixup
+abbrev pub fixups_by_row : List SegmentRow → List Segment → List ValueFixup
 fixups_by_row rows segments = flat_map (λ r. fixups_of (segment_of segments r.name)) rows
 
-abbrev pub fitting : Site → Fixup → ℤ → Result (Unit {0}) LinkFault
+abbrev pub fitting : ModuleLocation → ValueFixup → ℤ → Result (Unit {0}) LinkFault
 fitting s w v = if fits_width w.width v then Ok tt else Err (fault.OutOfRange s)
 
 -- a value that waits has a value, which fits
-abbrev pub check_fixup : Linkage → List Member → Exports → Fixup → Result (Unit {0}) LinkFault
+abbrev pub check_fixup : Linkage → List LinkedModule → Exports → ValueFixup → Result (Unit {0}) LinkFault
 check_fixup l members exports w =
     value_at (site members w.owner w.origin) (value_by l exports w.owner w.form) >>= fitting (site members w.owner w.origin) w
 
 -- ---- Exports, each used or not.
 
-abbrev pub check_export : Linkage → List Member → Exports → Exported → Result (Unit {0}) LinkFault
+abbrev pub check_export : Linkage → List LinkedModule → Exports → Exported → Result (Unit {0}) LinkFault
 check_export l members exports e =
     value_at (site members e.owner e.origin) (value_by l exports e.owner e.form) >>= (λ v. Ok tt)
 
 -- ---- Assertions.
 
 -- what is warned of an assertion that comes to a value, or that it fails
-abbrev pub assertion_result : Site → Action → List ℕ → ℤ → Result (List ℕ) LinkFault
+abbrev pub assertion_result : ModuleLocation → Action → List ℕ → ℤ → Result (List ℕ) LinkFault
 assertion_result s action.Warning text v = if int_eq v (pos 0) then Ok (assertion_warning s text) else Ok []
 assertion_result s action.Error text v = if int_eq v (pos 0) then Err (fault.Assertion s text) else Ok []
 
-abbrev pub check_assert : Linkage → List Member → Exports → Asserted → Result (List ℕ) LinkFault
+abbrev pub check_assert : Linkage → List LinkedModule → Exports → Asserted → Result (List ℕ) LinkFault
 check_assert l members exports a =
     value_at (site members a.owner a.origin) (value_by l exports a.owner a.form) >>= assertion_result (site members a.owner a.origin) a.action a.text
 
 -- what is warned of assertions, in order, or the first fault
-abbrev pub check_asserts : Linkage → List Member → Exports → List Asserted → Result (List ℕ) LinkFault
+abbrev pub check_asserts : Linkage → List LinkedModule → Exports → List Asserted → Result (List ℕ) LinkFault
 check_asserts l members exports [] = Ok []
 check_asserts l members exports (a ∷ rest) =
     check_assert l members exports a >>= (λ text. check_asserts l members exports rest >>= (λ more. Ok (text ++ more)))
@@ -119,21 +119,21 @@ none_unresolved (name ∷ names) = Err (fault.Unresolved (name ∷ names))
 
 -- each name that has to be given is
 abbrev pub names_given : Script → Program → Result (Unit {0}) LinkFault
-names_given s p = none_unresolved (unresolved s p)
+names_given s p = none_unresolved (unresolved_names s p)
 
 abbrev pub as_placement : Result Placement PlaceFault → Result Placement LinkFault
 as_placement (Ok p) = Ok p
 as_placement (Err e) = Err (fault.Place e)
 
 -- the placement of a program's segments
-abbrev pub placed : Script → Program → Result Placement LinkFault
-placed s p = names_given s p >>= (λ u. as_placement (place_of s (needs_of p)))
+abbrev pub placement_result : Script → Program → Result Placement LinkFault
+placement_result s p = names_given s p >>= (λ u. as_placement (place_of s (needs_of p)))
 
 -- ---- Values, where exports come to this.
 
 -- data, exports and assertions pass, in this order: what is warned of assertions
-abbrev pub checked : Script → Program → Linkage → Exports → Result (List ℕ) LinkFault
-checked s p l exports =
+abbrev pub check_result : Script → Program → Linkage → Exports → Result (List ℕ) LinkFault
+check_result s p l exports =
     each_passes (check_fixup l p.members exports) (fixups_by_row s.rows p.segments)
     >>= (λ u. each_passes (check_export l p.members exports) p.exports)
     >>= (λ u. check_asserts l p.members exports p.asserts)
@@ -151,7 +151,7 @@ IsImaged output s p placement l exports warnings r =
 
 -- what a placed program comes to, by what its exports come to
 abbrev pub IsFinished : List ℕ → Script → Program → Placement → Linkage → Exports → Result Linked LinkFault → Type 0
-IsFinished output s p placement l exports r = First (checked s p l exports) (IsImaged output s p placement l exports) r
+IsFinished output s p placement l exports r = AndThen (check_result s p l exports) (IsImaged output s p placement l exports) r
 
 abbrev pub IsPlacedLink : List ℕ → Script → Program → Placement → Result Linked LinkFault → Type 0
 IsPlacedLink output s p placement r =
@@ -159,9 +159,9 @@ IsPlacedLink output s p placement r =
 
 -- what a program comes to, none of whose names is given twice
 abbrev pub IsProgramLink : List ℕ → Script → Program → Result Linked LinkFault → Type 0
-IsProgramLink output s p r = First (placed s p) (IsPlacedLink output s p) r
+IsProgramLink output s p r = AndThen (placement_result s p) (IsPlacedLink output s p) r
 
 -- What modules come to by a script: the linked files, or the first fault.
 abbrev pub LinkOf : List ℕ → Script → List Module → Result Linked LinkFault → Type 0
 LinkOf output s modules r =
-    First (names_once s (program_of modules)) (λ u. IsProgramLink output s (program_of modules)) r
+    AndThen (names_once s (program_of modules)) (λ u. IsProgramLink output s (program_of modules)) r

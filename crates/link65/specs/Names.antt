@@ -2,17 +2,17 @@
 use Rattle.std.specs.Prelude.{ℕ, List, [], ◌∷◌, ◌++◌, map, codes, if◌then◌else◌, pos, Bool, not, ◌||◌, filter, slice_get, Option, Some, None, ◌≡◌, Result, Ok, Err}
 use Rattle.std.specs.Int.{w64, cast_signed}
 use Rattle.std.specs.List.{flat_map, list_any}
-use Rattle.script65.specs.declared.placement.AreaPlace.{AreaPlace}
+use Rattle.script65.specs.declared.placement.AreaPlacement.{AreaPlacement}
 use Rattle.script65.specs.declared.placement.Placement.{Placement}
-use Rattle.script65.specs.declared.placement.RowPlace.{RowPlace}
-use Rattle.script65.specs.AreaSums.{part_name}
-use Rattle.script65.specs.declared.script.Area.{Area}
-use Rattle.script65.specs.declared.script.Row.{Row}
+use Rattle.script65.specs.declared.placement.RowPlacement.{RowPlacement}
+use Rattle.script65.specs.AreaSums.{attribute_name}
+use Rattle.script65.specs.declared.script.MemoryArea.{MemoryArea}
+use Rattle.script65.specs.declared.script.SegmentRow.{SegmentRow}
 use Rattle.script65.specs.declared.script.Script.{Script}
 use Rattle.script65.specs.declared.script.Symbol.{Symbol}
 use Rattle.script65.specs.declared.script.SymbolKind.{SymbolKind}
 use Rattle.script65.specs.declared.script.SymbolKind.TheVariants as kind
-use Rattle.link65.specs.declared.parts.Definition.{Definition}
+use Rattle.link65.specs.declared.parts.ScriptSymbol.{ScriptSymbol}
 use Rattle.link65.specs.Programs.{flat_zip, position_in, Program}
 use Rattle.std.specs.Option.{option_map_or}
 use Rattle.std.specs.Str.{bytes_eq}
@@ -24,33 +24,33 @@ use Rattle.link65.specs.declared.linking.Linked.{Linked}
 
 -- ---- The names that a script gives.
 
-abbrev pub part : List ℕ → List ℕ → ℕ → Definition
-part name word n = record { name = part_name name word; value = cast_signed w64 n }
+abbrev pub attribute_symbol : List ℕ → List ℕ → ℕ → ScriptSymbol
+attribute_symbol name word n = record { name = attribute_name name word; value = cast_signed w64 n }
 
 -- what an area with `define` defines: its start, its size and the first address behind what is placed in it
-abbrev pub area_definitions : Area → AreaPlace → List Definition
+abbrev pub area_definitions : MemoryArea → AreaPlacement → List ScriptSymbol
 area_definitions a p =
-    if a.define then part a.name (codes "START") p.start ∷ part a.name (codes "SIZE") p.size ∷ part a.name (codes "LAST") p.last ∷ []
+    if a.define then attribute_symbol a.name (codes "START") p.start ∷ attribute_symbol a.name (codes "SIZE") p.size ∷ attribute_symbol a.name (codes "LAST") p.last ∷ []
     else []
 
 -- what a row with `define` defines: where its segment is loaded, where it runs, and its size
-abbrev pub row_definitions : Row → RowPlace → List Definition
+abbrev pub row_definitions : SegmentRow → RowPlacement → List ScriptSymbol
 row_definitions r p =
-    if r.define then part r.name (codes "LOAD") p.load ∷ part r.name (codes "RUN") p.run ∷ part r.name (codes "SIZE") p.size ∷ []
+    if r.define then attribute_symbol r.name (codes "LOAD") p.load ∷ attribute_symbol r.name (codes "RUN") p.run ∷ attribute_symbol r.name (codes "SIZE") p.size ∷ []
     else []
 
-abbrev pub areas_definitions : List Area → List AreaPlace → List Definition
+abbrev pub areas_definitions : List MemoryArea → List AreaPlacement → List ScriptSymbol
 areas_definitions areas places = flat_zip area_definitions areas places
 
-abbrev pub rows_definitions : List Row → List RowPlace → List Definition
+abbrev pub rows_definitions : List SegmentRow → List RowPlacement → List ScriptSymbol
 rows_definitions rows places = flat_zip row_definitions rows places
 
-abbrev pub export_definition : SymbolKind → List ℕ → List Definition
+abbrev pub export_definition : SymbolKind → List ℕ → List ScriptSymbol
 export_definition (kind.Export n) name = record { name = name; value = cast_signed w64 n } ∷ []
 export_definition (kind.Weak n) name = []
 export_definition kind.Import name = []
 
-abbrev pub weak_definition : SymbolKind → List ℕ → List Definition
+abbrev pub weak_definition : SymbolKind → List ℕ → List ScriptSymbol
 weak_definition (kind.Weak n) name = record { name = name; value = cast_signed w64 n } ∷ []
 weak_definition (kind.Export n) name = []
 weak_definition kind.Import name = []
@@ -61,11 +61,11 @@ import_name (kind.Export n) name = []
 import_name (kind.Weak n) name = []
 
 -- the symbols that a script exports
-abbrev pub symbol_exports : List Symbol → List Definition
+abbrev pub symbol_exports : List Symbol → List ScriptSymbol
 symbol_exports symbols = flat_map (λ s. export_definition s.kind s.name) symbols
 
 -- the symbols that it defines where nothing else does
-abbrev pub weak_symbols : List Symbol → List Definition
+abbrev pub weak_symbols : List Symbol → List ScriptSymbol
 weak_symbols symbols = flat_map (λ s. weak_definition s.kind s.name) symbols
 
 -- the symbols that it needs to be defined
@@ -73,19 +73,19 @@ abbrev pub symbol_imports : List Symbol → List (List ℕ)
 symbol_imports symbols = flat_map (λ s. import_name s.kind s.name) symbols
 
 -- what a script defines by itself, in the map's order: of areas, of rows, and the symbols that it exports
-abbrev pub script_definitions : Script → Placement → List Definition
+abbrev pub script_definitions : Script → Placement → List ScriptSymbol
 script_definitions s p = areas_definitions s.areas p.areas ++ rows_definitions s.rows p.rows ++ symbol_exports s.symbols
 
 -- ---- The names alone, which stand before anything is placed.
 
-abbrev pub area_names : Area → List (List ℕ)
+abbrev pub area_names : MemoryArea → List (List ℕ)
 area_names a =
-    if a.define then part_name a.name (codes "START") ∷ part_name a.name (codes "SIZE") ∷ part_name a.name (codes "LAST") ∷ []
+    if a.define then attribute_name a.name (codes "START") ∷ attribute_name a.name (codes "SIZE") ∷ attribute_name a.name (codes "LAST") ∷ []
     else []
 
-abbrev pub row_names : Row → List (List ℕ)
+abbrev pub row_names : SegmentRow → List (List ℕ)
 row_names r =
-    if r.define then part_name r.name (codes "LOAD") ∷ part_name r.name (codes "RUN") ∷ part_name r.name (codes "SIZE") ∷ []
+    if r.define then attribute_name r.name (codes "LOAD") ∷ attribute_name r.name (codes "RUN") ∷ attribute_name r.name (codes "SIZE") ∷ []
     else []
 
 abbrev pub script_names : Script → List (List ℕ)
@@ -122,8 +122,8 @@ each_once before (name ∷ names) = each_once (if is_among before name then befo
 abbrev pub references : Script → Program → List (List ℕ)
 references s p = each_once [] (symbol_imports s.symbols ++ flat_map (λ m. m.imports) p.members)
 
-abbrev pub unresolved : Script → Program → List (List ℕ)
-unresolved s p = filter (λ name. not (is_given s p name)) (references s p)
+abbrev pub unresolved_names : Script → Program → List (List ℕ)
+unresolved_names s p = filter (λ name. not (is_given s p name)) (references s p)
 
 -- what is needed and neither the script nor a module gives so far, weak names left aside: what libraries are searched for
 abbrev pub open_names : Script → Program → List (List ℕ)
@@ -131,7 +131,7 @@ open_names s p = filter (λ name. not (is_among (given_names s p) name)) (refere
 
 -- ---- Who gives a name.
 
-abbrev pub by_definition : List Definition → Option ℕ → Provider → Provider
+abbrev pub by_definition : List ScriptSymbol → Option ℕ → Provider → Provider
 by_definition ds (Some i) other = ByScript (option_map_or (λ d. d.value) (slice_get ds i) (pos 0))
 by_definition ds None other = other
 
@@ -140,7 +140,7 @@ by_export (Some i) other = ByModule i
 by_export None other = other
 
 -- the place of the first definition of a name
-abbrev pub defined_at : List Definition → List ℕ → Option ℕ
+abbrev pub defined_at : List ScriptSymbol → List ℕ → Option ℕ
 defined_at ds name = position_in (map (λ d. d.name) ds) name
 
 abbrev pub exported_at : List Exported → List ℕ → Option ℕ
@@ -148,7 +148,7 @@ exported_at exports name = position_in (map (λ e. e.name) exports) name
 
 -- By the script's own definitions, the exports of modules and the script's weak names; an export is named by its
 -- place. No name is given twice among the first two.
-abbrev pub provider_of : List Definition → List Exported → List Definition → List ℕ → Provider
+abbrev pub provider_of : List ScriptSymbol → List Exported → List ScriptSymbol → List ℕ → Provider
 provider_of own exports weak name =
     by_definition own (defined_at own name) (by_export (exported_at exports name) (by_definition weak (defined_at weak name) Nobody))
 

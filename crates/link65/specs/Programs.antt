@@ -9,13 +9,13 @@ use Rattle.object65.specs.declared.object.Fragment.{Fragment}
 use Rattle.object65.specs.declared.object.Fragment.TheVariants.{Literal, Fill, Value}
 use Rattle.object65.specs.Objects.{section_len}
 use Rattle.script65.specs.Placing.{rounded_up}
-use Rattle.link65.specs.declared.parts.Fixup.{Fixup}
+use Rattle.link65.specs.declared.parts.ValueFixup.{ValueFixup}
 use Rattle.link65.specs.declared.parts.SectionPlace.{SectionPlace}
 use Rattle.object65.specs.declared.object.Assert.{Assert}
 use Rattle.object65.specs.declared.object.Export.{Export}
 use Rattle.link65.specs.declared.parts.Asserted.{Asserted}
 use Rattle.link65.specs.declared.parts.Exported.{Exported}
-use Rattle.link65.specs.declared.parts.Member.{Member}
+use Rattle.link65.specs.declared.parts.LinkedModule.{LinkedModule}
 
 -- ---- Lists beside each other, and places by name.
 
@@ -42,7 +42,7 @@ pub record Module : Type 0 where
 pub data Cell : Type 0 where
   known : ℕ → Cell
   filled : Cell
-  waits : Fixup → Cell
+  waits : ValueFixup → Cell
 
 -- a segment's size, the largest alignment of its sections, and what lies in it from its start on
 pub record Segment : Type 0 where
@@ -64,22 +64,22 @@ abbrev pub align_of : Section → ℕ
 align_of s = 2 ^ s.align
 
 -- a section begins at the least multiple of its own alignment that isn't below the end before it
-abbrev pub begin_behind : ℕ → Section → ℕ
-begin_behind end s = rounded_up end (align_of s)
+abbrev pub begin_after : ℕ → Section → ℕ
+begin_after end s = rounded_up end (align_of s)
 
 -- a segment with a section behind what it has
-abbrev pub grown : ℕ → Segment → Section → Segment
-grown owner g s = record {
+abbrev pub segment_with_section : ℕ → Segment → Section → Segment
+segment_with_section owner g s = record {
   name = g.name;
-  size = begin_behind g.size s + section_len s;
+  size = begin_after g.size s + section_len s;
   align = max g.align (align_of s);
-  cells = g.cells ++ replicate (begin_behind g.size s - g.size) filled ++ flat_map (fragment_cells owner) s.fragments;
+  cells = g.cells ++ replicate (begin_after g.size s - g.size) filled ++ flat_map (fragment_cells owner) s.fragments;
 }
 
 -- segments with a section in the one of its name, which is begun behind the others where there is none
 abbrev pub with_section : ℕ → List Segment → Section → List Segment
-with_section owner [] s = grown owner (empty_segment s.name) s ∷ []
-with_section owner (g ∷ gs) s = if bytes_eq g.name s.name then grown owner g s ∷ gs else g ∷ with_section owner gs s
+with_section owner [] s = segment_with_section owner (empty_segment s.name) s ∷ []
+with_section owner (g ∷ gs) s = if bytes_eq g.name s.name then segment_with_section owner g s ∷ gs else g ∷ with_section owner gs s
 
 abbrev pub with_sections : ℕ → List Segment → List Section → List Segment
 with_sections owner gs [] = gs
@@ -94,7 +94,7 @@ end_of gs name = option_map_or (λ g. g.size) (segment_of gs name) 0
 
 -- where a section lies in its segment, behind what the segments hold before it
 abbrev pub section_place : List Segment → Section → SectionPlace
-section_place gs s = record { segment = s.name; offset = begin_behind (end_of gs s.name) s; size = section_len s }
+section_place gs s = record { segment = s.name; offset = begin_after (end_of gs s.name) s; size = section_len s }
 
 abbrev pub section_places : ℕ → List Segment → List Section → List SectionPlace
 section_places owner gs [] = []
@@ -105,7 +105,7 @@ section_places owner gs (s ∷ ss) = section_place gs s ∷ section_places owner
 -- A member is a module's name, the places of its sections in their segments, the names that it imports, and those of its files. An
 -- owner is a member's place.
 pub record Program : Type 0 where
-  pub members : List Member
+  pub members : List LinkedModule
   pub segments : List Segment
   pub exports : List Exported
   pub asserts : List Asserted
@@ -113,13 +113,13 @@ pub record Program : Type 0 where
 abbrev pub no_program : Program
 no_program = record { members = []; segments = []; exports = []; asserts = [] }
 
-abbrev pub exported : ℕ → Export → Exported
-exported owner e = record { owner = owner; name = e.name; origin = e.origin; form = e.form }
+abbrev pub linked_export : ℕ → Export → Exported
+linked_export owner e = record { owner = owner; name = e.name; origin = e.origin; form = e.form }
 
-abbrev pub asserted : ℕ → Assert → Asserted
-asserted owner a = record { owner = owner; action = a.action; origin = a.origin; text = a.text; form = a.form }
+abbrev pub linked_assertion : ℕ → Assert → Asserted
+linked_assertion owner a = record { owner = owner; action = a.action; origin = a.origin; text = a.text; form = a.form }
 
-abbrev pub member : Program → Module → Member
+abbrev pub member : Program → Module → LinkedModule
 member p m = record {
   name = m.name;
   sections = section_places (length p.members) p.segments m.object.sections;
@@ -132,8 +132,8 @@ abbrev pub with_module : Program → Module → Program
 with_module p m = record {
   members = p.members ++ member p m ∷ [];
   segments = with_sections (length p.members) p.segments m.object.sections;
-  exports = p.exports ++ map (exported (length p.members)) m.object.exports;
-  asserts = p.asserts ++ map (asserted (length p.members)) m.object.asserts;
+  exports = p.exports ++ map (linked_export (length p.members)) m.object.exports;
+  asserts = p.asserts ++ map (linked_assertion (length p.members)) m.object.asserts;
 }
 
 abbrev pub with_modules : Program → List Module → Program

@@ -2,16 +2,16 @@
 use Rattle.std.specs.Prelude.{ℕ, ◌%◌, ◌==◌, ◌&&◌, Bool, true, false, not, if◌then◌else◌, List, [], ◌∷◌, ◌++◌, Option, Some, None, codes, decimal, zero, suc, ◌/◌, ◌^◌, ◌||◌, is_some, nat_lt, get_or}
 use Rattle.std.specs.List.{flat_map, list_any}
 use Rattle.script65.specs.Placing.{is_written}
-use Rattle.script65.specs.declared.script.Row.{Row}
-use Rattle.link65.specs.declared.fault.Site.{Site}
+use Rattle.script65.specs.declared.script.SegmentRow.{SegmentRow}
+use Rattle.link65.specs.declared.fault.ModuleLocation.{ModuleLocation}
 use Rattle.link65.specs.Programs.{Cell, known, filled, waits, Segment, segment_of, flat_zip, Program}
 use Rattle.std.specs.Int.{w64, cast_unsigned}
 use Rattle.script65.specs.declared.placement.Placement.{Placement}
-use Rattle.script65.specs.declared.placement.RowPlace.{RowPlace}
+use Rattle.script65.specs.declared.placement.RowPlacement.{RowPlacement}
 use Rattle.script65.specs.declared.script.Script.{Script}
-use Rattle.link65.specs.declared.parts.Definition.{Definition}
+use Rattle.link65.specs.declared.parts.ScriptSymbol.{ScriptSymbol}
 use Rattle.link65.specs.declared.parts.Exported.{Exported}
-use Rattle.link65.specs.declared.parts.Member.{Member}
+use Rattle.link65.specs.declared.parts.LinkedModule.{LinkedModule}
 use Rattle.link65.specs.declared.parts.SectionPlace.{SectionPlace}
 use Rattle.link65.specs.Values.{or_zero, Exports, Linkage, value_by}
 use Rattle.link65.specs.Names.{defined_at, exported_at, script_definitions, weak_symbols}
@@ -19,22 +19,22 @@ use Rattle.link65.specs.Names.{defined_at, exported_at, script_definitions, weak
 -- ---- What the linker warns of.
 
 -- texts one behind the other
-abbrev pub joined : List (List ℕ) → List ℕ
-joined parts = flat_map (λ p. p) parts
+abbrev pub concat_texts : List (List ℕ) → List ℕ
+concat_texts parts = flat_map (λ p. p) parts
 
 -- `ld65: Warning: segment name words`
 abbrev pub segment_warning : List ℕ → List ℕ → List ℕ
-segment_warning name words = joined (codes "ld65: Warning: segment " ∷ name ∷ words ∷ codes "\n" ∷ [])
+segment_warning name words = concat_texts (codes "ld65: Warning: segment " ∷ name ∷ words ∷ codes "\n" ∷ [])
 
 -- a row whose segment no module has
-abbrev pub absence_warning : Row → List ℕ
+abbrev pub absence_warning : SegmentRow → List ℕ
 absence_warning r = if r.optional then [] else segment_warning r.name (codes " does not exist")
 
 abbrev pub align_words : ℕ → List ℕ
-align_words align = joined (codes " needs alignment " ∷ decimal align ∷ [])
+align_words align = concat_texts (codes " needs alignment " ∷ decimal align ∷ [])
 
 -- a row whose alignment is no multiple of its segment's
-abbrev pub alignment_warning : Row → Segment → List ℕ
+abbrev pub alignment_warning : SegmentRow → Segment → List ℕ
 alignment_warning r g = if r.align % g.align == 0 then [] else segment_warning r.name (align_words g.align)
 
 -- what is more than room for the fill value
@@ -44,15 +44,15 @@ is_data filled = false
 is_data (waits w) = true
 
 -- data in a row that is in no file
-abbrev pub data_warning : Row → Segment → List ℕ
+abbrev pub data_warning : SegmentRow → Segment → List ℕ
 data_warning r g = if not (is_written r.access) && list_any is_data g.cells then segment_warning r.name (codes " holds data that is not written") else []
 
-abbrev pub row_warnings : Row → Option Segment → List ℕ
+abbrev pub row_warnings : SegmentRow → Option Segment → List ℕ
 row_warnings r None = absence_warning r
 row_warnings r (Some g) = alignment_warning r g ++ data_warning r g
 
 -- those of all rows, in the script's order
-abbrev pub warnings_of_rows : List Row → List Segment → List ℕ
+abbrev pub warnings_of_rows : List SegmentRow → List Segment → List ℕ
 warnings_of_rows rows segments = flat_map (λ r. row_warnings r (segment_of segments r.name)) rows
 
 -- the module, and the file where there is one
@@ -61,12 +61,12 @@ site_parts name None = name ∷ []
 site_parts name (Some file) = name ∷ codes ":" ∷ file ∷ []
 
 -- `module` or `module:file`
-abbrev pub site_name : Site → List ℕ
-site_name s = joined (site_parts s.module_name s.file)
+abbrev pub location_name : ModuleLocation → List ℕ
+location_name s = concat_texts (site_parts s.module_name s.file)
 
 -- `module:line: Warning: text` or `module:file:line: Warning: text`
-abbrev pub assertion_warning : Site → List ℕ → List ℕ
-assertion_warning s text = joined (site_name s ∷ codes ":" ∷ decimal s.line ∷ codes ": Warning: " ∷ text ∷ codes "\n" ∷ [])
+abbrev pub assertion_warning : ModuleLocation → List ℕ → List ℕ
+assertion_warning s text = concat_texts (location_name s ∷ codes ":" ∷ decimal s.line ∷ codes ": Warning: " ∷ text ∷ codes "\n" ∷ [])
 
 -- ---- The map: the modules with their sections, the rows with their addresses, the symbols with their values.
 
@@ -84,24 +84,24 @@ address_text n = if nat_lt n (2 ^ 32) then hex_digits 8 n else hex_digits 9 n
 
 -- `  segment offset size`
 abbrev pub section_line : SectionPlace → List ℕ
-section_line p = joined (codes "  " ∷ p.segment ∷ codes " " ∷ address_text p.offset ∷ codes " " ∷ address_text p.size ∷ codes "\n" ∷ [])
+section_line p = concat_texts (codes "  " ∷ p.segment ∷ codes " " ∷ address_text p.offset ∷ codes " " ∷ address_text p.size ∷ codes "\n" ∷ [])
 
 -- a module's name, and its sections below it
-abbrev pub member_lines : Member → List ℕ
-member_lines m = joined (m.name ∷ codes "\n" ∷ flat_map section_line m.sections ∷ [])
+abbrev pub member_lines : LinkedModule → List ℕ
+member_lines m = concat_texts (m.name ∷ codes "\n" ∷ flat_map section_line m.sections ∷ [])
 
 -- `name run load size`
-abbrev pub row_line : Row → RowPlace → List ℕ
-row_line r p = joined (r.name ∷ codes " " ∷ address_text p.run ∷ codes " " ∷ address_text p.load ∷ codes " " ∷ address_text p.size ∷ codes "\n" ∷ [])
+abbrev pub row_line : SegmentRow → RowPlacement → List ℕ
+row_line r p = concat_texts (r.name ∷ codes " " ∷ address_text p.run ∷ codes " " ∷ address_text p.load ∷ codes " " ∷ address_text p.size ∷ codes "\n" ∷ [])
 
-abbrev pub row_lines : List Row → List RowPlace → List ℕ
+abbrev pub row_lines : List SegmentRow → List RowPlacement → List ℕ
 row_lines rows places = flat_zip row_line rows places
 
 -- `name value`, the value as sixteen digits of its two's complement
 abbrev pub symbol_line : List ℕ → ℕ → List ℕ
-symbol_line name bits = joined (name ∷ codes " " ∷ hex_digits 16 bits ∷ codes "\n" ∷ [])
+symbol_line name bits = concat_texts (name ∷ codes " " ∷ hex_digits 16 bits ∷ codes "\n" ∷ [])
 
-abbrev pub definition_line : Definition → List ℕ
+abbrev pub definition_line : ScriptSymbol → List ℕ
 definition_line d = symbol_line d.name (cast_unsigned w64 d.value)
 
 -- an export and its value
@@ -109,14 +109,14 @@ abbrev pub export_line : Linkage → Exports → Exported → List ℕ
 export_line l exports e = symbol_line e.name (cast_unsigned w64 (or_zero (value_by l exports e.owner e.form)))
 
 -- a weak name that nothing else defines
-abbrev pub weak_line : List Definition → List Exported → Definition → List ℕ
+abbrev pub weak_line : List ScriptSymbol → List Exported → ScriptSymbol → List ℕ
 weak_line own exports d = if is_some (defined_at own d.name) || is_some (exported_at exports d.name) then [] else definition_line d
 
 -- all symbols: the script's own, the modules' exports, and the weak names that are left
-abbrev pub symbol_lines : List Definition → List Definition → Linkage → Exports → List ℕ
+abbrev pub symbol_lines : List ScriptSymbol → List ScriptSymbol → Linkage → Exports → List ℕ
 symbol_lines own weak l exports =
-    joined (flat_map definition_line own ∷ flat_map (export_line l exports) l.exports ∷ flat_map (weak_line own l.exports) weak ∷ [])
+    concat_texts (flat_map definition_line own ∷ flat_map (export_line l exports) l.exports ∷ flat_map (weak_line own l.exports) weak ∷ [])
 
 abbrev pub map_text : Script → Program → Placement → Linkage → Exports → List ℕ
 map_text s program p l exports =
-    joined (codes "MODULES\n" ∷ flat_map member_lines program.members ∷ codes "SEGMENTS\n" ∷ row_lines s.rows p.rows ∷ codes "SYMBOLS\n" ∷ symbol_lines (script_definitions s p) (weak_symbols s.symbols) l exports ∷ [])
+    concat_texts (codes "MODULES\n" ∷ flat_map member_lines program.members ∷ codes "SEGMENTS\n" ∷ row_lines s.rows p.rows ∷ codes "SYMBOLS\n" ∷ symbol_lines (script_definitions s p) (weak_symbols s.symbols) l exports ∷ [])

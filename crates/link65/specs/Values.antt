@@ -11,11 +11,11 @@ use Rattle.link65.specs.declared.parts.ValueFault.TheVariants.{Circular, NoValue
 use Rattle.std.specs.Int.{w64, cast_signed}
 use Rattle.std.specs.Option.{option_map_or}
 use Rattle.script65.specs.declared.placement.Placement.{Placement}
-use Rattle.script65.specs.declared.placement.RowPlace.{RowPlace}
+use Rattle.script65.specs.declared.placement.RowPlacement.{RowPlacement}
 use Rattle.script65.specs.declared.placement.SegmentNeed.{SegmentNeed}
-use Rattle.script65.specs.declared.script.Row.{Row}
+use Rattle.script65.specs.declared.script.SegmentRow.{SegmentRow}
 use Rattle.script65.specs.declared.script.Script.{Script}
-use Rattle.link65.specs.declared.parts.Member.{Member}
+use Rattle.link65.specs.declared.parts.LinkedModule.{LinkedModule}
 use Rattle.link65.specs.declared.parts.SectionPlace.{SectionPlace}
 use Rattle.link65.specs.Names.{provider_of, script_definitions, weak_symbols}
 use Rattle.link65.specs.Programs.{position_in, Program, Segment, Cell, known, filled, waits, segment_of}
@@ -64,17 +64,17 @@ exports_through l zero x = Err Circular
 exports_through l (suc n) x = export_value l (exports_through l n) (slice_get l.exports x)
 
 -- what stays circular at every number of exports is circular; any other answer is found at some number
-abbrev pub Settles : (ℕ → Result ℤ ValueFault) → Result ℤ ValueFault → Type 0
-Settles at (Err Circular) = (n : ℕ) → at n ≡ Err Circular
-Settles at r = (n : ℕ) × (at n ≡ r)
+abbrev pub ConvergesTo : (ℕ → Result ℤ ValueFault) → Result ℤ ValueFault → Type 0
+ConvergesTo at (Err Circular) = (n : ℕ) → at n ≡ Err Circular
+ConvergesTo at r = (n : ℕ) × (at n ≡ r)
 
 -- what the export at a place comes to
 abbrev pub ExportComesTo : Linkage → ℕ → Result ℤ ValueFault → Type 0
-ExportComesTo l x r = Settles (λ n. exports_through l n x) r
+ExportComesTo l x r = ConvergesTo (λ n. exports_through l n x) r
 
 -- what a form of the module at a place comes to
 abbrev pub ComesTo : Linkage → ℕ → Form → Result ℤ ValueFault → Type 0
-ComesTo l owner f r = Settles (λ n. value_by l (exports_through l n) owner f) r
+ComesTo l owner f r = ConvergesTo (λ n. value_by l (exports_through l n) owner f) r
 
 -- what each export comes to, in order
 pub record AreExports (l : Linkage) (table : List (Result ℤ ValueFault)) : Type 0 where
@@ -97,27 +97,27 @@ need_of g = record { name = g.name; size = g.size; align = g.align }
 abbrev pub needs_of : Program → List SegmentNeed
 needs_of p = map need_of p.segments
 
-abbrev pub run_at : List RowPlace → Option ℕ → ℕ
+abbrev pub run_at : List RowPlacement → Option ℕ → ℕ
 run_at places (Some i) = option_map_or (λ p. p.run) (slice_get places i) 0
 run_at places None = 0
 
 -- the address at which a segment runs: that of its row
-abbrev pub run_of : List Row → List RowPlace → List ℕ → ℕ
+abbrev pub run_of : List SegmentRow → List RowPlacement → List ℕ → ℕ
 run_of rows places name = run_at places (position_in (map (λ r. r.name) rows) name)
 
 -- modulo 2 ^ 64, as a signed number
-abbrev pub address_of : List Row → List RowPlace → SectionPlace → ℤ
+abbrev pub address_of : List SegmentRow → List RowPlacement → SectionPlace → ℤ
 address_of rows places p = cast_signed w64 ((run_of rows places p.segment + p.offset) % 2 ^ 64)
 
 -- a module's sections at their addresses, and who gives its imports
-abbrev pub resolved : Script → Program → Placement → Member → Resolved
-resolved s program p m = record {
+abbrev pub module_bindings : Script → Program → Placement → LinkedModule → Resolved
+module_bindings s program p m = record {
   bases = map (address_of s.rows p.rows) m.sections;
   providers = map (provider_of (script_definitions s p) program.exports (weak_symbols s.symbols)) m.imports;
 }
 
 abbrev pub linkage_of : Script → Program → Placement → Linkage
-linkage_of s program p = record { modules = map (resolved s program p) program.members; exports = program.exports }
+linkage_of s program p = record { modules = map (module_bindings s program p) program.members; exports = program.exports }
 
 -- ---- The bytes of rows.
 
@@ -126,14 +126,14 @@ or_zero (Ok v) = v
 or_zero (Err e) = pos 0
 
 -- the bytes of a value, which has been found to fit
-abbrev pub stored : Width → ℤ → List ℕ
-stored width v = if fits_width width v then value_bytes width v else []
+abbrev pub checked_value_bytes : Width → ℤ → List ℕ
+checked_value_bytes width v = if fits_width width v then value_bytes width v else []
 
 -- the bytes of a cell, by the row's fill value and what exports come to
 abbrev pub cell_bytes : Linkage → Exports → ℕ → Cell → List ℕ
 cell_bytes l exports fill (known b) = b ∷ []
 cell_bytes l exports fill filled = fill ∷ []
-cell_bytes l exports fill (waits w) = stored w.width (or_zero (value_by l exports w.owner w.form))
+cell_bytes l exports fill (waits w) = checked_value_bytes w.width (or_zero (value_by l exports w.owner w.form))
 
 abbrev pub segment_bytes : Linkage → Exports → ℕ → Option Segment → List ℕ
 segment_bytes l exports fill None = []

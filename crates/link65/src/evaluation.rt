@@ -1,12 +1,12 @@
 //! The values of forms and of exports, found with a stack of its own.
 
 ghost use Rattle.std.specs.Prelude.{◌≡◌, ◌<◌, length, option_copied, slice_get, IfOk, OnOk, Some};
-ghost use Rattle.link65.specs.declared.evaluation.Stop.TheVariants.{Fault};
+ghost use Rattle.link65.specs.declared.evaluation.EvalBlocked.TheVariants.{Fault};
 ghost use Rattle.link65.specs.declared.parts.Exported.{Exported};
 ghost use Rattle.link65.specs.declared.parts.ValueFault.TheVariants.{NoValue};
-ghost use Rattle.link65.specs.Placed.{export_tried, import_tried, tried, AreAllFound, AreSettled, IsFound, KeepsFound};
+ghost use Rattle.link65.specs.Placed.{export_tried, import_tried, form_attempt, AreAllFound, AreSettled, IsFound, KeepsFound};
 ghost use Rattle.link65.specs.Values.{base_of, provider_at, linkage};
-ghost use Rattle.link65.specs.declared.evaluation.Mark.TheVariants.{Untouched};
+ghost use Rattle.link65.specs.declared.evaluation.ExportState.TheVariants.{Untouched};
 
 use crate::parts::{Exported, Provider, Resolved, ValueFault};
 use base65::{apply1, apply2};
@@ -15,7 +15,7 @@ use std::alloc::{AllocError, Global};
 
 /// What is known of an export.
 #[derive(Clone, Copy)]
-pub enum Mark {
+pub enum ExportState {
     Untouched,
     BeingEvaluated,
     Found(Result<i64, ValueFault>),
@@ -23,7 +23,7 @@ pub enum Mark {
 
 /// Why a form has no value so far.
 #[derive(Clone, Copy)]
-pub enum Stop {
+pub enum EvalBlocked {
     /// It has none.
     Fault(ValueFault),
     /// It needs the export at this place first.
@@ -40,19 +40,19 @@ pub enum Attempt {
 }
 
 /// The value of an import, as far as exports are known.
-fn try_import(marks: &[Mark], provider: Provider) -> Result<i64, Stop>
+fn try_import(marks: &[ExportState], provider: Provider) -> Result<i64, EvalBlocked>
     ensures { result ≡ import_tried marks.now provider }
 {
     match provider {
         Provider::ByScript(value) => Ok(value),
-        Provider::Nobody => Err(Stop::Fault(ValueFault::Unresolved)),
+        Provider::Nobody => Err(EvalBlocked::Fault(ValueFault::Unresolved)),
         Provider::ByModule(export) => match marks.get(export) {
-            None => Err(Stop::Fault(ValueFault::Unresolved)),
-            Some(Mark::Untouched) => Err(Stop::Needs(export)),
-            Some(Mark::BeingEvaluated) => Err(Stop::Fault(ValueFault::Circular)),
-            Some(Mark::Found(outcome)) => match outcome {
+            None => Err(EvalBlocked::Fault(ValueFault::Unresolved)),
+            Some(ExportState::Untouched) => Err(EvalBlocked::Needs(export)),
+            Some(ExportState::BeingEvaluated) => Err(EvalBlocked::Fault(ValueFault::Circular)),
+            Some(ExportState::Found(outcome)) => match outcome {
                 Ok(value) => Ok(*value),
-                Err(fault) => Err(Stop::Fault(*fault)),
+                Err(fault) => Err(EvalBlocked::Fault(*fault)),
             },
         },
     }
@@ -85,16 +85,20 @@ fn base_at(resolved: Option<&Resolved>, section: usize) -> i64
 
 /// The value of a form of a module as far as exports are known, or what it needs first.
 #[tactic(auto, using(std::proofs::lemmas::Int::wraps))]
-pub fn try_form(form: &Norm, resolved: Option<&Resolved>, marks: &[Mark]) -> Result<i64, Stop>
-    ensures { result ≡ tried (option_copied resolved.entry) marks.now form.now }
+pub fn try_form(
+    form: &Norm,
+    resolved: Option<&Resolved>,
+    marks: &[ExportState],
+) -> Result<i64, EvalBlocked>
+    ensures { result ≡ form_attempt (option_copied resolved.entry) marks.now form.now }
 {
     match form.node() {
-        Node::Lit(value) => Ok(*value),
-        Node::Sec(section, offset) => {
+        Node::NumberNode(value) => Ok(*value),
+        Node::SectionOffset(section, offset) => {
             let base = base_at(resolved, *section as usize);
             Ok(base.wrapping_add(*offset))
         }
-        Node::Imp(place) => try_import(marks, provider_at(resolved, *place as usize)),
+        Node::ImportedName(place) => try_import(marks, provider_at(resolved, *place as usize)),
         Node::Prefix(op, part) => {
             let value = try_form(part, resolved, marks)?;
             Ok(apply1(*op, value))
@@ -102,21 +106,26 @@ pub fn try_form(form: &Norm, resolved: Option<&Resolved>, marks: &[Mark]) -> Res
         Node::Binary(op, left, right) => {
             let first = try_form(left, resolved, marks)?;
             let second = try_form(right, resolved, marks)?;
-            apply2(*op, first, second).ok_or(Stop::Fault(ValueFault::NoValue))
+            apply2(*op, first, second).ok_or(EvalBlocked::Fault(ValueFault::NoValue))
         }
     }
 }
 
 /// What the export at a place comes to as far as exports are known, or what it needs first.
-fn try_export(modules: &[Resolved], exports: &[Exported], marks: &[Mark], place: usize) -> Attempt
+fn try_export(
+    modules: &[Resolved],
+    exports: &[Exported],
+    marks: &[ExportState],
+    place: usize,
+) -> Attempt
     requires { place < length exports.now }
     ensures { result ≡ export_tried modules.now marks.now (slice_get exports.now place) }
 {
     let export = &exports[place];
     match try_form(&export.form, modules.get(export.owner), marks) {
         Ok(value) => Attempt::Settled(Ok(value)),
-        Err(Stop::Fault(fault)) => Attempt::Settled(Err(fault)),
-        Err(Stop::Needs(export)) => Attempt::Needs(export),
+        Err(EvalBlocked::Fault(fault)) => Attempt::Settled(Err(fault)),
+        Err(EvalBlocked::Needs(export)) => Attempt::Needs(export),
     }
 }
 
@@ -125,7 +134,7 @@ fn settle(
     alloc: Global,
     modules: &[Resolved],
     exports: &[Exported],
-    marks: &mut [Mark],
+    marks: &mut [ExportState],
     root: usize,
 ) -> Result<(), AllocError>
     requires untouched { slice_get marks.old root ≡ Some Untouched }
@@ -135,17 +144,17 @@ fn settle(
     ensures kept { OnOk result (KeepsFound marks.old marks.new) }
 {
     let mut waiting: Vec<usize> = Vec::new(alloc);
-    marks[root] = Mark::BeingEvaluated;
+    marks[root] = ExportState::BeingEvaluated;
     let mut top = root;
     'walk: loop {
         match try_export(modules, exports, marks, top) {
             Attempt::Needs(next) => {
-                marks[next] = Mark::BeingEvaluated;
+                marks[next] = ExportState::BeingEvaluated;
                 waiting.push(top)?;
                 top = next;
             }
             Attempt::Settled(outcome) => {
-                marks[top] = Mark::Found(outcome);
+                marks[top] = ExportState::Found(outcome);
                 match waiting.pop() {
                     None => return Ok(()),
                     Some(below) => top = below,
@@ -160,12 +169,12 @@ pub fn settle_all(
     alloc: Global,
     modules: &[Resolved],
     exports: &[Exported],
-) -> Result<Vec<Mark>, AllocError>
+) -> Result<Vec<ExportState>, AllocError>
     ensures { IfOk result (λ marks. AreAllFound (linkage modules.now exports.now) marks.items) }
 {
-    let mut marks = vec![in alloc; Mark::Untouched; exports.len()]?;
+    let mut marks = vec![in alloc; ExportState::Untouched; exports.len()]?;
     for root in 0..marks.len() {
-        if let Mark::Untouched = marks[root] {
+        if let ExportState::Untouched = marks[root] {
             settle(alloc, modules, exports, marks.as_mut_slice(), root)?;
         }
     }

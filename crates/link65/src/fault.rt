@@ -4,9 +4,9 @@ ghost use Rattle.std.specs.Prelude.{◌≡◌, Some};
 ghost use Rattle.link65.specs.Faults.{of_object, of_place};
 ghost use Rattle.link65.specs.declared.fault.LinkFault.TheVariants.{OutOfMemory};
 
-use base65::Sequence;
+use base65::ListVec;
 use object65::ObjectFault;
-use script65::{PlaceFault, Shown};
+use script65::{ByteDisplay, PlaceFault};
 use std::alloc::{AllocError, AllocFailed};
 use std::error::Error;
 use std::fmt;
@@ -14,9 +14,9 @@ use std::fmt;
 /// The module of a datum, an export or an assertion, the file in which it stands where the object names one, and the
 /// line.
 #[derive(Debug, Drop)]
-pub struct Site {
-    pub module_name: Sequence<u8>,
-    pub file: Option<Sequence<u8>>,
+pub struct ModuleLocation {
+    pub module_name: ListVec<u8>,
+    pub file: Option<ListVec<u8>>,
     pub line: u32,
 }
 
@@ -28,27 +28,27 @@ pub enum LinkFault {
     /// A module that isn't an object.
     Malformed(ObjectFault),
     /// A name that is given twice.
-    DuplicateExport(Sequence<u8>),
+    DuplicateExport(ListVec<u8>),
     /// All names that nobody gives, in order of first reference.
-    Unresolved(Sequence<Sequence<u8>>),
+    Unresolved(ListVec<ListVec<u8>>),
     /// Segments that aren't placed.
     Place(PlaceFault),
     /// A value that needs itself.
-    Circular(Site),
+    Circular(ModuleLocation),
     /// A value that doesn't fit.
-    OutOfRange(Site),
+    OutOfRange(ModuleLocation),
     /// A zero divisor or a bad shift count.
-    NoValue(Site),
+    NoValue(ModuleLocation),
     /// An assertion that fails, and its text.
-    Assertion(Site, Sequence<u8>),
+    Assertion(ModuleLocation, ListVec<u8>),
     /// A member of a library whose names aren't those that the index has.
     IndexDisagrees,
 }
 
 impl fmt::Display for LinkFault {
-    ghost use Rattle.link65.specs.Faults.{displayed};
+    ghost use Rattle.link65.specs.Faults.{display_text};
 
-    ghost output = { λ e. Some (displayed e) };
+    ghost output = { λ e. Some (display_text e) };
 
     fn fmt<W: fmt::Write>(&self, f: &mut fmt::Formatter<W>) -> fmt::Result {
         match self {
@@ -56,11 +56,11 @@ impl fmt::Display for LinkFault {
             LinkFault::OutOfMemory => f.write_str("out of memory"),
             LinkFault::Malformed(fault) => write!(f, "{fault}"),
             LinkFault::DuplicateExport(name) => {
-                let name = Shown(name.as_slice());
+                let name = ByteDisplay(name.as_slice());
                 write!(f, "duplicate export: {name}")
             }
             LinkFault::Unresolved(names) => {
-                let names = Listed(names.as_slice());
+                let names = NameList(names.as_slice());
                 write!(f, "unresolved: {names}")
             }
             LinkFault::Place(fault) => write!(f, "{fault}"),
@@ -68,7 +68,7 @@ impl fmt::Display for LinkFault {
             LinkFault::OutOfRange(_) => f.write_str("out of range"),
             LinkFault::NoValue(_) => f.write_str("zero divisor or bad shift count"),
             LinkFault::Assertion(_, text) => {
-                let text = Shown(text.as_slice());
+                let text = ByteDisplay(text.as_slice());
                 write!(f, "{text}")
             }
             LinkFault::IndexDisagrees => f.write_str("index disagrees with member"),
@@ -80,18 +80,18 @@ impl Error for LinkFault {}
 
 /// Names as they are printed, between commas and blanks.
 #[derive(Clone, Copy)]
-struct Listed<'a>(&'a [Sequence<u8>]);
+struct NameList<'a>(&'a [ListVec<u8>]);
 
-impl fmt::Display for Listed<'_> {
+impl fmt::Display for NameList<'_> {
     ghost use Rattle.std.specs.Prelude.{encode_utf8_all};
-    ghost use Rattle.link65.specs.Faults.{listed};
+    ghost use Rattle.link65.specs.Faults.{comma_separated};
 
-    ghost output = { λ x. Some (encode_utf8_all (listed x.0.now)) };
+    ghost output = { λ x. Some (encode_utf8_all (comma_separated x.0.now)) };
 
     fn fmt<W: fmt::Write>(&self, f: &mut fmt::Formatter<W>) -> fmt::Result {
         let mut separator = "";
         for name in self.0 {
-            let name = Shown(name.as_slice());
+            let name = ByteDisplay(name.as_slice());
             write!(f, "{separator}{name}")?;
             separator = ", ";
         }

@@ -3,18 +3,18 @@
 ghost use Rattle.std.specs.Prelude.{length, ◌≡◌, IfOk, map, ◌+◌, drop, Ok, OnErr, OnOk, IfErr, true};
 ghost use Rattle.std.specs.Option.{option_map};
 ghost use Rattle.library65.specs.Libraries.{are_same};
-ghost use Rattle.link65.specs.Inner.Fields.{are_listed, Closes, Grows};
-ghost use Rattle.link65.specs.Standing.{listed_of, values_in, names_in};
+ghost use Rattle.link65.specs.Internal.Fields.{are_listed, ClosesModule, GrowsProgram};
+ghost use Rattle.link65.specs.Representation.{listed_of, values_in, names_in};
 ghost use Rattle.object65.specs.Record.{entry_of, is_version};
 ghost use Rattle.object65.specs.Scanning.{outline_of, start};
 ghost use Rattle.link65.specs.Faults.{is_memory, RefusesBy, is_of_end, is_of_record};
-ghost use Rattle.link65.specs.Grounds.{AreNamed, growth_in};
+ghost use Rattle.link65.specs.CodeInvariants.{NamesResolve, growth_in};
 
 use crate::fault::LinkFault;
-use crate::given::Given;
-use crate::growing::{Growing, end_module, take_item};
+use crate::given::DefinedNames;
+use crate::growing::{ProgramBuilder, end_module, take_item};
 use crate::parts::Exported;
-use base65::Sequence;
+use base65::ListVec;
 use library65::{Entry, are_same};
 use object65::format::VALUE;
 use object65::{ObjectFault, Record, Scan};
@@ -23,35 +23,35 @@ use std::mem;
 
 /// The names that an index has of a member: what it exports and what it imports, in its order.
 #[derive(Drop)]
-pub struct Listed {
-    pub exports: Sequence<Sequence<u8>>,
-    pub imports: Sequence<Sequence<u8>>,
+pub struct OpenEntry {
+    pub exports: ListVec<ListVec<u8>>,
+    pub imports: ListVec<ListVec<u8>>,
 }
 
-fn copies(alloc: Global, names: &[Sequence<u8>]) -> Result<Sequence<Sequence<u8>>, AllocError>
+fn copies(alloc: Global, names: &[ListVec<u8>]) -> Result<ListVec<ListVec<u8>>, AllocError>
     ensures { IfOk result (λ all. all ≡ names.now) }
 {
-    let mut all = Sequence::new(alloc);
+    let mut all = ListVec::new(alloc);
     for name in names {
-        all.push(Sequence::copy_of(alloc, name.as_slice())?)?;
+        all.push(ListVec::copy_of(alloc, name.as_slice())?)?;
     }
     Ok(all)
 }
 
 /// The names that an entry has, if there is one.
-fn listed_of(alloc: Global, entry: Option<&Entry>) -> Result<Option<Listed>, AllocError>
+fn listed_of(alloc: Global, entry: Option<&Entry>) -> Result<Option<OpenEntry>, AllocError>
     ensures { IfOk result (λ l. l ≡ option_map (λ e. listed_of e.now) entry.entry) }
 {
     match entry {
         None => Ok(None),
-        Some(entry) => Ok(Some(Listed {
+        Some(entry) => Ok(Some(OpenEntry {
             exports: copies(alloc, entry.exports.as_slice())?,
             imports: copies(alloc, entry.imports.as_slice())?,
         })),
     }
 }
 
-fn same_exports(names: &[Sequence<u8>], exports: &[Exported]) -> bool
+fn same_exports(names: &[ListVec<u8>], exports: &[Exported]) -> bool
     ensures { result ≡ are_same names.now (map (λ e. e.name) exports.now) }
 {
     if names.len() != exports.len() {
@@ -66,7 +66,7 @@ fn same_exports(names: &[Sequence<u8>], exports: &[Exported]) -> bool
 }
 
 /// Whether these are the names listed, if any are.
-fn are_listed(listed: &Option<Listed>, exports: &[Exported], imports: &[Sequence<u8>]) -> bool
+fn are_listed(listed: &Option<OpenEntry>, exports: &[Exported], imports: &[ListVec<u8>]) -> bool
     ensures { result ≡ are_listed listed.now (map (λ e. e.name) exports.now) imports.now }
 {
     match listed {
@@ -80,30 +80,30 @@ fn are_listed(listed: &Option<Listed>, exports: &[Exported], imports: &[Sequence
 
 /// A module that is open: its name, and what is kept of its records to take the next.
 #[derive(Drop)]
-pub struct Open {
-    pub name: Sequence<u8>,
+pub struct OpenModule {
+    pub name: ListVec<u8>,
     pub scan: Scan,
     /// The place of its first export among all.
     pub first_export: usize,
     /// The names that a library's index has of it, if it is a member of one.
-    pub listed: Option<Listed>,
+    pub listed: Option<OpenEntry>,
 }
 
 /// Opens a module of this name and of an object of this version, a library's member where there is an entry of it.
 pub fn open_module(
-    growing: &Growing,
+    growing: &ProgramBuilder,
     name: &[u8],
     version: u8,
     entry: Option<&Entry>,
-) -> Result<Open, LinkFault>
+) -> Result<OpenModule, LinkFault>
     requires { is_version version ≡ true }
     ensures opened { IfOk result (λ o. o ≡ record { name = name.now; scan = outline_of (start version); first_export = length growing.now.exports; listed = option_map (λ e. listed_of e.now) entry.entry }) }
     ensures memory { IfErr result (λ e. is_memory e ≡ true) }
 {
     let alloc = growing.alloc;
     let seed = *growing.names.hasher();
-    Ok(Open {
-        name: Sequence::copy_of(alloc, name)?,
+    Ok(OpenModule {
+        name: ListVec::copy_of(alloc, name)?,
         scan: Scan::seeded(alloc, seed, version),
         first_export: growing.exports.len(),
         listed: listed_of(alloc, entry)?,
@@ -112,17 +112,17 @@ pub fn open_module(
 
 /// Takes a record of the open module, and counts its values.
 pub fn take_record(
-    growing: &mut Growing,
-    opened: &mut Open,
+    growing: &mut ProgramBuilder,
+    opened: &mut OpenModule,
     pending: &mut usize,
     next: &Record,
 ) -> Result<(), LinkFault>
-    requires { AreNamed growing.old }
-    ensures taken { Grows (entry_of next.now) (growth_in growing.old) (growth_in growing.new) opened.old.scan opened.new.scan result }
+    requires { NamesResolve growing.old }
+    ensures taken { GrowsProgram (entry_of next.now) (growth_in growing.old) (growth_in growing.new) opened.old.scan opened.new.scan result }
     ensures kept { opened.new ≡ record opened.old { scan = opened.new.scan } }
     ensures counted { OnOk result (pending.new ≡ pending.old + values_in (entry_of next.now)) }
     ensures uncounted { OnErr result (pending.new ≡ pending.old) }
-    ensures named { OnOk result (AreNamed growing.new) }
+    ensures named { OnOk result (NamesResolve growing.new) }
     ensures faults { RefusesBy is_of_record result }
 {
     let Some(count) = pending.checked_add(usize::from(next.kind == VALUE)) else {
@@ -146,13 +146,13 @@ fn from_place(exports: &[Exported], first: usize) -> &[Exported]
 
 /// Ends the open module.
 pub fn close_module(
-    growing: &mut Growing,
-    given: &mut Given,
-    opened: &mut Open,
+    growing: &mut ProgramBuilder,
+    given: &mut DefinedNames,
+    opened: &mut OpenModule,
 ) -> Result<(), LinkFault>
-    requires { AreNamed growing.old }
-    ensures ended { Closes (growth_in growing.old) (growth_in growing.new) (names_in given.old) (names_in given.new) opened.old result }
-    ensures named { OnOk result (AreNamed growing.new) }
+    requires { NamesResolve growing.old }
+    ensures ended { ClosesModule (growth_in growing.old) (growth_in growing.new) (names_in given.old) (names_in given.new) opened.old result }
+    ensures named { OnOk result (NamesResolve growing.new) }
     ensures faults { RefusesBy is_of_end result }
 {
     if !opened.scan.is_ended() {
@@ -165,7 +165,7 @@ pub fn close_module(
     }
     match given.add_exports(exports) {
         Ok(()) => {
-            let name = mem::replace(&mut opened.name, Sequence::new(growing.alloc));
+            let name = mem::replace(&mut opened.name, ListVec::new(growing.alloc));
             end_module(growing, name)
         }
         Err(e) => Err(e),

@@ -2,56 +2,58 @@
 
 ghost use Rattle.std.specs.Prelude.{◌≡◌, ◌<◌, ◌++◌, ◌∷◌, ◌==◌, [], ℕ, List, Some, IfOk, OnOk, length, map, slice_get, if◌then◌else◌, true};
 ghost use Rattle.std.specs.Option.{option_map};
-ghost use Rattle.link65.specs.Inner.Loads.{HoldsLoads, IsFileOf, piece_at, placed_in, view, AreNamed, IsWhole, LaysAll, Overlays};
-ghost use Rattle.link65.specs.Files.{RowBytes, is_loaded, written, end_behind, file_len, AddsArea, AddsAreas, IsAreaFile, area_at, file_name, with_bytes};
+ghost use Rattle.link65.specs.Internal.Loads.{HoldsLoads, IsFileOf, piece_at, placed_in, view, AreFileNames, IsWhole, LaysAll, OverlaysBytes};
+ghost use Rattle.link65.specs.Files.{RowBytes, is_loaded, written_row_bytes, end_after, file_len, AddsArea, AddsAreas, IsAreaFile, area_at, file_name, with_bytes};
 ghost use Rattle.base65.specs.declared.output.OutputFile.{OutputFile};
 
-use base65::{OutputFile, Sequence, Text};
+use base65::{ListVec, OutputFile, PathString};
 use indexmap::IndexSet;
-use script65::{Area, AreaFile, AreaPlace, Placement, Row, RowPlace, Script};
+use script65::{
+    AreaOutput, AreaPlacement, MemoryArea, Placement, RowPlacement, Script, SegmentRow,
+};
 use std::alloc::{AllocError, Global};
 use std::mem;
 
 /// A row, where it is placed, and its bytes.
 #[derive(Drop)]
-pub struct Load<'a> {
-    pub row: &'a Row,
-    pub place: RowPlace,
-    pub bytes: Sequence<u8>,
+pub struct RowImage<'a> {
+    pub row: &'a SegmentRow,
+    pub place: RowPlacement,
+    pub bytes: ListVec<u8>,
 }
 
 /// An area, where it is placed, and the rows of its file.
 #[derive(Drop)]
-pub struct Filled<'b, 'a> {
-    pub area: &'b Area,
-    pub place: AreaPlace,
-    pub loads: Sequence<Load<'a>>,
+pub struct AreaImage<'b, 'a> {
+    pub area: &'b MemoryArea,
+    pub place: AreaPlacement,
+    pub loads: ListVec<RowImage<'a>>,
 }
 
 /// What stands at a place, which is taken out.
-fn take_at<T: Drop>(alloc: Global, all: &mut Vec<Sequence<T>>, i: usize) -> Sequence<T>
+fn take_at<T: Drop>(alloc: Global, all: &mut Vec<ListVec<T>>, i: usize) -> ListVec<T>
     ensures taken { (x : List T) → slice_get all.old.items i ≡ Some x → result ≡ x }
     ensures others { (j : ℕ) → i < j → slice_get all.new.items j ≡ slice_get all.old.items j }
 {
     if i >= all.len() {
-        return Sequence::new(alloc);
+        return ListVec::new(alloc);
     }
-    mem::replace(&mut all[i], Sequence::new(alloc))
+    mem::replace(&mut all[i], ListVec::new(alloc))
 }
 
 /// As many empty sequences as there are areas.
-fn no_loads<'a>(alloc: Global, areas: usize) -> Result<Vec<Sequence<Load<'a>>>, AllocError>
+fn no_loads<'a>(alloc: Global, areas: usize) -> Result<Vec<ListVec<RowImage<'a>>>, AllocError>
     ensures { IfOk result (λ v. (k : ℕ) → k < areas → slice_get v.items k ≡ Some []) }
 {
     let mut loads = Vec::new(alloc);
     for _ in 0..areas {
-        loads.push(Sequence::new(alloc))?;
+        loads.push(ListVec::new(alloc))?;
     }
     Ok(loads)
 }
 
 /// Adds a row to those of its load area, if it is written and there is such an area.
-fn add_row<'a>(loads: &mut Vec<Sequence<Load<'a>>>, load: Load<'a>) -> Result<(), AllocError>
+fn add_row<'a>(loads: &mut Vec<ListVec<RowImage<'a>>>, load: RowImage<'a>) -> Result<(), AllocError>
     ensures { OnOk result ((k : ℕ) → slice_get loads.new.items k
         ≡ option_map (λ m. if is_loaded k load.entry.row.now then m ++ load.entry ∷ [] else m) (slice_get loads.old.items k)) }
 {
@@ -66,17 +68,17 @@ fn add_row<'a>(loads: &mut Vec<Sequence<Load<'a>>>, load: Load<'a>) -> Result<()
 fn loads_of<'a>(
     alloc: Global,
     areas: usize,
-    rows: &'a [Row],
-    places: &[RowPlace],
-    mut contents: Vec<Sequence<u8>>,
-) -> Result<Vec<Sequence<Load<'a>>>, AllocError>
-    ensures { IfOk result (λ v. (bytes : RowBytes) → contents.items ≡ map (written bytes) rows.entry.now → (k : ℕ) → k < areas → HoldsLoads bytes k rows.entry.now places.now (slice_get v.items k)) }
+    rows: &'a [SegmentRow],
+    places: &[RowPlacement],
+    mut contents: Vec<ListVec<u8>>,
+) -> Result<Vec<ListVec<RowImage<'a>>>, AllocError>
+    ensures { IfOk result (λ v. (bytes : RowBytes) → contents.items ≡ map (written_row_bytes bytes) rows.entry.now → (k : ℕ) → k < areas → HoldsLoads bytes k rows.entry.now places.now (slice_get v.items k)) }
 {
     let mut loads = no_loads(alloc, areas)?;
     for (i, row) in rows.iter().enumerate() {
         let bytes = take_at(alloc, &mut contents, i);
         match places.get(i).copied() {
-            Some(place) => add_row(&mut loads, Load { row, place, bytes })?,
+            Some(place) => add_row(&mut loads, RowImage { row, place, bytes })?,
             None => (),
         }
     }
@@ -85,7 +87,7 @@ fn loads_of<'a>(
 
 /// Lays bytes into an image, as many as it takes.
 fn overlay(image: &mut [u8], at: usize, bytes: &[u8])
-    ensures { Overlays image.old at bytes.now image.new }
+    ensures { OverlaysBytes image.old at bytes.now image.new }
 {
     if at < image.len() {
         let room = image.len() - at;
@@ -95,7 +97,7 @@ fn overlay(image: &mut [u8], at: usize, bytes: &[u8])
 }
 
 /// Lays the bytes of each row into the image of their area.
-fn lay_rows(image: &mut [u8], start: u64, loads: &[Load<'_>])
+fn lay_rows(image: &mut [u8], start: u64, loads: &[RowImage<'_>])
     ensures { LaysAll (map (piece_at start) (map view loads.now)) image.old image.new }
 {
     for load in loads {
@@ -105,8 +107,8 @@ fn lay_rows(image: &mut [u8], start: u64, loads: &[Load<'_>])
 }
 
 /// Behind the last row of a size above 0.
-fn end_of(start: u64, loads: &[Load<'_>]) -> u128
-    ensures { result ≡ end_behind start 0 (map placed_in loads.now) }
+fn end_of(start: u64, loads: &[RowImage<'_>]) -> u128
+    ensures { result ≡ end_after start 0 (map placed_in loads.now) }
 {
     let mut end = 0;
     for load in loads {
@@ -119,7 +121,7 @@ fn end_of(start: u64, loads: &[Load<'_>]) -> u128
 }
 
 /// The length of an area's file.
-fn file_len(filled: &Filled<'_, '_>) -> u128
+fn file_len(filled: &AreaImage<'_, '_>) -> u128
     ensures { result ≡ file_len filled.now.area.now filled.now.place (map placed_in filled.now.loads) }
 {
     if filled.area.fill {
@@ -130,7 +132,7 @@ fn file_len(filled: &Filled<'_, '_>) -> u128
 }
 
 /// Whether the bytes of the first row are all of a file of so many.
-fn is_whole(len: usize, start: u64, loads: &[Load<'_>]) -> bool
+fn is_whole(len: usize, start: u64, loads: &[RowImage<'_>]) -> bool
     ensures { result ≡ true → IsWhole len (map (piece_at start) (map view loads.now)) }
 {
     match loads {
@@ -141,7 +143,7 @@ fn is_whole(len: usize, start: u64, loads: &[Load<'_>]) -> bool
 
 /// The bytes of an area's file, of which memory has to take all: those of rows, and the fill between them. Where one
 /// row's are all of them, they aren't copied.
-fn area_file(alloc: Global, filled: Filled<'_, '_>) -> Result<Sequence<u8>, AllocError>
+fn area_file(alloc: Global, filled: AreaImage<'_, '_>) -> Result<ListVec<u8>, AllocError>
     ensures { IfOk result (λ image. IsFileOf filled.entry.area.now filled.entry.place (map view filled.entry.loads) image) }
 {
     let Ok(len) = usize::try_from(file_len(&filled)) else {
@@ -151,20 +153,20 @@ fn area_file(alloc: Global, filled: Filled<'_, '_>) -> Result<Sequence<u8>, Allo
     let mut loads = filled.loads.into_vec();
     loads.retain(|load| load.bytes.len() != 0);
     if is_whole(len, start, loads.as_slice()) {
-        return Ok(mem::replace(&mut loads[0].bytes, Sequence::new(alloc)));
+        return Ok(mem::replace(&mut loads[0].bytes, ListVec::new(alloc)));
     }
     let mut image = vec![in alloc; filled.area.fill_value; len]?;
     lay_rows(image.as_mut_slice(), start, loads.as_slice());
-    Ok(Sequence::from_vec(image))
+    Ok(ListVec::from_vec(image))
 }
 
 /// The name of an area's file, where the linker's output has a name.
-fn file_name<'a>(output: &'a str, file: &'a AreaFile) -> &'a str
+fn file_name<'a>(output: &'a str, file: &'a AreaOutput) -> &'a str
     ensures { result.now ≡ file_name output.entry.now file.entry.now }
 {
     match file {
-        AreaFile::Output => output,
-        AreaFile::Named(name) => match std::str::from_utf8(name.as_slice()) {
+        AreaOutput::Output => output,
+        AreaOutput::Named(name) => match std::str::from_utf8(name.as_slice()) {
             Ok(name) => name,
             Err(_) => "",
         },
@@ -173,21 +175,21 @@ fn file_name<'a>(output: &'a str, file: &'a AreaFile) -> &'a str
 
 /// Files in the order in which they are written, with their names.
 #[derive(Drop)]
-pub struct Files<'a> {
+pub struct OutputFiles<'a> {
     pub names: IndexSet<&'a str>,
     pub outputs: Vec<OutputFile>,
 }
 
-impl<'a> Files<'a> {
+impl<'a> OutputFiles<'a> {
     /// Adds bytes to the file of a name, or begins it behind the others.
-    fn add(&mut self, alloc: Global, name: &'a str, bytes: Sequence<u8>) -> Result<(), AllocError>
-        requires { AreNamed self.old }
+    fn add(&mut self, alloc: Global, name: &'a str, bytes: ListVec<u8>) -> Result<(), AllocError>
+        requires { AreFileNames self.old }
         ensures files { OnOk result (self.new.outputs.items ≡ with_bytes name.entry.now bytes self.old.outputs.items) }
-        ensures named { OnOk result (AreNamed self.new) }
+        ensures named { OnOk result (AreFileNames self.new) }
     {
         let (place, is_new) = self.names.insert_full(name)?;
         if is_new {
-            let name = Text::copy_of(alloc, name)?;
+            let name = PathString::copy_of(alloc, name)?;
             self.outputs.push(OutputFile { name, bytes })?;
             return Ok(());
         }
@@ -202,11 +204,11 @@ impl<'a> Files<'a> {
         &mut self,
         alloc: Global,
         name: &'a str,
-        filled: Filled<'_, '_>,
+        filled: AreaImage<'_, '_>,
     ) -> Result<(), AllocError>
-        requires { AreNamed self.old }
+        requires { AreFileNames self.old }
         ensures files { OnOk result (AddsArea (length name.entry.now == 0) name.entry.now (IsFileOf filled.entry.area.now filled.entry.place (map view filled.entry.loads)) self.old.outputs.items self.new.outputs.items) }
-        ensures named { OnOk result (AreNamed self.new) }
+        ensures named { OnOk result (AreFileNames self.new) }
     {
         if name.is_empty() {
             return Ok(());
@@ -217,12 +219,12 @@ impl<'a> Files<'a> {
 }
 
 /// Where the area at a place of the script is placed.
-fn area_at(placement: &Placement, k: usize) -> AreaPlace
+fn area_at(placement: &Placement, k: usize) -> AreaPlacement
     ensures { result ≡ area_at placement.now k }
 {
     match placement.areas.as_slice().get(k) {
         Some(place) => *place,
-        None => AreaPlace {
+        None => AreaPlacement {
             start: 0,
             size: 0,
             last: 0,
@@ -236,10 +238,10 @@ pub fn files_of(
     alloc: Global,
     output: &str,
     script: &Script,
-    contents: Vec<Sequence<u8>>,
+    contents: Vec<ListVec<u8>>,
     placement: &Placement,
-) -> Result<Sequence<OutputFile>, AllocError>
-    ensures { IfOk result (λ files. (bytes : RowBytes) → contents.items ≡ map (written bytes) script.now.rows → AddsAreas output.now (IsAreaFile script.now.rows placement.now bytes) 0 script.now.areas [] files) }
+) -> Result<ListVec<OutputFile>, AllocError>
+    ensures { IfOk result (λ files. (bytes : RowBytes) → contents.items ≡ map (written_row_bytes bytes) script.now.rows → AddsAreas output.now (IsAreaFile script.now.rows placement.now bytes) 0 script.now.areas [] files) }
 {
     let areas = script.areas.as_slice();
     let rows = script.rows.as_slice();
@@ -250,18 +252,18 @@ pub fn files_of(
         placement.rows.as_slice(),
         contents,
     )?;
-    let mut files = Files {
+    let mut files = OutputFiles {
         names: IndexSet::new(alloc),
         outputs: Vec::new(alloc),
     };
     for (k, area) in areas.iter().enumerate() {
         let name = file_name(output, &area.file);
-        let filled = Filled {
+        let filled = AreaImage {
             area,
             place: area_at(placement, k),
             loads: take_at(alloc, &mut loads, k),
         };
         files.add_area(alloc, name, filled)?;
     }
-    Ok(Sequence::from_vec(files.outputs))
+    Ok(ListVec::from_vec(files.outputs))
 }

@@ -2,44 +2,44 @@
 
 ghost use Rattle.std.specs.Prelude.{◌≡◌, ◌++◌, IfOk, OnOk, Some, map};
 ghost use Rattle.std.specs.List.{flat_map};
-ghost use Rattle.base65.specs.Outcome.{Gives, Finds};
-ghost use Rattle.link65.specs.Files.{written};
-ghost use Rattle.link65.specs.Links.{each_passes, fixups_by_row, fixups_of, checked};
-ghost use Rattle.link65.specs.Grounds.{piece_cells, piece_fixups};
+ghost use Rattle.base65.specs.Outcome.{Refines, RefinesProp};
+ghost use Rattle.link65.specs.Files.{written_row_bytes};
+ghost use Rattle.link65.specs.Links.{each_passes, fixups_by_row, fixups_of, check_result};
+ghost use Rattle.link65.specs.CodeInvariants.{piece_cells, piece_fixups};
 ghost use Rattle.link65.specs.Faults.{is_memory};
 ghost use Rattle.link65.specs.Placed.{AllFound, IsReady, bytes_in, cell_in, check_in, exports_in, linkage_in, segments_in, AreOf, IsPassed, program_in, values_in};
 ghost use Rattle.link65.specs.Programs.{segment_of};
 
 use crate::fault::LinkFault;
 use crate::mapping::{map_text, symbols_text};
-use crate::parts::{Content, Fixup, Piece};
-use crate::resolving::Names;
+use crate::parts::{SegmentContent, SegmentPiece, ValueFixup};
+use crate::resolving::DefinedSymbols;
 use crate::texts::warnings_of;
-use crate::values::{Placed, check_assertions, content_of, datum_value, export_values};
-use base65::Sequence;
+use crate::values::{PlacedProgram, check_assertions, content_of, datum_value, export_values};
+use base65::ListVec;
 use object65::put;
-use script65::{Placement, Row, Script};
+use script65::{Placement, Script, SegmentRow};
 use std::alloc::{AllocError, Global};
 
 /// Adds the bytes of a piece, or refuses one whose value is missing or doesn't fit.
 fn add_piece(
     alloc: Global,
-    program: &Placed<'_>,
+    program: &PlacedProgram<'_>,
     fill: u8,
-    piece: &Piece,
+    piece: &SegmentPiece,
     bytes: &mut Vec<u8>,
 ) -> Result<(), LinkFault>
     requires { AllFound program.now.marks.now }
-    ensures checked { Gives is_memory (λ u. u) result (each_passes (check_in program.now) (piece_fixups piece.now)) }
+    ensures checked { Refines is_memory (λ u. u) result (each_passes (check_in program.now) (piece_fixups piece.now)) }
     ensures bytes { OnOk result (bytes.new.items ≡ bytes.old.items ++ flat_map (cell_in program.now fill) (piece_cells piece.now)) }
 {
     match piece {
-        Piece::Known(known) => Ok(bytes.extend_from_slice(known.as_slice())?),
-        Piece::Filled(count) => match bytes.len().checked_add(*count as usize) {
+        SegmentPiece::Known(known) => Ok(bytes.extend_from_slice(known.as_slice())?),
+        SegmentPiece::Filled(count) => match bytes.len().checked_add(*count as usize) {
             Some(len) => Ok(bytes.resize(len, fill)?),
             None => Err(LinkFault::OutOfMemory),
         },
-        Piece::Waits(fixup) => {
+        SegmentPiece::Waits(fixup) => {
             let value = datum_value(alloc, program, fixup)?;
             Ok(bytes.extend_from_slice(put(fixup.width, value).as_slice())?)
         }
@@ -47,12 +47,16 @@ fn add_piece(
 }
 
 /// Refuses the first of pieces whose value is missing or doesn't fit.
-fn check_pieces(alloc: Global, program: &Placed<'_>, pieces: &[Piece]) -> Result<(), LinkFault>
+fn check_pieces(
+    alloc: Global,
+    program: &PlacedProgram<'_>,
+    pieces: &[SegmentPiece],
+) -> Result<(), LinkFault>
     requires { AllFound program.now.marks.now }
-    ensures { Gives is_memory (λ u. u) result (each_passes (check_in program.now) (flat_map piece_fixups pieces.now)) }
+    ensures { Refines is_memory (λ u. u) result (each_passes (check_in program.now) (flat_map piece_fixups pieces.now)) }
 {
     for piece in pieces {
-        if let Piece::Waits(fixup) = piece {
+        if let SegmentPiece::Waits(fixup) = piece {
             datum_value(alloc, program, fixup)?;
         }
     }
@@ -60,36 +64,40 @@ fn check_pieces(alloc: Global, program: &Placed<'_>, pieces: &[Piece]) -> Result
 }
 
 /// The bytes of a row, where it is written, or the first fault of its values.
-fn bytes_of_row(alloc: Global, program: &Placed<'_>, row: &Row) -> Result<Sequence<u8>, LinkFault>
+fn bytes_of_row(
+    alloc: Global,
+    program: &PlacedProgram<'_>,
+    row: &SegmentRow,
+) -> Result<ListVec<u8>, LinkFault>
     requires { IsReady program.now }
-    ensures checked { Gives is_memory (λ _. tt) result (each_passes (check_in program.now) (fixups_of (segment_of (segments_in program.now) row.now.name))) }
-    ensures bytes { IfOk result (λ bytes. bytes ≡ written (bytes_in program.now) row.now) }
+    ensures checked { Refines is_memory (λ _. tt) result (each_passes (check_in program.now) (fixups_of (segment_of (segments_in program.now) row.now.name))) }
+    ensures bytes { IfOk result (λ bytes. bytes ≡ written_row_bytes (bytes_in program.now) row.now) }
 {
     let Some(content) = content_of(program, row.name.as_slice()) else {
-        return Ok(Sequence::new(alloc));
+        return Ok(ListVec::new(alloc));
     };
     let pieces = content.pieces.as_slice();
     if !row.access.is_written() {
         check_pieces(alloc, program, pieces)?;
-        return Ok(Sequence::new(alloc));
+        return Ok(ListVec::new(alloc));
     }
     let mut bytes = Vec::with_capacity(alloc, content.size as usize)?;
     for piece in pieces {
         add_piece(alloc, program, row.fill_value, piece, &mut bytes)?;
     }
-    Ok(Sequence::from_vec(bytes))
+    Ok(ListVec::from_vec(bytes))
 }
 
 /// The bytes of each row that is written, and none of any other. The first value that is missing or doesn't fit is
 /// refused, by row, module and fragment, whether its row is written or not.
 fn rows_of(
     alloc: Global,
-    program: &Placed<'_>,
-    rows: &[Row],
-) -> Result<Vec<Sequence<u8>>, LinkFault>
+    program: &PlacedProgram<'_>,
+    rows: &[SegmentRow],
+) -> Result<Vec<ListVec<u8>>, LinkFault>
     requires { IsReady program.now }
-    ensures checked { Gives is_memory (λ _. tt) result (each_passes (check_in program.now) (fixups_by_row rows.now (segments_in program.now))) }
-    ensures bytes { IfOk result (λ all. all.items ≡ map (written (bytes_in program.now)) rows.now) }
+    ensures checked { Refines is_memory (λ _. tt) result (each_passes (check_in program.now) (fixups_by_row rows.now (segments_in program.now))) }
+    ensures bytes { IfOk result (λ all. all.items ≡ map (written_row_bytes (bytes_in program.now)) rows.now) }
 {
     let mut all = Vec::with_capacity(alloc, rows.len())?;
     for row in rows {
@@ -100,32 +108,36 @@ fn rows_of(
 
 /// What a placed program comes to but for its files.
 #[derive(Drop)]
-pub struct Passed {
+pub struct CheckedLink {
     /// The bytes of each row that is written.
-    pub rows: Vec<Sequence<u8>>,
+    pub rows: Vec<ListVec<u8>>,
     /// What is warned of.
-    pub warnings: Sequence<u8>,
+    pub warnings: ListVec<u8>,
     /// The map's text.
-    pub map: Sequence<u8>,
+    pub map: ListVec<u8>,
 }
 
 /// What is found while data, exports and assertions are checked, in this order.
 #[derive(Drop)]
 pub struct Checked {
     /// The bytes of each row that is written.
-    pub rows: Vec<Sequence<u8>>,
+    pub rows: Vec<ListVec<u8>>,
     /// The values of exports.
     pub values: Vec<i64>,
     /// What is warned of assertions.
-    pub assertions: Sequence<u8>,
+    pub assertions: ListVec<u8>,
 }
 
 /// Checks data, exports and assertions.
-fn check_all(alloc: Global, script: &Script, program: &Placed<'_>) -> Result<Checked, LinkFault>
+fn check_all(
+    alloc: Global,
+    script: &Script,
+    program: &PlacedProgram<'_>,
+) -> Result<Checked, LinkFault>
     requires { IsReady program.now }
-    ensures checked { Gives is_memory (λ x. x.assertions) result (checked script.now (program_in program.now) (linkage_in program.now) (exports_in program.now)) }
+    ensures checked { Refines is_memory (λ x. x.assertions) result (check_result script.now (program_in program.now) (linkage_in program.now) (exports_in program.now)) }
     ensures values { IfOk result (λ x. x.values.items ≡ values_in program.now) }
-    ensures rows { IfOk result (λ x. x.rows.items ≡ map (written (bytes_in program.now)) script.now.rows) }
+    ensures rows { IfOk result (λ x. x.rows.items ≡ map (written_row_bytes (bytes_in program.now)) script.now.rows) }
 {
     let rows = rows_of(alloc, program, script.rows.as_slice())?;
     let values = export_values(alloc, program)?;
@@ -138,15 +150,15 @@ fn check_all(alloc: Global, script: &Script, program: &Placed<'_>) -> Result<Che
 }
 
 /// What a placed program comes to but for its files, or the first fault.
-pub fn pass(
+pub fn check_and_emit(
     alloc: Global,
     script: &Script,
     placement: &Placement,
-    names: &Names<'_>,
-    program: &Placed<'_>,
-) -> Result<Passed, LinkFault>
+    names: &DefinedSymbols<'_>,
+    program: &PlacedProgram<'_>,
+) -> Result<CheckedLink, LinkFault>
     requires { AreOf script.now placement.now names.now program.now }
-    ensures { Finds is_memory (IsPassed script.now (program_in program.now) placement.now (linkage_in program.now) (exports_in program.now)) result }
+    ensures { RefinesProp is_memory (IsPassed script.now (program_in program.now) placement.now (linkage_in program.now) (exports_in program.now)) result }
 {
     let checked = check_all(alloc, script, program)?;
     let mut warnings = warnings_of(alloc, program, script.rows.as_slice())?;
@@ -154,7 +166,7 @@ pub fn pass(
     let symbols = symbols_text(alloc, names, checked.values.as_slice())?;
     let members = program.members;
     let map = map_text(alloc, script, placement, members, symbols.as_slice())?;
-    Ok(Passed {
+    Ok(CheckedLink {
         rows: checked.rows,
         warnings,
         map,

@@ -1,19 +1,19 @@
 //! The names that a script and modules give: none of them twice, and none that is needed missing.
 
 ghost use Rattle.std.specs.Prelude.{◌≡◌, ◌++◌, ◌∷◌, [], IfOk, Ok, OnErr, map, OnOk};
-ghost use Rattle.base65.specs.Outcome.{Gives};
+ghost use Rattle.base65.specs.Outcome.{Refines};
 ghost use Rattle.link65.specs.Faults.{RefusesBy, is_memory, is_of_finish};
-ghost use Rattle.link65.specs.Standing.{all_once, names_in, with_each, with_new};
+ghost use Rattle.link65.specs.Representation.{all_once, names_in, with_each, with_new};
 ghost use Rattle.link65.specs.Names.{given_names, is_among, each_once, script_names, symbol_imports, weak_symbols};
 ghost use Rattle.std.specs.List.{flat_map};
 ghost use Rattle.link65.specs.Links.{names_given};
-ghost use Rattle.link65.specs.Inner.Fields.{missing_behind};
+ghost use Rattle.link65.specs.Internal.Fields.{missing_after};
 ghost use Rattle.link65.specs.Programs.{Program};
 
 use crate::fault::LinkFault;
 use crate::naming::script_names;
-use crate::parts::{Exported, Member};
-use base65::Sequence;
+use crate::parts::{Exported, LinkedModule};
+use base65::ListVec;
 use indexmap::IndexSet;
 use library65::Names;
 use script65::{Script, Symbol, SymbolKind};
@@ -21,30 +21,30 @@ use std::alloc::{AllocError, Global};
 
 /// The names that a script and modules give so far, none of them twice.
 #[derive(Drop)]
-pub struct Given {
+pub struct DefinedNames {
     pub alloc: Global,
     pub names: IndexSet<Vec<u8>>,
 }
 
-impl Given {
+impl DefinedNames {
     /// Adds a name, unless it is there.
     fn add(&mut self, name: &[u8]) -> Result<(), LinkFault>
-        ensures added { Gives is_memory (λ _. names_in self.new) result (with_new (names_in self.old) name.now) }
+        ensures added { Refines is_memory (λ _. names_in self.new) result (with_new (names_in self.old) name.now) }
         ensures kept { OnErr result (names_in self.new ≡ names_in self.old) }
     {
         let key = Vec::from_slice(self.alloc, name)?;
         if !self.names.insert(key)? {
-            return Err(LinkFault::DuplicateExport(Sequence::copy_of(self.alloc, name)?));
+            return Err(LinkFault::DuplicateExport(ListVec::copy_of(self.alloc, name)?));
         }
         Ok(())
     }
 
     /// The names that a script gives by itself. The first that equals one before it is refused.
     pub fn of(alloc: Global, script: &Script) -> Result<Self, LinkFault>
-        ensures { Gives is_memory names_in result (all_once [] (script_names script.now)) }
+        ensures { Refines is_memory names_in result (all_once [] (script_names script.now)) }
     {
         let names = script_names(alloc, script)?;
-        let mut given = Given {
+        let mut given = DefinedNames {
             alloc,
             names: IndexSet::new(alloc),
         };
@@ -57,7 +57,7 @@ impl Given {
     /// Adds the names of exports. The first that equals one before it is refused; those before it stay added, and
     /// nothing is linked any more.
     pub fn add_exports(&mut self, exports: &[Exported]) -> Result<(), LinkFault>
-        ensures { Gives is_memory (λ _. names_in self.new) result (with_each (names_in self.old) (map (λ e. e.name) exports.now)) }
+        ensures { Refines is_memory (λ _. names_in self.new) result (with_each (names_in self.old) (map (λ e. e.name) exports.now)) }
     {
         for export in exports {
             self.add(export.name.as_slice())?;
@@ -80,7 +80,7 @@ impl Given {
 }
 
 /// A copy of the names that are given.
-pub fn copy_of(given: &Given) -> Result<Names, AllocError>
+pub fn copy_of(given: &DefinedNames) -> Result<Names, AllocError>
     ensures { IfOk result (λ names. map (λ n. n.items) names.keys ≡ names_in given.now) }
 {
     given.names.clone()
@@ -94,8 +94,8 @@ fn has(names: &Names, name: &[u8]) -> bool
 }
 
 /// Adds a name that nobody gives, once.
-fn add_missing(missing: &mut Names, given: &Given, name: &[u8]) -> Result<(), AllocError>
-    ensures { OnOk result (map (λ n. n.items) missing.new.keys ≡ missing_behind (names_in given.now) (map (λ n. n.items) missing.old.keys) (name.now ∷ [])) }
+fn add_missing(missing: &mut Names, given: &DefinedNames, name: &[u8]) -> Result<(), AllocError>
+    ensures { OnOk result (map (λ n. n.items) missing.new.keys ≡ missing_after (names_in given.now) (map (λ n. n.items) missing.old.keys) (name.now ∷ [])) }
 {
     if !has(&given.names, name) && !has(missing, name) {
         missing.insert(Vec::from_slice(given.alloc, name)?)?;
@@ -104,8 +104,12 @@ fn add_missing(missing: &mut Names, given: &Given, name: &[u8]) -> Result<(), Al
 }
 
 /// Adds the names that symbols import and nobody gives.
-fn add_symbols(missing: &mut Names, given: &Given, symbols: &[Symbol]) -> Result<(), AllocError>
-    ensures { OnOk result (map (λ n. n.items) missing.new.keys ≡ missing_behind (names_in given.now) (map (λ n. n.items) missing.old.keys) (symbol_imports symbols.now)) }
+fn add_symbols(
+    missing: &mut Names,
+    given: &DefinedNames,
+    symbols: &[Symbol],
+) -> Result<(), AllocError>
+    ensures { OnOk result (map (λ n. n.items) missing.new.keys ≡ missing_after (names_in given.now) (map (λ n. n.items) missing.old.keys) (symbol_imports symbols.now)) }
 {
     for symbol in symbols {
         if let SymbolKind::Import = symbol.kind {
@@ -118,10 +122,10 @@ fn add_symbols(missing: &mut Names, given: &Given, symbols: &[Symbol]) -> Result
 /// Adds the names that a module imports and nobody gives.
 fn add_imports(
     missing: &mut Names,
-    given: &Given,
-    imports: &[Sequence<u8>],
+    given: &DefinedNames,
+    imports: &[ListVec<u8>],
 ) -> Result<(), AllocError>
-    ensures { OnOk result (map (λ n. n.items) missing.new.keys ≡ missing_behind (names_in given.now) (map (λ n. n.items) missing.old.keys) imports.now) }
+    ensures { OnOk result (map (λ n. n.items) missing.new.keys ≡ missing_after (names_in given.now) (map (λ n. n.items) missing.old.keys) imports.now) }
 {
     for name in imports {
         add_missing(missing, given, name.as_slice())?;
@@ -131,11 +135,11 @@ fn add_imports(
 
 /// What a script's symbols and modules import and is not given, in order of first reference.
 pub fn missing_names(
-    given: &Given,
+    given: &DefinedNames,
     symbols: &[Symbol],
-    members: &[Member],
+    members: &[LinkedModule],
 ) -> Result<Names, AllocError>
-    ensures { IfOk result (λ names. map (λ n. n.items) names.keys ≡ missing_behind (names_in given.now) [] (symbol_imports symbols.now ++ flat_map (λ m. m.imports) members.now)) }
+    ensures { IfOk result (λ names. map (λ n. n.items) names.keys ≡ missing_after (names_in given.now) [] (symbol_imports symbols.now ++ flat_map (λ m. m.imports) members.now)) }
 {
     let mut missing = IndexSet::new(given.alloc);
     add_symbols(&mut missing, given, symbols)?;
@@ -146,19 +150,23 @@ pub fn missing_names(
 }
 
 /// Copies of names.
-fn copies(alloc: Global, names: &[Vec<u8>]) -> Result<Sequence<Sequence<u8>>, AllocError>
+fn copies(alloc: Global, names: &[Vec<u8>]) -> Result<ListVec<ListVec<u8>>, AllocError>
     ensures { IfOk result (λ all. all ≡ map (λ n. n.items) names.now) }
 {
-    let mut all = Sequence::new(alloc);
+    let mut all = ListVec::new(alloc);
     for name in names {
-        all.push(Sequence::copy_of(alloc, name.as_slice())?)?;
+        all.push(ListVec::copy_of(alloc, name.as_slice())?)?;
     }
     Ok(all)
 }
 
 /// Refuses names that nobody gives, all at once.
-pub fn check_names(mut given: Given, script: &Script, members: &[Member]) -> Result<(), LinkFault>
-    ensures given { (p : Program) → names_in given ≡ given_names script.now p → p.members ≡ members.now → Gives is_memory (λ u. u) result (names_given script.now p) }
+pub fn check_names(
+    mut given: DefinedNames,
+    script: &Script,
+    members: &[LinkedModule],
+) -> Result<(), LinkFault>
+    ensures given { (p : Program) → names_in given ≡ given_names script.now p → p.members ≡ members.now → Refines is_memory (λ u. u) result (names_given script.now p) }
     ensures faults { RefusesBy is_of_finish result }
 {
     let symbols = script.symbols.as_slice();

@@ -3,16 +3,18 @@
 ghost use Rattle.std.specs.Prelude.{◌≡◌, ◌≤◌, ◌<◌, ◌+◌, ◌-◌, ◌∷◌, [], Ok, OnOk, IfErr, IfOk, IfSome, true, None, Some, length, map, max, slice_get};
 ghost use Rattle.object65.specs.Objects.{fragment_len};
 ghost use Rattle.script65.specs.Placing.{rounded_up};
-ghost use Rattle.link65.specs.Grounds.{cells_of, segment_from, segments_from, AreNamed, IsGrown, IsSmall, growth_in, having, names_in, place_in, with_gap, with_name};
-ghost use Rattle.link65.specs.declared.parts.Content.{Content};
+ghost use Rattle.link65.specs.CodeInvariants.{cells_of, segment_from, segments_from, NamesResolve, IsGrown, IsSmall, growth_in, having, names_in, place_in, with_gap, with_name};
+ghost use Rattle.link65.specs.declared.parts.SegmentContent.{SegmentContent};
 ghost use Rattle.link65.specs.declared.parts.SectionPlace.{SectionPlace};
 ghost use Rattle.link65.specs.Faults.{is_memory};
-ghost use Rattle.link65.specs.Growing.{at_rest, bare_section, ended, grown_by, with_bare, with_cells, with_part};
-ghost use Rattle.link65.specs.Programs.{no_program, fragment_cells, grown};
+ghost use Rattle.link65.specs.Growing.{at_rest, bare_section, closed_program, grown_by, with_bare, with_cells, with_part};
+ghost use Rattle.link65.specs.Programs.{no_program, fragment_cells, segment_with_section};
 
 use crate::fault::LinkFault;
-use crate::parts::{Asserted, Content, Exported, Fixup, Member, Piece, SectionPlace};
-use base65::{Seed, Sequence};
+use crate::parts::{
+    Asserted, Exported, LinkedModule, SectionPlace, SegmentContent, SegmentPiece, ValueFixup,
+};
+use base65::{ListVec, Seed};
 use indexmap::IndexSet;
 use object65::{Fragment, Item, Width};
 use std::alloc::{AllocError, Global};
@@ -23,22 +25,22 @@ pub type SegmentNames = IndexSet<Vec<u8>, Seed>;
 
 /// The modules taken so far, and what the open one has put into segments, exports and assertions.
 #[derive(Drop)]
-pub struct Growing {
+pub struct ProgramBuilder {
     pub alloc: Global,
-    pub members: Sequence<Member>,
+    pub members: ListVec<LinkedModule>,
     /// The names of the segments, by which their places are found.
     pub names: SegmentNames,
-    pub contents: Vec<Content>,
-    pub exports: Sequence<Exported>,
-    pub asserts: Sequence<Asserted>,
+    pub contents: Vec<SegmentContent>,
+    pub exports: ListVec<Exported>,
+    pub asserts: ListVec<Asserted>,
     /// Where the sections of the open module lie.
     pub sections: Vec<SectionPlace>,
     /// The places of their segments.
     pub places: Vec<usize>,
     /// The names that the open module imports.
-    pub imports: Sequence<Sequence<u8>>,
+    pub imports: ListVec<ListVec<u8>>,
     /// The names of the open module's files.
-    pub files: Sequence<Sequence<u8>>,
+    pub files: ListVec<ListVec<u8>>,
 }
 
 /// A sum, for which there is no room where it is too large.
@@ -52,19 +54,19 @@ fn sum(a: u64, b: u64) -> Result<u64, AllocError>
 }
 
 /// Begins a section in a segment, and answers how far behind the segment's start.
-fn open_section(content: &mut Content, align: u32) -> Result<u64, AllocError>
+fn open_section(content: &mut SegmentContent, align: u32) -> Result<u64, AllocError>
     requires { 0 < align }
     ensures begin { IfOk result (λ n. n ≡ rounded_up content.old.size align) }
     ensures grown { OnOk result (segment_from content.new ≡ record (with_gap (rounded_up content.old.size align - content.old.size) (segment_from content.old)) { size = rounded_up content.old.size align; align = max content.old.align align }) }
     ensures name { OnOk result (content.new.name ≡ content.old.name) }
 {
-    let multiple = u64::from(align);
-    let Some(begin) = content.size.div_ceil(multiple).checked_mul(multiple) else {
+    let alignment = u64::from(align);
+    let Some(begin) = content.size.div_ceil(alignment).checked_mul(alignment) else {
         return Err(AllocError);
     };
     let gap = (begin - content.size) as u32;
     if gap > 0 {
-        content.pieces.push(Piece::Filled(gap))?;
+        content.pieces.push(SegmentPiece::Filled(gap))?;
     }
     content.size = begin;
     content.align = content.align.max(align);
@@ -84,24 +86,24 @@ fn fragment_size(fragment: &Fragment) -> u64
             form: _,
         } => match width {
             Width::Byte | Width::Branch => 1,
-            Width::Word | Width::HighFirst => 2,
+            Width::Word | Width::BigEndianWord => 2,
             Width::Dword => 4,
         },
     }
 }
 
 /// A fragment of a module as a piece of a segment.
-fn piece_of(owner: usize, fragment: Fragment) -> Piece
+fn piece_of(owner: usize, fragment: Fragment) -> SegmentPiece
     ensures { cells_of (result ∷ []) ≡ fragment_cells owner fragment }
 {
     match fragment {
-        Fragment::Literal(bytes) => Piece::Known(bytes),
-        Fragment::Fill(count) => Piece::Filled(count),
+        Fragment::Literal(bytes) => SegmentPiece::Known(bytes),
+        Fragment::Fill(count) => SegmentPiece::Filled(count),
         Fragment::Value {
             width,
             origin,
             form,
-        } => Piece::Waits(Fixup {
+        } => SegmentPiece::Waits(ValueFixup {
             owner,
             width,
             origin,
@@ -112,7 +114,7 @@ fn piece_of(owner: usize, fragment: Fragment) -> Piece
 
 /// Adds a fragment to a segment.
 fn add_fragment(
-    content: &mut Content,
+    content: &mut SegmentContent,
     owner: usize,
     len: u64,
     fragment: Fragment,
@@ -136,8 +138,8 @@ pub fn place_of(names: &SegmentNames, name: &[u8]) -> Option<usize>
 }
 
 /// The place of the segment of a name, which is begun where there is none.
-fn segment_at(growing: &mut Growing, name: &[u8]) -> Result<usize, AllocError>
-    requires { AreNamed growing.old }
+fn segment_at(growing: &mut ProgramBuilder, name: &[u8]) -> Result<usize, AllocError>
+    requires { NamesResolve growing.old }
     ensures added { OnOk result (IsGrown growing.new (having (growth_in growing.old) (with_name name.now (segments_from growing.old.contents.items)))) }
     ensures place { IfOk result (λ i. place_in name.now (names_in growing.new) ≡ Some i) }
     ensures within { IfOk result (λ i. i < length growing.new.contents.items) }
@@ -148,19 +150,23 @@ fn segment_at(growing: &mut Growing, name: &[u8]) -> Result<usize, AllocError>
     let alloc = growing.alloc;
     let place = growing.contents.len();
     let key = Vec::from_slice(alloc, name)?;
-    growing.contents.push(Content {
-        name: Sequence::copy_of(alloc, name)?,
+    growing.contents.push(SegmentContent {
+        name: ListVec::copy_of(alloc, name)?,
         size: 0,
         align: 1,
-        pieces: Sequence::new(alloc),
+        pieces: ListVec::new(alloc),
     })?;
     growing.names.insert(key)?;
     Ok(place)
 }
 
 /// Begins a section of the open module, behind what its segment has.
-fn begin_section(growing: &mut Growing, name: Sequence<u8>, align: u8) -> Result<(), AllocError>
-    requires named { AreNamed growing.old }
+fn begin_section(
+    growing: &mut ProgramBuilder,
+    name: ListVec<u8>,
+    align: u8,
+) -> Result<(), AllocError>
+    requires named { NamesResolve growing.old }
     requires small { align ≤ 15 }
     ensures { OnOk result (IsGrown growing.new (with_bare (growth_in growing.old) (bare_section name align))) }
 {
@@ -176,8 +182,8 @@ fn begin_section(growing: &mut Growing, name: Sequence<u8>, align: u8) -> Result
 }
 
 /// Adds a fragment of the open module's section at a place, if there is such a section.
-fn add_part(growing: &mut Growing, k: usize, fragment: Fragment) -> Result<(), AllocError>
-    requires { AreNamed growing.old }
+fn add_part(growing: &mut ProgramBuilder, k: usize, fragment: Fragment) -> Result<(), AllocError>
+    requires { NamesResolve growing.old }
     ensures { OnOk result (IsGrown growing.new (with_part (growth_in growing.old) k fragment (slice_get growing.old.sections.items k))) }
 {
     if k >= growing.sections.len() {
@@ -193,8 +199,8 @@ fn add_part(growing: &mut Growing, k: usize, fragment: Fragment) -> Result<(), A
 }
 
 /// Takes an item of the open module.
-pub fn take_item(growing: &mut Growing, item: Item) -> Result<(), AllocError>
-    requires named { AreNamed growing.old }
+pub fn take_item(growing: &mut ProgramBuilder, item: Item) -> Result<(), AllocError>
+    requires named { NamesResolve growing.old }
     requires small { IsSmall item }
     ensures { OnOk result (IsGrown growing.new (grown_by (growth_in growing.old) item)) }
 {
@@ -223,19 +229,19 @@ pub fn take_item(growing: &mut Growing, item: Item) -> Result<(), AllocError>
 }
 
 /// Ends the open module, which has this name.
-pub fn end_module(growing: &mut Growing, name: Sequence<u8>) -> Result<(), LinkFault>
-    requires { AreNamed growing.old }
-    ensures ended { OnOk result (IsGrown growing.new (at_rest (ended (growth_in growing.old) name))) }
+pub fn end_module(growing: &mut ProgramBuilder, name: ListVec<u8>) -> Result<(), LinkFault>
+    requires { NamesResolve growing.old }
+    ensures ended { OnOk result (IsGrown growing.new (at_rest (closed_program (growth_in growing.old) name))) }
     ensures memory { IfErr result (λ e. is_memory e ≡ true) }
 {
     let alloc = growing.alloc;
     growing.places.clear();
     let sections = mem::replace(&mut growing.sections, Vec::new(alloc));
-    let imports = mem::replace(&mut growing.imports, Sequence::new(alloc));
-    let files = mem::replace(&mut growing.files, Sequence::new(alloc));
-    growing.members.push(Member {
+    let imports = mem::replace(&mut growing.imports, ListVec::new(alloc));
+    let files = mem::replace(&mut growing.files, ListVec::new(alloc));
+    growing.members.push(LinkedModule {
         name,
-        sections: Sequence::from_vec(sections),
+        sections: ListVec::from_vec(sections),
         imports,
         files,
     })?;
@@ -243,19 +249,19 @@ pub fn end_module(growing: &mut Growing, name: Sequence<u8>) -> Result<(), LinkF
 }
 
 /// A program that no module has been taken of.
-pub fn no_module(alloc: Global, seed: Seed) -> Growing
+pub fn no_module(alloc: Global, seed: Seed) -> ProgramBuilder
     ensures { IsGrown result (at_rest no_program) }
 {
-    Growing {
+    ProgramBuilder {
         alloc,
-        members: Sequence::new(alloc),
+        members: ListVec::new(alloc),
         names: IndexSet::with_hasher(alloc, seed),
         contents: Vec::new(alloc),
-        exports: Sequence::new(alloc),
-        asserts: Sequence::new(alloc),
+        exports: ListVec::new(alloc),
+        asserts: ListVec::new(alloc),
         sections: Vec::new(alloc),
         places: Vec::new(alloc),
-        imports: Sequence::new(alloc),
-        files: Sequence::new(alloc),
+        imports: ListVec::new(alloc),
+        files: ListVec::new(alloc),
     }
 }

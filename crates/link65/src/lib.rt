@@ -18,8 +18,8 @@ mod resolving;
 mod texts;
 mod values;
 
-pub use fault::{LinkFault, Site};
+pub use fault::{LinkFault, ModuleLocation};
 pub use files::files_of;
 pub use linker::Linker;
 pub use linking::Linked;
-pub use texts::{fault_text, site_name};
+pub use texts::{fault_text, location_name};

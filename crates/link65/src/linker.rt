@@ -3,19 +3,19 @@
 ghost use Rattle.std.specs.Prelude.{◌≡◌, ◌+◌, [], Err, IfErr, IfOk, OnErr, OnOk, map, true, false};
 ghost use Rattle.std.specs.Option.{option_map};
 ghost use Rattle.object65.specs.Record.{entry_of, is_version};
-ghost use Rattle.base65.specs.Outcome.{Gives};
+ghost use Rattle.base65.specs.Outcome.{Refines};
 ghost use Rattle.link65.specs.Faults.{is_memory, RefusesBy, is_of_end, is_of_finish, is_of_record};
 ghost use Rattle.link65.specs.Links.{names_once};
 ghost use Rattle.link65.specs.Programs.{program_of};
 ghost use Rattle.link65.specs.Names.{given_names, open_names};
-ghost use Rattle.link65.specs.Standing.{AreNames, Begins, Continues, Ends, IsFed, IsRefused, Keeps, Links, is_open, values_in};
+ghost use Rattle.link65.specs.Representation.{AreNames, BeginsModule, AddsRecord, EndsModule, IsFed, IsRefused, ConfigFrame, LinksModules, is_open, values_in};
 
 use crate::fault::LinkFault;
-use crate::feeding::{Open, close_module, open_module, take_record};
-use crate::given::{Given, copy_of, missing_names};
-use crate::growing::{Growing, no_module};
+use crate::feeding::{OpenModule, close_module, open_module, take_record};
+use crate::given::{DefinedNames, copy_of, missing_names};
+use crate::growing::{ProgramBuilder, no_module};
 use crate::linking::{Linked, link};
-use base65::{Seed, Text};
+use base65::{PathString, Seed};
 use library65::{Entry, Names};
 use object65::Record;
 use script65::Script;
@@ -28,10 +28,10 @@ use std::marker::Model;
 pub struct Linker {
     script: Script,
     /// The name of the file that is linked.
-    output: Text,
-    growing: Growing,
-    given: Given,
-    opened: Option<Open>,
+    output: PathString,
+    growing: ProgramBuilder,
+    given: DefinedNames,
+    opened: Option<OpenModule>,
     /// How many values were taken.
     pending: usize,
     failed: bool,
@@ -41,17 +41,17 @@ impl Model for Linker {
     ghost use Rattle.std.specs.Prelude.{◌≡◌, false};
     ghost use Rattle.std.specs.Coded.{codes};
     ghost use Rattle.object65.specs.Form.{form_code};
-    ghost use Rattle.link65.specs.Standing.{names_in, Feeding};
-    ghost use Rattle.link65.specs.Grounds.{AreNamed, growth_in};
-    ghost use Rattle.link65.specs.Inner.Fields.{opened_in};
+    ghost use Rattle.link65.specs.Representation.{names_in, LinkerView};
+    ghost use Rattle.link65.specs.CodeInvariants.{NamesResolve, growth_in};
+    ghost use Rattle.link65.specs.Internal.Fields.{opened_in};
 
-    ghost Value = { Feeding };
+    ghost Value = { LinkerView };
 
     ghost coded = { Prim.hlevel (codes, form_code) };
 
     ghost view = { λ l. record { script = l.script; output = l.output; growth = growth_in l.growing; given = names_in l.given; opened = opened_in l.opened; pending = l.pending; failed = l.failed } };
 
-    ghost invariant = { λ l. l.failed ≡ false → AreNamed l.growing };
+    ghost invariant = { λ l. l.failed ≡ false → NamesResolve l.growing };
 }
 
 impl Linker {
@@ -61,7 +61,7 @@ impl Linker {
         ensures script { IfOk result (λ l. l.script ≡ script) }
         ensures output { IfOk result (λ l. l.output ≡ output.now) }
         ensures pending { IfOk result (λ l. l.pending ≡ 0) }
-        ensures names { Gives is_memory (λ _. tt) result (names_once script (program_of [])) }
+        ensures names { Refines is_memory (λ _. tt) result (names_once script (program_of [])) }
     {
         Linker::seeded(alloc, Seed::default(), script, output)
     }
@@ -77,10 +77,10 @@ impl Linker {
         ensures script { IfOk result (λ l. l.script ≡ script) }
         ensures output { IfOk result (λ l. l.output ≡ output.now) }
         ensures pending { IfOk result (λ l. l.pending ≡ 0) }
-        ensures names { Gives is_memory (λ _. tt) result (names_once script (program_of [])) }
+        ensures names { Refines is_memory (λ _. tt) result (names_once script (program_of [])) }
     {
-        let given = Given::of(alloc, &script)?;
-        let output = Text::copy_of(alloc, output)?;
+        let given = DefinedNames::of(alloc, &script)?;
+        let output = PathString::copy_of(alloc, output)?;
         Ok(Linker {
             script,
             output,
@@ -144,11 +144,11 @@ impl Linker {
     ) -> Result<(), LinkFault>
         requires closed { is_open self.old ≡ false }
         requires version { is_version version ≡ true }
-        ensures begun { Begins name.now version (option_map (λ e. e.now) entry.entry) self.old self.new result }
+        ensures begun { BeginsModule name.now version (option_map (λ e. e.now) entry.entry) self.old self.new result }
         ensures memory { self.old.failed ≡ false → IfErr result (λ e. is_memory e ≡ true) }
         ensures opened { OnOk result (is_open self.new ≡ true) }
         ensures pending { OnOk result (self.new.pending ≡ self.old.pending) }
-        ensures keeps { Keeps self.old self.new }
+        ensures keeps { ConfigFrame self.old self.new }
         ensures refused { OnErr result (IsRefused self.old self.new) }
         ensures again { self.old.failed ≡ true → result ≡ Err LinkFault.FailedBefore }
     {
@@ -171,11 +171,11 @@ impl Linker {
     /// it failed before.
     pub fn record(&mut self, next: &Record) -> Result<(), LinkFault>
         requires { is_open self.old ≡ true }
-        ensures taken { Continues (entry_of next.now) self.old self.new result }
+        ensures taken { AddsRecord (entry_of next.now) self.old self.new result }
         ensures faults { self.old.failed ≡ false → RefusesBy is_of_record result }
         ensures opened { is_open self.new ≡ true }
         ensures pending { OnOk result (self.new.pending ≡ self.old.pending + values_in (entry_of next.now)) }
-        ensures keeps { Keeps self.old self.new }
+        ensures keeps { ConfigFrame self.old self.new }
         ensures refused { OnErr result (IsRefused self.old self.new) }
         ensures again { self.old.failed ≡ true → result ≡ Err LinkFault.FailedBefore }
     {
@@ -201,11 +201,11 @@ impl Linker {
     /// refusal each call answers that it failed before.
     pub fn end_module(&mut self) -> Result<(), LinkFault>
         requires { is_open self.old ≡ true }
-        ensures ended { Ends self.old self.new result }
+        ensures ended { EndsModule self.old self.new result }
         ensures faults { self.old.failed ≡ false → RefusesBy is_of_end result }
         ensures opened { OnOk result (is_open self.new ≡ false) }
         ensures pending { OnOk result (self.new.pending ≡ self.old.pending) }
-        ensures keeps { Keeps self.old self.new }
+        ensures keeps { ConfigFrame self.old self.new }
         ensures refused { OnErr result (IsRefused self.old self.new) }
         ensures again { self.old.failed ≡ true → result ≡ Err LinkFault.FailedBefore }
     {
@@ -231,7 +231,7 @@ impl Linker {
     /// or the first fault.
     pub fn finish(self) -> Result<Linked, LinkFault>
         requires { is_open self ≡ false }
-        ensures linked { Links self result }
+        ensures linked { LinksModules self result }
         ensures faults { self.failed ≡ false → RefusesBy is_of_finish result }
         ensures again { self.failed ≡ true → result ≡ Err LinkFault.FailedBefore }
     {

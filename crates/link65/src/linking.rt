@@ -1,26 +1,26 @@
 //! From a program and a script to what is linked.
 
 ghost use Rattle.std.specs.Prelude.{◌≡◌, IfOk, map};
-ghost use Rattle.link65.specs.Grounds.{segments_from, AreNamed, program_in};
+ghost use Rattle.link65.specs.CodeInvariants.{segments_from, NamesResolve, program_in};
 ghost use Rattle.link65.specs.Values.{need_of, needs_of};
-ghost use Rattle.base65.specs.Outcome.{Finds, Gives};
+ghost use Rattle.base65.specs.Outcome.{RefinesProp, Refines};
 ghost use Rattle.link65.specs.Faults.{RefusesBy, is_memory, is_of_finish};
-ghost use Rattle.link65.specs.Links.{IsProgramLink, placed};
+ghost use Rattle.link65.specs.Links.{IsProgramLink, placement_result};
 ghost use Rattle.link65.specs.Names.{given_names, weak_symbols};
-ghost use Rattle.link65.specs.Standing.{names_in};
+ghost use Rattle.link65.specs.Representation.{names_in};
 ghost use Rattle.link65.specs.Placed.{IsPlacedPassed};
 
 use crate::evaluation::settle_all;
 use crate::fault::LinkFault;
 use crate::files::files_of;
-use crate::finishing::{Passed, pass};
-use crate::given::{Given, check_names};
-use crate::growing::Growing;
+use crate::finishing::{CheckedLink, check_and_emit};
+use crate::given::{DefinedNames, check_names};
+use crate::growing::ProgramBuilder;
 use crate::naming::{definitions_of, weak_symbols};
-use crate::parts::{Content, Resolved};
-use crate::resolving::{Names, resolve_all, runs_of};
-use crate::values::Placed;
-use base65::{OutputFile, Sequence};
+use crate::parts::{Resolved, SegmentContent};
+use crate::resolving::{DefinedSymbols, resolve_all, runs_of};
+use crate::values::PlacedProgram;
+use base65::{ListVec, OutputFile};
 use script65::{Placement, Script, SegmentNeed, place};
 use std::alloc::{AllocError, Global};
 
@@ -28,21 +28,21 @@ use std::alloc::{AllocError, Global};
 #[derive(Drop)]
 pub struct Linked {
     /// The files of areas, in the order in which they are written.
-    pub files: Sequence<OutputFile>,
+    pub files: ListVec<OutputFile>,
     /// What is warned of, a line each.
-    pub warnings: Sequence<u8>,
+    pub warnings: ListVec<u8>,
     /// The map's text.
-    pub map: Sequence<u8>,
+    pub map: ListVec<u8>,
 }
 
 /// What each segment needs of its row, in order.
-fn needs_of(alloc: Global, contents: &[Content]) -> Result<Sequence<SegmentNeed>, AllocError>
+fn needs_of(alloc: Global, contents: &[SegmentContent]) -> Result<ListVec<SegmentNeed>, AllocError>
     ensures { IfOk result (λ needs. needs ≡ map need_of (segments_from contents.now)) }
 {
-    let mut needs = Sequence::new(alloc);
+    let mut needs = ListVec::new(alloc);
     for content in contents {
         needs.push(SegmentNeed {
-            name: Sequence::copy_of(alloc, content.name.as_slice())?,
+            name: ListVec::copy_of(alloc, content.name.as_slice())?,
             size: content.size,
             align: content.align,
         })?;
@@ -54,22 +54,22 @@ fn needs_of(alloc: Global, contents: &[Content]) -> Result<Sequence<SegmentNeed>
 fn pass_placed(
     script: &Script,
     placement: &Placement,
-    program: Growing,
-) -> Result<Passed, LinkFault>
-    requires { AreNamed program }
-    ensures { Finds is_memory (IsPlacedPassed script.now (program_in program) placement.now) result }
+    program: ProgramBuilder,
+) -> Result<CheckedLink, LinkFault>
+    requires { NamesResolve program }
+    ensures { RefinesProp is_memory (IsPlacedPassed script.now (program_in program) placement.now) result }
 {
     let alloc = program.alloc;
     let own = definitions_of(alloc, script, placement)?;
     let weak = weak_symbols(alloc, script.symbols.as_slice())?;
     let exports = program.exports.as_slice();
     let seed = *program.names.hasher();
-    let names = Names::of(alloc, seed, own.as_slice(), exports, weak.as_slice())?;
+    let names = DefinedSymbols::of(alloc, seed, own.as_slice(), exports, weak.as_slice())?;
     let runs = runs_of(alloc, script.rows.as_slice(), placement.rows.as_slice())?;
     let all = resolve_all(alloc, &names, &runs, program.members.as_slice())?;
     let modules = all.as_slice();
     let marks = settle_all(alloc, modules, exports)?;
-    let placed = Placed {
+    let placed = PlacedProgram {
         members: program.members.as_slice(),
         names: &program.names,
         contents: program.contents.as_slice(),
@@ -78,13 +78,17 @@ fn pass_placed(
         modules,
         marks: marks.as_slice(),
     };
-    pass(alloc, script, placement, &names, &placed)
+    check_and_emit(alloc, script, placement, &names, &placed)
 }
 
 /// Where a program's segments are placed, each of whose names has to be given.
-fn placement_of(script: &Script, program: &Growing, given: Given) -> Result<Placement, LinkFault>
+fn placement_of(
+    script: &Script,
+    program: &ProgramBuilder,
+    given: DefinedNames,
+) -> Result<Placement, LinkFault>
     ensures placed { names_in given ≡ given_names script.now (program_in program.now) →
-        Gives is_memory (λ p. p) result (placed script.now (program_in program.now)) }
+        Refines is_memory (λ p. p) result (placement_result script.now (program_in program.now)) }
     ensures faults { RefusesBy is_of_finish result }
 {
     check_names(given, script, program.members.as_slice())?;
@@ -97,17 +101,17 @@ fn placement_of(script: &Script, program: &Growing, given: Given) -> Result<Plac
 pub fn link(
     output: &str,
     script: &Script,
-    program: Growing,
-    given: Given,
+    program: ProgramBuilder,
+    given: DefinedNames,
 ) -> Result<Linked, LinkFault>
-    requires { AreNamed program }
+    requires { NamesResolve program }
     ensures linked { names_in given ≡ given_names script.now (program_in program) →
-        Finds is_memory (IsProgramLink output.now script.now (program_in program)) result }
+        RefinesProp is_memory (IsProgramLink output.now script.now (program_in program)) result }
     ensures faults { RefusesBy is_of_finish result }
 {
     let alloc = program.alloc;
     let placement = placement_of(script, &program, given)?;
-    let Passed {
+    let CheckedLink {
         rows,
         warnings,
         map,

@@ -6,12 +6,12 @@ ghost use Rattle.link65.specs.Placed.{lines_by, map_by, value_line, AreNames};
 ghost use Rattle.link65.specs.Programs.{flat_zip};
 ghost use Rattle.link65.specs.Texts.{address_text, definition_line, hex_digit, hex_digits, member_lines, row_line, row_lines, section_line, symbol_line, weak_line};
 
-use crate::parts::{Definition, Exported, Member, SectionPlace};
-use crate::resolving::Names;
+use crate::parts::{Exported, LinkedModule, ScriptSymbol, SectionPlace};
+use crate::resolving::DefinedSymbols;
 use crate::texts::{add_all, join};
 use arrayvec::ArrayVec;
-use base65::Sequence;
-use script65::{Placement, Row, RowPlace, Script};
+use base65::ListVec;
+use script65::{Placement, RowPlacement, Script, SegmentRow};
 use std::alloc::{AllocError, Global};
 
 const DIGITS: [u8; 16] = *b"0123456789ABCDEF";
@@ -45,7 +45,7 @@ fn address_text(number: u64) -> ArrayVec<u8, 16>
 }
 
 /// `  segment offset size`
-fn add_section_line(text: &mut Sequence<u8>, place: &SectionPlace) -> Result<(), AllocError>
+fn add_section_line(text: &mut ListVec<u8>, place: &SectionPlace) -> Result<(), AllocError>
     ensures { OnOk result (text.new ≡ text.old ++ section_line place.now) }
 {
     let offset = address_text(place.offset);
@@ -65,7 +65,7 @@ fn add_section_line(text: &mut Sequence<u8>, place: &SectionPlace) -> Result<(),
 }
 
 /// A module's name, and its sections below it.
-fn add_member_lines(text: &mut Sequence<u8>, member: &Member) -> Result<(), AllocError>
+fn add_member_lines(text: &mut ListVec<u8>, member: &LinkedModule) -> Result<(), AllocError>
     ensures { OnOk result (text.new ≡ text.old ++ member_lines member.now) }
 {
     add_all(text, &[member.name.as_slice(), b"\n"])?;
@@ -76,10 +76,10 @@ fn add_member_lines(text: &mut Sequence<u8>, member: &Member) -> Result<(), Allo
 }
 
 /// The modules and their sections.
-fn members_text(alloc: Global, members: &[Member]) -> Result<Sequence<u8>, AllocError>
+fn members_text(alloc: Global, members: &[LinkedModule]) -> Result<ListVec<u8>, AllocError>
     ensures { IfOk result (λ text. text ≡ flat_map member_lines members.now) }
 {
-    let mut text = Sequence::new(alloc);
+    let mut text = ListVec::new(alloc);
     for member in members {
         add_member_lines(&mut text, member)?;
     }
@@ -87,7 +87,11 @@ fn members_text(alloc: Global, members: &[Member]) -> Result<Sequence<u8>, Alloc
 }
 
 /// `name run load size`
-fn add_row_line(text: &mut Sequence<u8>, row: &Row, place: RowPlace) -> Result<(), AllocError>
+fn add_row_line(
+    text: &mut ListVec<u8>,
+    row: &SegmentRow,
+    place: RowPlacement,
+) -> Result<(), AllocError>
     ensures { OnOk result (text.new ≡ text.old ++ row_line row.now place) }
 {
     let run = address_text(place.run);
@@ -109,10 +113,14 @@ fn add_row_line(text: &mut Sequence<u8>, row: &Row, place: RowPlace) -> Result<(
 }
 
 /// The rows and where they are placed.
-fn rows_text(alloc: Global, rows: &[Row], places: &[RowPlace]) -> Result<Sequence<u8>, AllocError>
+fn rows_text(
+    alloc: Global,
+    rows: &[SegmentRow],
+    places: &[RowPlacement],
+) -> Result<ListVec<u8>, AllocError>
     ensures { IfOk result (λ text. text ≡ row_lines rows.now places.now) }
 {
-    let mut text = Sequence::new(alloc);
+    let mut text = ListVec::new(alloc);
     for (row, place) in rows.iter().zip(places) {
         add_row_line(&mut text, row, *place)?;
     }
@@ -120,24 +128,24 @@ fn rows_text(alloc: Global, rows: &[Row], places: &[RowPlace]) -> Result<Sequenc
 }
 
 /// `name value`
-fn add_symbol_line(text: &mut Sequence<u8>, name: &[u8], bits: u64) -> Result<(), AllocError>
+fn add_symbol_line(text: &mut ListVec<u8>, name: &[u8], bits: u64) -> Result<(), AllocError>
     ensures { OnOk result (text.new ≡ text.old ++ symbol_line name.now bits) }
 {
     let digits = hex_digits(16, bits);
     add_all(text, &[name, b" ", digits.as_slice(), b"\n"])
 }
 
-fn add_definition_line(text: &mut Sequence<u8>, definition: &Definition) -> Result<(), AllocError>
+fn add_definition_line(text: &mut ListVec<u8>, definition: &ScriptSymbol) -> Result<(), AllocError>
     ensures { OnOk result (text.new ≡ text.old ++ definition_line definition.now) }
 {
     let bits = definition.value.cast_unsigned();
     add_symbol_line(text, definition.name.as_slice(), bits)
 }
 
-fn definition_lines(alloc: Global, definitions: &[Definition]) -> Result<Sequence<u8>, AllocError>
+fn definition_lines(alloc: Global, definitions: &[ScriptSymbol]) -> Result<ListVec<u8>, AllocError>
     ensures { IfOk result (λ text. text ≡ flat_map definition_line definitions.now) }
 {
-    let mut text = Sequence::new(alloc);
+    let mut text = ListVec::new(alloc);
     for definition in definitions {
         add_definition_line(&mut text, definition)?;
     }
@@ -148,10 +156,10 @@ fn export_lines(
     alloc: Global,
     exports: &[Exported],
     values: &[i64],
-) -> Result<Sequence<u8>, AllocError>
+) -> Result<ListVec<u8>, AllocError>
     ensures { IfOk result (λ text. text ≡ flat_zip value_line exports.now values.now) }
 {
-    let mut text = Sequence::new(alloc);
+    let mut text = ListVec::new(alloc);
     for (export, value) in exports.iter().zip(values) {
         add_symbol_line(&mut text, export.name.as_slice(), value.cast_unsigned())?;
     }
@@ -159,11 +167,11 @@ fn export_lines(
 }
 
 /// The weak names that nothing else defines.
-fn weak_lines(alloc: Global, names: &Names<'_>) -> Result<Sequence<u8>, AllocError>
+fn weak_lines(alloc: Global, names: &DefinedSymbols<'_>) -> Result<ListVec<u8>, AllocError>
     requires { AreNames names.now }
     ensures { IfOk result (λ text. text ≡ flat_map (weak_line names.now.own.now names.now.exports.now) names.now.weak.now) }
 {
-    let mut text = Sequence::new(alloc);
+    let mut text = ListVec::new(alloc);
     for weak in names.weak {
         if !names.defined.contains_key(weak.name.as_slice()) {
             add_definition_line(&mut text, weak)?;
@@ -175,9 +183,9 @@ fn weak_lines(alloc: Global, names: &Names<'_>) -> Result<Sequence<u8>, AllocErr
 /// All symbols and their values, by those of exports.
 pub fn symbols_text(
     alloc: Global,
-    names: &Names<'_>,
+    names: &DefinedSymbols<'_>,
     values: &[i64],
-) -> Result<Sequence<u8>, AllocError>
+) -> Result<ListVec<u8>, AllocError>
     requires { AreNames names.now }
     ensures { IfOk result (λ text. text ≡ lines_by names.now.own.now names.now.weak.now names.now.exports.now values.now) }
 {
@@ -195,9 +203,9 @@ pub fn map_text(
     alloc: Global,
     script: &Script,
     placement: &Placement,
-    members: &[Member],
+    members: &[LinkedModule],
     symbols: &[u8],
-) -> Result<Sequence<u8>, AllocError>
+) -> Result<ListVec<u8>, AllocError>
     ensures { IfOk result (λ text. text ≡ map_by members.now script.now.rows placement.now.rows symbols.now) }
 {
     let modules = members_text(alloc, members)?;

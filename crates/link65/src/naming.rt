@@ -2,39 +2,46 @@
 
 ghost use Rattle.std.specs.Prelude.{◌≡◌, ◌++◌, IfOk, OnOk, map};
 ghost use Rattle.std.specs.Int.{w64, cast_signed};
-ghost use Rattle.script65.specs.AreaSums.{part_name};
-ghost use Rattle.link65.specs.Names.{areas_definitions, part, rows_definitions, script_definitions, symbol_exports, weak_symbols, area_names, row_names, script_names};
+ghost use Rattle.script65.specs.AreaSums.{attribute_name};
+ghost use Rattle.link65.specs.Names.{areas_definitions, attribute_symbol, rows_definitions, script_definitions, symbol_exports, weak_symbols, area_names, row_names, script_names};
 ghost use Rattle.std.specs.List.{flat_map};
 
-use crate::parts::Definition;
+use crate::parts::ScriptSymbol;
 use crate::texts::join;
-use base65::Sequence;
-use script65::{Area, AreaPlace, Placement, Row, RowPlace, Script, Symbol, SymbolKind};
+use base65::ListVec;
+use script65::{
+    AreaPlacement, MemoryArea, Placement, RowPlacement, Script, SegmentRow, Symbol, SymbolKind,
+};
 use std::alloc::{AllocError, Global};
 
 /// `__N_PART__`
-fn part_name(alloc: Global, name: &[u8], part: &[u8]) -> Result<Sequence<u8>, AllocError>
-    ensures { IfOk result (λ text. text ≡ part_name name.now part.now) }
+fn attribute_name(alloc: Global, name: &[u8], part: &[u8]) -> Result<ListVec<u8>, AllocError>
+    ensures { IfOk result (λ text. text ≡ attribute_name name.now attribute_symbol.now) }
 {
     join(alloc, &[b"__", name, b"_", part, b"__"])
 }
 
 /// A part of an area or of a row, by its name.
-fn part_of(alloc: Global, name: &[u8], word: &[u8], number: u64) -> Result<Definition, AllocError>
-    ensures { IfOk result (λ d. d ≡ part name.now word.now number) }
+fn attribute_symbol(
+    alloc: Global,
+    name: &[u8],
+    word: &[u8],
+    number: u64,
+) -> Result<ScriptSymbol, AllocError>
+    ensures { IfOk result (λ d. d ≡ attribute_symbol name.now word.now number) }
 {
-    Ok(Definition {
-        name: part_name(alloc, name, word)?,
+    Ok(ScriptSymbol {
+        name: attribute_name(alloc, name, word)?,
         value: number.cast_signed(),
     })
 }
 
 /// A symbol that has a value.
-fn symbol_of(alloc: Global, name: &[u8], number: u32) -> Result<Definition, AllocError>
+fn symbol_of(alloc: Global, name: &[u8], number: u32) -> Result<ScriptSymbol, AllocError>
     ensures { IfOk result (λ d. d ≡ record { name = name.now; value = cast_signed w64 number }) }
 {
-    Ok(Definition {
-        name: Sequence::copy_of(alloc, name)?,
+    Ok(ScriptSymbol {
+        name: ListVec::copy_of(alloc, name)?,
         value: u64::from(number).cast_signed(),
     })
 }
@@ -42,18 +49,18 @@ fn symbol_of(alloc: Global, name: &[u8], number: u32) -> Result<Definition, Allo
 /// Adds what areas define.
 fn add_areas(
     alloc: Global,
-    definitions: &mut Sequence<Definition>,
-    areas: &[Area],
-    places: &[AreaPlace],
+    definitions: &mut ListVec<ScriptSymbol>,
+    areas: &[MemoryArea],
+    places: &[AreaPlacement],
 ) -> Result<(), AllocError>
     ensures { OnOk result (definitions.new ≡ definitions.old ++ areas_definitions areas.now places.now) }
 {
     for (area, place) in areas.iter().zip(places) {
         if area.define {
             let name = area.name.as_slice();
-            definitions.push(part_of(alloc, name, b"START", place.start)?)?;
-            definitions.push(part_of(alloc, name, b"SIZE", place.size)?)?;
-            definitions.push(part_of(alloc, name, b"LAST", place.last)?)?;
+            definitions.push(attribute_symbol(alloc, name, b"START", place.start)?)?;
+            definitions.push(attribute_symbol(alloc, name, b"SIZE", place.size)?)?;
+            definitions.push(attribute_symbol(alloc, name, b"LAST", place.last)?)?;
         }
     }
     Ok(())
@@ -62,18 +69,18 @@ fn add_areas(
 /// Adds what rows define.
 fn add_rows(
     alloc: Global,
-    definitions: &mut Sequence<Definition>,
-    rows: &[Row],
-    places: &[RowPlace],
+    definitions: &mut ListVec<ScriptSymbol>,
+    rows: &[SegmentRow],
+    places: &[RowPlacement],
 ) -> Result<(), AllocError>
     ensures { OnOk result (definitions.new ≡ definitions.old ++ rows_definitions rows.now places.now) }
 {
     for (row, place) in rows.iter().zip(places) {
         if row.define {
             let name = row.name.as_slice();
-            definitions.push(part_of(alloc, name, b"LOAD", place.load)?)?;
-            definitions.push(part_of(alloc, name, b"RUN", place.run)?)?;
-            definitions.push(part_of(alloc, name, b"SIZE", place.size)?)?;
+            definitions.push(attribute_symbol(alloc, name, b"LOAD", place.load)?)?;
+            definitions.push(attribute_symbol(alloc, name, b"RUN", place.run)?)?;
+            definitions.push(attribute_symbol(alloc, name, b"SIZE", place.size)?)?;
         }
     }
     Ok(())
@@ -82,7 +89,7 @@ fn add_rows(
 /// Adds the symbols that the script exports.
 fn add_exports(
     alloc: Global,
-    definitions: &mut Sequence<Definition>,
+    definitions: &mut ListVec<ScriptSymbol>,
     symbols: &[Symbol],
 ) -> Result<(), AllocError>
     ensures { OnOk result (definitions.new ≡ definitions.old ++ symbol_exports symbols.now) }
@@ -96,10 +103,10 @@ fn add_exports(
 }
 
 /// The symbols that the script defines where nothing else does.
-pub fn weak_symbols(alloc: Global, symbols: &[Symbol]) -> Result<Sequence<Definition>, AllocError>
+pub fn weak_symbols(alloc: Global, symbols: &[Symbol]) -> Result<ListVec<ScriptSymbol>, AllocError>
     ensures { IfOk result (λ ds. ds ≡ weak_symbols symbols.now) }
 {
-    let mut definitions = Sequence::new(alloc);
+    let mut definitions = ListVec::new(alloc);
     for symbol in symbols {
         if let SymbolKind::Weak(number) = symbol.kind {
             definitions.push(symbol_of(alloc, symbol.name.as_slice(), number)?)?;
@@ -113,10 +120,10 @@ pub fn definitions_of(
     alloc: Global,
     script: &Script,
     placement: &Placement,
-) -> Result<Sequence<Definition>, AllocError>
+) -> Result<ListVec<ScriptSymbol>, AllocError>
     ensures { IfOk result (λ ds. ds ≡ script_definitions script.now placement.now) }
 {
-    let mut definitions = Sequence::new(alloc);
+    let mut definitions = ListVec::new(alloc);
     add_areas(
         alloc,
         &mut definitions,
@@ -136,17 +143,17 @@ pub fn definitions_of(
 /// Adds the names that areas give.
 fn add_names_of_areas(
     alloc: Global,
-    names: &mut Sequence<Sequence<u8>>,
-    areas: &[Area],
+    names: &mut ListVec<ListVec<u8>>,
+    areas: &[MemoryArea],
 ) -> Result<(), AllocError>
     ensures { OnOk result (names.new ≡ names.old ++ flat_map area_names areas.now) }
 {
     for area in areas {
         if area.define {
             let name = area.name.as_slice();
-            names.push(part_name(alloc, name, b"START")?)?;
-            names.push(part_name(alloc, name, b"SIZE")?)?;
-            names.push(part_name(alloc, name, b"LAST")?)?;
+            names.push(attribute_name(alloc, name, b"START")?)?;
+            names.push(attribute_name(alloc, name, b"SIZE")?)?;
+            names.push(attribute_name(alloc, name, b"LAST")?)?;
         }
     }
     Ok(())
@@ -155,32 +162,32 @@ fn add_names_of_areas(
 /// Adds the names that rows give.
 fn add_names_of_rows(
     alloc: Global,
-    names: &mut Sequence<Sequence<u8>>,
-    rows: &[Row],
+    names: &mut ListVec<ListVec<u8>>,
+    rows: &[SegmentRow],
 ) -> Result<(), AllocError>
     ensures { OnOk result (names.new ≡ names.old ++ flat_map row_names rows.now) }
 {
     for row in rows {
         if row.define {
             let name = row.name.as_slice();
-            names.push(part_name(alloc, name, b"LOAD")?)?;
-            names.push(part_name(alloc, name, b"RUN")?)?;
-            names.push(part_name(alloc, name, b"SIZE")?)?;
+            names.push(attribute_name(alloc, name, b"LOAD")?)?;
+            names.push(attribute_name(alloc, name, b"RUN")?)?;
+            names.push(attribute_name(alloc, name, b"SIZE")?)?;
         }
     }
     Ok(())
 }
 
 /// The names that a script gives by itself: of areas, of rows, and of the symbols that it exports.
-pub fn script_names(alloc: Global, script: &Script) -> Result<Sequence<Sequence<u8>>, AllocError>
+pub fn script_names(alloc: Global, script: &Script) -> Result<ListVec<ListVec<u8>>, AllocError>
     ensures { IfOk result (λ names. names ≡ script_names script.now) }
 {
-    let mut names = Sequence::new(alloc);
+    let mut names = ListVec::new(alloc);
     add_names_of_areas(alloc, &mut names, script.areas.as_slice())?;
     add_names_of_rows(alloc, &mut names, script.rows.as_slice())?;
     for symbol in script.symbols.as_slice() {
         if let SymbolKind::Export(_) = symbol.kind {
-            names.push(Sequence::copy_of(alloc, symbol.name.as_slice())?)?;
+            names.push(ListVec::copy_of(alloc, symbol.name.as_slice())?)?;
         }
     }
     Ok(names)

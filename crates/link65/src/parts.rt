@@ -1,29 +1,29 @@
 //! What a link keeps of its modules.
 
-use base65::Sequence;
+use base65::ListVec;
 use object65::{Action, Norm, Origin, Width};
 
 /// A module's name, where its sections lie in their segments, the names that it imports, and those of its files. Forms
 /// name sections and imports, and origins files, by their places here. An owner is a member's place among the members.
 #[derive(Drop)]
-pub struct Member {
-    pub name: Sequence<u8>,
-    pub sections: Sequence<SectionPlace>,
-    pub imports: Sequence<Sequence<u8>>,
-    pub files: Sequence<Sequence<u8>>,
+pub struct LinkedModule {
+    pub name: ListVec<u8>,
+    pub sections: ListVec<SectionPlace>,
+    pub imports: ListVec<ListVec<u8>>,
+    pub files: ListVec<ListVec<u8>>,
 }
 
 /// Where a section lies: how far behind the start of its segment, and how many bytes it has.
 #[derive(Drop)]
 pub struct SectionPlace {
-    pub segment: Sequence<u8>,
+    pub segment: ListVec<u8>,
     pub offset: u64,
     pub size: u64,
 }
 
 /// A value of a module that waits for addresses: it is computed once all is placed.
 #[derive(Drop)]
-pub struct Fixup {
+pub struct ValueFixup {
     pub owner: usize,
     pub width: Width,
     /// Where its statement stands.
@@ -35,7 +35,7 @@ pub struct Fixup {
 #[derive(Drop)]
 pub struct Exported {
     pub owner: usize,
-    pub name: Sequence<u8>,
+    pub name: ListVec<u8>,
     pub origin: Origin,
     pub form: Norm,
 }
@@ -47,7 +47,7 @@ pub struct Asserted {
     pub action: Action,
     pub origin: Origin,
     /// What is printed where the form is 0.
-    pub text: Sequence<u8>,
+    pub text: ListVec<u8>,
     pub form: Norm,
 }
 
@@ -64,8 +64,8 @@ pub enum Provider {
 /// The addresses of a module's sections, and who gives its imports.
 #[derive(Drop)]
 pub struct Resolved {
-    pub bases: Sequence<i64>,
-    pub providers: Sequence<Provider>,
+    pub bases: ListVec<i64>,
+    pub providers: ListVec<Provider>,
 }
 
 /// Why a form has no value.
@@ -81,27 +81,27 @@ pub enum ValueFault {
 
 /// A name that the script gives, and its value.
 #[derive(Drop)]
-pub struct Definition {
-    pub name: Sequence<u8>,
+pub struct ScriptSymbol {
+    pub name: ListVec<u8>,
     pub value: i64,
 }
 
 /// A piece of a segment.
 #[derive(Drop)]
-pub enum Piece {
+pub enum SegmentPiece {
     /// Bytes that are known.
-    Known(Sequence<u8>),
+    Known(ListVec<u8>),
     /// So many bytes of the fill value.
     Filled(u32),
     /// The bytes of a value that waits for addresses.
-    Waits(Fixup),
+    Waits(ValueFixup),
 }
 
 /// What a segment holds: its size in bytes, the largest alignment of its sections, and its pieces in order.
 #[derive(Drop)]
-pub struct Content {
-    pub name: Sequence<u8>,
+pub struct SegmentContent {
+    pub name: ListVec<u8>,
     pub size: u64,
     pub align: u32,
-    pub pieces: Sequence<Piece>,
+    pub pieces: ListVec<SegmentPiece>,
 }

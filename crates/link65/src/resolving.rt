@@ -4,10 +4,10 @@ ghost use Rattle.std.specs.Prelude.{◌≡◌, ℕ, List, IfOk, OnOk, map};
 ghost use Rattle.link65.specs.Values.{run_of};
 ghost use Rattle.link65.specs.Placed.{AddsDefinitions, AddsExports, AreNames, address_in, provider_in, resolved_by, run_in};
 
-use crate::parts::{Definition, Exported, Member, Provider, Resolved, SectionPlace};
-use base65::{Seed, Sequence};
+use crate::parts::{Exported, LinkedModule, Provider, Resolved, ScriptSymbol, SectionPlace};
+use base65::{ListVec, Seed};
 use indexmap::IndexMap;
-use script65::{Row, RowPlace};
+use script65::{RowPlacement, SegmentRow};
 use std::alloc::{AllocError, Global};
 
 /// Who gives each name.
@@ -18,12 +18,12 @@ pub type Runs<'a> = IndexMap<&'a [u8], u64, Seed>;
 
 /// What the script and the modules define, and who gives a name.
 #[derive(Drop)]
-pub struct Names<'a> {
+pub struct DefinedSymbols<'a> {
     /// What the script defines by itself.
-    pub own: &'a [Definition],
+    pub own: &'a [ScriptSymbol],
     pub exports: &'a [Exported],
     /// What the script defines where nothing else does.
-    pub weak: &'a [Definition],
+    pub weak: &'a [ScriptSymbol],
     /// Who gives a name: the script by itself, or else a module.
     pub defined: Providers<'a>,
     /// Who gives a name where none of these does.
@@ -33,7 +33,7 @@ pub struct Names<'a> {
 /// Adds who gives the names of definitions. Of two of one name the first counts, so it comes last.
 fn add_definitions<'a>(
     providers: &mut Providers<'a>,
-    definitions: &'a [Definition],
+    definitions: &'a [ScriptSymbol],
 ) -> Result<(), AllocError>
     ensures { OnOk result (AddsDefinitions definitions.entry.now providers.old providers.new) }
 {
@@ -58,14 +58,14 @@ fn add_exports<'a>(providers: &mut Providers<'a>, exports: &'a [Exported]) -> Re
     Ok(())
 }
 
-impl<'a> Names<'a> {
+impl<'a> DefinedSymbols<'a> {
     /// All names and who gives them: a script's own before exports.
     pub fn of(
         alloc: Global,
         seed: Seed,
-        own: &'a [Definition],
+        own: &'a [ScriptSymbol],
         exports: &'a [Exported],
-        weak: &'a [Definition],
+        weak: &'a [ScriptSymbol],
     ) -> Result<Self, AllocError>
         ensures names { IfOk result AreNames }
         ensures own { IfOk result (λ n. n.own.now ≡ own.entry.now) }
@@ -77,7 +77,7 @@ impl<'a> Names<'a> {
         add_definitions(&mut defined, own)?;
         let mut weakly = IndexMap::with_hasher(alloc, seed);
         add_definitions(&mut weakly, weak)?;
-        Ok(Names {
+        Ok(DefinedSymbols {
             own,
             exports,
             weak,
@@ -103,8 +103,8 @@ impl<'a> Names<'a> {
 /// The addresses at which rows run. Of two of one name the first counts, so it comes last.
 pub fn runs_of<'a>(
     alloc: Global,
-    rows: &'a [Row],
-    places: &[RowPlace],
+    rows: &'a [SegmentRow],
+    places: &[RowPlacement],
 ) -> Result<Runs<'a>, AllocError>
     ensures { IfOk result (λ runs. (name : List ℕ) → run_in runs name ≡ run_of rows.entry.now places.now name) }
 {
@@ -134,10 +134,10 @@ fn bases_of(
     alloc: Global,
     runs: &Runs<'_>,
     sections: &[SectionPlace],
-) -> Result<Sequence<i64>, AllocError>
+) -> Result<ListVec<i64>, AllocError>
     ensures { IfOk result (λ bases. bases ≡ map (address_in runs.now) sections.now) }
 {
-    let mut bases = Sequence::new(alloc);
+    let mut bases = ListVec::new(alloc);
     for section in sections {
         bases.push(address_of(runs, section))?;
     }
@@ -146,12 +146,12 @@ fn bases_of(
 
 fn providers_of(
     alloc: Global,
-    names: &Names<'_>,
-    imports: &[Sequence<u8>],
-) -> Result<Sequence<Provider>, AllocError>
+    names: &DefinedSymbols<'_>,
+    imports: &[ListVec<u8>],
+) -> Result<ListVec<Provider>, AllocError>
     ensures { IfOk result (λ providers. providers ≡ map (provider_in names.now) imports.now) }
 {
-    let mut providers = Sequence::new(alloc);
+    let mut providers = ListVec::new(alloc);
     for name in imports {
         providers.push(names.provider(name.as_slice()))?;
     }
@@ -161,13 +161,13 @@ fn providers_of(
 /// Where the sections of all modules lie, and who gives their imports.
 pub fn resolve_all(
     alloc: Global,
-    names: &Names<'_>,
+    names: &DefinedSymbols<'_>,
     runs: &Runs<'_>,
-    members: &[Member],
-) -> Result<Sequence<Resolved>, AllocError>
+    members: &[LinkedModule],
+) -> Result<ListVec<Resolved>, AllocError>
     ensures { IfOk result (λ all. all ≡ map (resolved_by names.now runs.now) members.now) }
 {
-    let mut all = Sequence::new(alloc);
+    let mut all = ListVec::new(alloc);
     for member in members {
         all.push(Resolved {
             bases: bases_of(alloc, runs, member.sections.as_slice())?,

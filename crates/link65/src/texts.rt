@@ -1,24 +1,24 @@
 //! What the linker says: faults in words, and warnings of rows.
 
 ghost use Rattle.std.specs.Prelude.{◌≡◌, ◌++◌, IfOk, OnOk, map};
-ghost use Rattle.link65.specs.Texts.{joined, site_name, absence_warning, align_words, alignment_warning, data_warning, is_data, row_warnings, segment_warning, warnings_of_rows};
-ghost use Rattle.link65.specs.Faults.{fault_text, listed};
+ghost use Rattle.link65.specs.Texts.{concat_texts, location_name, absence_warning, align_words, alignment_warning, data_warning, is_data, row_warnings, segment_warning, warnings_of_rows};
+ghost use Rattle.link65.specs.Faults.{fault_text, comma_separated};
 ghost use Rattle.std.specs.List.{list_any};
-ghost use Rattle.link65.specs.Grounds.{piece_cells, segment_from};
+ghost use Rattle.link65.specs.CodeInvariants.{piece_cells, segment_from};
 ghost use Rattle.link65.specs.Placed.{IsReady, segments_in};
 ghost use Rattle.link65.specs.Programs.{segment_of};
 
-use crate::fault::{LinkFault, Site};
-use crate::parts::{Content, Piece};
-use crate::values::{Placed, content_of};
-use base65::Sequence;
+use crate::fault::{LinkFault, ModuleLocation};
+use crate::parts::{SegmentContent, SegmentPiece};
+use crate::values::{PlacedProgram, content_of};
+use base65::ListVec;
 use itoa::Buffer;
-use script65::Row;
+use script65::SegmentRow;
 use std::alloc::{AllocError, Global};
 
 /// Adds texts, one behind the other.
-pub fn add_all(text: &mut Sequence<u8>, parts: &[&[u8]]) -> Result<(), AllocError>
-    ensures { OnOk result (text.new ≡ text.old ++ joined (map (λ p. p.now) parts.now)) }
+pub fn add_all(text: &mut ListVec<u8>, parts: &[&[u8]]) -> Result<(), AllocError>
+    ensures { OnOk result (text.new ≡ text.old ++ concat_texts (map (λ p. p.now) parts.now)) }
 {
     for part in parts {
         text.extend_from_slice(part)?;
@@ -27,19 +27,19 @@ pub fn add_all(text: &mut Sequence<u8>, parts: &[&[u8]]) -> Result<(), AllocErro
 }
 
 /// Texts one behind the other.
-pub fn join(alloc: Global, parts: &[&[u8]]) -> Result<Sequence<u8>, AllocError>
-    ensures { IfOk result (λ text. text ≡ joined (map (λ p. p.now) parts.now)) }
+pub fn join(alloc: Global, parts: &[&[u8]]) -> Result<ListVec<u8>, AllocError>
+    ensures { IfOk result (λ text. text ≡ concat_texts (map (λ p. p.now) parts.now)) }
 {
-    let mut text = Sequence::new(alloc);
+    let mut text = ListVec::new(alloc);
     add_all(&mut text, parts)?;
     Ok(text)
 }
 
 /// Names between commas and blanks.
-fn listed(alloc: Global, names: &[Sequence<u8>]) -> Result<Sequence<u8>, AllocError>
-    ensures { IfOk result (λ text. text ≡ listed names.now) }
+fn listed(alloc: Global, names: &[ListVec<u8>]) -> Result<ListVec<u8>, AllocError>
+    ensures { IfOk result (λ text. text ≡ comma_separated names.now) }
 {
-    let mut text = Sequence::new(alloc);
+    let mut text = ListVec::new(alloc);
     let mut separator: &[u8] = b"";
     for name in names {
         text.extend_from_slice(separator)?;
@@ -50,8 +50,8 @@ fn listed(alloc: Global, names: &[Sequence<u8>]) -> Result<Sequence<u8>, AllocEr
 }
 
 /// The module of a site, and the file in it where there is one: `module` or `module:file`.
-pub fn site_name(alloc: Global, site: &Site) -> Result<Sequence<u8>, AllocError>
-    ensures { IfOk result (λ text. text ≡ site_name site.now) }
+pub fn location_name(alloc: Global, site: &ModuleLocation) -> Result<ListVec<u8>, AllocError>
+    ensures { IfOk result (λ text. text ≡ location_name site.now) }
 {
     let module = site.module_name.as_slice();
     match &site.file {
@@ -61,7 +61,7 @@ pub fn site_name(alloc: Global, site: &Site) -> Result<Sequence<u8>, AllocError>
 }
 
 /// A fault in words, as the bytes that are printed: names and texts are as they stand in the files.
-pub fn fault_text(alloc: Global, fault: &LinkFault) -> Result<Sequence<u8>, AllocError>
+pub fn fault_text(alloc: Global, fault: &LinkFault) -> Result<ListVec<u8>, AllocError>
     ensures { IfOk result (λ text. text ≡ fault_text fault.now) }
 {
     match fault {
@@ -70,29 +70,29 @@ pub fn fault_text(alloc: Global, fault: &LinkFault) -> Result<Sequence<u8>, Allo
             let names = listed(alloc, names.as_slice())?;
             join(alloc, &[b"unresolved: ", names.as_slice()])
         }
-        LinkFault::Assertion(_, text) => Sequence::copy_of(alloc, text.as_slice()),
-        fault => Sequence::copy_of(alloc, fault.to_string(alloc)?.as_bytes()),
+        LinkFault::Assertion(_, text) => ListVec::copy_of(alloc, text.as_slice()),
+        fault => ListVec::copy_of(alloc, fault.to_string(alloc)?.as_bytes()),
     }
 }
 
 /// `ld65: Warning: segment name words`
-fn segment_warning(alloc: Global, name: &[u8], words: &[u8]) -> Result<Sequence<u8>, AllocError>
+fn segment_warning(alloc: Global, name: &[u8], words: &[u8]) -> Result<ListVec<u8>, AllocError>
     ensures { IfOk result (λ text. text ≡ segment_warning name.now words.now) }
 {
     join(alloc, &[b"ld65: Warning: segment ", name, words, b"\n"])
 }
 
 /// A row whose segment the object lacks.
-fn absence_warning(alloc: Global, row: &Row) -> Result<Sequence<u8>, AllocError>
+fn absence_warning(alloc: Global, row: &SegmentRow) -> Result<ListVec<u8>, AllocError>
     ensures { IfOk result (λ text. text ≡ absence_warning row.now) }
 {
     if row.optional {
-        return Ok(Sequence::new(alloc));
+        return Ok(ListVec::new(alloc));
     }
     segment_warning(alloc, row.name.as_slice(), b" does not exist")
 }
 
-fn align_words(alloc: Global, align: u32) -> Result<Sequence<u8>, AllocError>
+fn align_words(alloc: Global, align: u32) -> Result<ListVec<u8>, AllocError>
     ensures { IfOk result (λ text. text ≡ align_words align) }
 {
     let mut buffer = Buffer::new();
@@ -103,13 +103,13 @@ fn align_words(alloc: Global, align: u32) -> Result<Sequence<u8>, AllocError>
 /// A row whose alignment is no multiple of its segment's.
 fn alignment_warning(
     alloc: Global,
-    row: &Row,
-    content: &Content,
-) -> Result<Sequence<u8>, AllocError>
+    row: &SegmentRow,
+    content: &SegmentContent,
+) -> Result<ListVec<u8>, AllocError>
     ensures { IfOk result (λ text. text ≡ alignment_warning row.now (segment_from content.now)) }
 {
     if row.align.checked_rem(content.align).unwrap_or(row.align) == 0 {
-        return Ok(Sequence::new(alloc));
+        return Ok(ListVec::new(alloc));
     }
     segment_warning(
         alloc,
@@ -119,18 +119,18 @@ fn alignment_warning(
 }
 
 /// Whether a piece is more than room for the fill value.
-fn is_data(piece: &Piece) -> bool
+fn is_data(piece: &SegmentPiece) -> bool
     ensures { result ≡ list_any is_data (piece_cells piece.now) }
 {
     match piece {
-        Piece::Known(bytes) => bytes.len() != 0,
-        Piece::Filled(_) => false,
-        Piece::Waits(_) => true,
+        SegmentPiece::Known(bytes) => bytes.len() != 0,
+        SegmentPiece::Filled(_) => false,
+        SegmentPiece::Waits(_) => true,
     }
 }
 
 /// Whether a segment has more than room for the fill value.
-fn has_data(content: &Content) -> bool
+fn has_data(content: &SegmentContent) -> bool
     ensures { result ≡ list_any is_data (segment_from content.now).cells }
 {
     for piece in content.pieces.as_slice() {
@@ -142,11 +142,15 @@ fn has_data(content: &Content) -> bool
 }
 
 /// Data in a row that is in no file.
-fn data_warning(alloc: Global, row: &Row, content: &Content) -> Result<Sequence<u8>, AllocError>
+fn data_warning(
+    alloc: Global,
+    row: &SegmentRow,
+    content: &SegmentContent,
+) -> Result<ListVec<u8>, AllocError>
     ensures { IfOk result (λ text. text ≡ data_warning row.now (segment_from content.now)) }
 {
     if row.access.is_written() || !has_data(content) {
-        return Ok(Sequence::new(alloc));
+        return Ok(ListVec::new(alloc));
     }
     segment_warning(
         alloc,
@@ -158,9 +162,9 @@ fn data_warning(alloc: Global, row: &Row, content: &Content) -> Result<Sequence<
 /// What is warned of a row of a placed program.
 fn warnings_of_row(
     alloc: Global,
-    program: &Placed<'_>,
-    row: &Row,
-) -> Result<Sequence<u8>, AllocError>
+    program: &PlacedProgram<'_>,
+    row: &SegmentRow,
+) -> Result<ListVec<u8>, AllocError>
     requires { IsReady program.now }
     ensures { IfOk result (λ text. text ≡ row_warnings row.now (segment_of (segments_in program.now) row.now.name)) }
 {
@@ -177,13 +181,13 @@ fn warnings_of_row(
 /// What is warned of rows, in order.
 pub fn warnings_of(
     alloc: Global,
-    program: &Placed<'_>,
-    rows: &[Row],
-) -> Result<Sequence<u8>, AllocError>
+    program: &PlacedProgram<'_>,
+    rows: &[SegmentRow],
+) -> Result<ListVec<u8>, AllocError>
     requires { IsReady program.now }
     ensures { IfOk result (λ text. text ≡ warnings_of_rows rows.now (segments_in program.now)) }
 {
-    let mut text = Sequence::new(alloc);
+    let mut text = ListVec::new(alloc);
     for row in rows {
         let warnings = warnings_of_row(alloc, program, row)?;
         text.extend_from_slice(warnings.as_slice())?;

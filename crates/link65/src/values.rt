@@ -2,43 +2,45 @@
 
 ghost use Rattle.std.specs.Prelude.{◌≡◌, map, option_copied, IfOk, Ok, true};
 ghost use Rattle.std.specs.Option.{option_map};
-ghost use Rattle.link65.specs.Grounds.{segment_from};
+ghost use Rattle.link65.specs.CodeInvariants.{segment_from};
 ghost use Rattle.link65.specs.Placed.{AllFound, exports_in, linkage_in, segments_in, check_export_in, check_in, values_in};
 ghost use Rattle.link65.specs.Programs.{segment_of};
 ghost use Rattle.link65.specs.Values.{value_by};
-ghost use Rattle.base65.specs.Outcome.{Gives};
+ghost use Rattle.base65.specs.Outcome.{Refines};
 ghost use Rattle.object65.specs.Objects.{fits_width};
 ghost use Rattle.link65.specs.Links.{each_passes, file_of, site, value_at, check_assert, check_asserts};
 ghost use Rattle.link65.specs.Faults.{is_memory};
 ghost use Rattle.link65.specs.Texts.{assertion_warning};
 
-use crate::evaluation::{Mark, Stop, try_form};
-use crate::fault::{LinkFault, Site};
+use crate::evaluation::{EvalBlocked, ExportState, try_form};
+use crate::fault::{LinkFault, ModuleLocation};
 use crate::growing::{SegmentNames, place_of};
-use crate::parts::{Asserted, Content, Exported, Fixup, Member, Resolved, ValueFault};
-use crate::texts::{join, site_name};
-use base65::Sequence;
+use crate::parts::{
+    Asserted, Exported, LinkedModule, Resolved, SegmentContent, ValueFault, ValueFixup,
+};
+use crate::texts::{join, location_name};
+use base65::ListVec;
 use itoa::Buffer;
 use object65::{Action, Norm, Origin, fits};
 use std::alloc::{AllocError, Global};
 
 /// A placed program whose exports are all found.
 #[derive(Clone, Copy)]
-pub struct Placed<'a> {
-    pub members: &'a [Member],
+pub struct PlacedProgram<'a> {
+    pub members: &'a [LinkedModule],
     /// The names of the segments, by which their places are found.
     pub names: &'a SegmentNames,
-    pub contents: &'a [Content],
+    pub contents: &'a [SegmentContent],
     pub exports: &'a [Exported],
     pub asserts: &'a [Asserted],
     /// Where each module's sections lie, and who gives its imports.
     pub modules: &'a [Resolved],
     /// What each export comes to.
-    pub marks: &'a [Mark],
+    pub marks: &'a [ExportState],
 }
 
 /// The segment of a name, if there is one.
-pub fn content_of<'a>(program: &Placed<'a>, name: &[u8]) -> Option<&'a Content>
+pub fn content_of<'a>(program: &PlacedProgram<'a>, name: &[u8]) -> Option<&'a SegmentContent>
     requires { map (λ n. n.items) program.now.names.now.keys ≡ map (λ c. c.name) program.now.contents.now }
     ensures { option_map segment_from (option_copied result) ≡ segment_of (segments_in program.now) name.now }
 {
@@ -51,16 +53,16 @@ pub fn content_of<'a>(program: &Placed<'a>, name: &[u8]) -> Option<&'a Content>
 /// A copy of the name of an origin's file, where its module names one.
 fn file_of(
     alloc: Global,
-    member: &Member,
+    member: &LinkedModule,
     file: Option<u32>,
-) -> Result<Option<Sequence<u8>>, AllocError>
+) -> Result<Option<ListVec<u8>>, AllocError>
     ensures { IfOk result (λ f. f ≡ file_of (Some member.now) file) }
 {
     let Some(place) = file else {
         return Ok(None);
     };
     match member.files.as_slice().get(place as usize) {
-        Some(name) => Ok(Some(Sequence::copy_of(alloc, name.as_slice())?)),
+        Some(name) => Ok(Some(ListVec::copy_of(alloc, name.as_slice())?)),
         None => Ok(None),
     }
 }
@@ -68,21 +70,21 @@ fn file_of(
 /// The module, the file and the line of a datum, an export or an assertion.
 fn site_of(
     alloc: Global,
-    members: &[Member],
+    members: &[LinkedModule],
     owner: usize,
     origin: Origin,
-) -> Result<Site, AllocError>
+) -> Result<ModuleLocation, AllocError>
     ensures { IfOk result (λ s. s ≡ site members.now owner origin) }
 {
     let line = origin.line;
     match members.get(owner) {
-        Some(member) => Ok(Site {
-            module_name: Sequence::copy_of(alloc, member.name.as_slice())?,
+        Some(member) => Ok(ModuleLocation {
+            module_name: ListVec::copy_of(alloc, member.name.as_slice())?,
             file: file_of(alloc, member, origin.file)?,
             line,
         }),
-        None => Ok(Site {
-            module_name: Sequence::new(alloc),
+        None => Ok(ModuleLocation {
+            module_name: ListVec::new(alloc),
             file: None,
             line,
         }),
@@ -92,35 +94,39 @@ fn site_of(
 /// The value of a form of the module at a place, or why it has none, with where its statement stands.
 fn value_at(
     alloc: Global,
-    program: &Placed<'_>,
+    program: &PlacedProgram<'_>,
     owner: usize,
     origin: Origin,
     form: &Norm,
 ) -> Result<i64, LinkFault>
     requires { AllFound program.now.marks.now }
-    ensures { Gives is_memory (λ v. v) result (value_at (site program.now.members.now owner origin) (value_by (linkage_in program.now) (exports_in program.now) owner form.now)) }
+    ensures { Refines is_memory (λ v. v) result (value_at (site program.now.members.now owner origin) (value_by (linkage_in program.now) (exports_in program.now) owner form.now)) }
 {
     match try_form(form, program.modules.get(owner), program.marks) {
         Ok(value) => Ok(value),
-        Err(Stop::Fault(ValueFault::NoValue)) => {
+        Err(EvalBlocked::Fault(ValueFault::NoValue)) => {
             Err(LinkFault::NoValue(site_of(alloc, program.members, owner, origin)?))
         }
-        Err(Stop::Fault(ValueFault::Unresolved)) => {
-            Err(LinkFault::Unresolved(Sequence::new(alloc)))
+        Err(EvalBlocked::Fault(ValueFault::Unresolved)) => {
+            Err(LinkFault::Unresolved(ListVec::new(alloc)))
         }
-        Err(Stop::Fault(ValueFault::Circular)) => {
+        Err(EvalBlocked::Fault(ValueFault::Circular)) => {
             Err(LinkFault::Circular(site_of(alloc, program.members, owner, origin)?))
         }
-        Err(Stop::Needs(_)) => {
+        Err(EvalBlocked::Needs(_)) => {
             Err(LinkFault::Circular(site_of(alloc, program.members, owner, origin)?))
         }
     }
 }
 
 /// The value of a datum, or its fault: it has none, or one that doesn't fit.
-pub fn datum_value(alloc: Global, program: &Placed<'_>, fixup: &Fixup) -> Result<i64, LinkFault>
+pub fn datum_value(
+    alloc: Global,
+    program: &PlacedProgram<'_>,
+    fixup: &ValueFixup,
+) -> Result<i64, LinkFault>
     requires { AllFound program.now.marks.now }
-    ensures checked { Gives is_memory (λ _. tt) result (check_in program.now fixup.now) }
+    ensures checked { Refines is_memory (λ _. tt) result (check_in program.now fixup.now) }
     ensures value { IfOk result (λ v. value_by (linkage_in program.now) (exports_in program.now) fixup.now.owner fixup.now.form ≡ Ok v) }
     ensures fits { IfOk result (λ v. fits_width fixup.now.width v ≡ true) }
 {
@@ -133,9 +139,9 @@ pub fn datum_value(alloc: Global, program: &Placed<'_>, fixup: &Fixup) -> Result
 }
 
 /// The value of each export. The first that has none is refused, used or not.
-pub fn export_values(alloc: Global, program: &Placed<'_>) -> Result<Vec<i64>, LinkFault>
+pub fn export_values(alloc: Global, program: &PlacedProgram<'_>) -> Result<Vec<i64>, LinkFault>
     requires { AllFound program.now.marks.now }
-    ensures checked { Gives is_memory (λ _. tt) result (each_passes (check_export_in program.now) program.now.exports.now) }
+    ensures checked { Refines is_memory (λ _. tt) result (each_passes (check_export_in program.now) program.now.exports.now) }
     ensures values { IfOk result (λ values. values.items ≡ values_in program.now) }
 {
     let mut values = Vec::with_capacity(alloc, program.exports.len())?;
@@ -146,12 +152,16 @@ pub fn export_values(alloc: Global, program: &Placed<'_>) -> Result<Vec<i64>, Li
 }
 
 /// `module:line: Warning: text` or `module:file:line: Warning: text`
-fn assertion_warning(alloc: Global, site: &Site, text: &[u8]) -> Result<Sequence<u8>, AllocError>
+fn assertion_warning(
+    alloc: Global,
+    site: &ModuleLocation,
+    text: &[u8],
+) -> Result<ListVec<u8>, AllocError>
     ensures { IfOk result (λ line. line ≡ assertion_warning site.now text.now) }
 {
     let mut buffer = Buffer::new();
     let number = buffer.format(site.line);
-    let name = site_name(alloc, site)?;
+    let name = location_name(alloc, site)?;
     join(
         alloc,
         &[
@@ -168,34 +178,34 @@ fn assertion_warning(alloc: Global, site: &Site, text: &[u8]) -> Result<Sequence
 /// What is warned of an assertion, or its fault.
 fn check_assertion(
     alloc: Global,
-    program: &Placed<'_>,
+    program: &PlacedProgram<'_>,
     assert: &Asserted,
-) -> Result<Sequence<u8>, LinkFault>
+) -> Result<ListVec<u8>, LinkFault>
     requires { AllFound program.now.marks.now }
-    ensures { Gives is_memory (λ text. text) result (check_assert (linkage_in program.now) program.now.members.now (exports_in program.now) assert.now) }
+    ensures { Refines is_memory (λ text. text) result (check_assert (linkage_in program.now) program.now.members.now (exports_in program.now) assert.now) }
 {
     let value = value_at(alloc, program, assert.owner, assert.origin, &assert.form)?;
     if value != 0 {
-        return Ok(Sequence::new(alloc));
+        return Ok(ListVec::new(alloc));
     }
     let site = site_of(alloc, program.members, assert.owner, assert.origin)?;
     let text = assert.text.as_slice();
     match assert.action {
         Action::Warning => Ok(assertion_warning(alloc, &site, text)?),
-        Action::Error => Err(LinkFault::Assertion(site, Sequence::copy_of(alloc, text)?)),
+        Action::Error => Err(LinkFault::Assertion(site, ListVec::copy_of(alloc, text)?)),
     }
 }
 
 /// What is warned of assertions, in order, or the first fault.
 pub fn check_assertions(
     alloc: Global,
-    program: &Placed<'_>,
+    program: &PlacedProgram<'_>,
     asserts: &[Asserted],
-) -> Result<Sequence<u8>, LinkFault>
+) -> Result<ListVec<u8>, LinkFault>
     requires { AllFound program.now.marks.now }
-    ensures { Gives is_memory (λ text. text) result (check_asserts (linkage_in program.now) program.now.members.now (exports_in program.now) asserts.now) }
+    ensures { Refines is_memory (λ text. text) result (check_asserts (linkage_in program.now) program.now.members.now (exports_in program.now) asserts.now) }
 {
-    let mut text = Sequence::new(alloc);
+    let mut text = ListVec::new(alloc);
     for assert in asserts {
         let warning = check_assertion(alloc, program, assert)?;
         text.extend_from_slice(warning.as_slice())?;

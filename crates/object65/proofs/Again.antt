@@ -16,23 +16,23 @@ use Rattle.object65.specs.declared.object.Assert.{Assert}
 use Rattle.object65.specs.declared.object.Export.{Export}
 use Rattle.object65.specs.declared.object.Fragment.{Fragment}
 use Rattle.object65.specs.declared.scan.Last.TheVariants as last
-use Rattle.object65.specs.declared.scan.Room.{Room}
+use Rattle.object65.specs.declared.scan.SectionFill.{SectionFill}
 use Rattle.object65.specs.declared.object.Fragment.TheVariants.{Literal, Fill, Value}
 use Rattle.object65.specs.declared.object.Object.{Object}
 use Rattle.object65.specs.declared.object.Origin.{Origin}
 use Rattle.object65.specs.declared.object.Section.{Section}
 use Rattle.object65.specs.declared.object.Width.{Width}
-use Rattle.object65.specs.declared.object.Width.TheVariants.{Byte, Word, HighFirst, Dword, Branch}
+use Rattle.object65.specs.declared.object.Width.TheVariants.{Byte, Word, BigEndianWord, Dword, Branch}
 use Rattle.object65.specs.Bodies.{section_of}
-use Rattle.object65.specs.Record.{◌>>=◌, Entry}
+use Rattle.object65.specs.Record.{◌>>=◌, RawRecord}
 use Rattle.object65.specs.Folding.{is_within, is_normal, is_literal, node_limit}
 use Rattle.object65.specs.Form.{Form, nodes}
-use Rattle.object65.specs.Objects.{are_distinct, are_files_of, has_file, has_file_by, has_good_origin, is_file_name, is_good_origin, is_name, is_among, are_names, section_len, section_limit, fragment_len, width_len, is_good_form, is_good_fragment, is_good_section, is_good_assert, is_good_object, are_apart, FragmentFits, FitsBits, ObjectFits, OriginFits}
+use Rattle.object65.specs.Objects.{are_distinct, are_files_of, has_file, has_file_by, has_good_origin, is_file_name, is_well_formed_origin, is_name, is_among, are_names, section_len, section_limit, fragment_len, width_len, is_well_formed_form, is_well_formed_fragment, is_well_formed_section, is_well_formed_assert, is_well_formed_object, are_apart, FragmentFits, FitsBits, ObjectFits, OriginFits}
 use Rattle.object65.specs.Small.{is_small_text}
-use Rattle.object65.specs.Spelling.{file_entry, import_entry, section_entry, fragment_entries, literal_entry, literal_entries, fill_entry, value_entry, export_entry, assert_entry, end_entry, entries_behind, entries_of, body_limit}
-use Rattle.object65.specs.Items.{State, closing, grown, section_from, start, with_fragment, with_item}
+use Rattle.object65.specs.Spelling.{file_entry, import_entry, section_entry, fragment_entries, literal_entry, literal_entries, fill_entry, value_entry, export_entry, assert_entry, end_entry, entries_after, entries_of, body_limit}
+use Rattle.object65.specs.Items.{State, closing, draft_with_fragment, section_from, start, with_fragment, with_item}
 use Rattle.object65.specs.Scanning
-use Rattle.object65.specs.Scanning.{after, after_all, finished}
+use Rattle.object65.specs.Scanning.{after, after_all, object_of_state}
 use Rattle.object65.proofs.Closings.{turned, nil, longer, closing_is, last_joins, last_push, apart_last, fill_last, shut_len, all_full, is_full, opens, piece_there, more_pieces, one_piece}
 use Rattle.object65.proofs.Fields.{fill_again, value_again, export_again, assert_again}
 use Rattle.object65.proofs.Goods.{left, right, and, parts}
@@ -62,7 +62,7 @@ pub name_in : (xs ys : List (List ℕ)) (n : List ℕ) → are_names (xs ++ n �
 name_in = name_among is_name
 
 -- an origin of an object has a file or none as its version says, and one that is there
-origin_parts : (v m : ℕ) (o : Origin) → is_good_origin v m o ≡ true → (has_file_by v o.file ≡ true) × (has_file m o.file ≡ true)
+origin_parts : (v m : ℕ) (o : Origin) → is_well_formed_origin v m o ≡ true → (has_file_by v o.file ≡ true) × (has_file m o.file ≡ true)
 origin_parts v m o good = (left (has_file_by v o.file) (has_file m o.file) good, right (has_file_by v o.file) (has_file m o.file) good)
 
 parts_again : (m n i : ℕ) (o : Origin) (f : Form) → has_file m o.file ≡ true → is_within n i f ≡ true → Scanning.known_parts m n i o f ≡ Ok tt
@@ -76,11 +76,11 @@ abbrev naming : ℕ → List (List ℕ) → State
 naming v files = record (start v) { files = files }
 
 take_file : (v : ℕ) (done : List (List ℕ)) (name : List ℕ) (others : List (List ℕ)) → (v == 1) ≡ false → are_distinct is_file_name (done ++ name ∷ others) ≡ true → is_utf8 name ≡ true → after (naming v done) (file_entry name) ≡ Ok (naming v (done ++ name ∷ []))
-unfolding after Scanning.scanned Scanning.scan_entry Scanning.scan_file
+unfolding after Scanning.scan_step Scanning.scan_entry Scanning.scan_file
 take_file v done name others two names text = grind (arith, common_steps, name_among)
 
 -- all files in turn
-take_files : (v : ℕ) (names done : List (List ℕ)) (rest : List Entry) → (v == 1) ≡ false → are_distinct is_file_name (done ++ names) ≡ true → AllByRecursion (λ name. is_utf8 name ≡ true) names → after_all (naming v done) (map file_entry names ++ rest) ≡ after_all (naming v (done ++ names)) rest
+take_files : (v : ℕ) (names done : List (List ℕ)) (rest : List RawRecord) → (v == 1) ≡ false → are_distinct is_file_name (done ++ names) ≡ true → AllByRecursion (λ name. is_utf8 name ≡ true) names → after_all (naming v done) (map file_entry names ++ rest) ≡ after_all (naming v (done ++ names)) rest
 take_files v [] done rest two good texts = ap (λ xs. after_all (naming v xs) rest) (sym (nil done))
 take_files v (n ∷ names) done rest two good texts =
     let more = append_assoc done (n ∷ []) names in
@@ -89,7 +89,7 @@ take_files v (n ∷ names) done rest two good texts =
     ∙ ap (λ xs. after_all (naming v xs) rest) more
 
 -- those of an object of either version
-files_taken : (v : ℕ) (files : List (List ℕ)) (rest : List Entry) → are_files_of v files ≡ true → AllByRecursion (λ name. is_utf8 name ≡ true) files → after_all (start v) (map file_entry files ++ rest) ≡ after_all (naming v files) rest
+files_taken : (v : ℕ) (files : List (List ℕ)) (rest : List RawRecord) → are_files_of v files ≡ true → AllByRecursion (λ name. is_utf8 name ≡ true) files → after_all (start v) (map file_entry files ++ rest) ≡ after_all (naming v files) rest
 files_taken v files rest good texts = grind (arith, common_steps, nat_tests, take_files)
 
 module _ (v : ℕ) (files : List (List ℕ)) where
@@ -114,11 +114,11 @@ module _ (v : ℕ) (files : List (List ℕ)) where
   new_again xs ys n e = let name = name_in xs ys n e in and (is_name n) (not (is_among xs n)) name.0 (ap not name.1)
 
   take_import : (done : List (List ℕ)) (name : List ℕ) (others : List (List ℕ)) → are_names (done ++ name ∷ others) ≡ true → after (sectioned done false []) (import_entry name) ≡ Ok (sectioned (done ++ name ∷ []) false [])
-  unfolding after Scanning.scanned Scanning.scan_entry Scanning.scan_import
+  unfolding after Scanning.scan_step Scanning.scan_entry Scanning.scan_import
   take_import done name others names = rw (new_again done others name names) refl
 
   -- all imports in turn
-  take_imports : (names done : List (List ℕ)) (rest : List Entry) → are_names (done ++ names) ≡ true → after_all (sectioned done false []) (map import_entry names ++ rest) ≡ after_all (sectioned (done ++ names) false []) rest
+  take_imports : (names done : List (List ℕ)) (rest : List RawRecord) → are_names (done ++ names) ≡ true → after_all (sectioned done false []) (map import_entry names ++ rest) ≡ after_all (sectioned (done ++ names) false []) rest
   take_imports [] done rest good = ap (λ xs. after_all (sectioned xs false []) rest) (sym (nil done))
   take_imports (n ∷ names) done rest good =
       let more = append_assoc done (n ∷ []) names in
@@ -132,36 +132,36 @@ module _ (v : ℕ) (files : List (List ℕ)) where
   pub record IsGood (n i : ℕ) (s : Section) : Type 0 where
     pub align : nat_le s.align 15 ≡ true
     pub size : section_len s ≤ section_limit
-    pub good : list_all (is_good_fragment n i) s.fragments ≡ true
+    pub good : list_all (is_well_formed_fragment n i) s.fragments ≡ true
     pub apart : are_apart s.fragments ≡ true
     pub fits : AllByRecursion FragmentFits s.fragments
 
-  good_sections : (n i : ℕ) (ss : List Section) → list_all (is_good_section n i) ss ≡ true → AllByRecursion (λ s. AllByRecursion FragmentFits s.fragments) ss → AllByRecursion (IsGood n i) ss
+  good_sections : (n i : ℕ) (ss : List Section) → list_all (is_well_formed_section n i) ss ≡ true → AllByRecursion (λ s. AllByRecursion FragmentFits s.fragments) ss → AllByRecursion (IsGood n i) ss
   good_sections n i [] good fits = tt
   good_sections n i (s ∷ ss) good fits =
-      let one = left (is_good_section n i s) (list_all (is_good_section n i) ss) good in
-      let three = left (nat_le s.align 15 && nat_le (section_len s) section_limit && list_all (is_good_fragment n i) s.fragments) (are_apart s.fragments) one in
-      let two = left (nat_le s.align 15 && nat_le (section_len s) section_limit) (list_all (is_good_fragment n i) s.fragments) three in
+      let one = left (is_well_formed_section n i s) (list_all (is_well_formed_section n i) ss) good in
+      let three = left (nat_le s.align 15 && nat_le (section_len s) section_limit && list_all (is_well_formed_fragment n i) s.fragments) (are_apart s.fragments) one in
+      let two = left (nat_le s.align 15 && nat_le (section_len s) section_limit) (list_all (is_well_formed_fragment n i) s.fragments) three in
       let size = right (nat_le s.align 15) (nat_le (section_len s) section_limit) two in (
         record {
           align = left (nat_le s.align 15) (nat_le (section_len s) section_limit) two;
           size = grind (arith, nat_tests);
-          good = right (nat_le s.align 15 && nat_le (section_len s) section_limit) (list_all (is_good_fragment n i) s.fragments) three;
-          apart = right (nat_le s.align 15 && nat_le (section_len s) section_limit && list_all (is_good_fragment n i) s.fragments) (are_apart s.fragments) one;
+          good = right (nat_le s.align 15 && nat_le (section_len s) section_limit) (list_all (is_well_formed_fragment n i) s.fragments) three;
+          apart = right (nat_le s.align 15 && nat_le (section_len s) section_limit && list_all (is_well_formed_fragment n i) s.fragments) (are_apart s.fragments) one;
           fits = fits.0;
         },
-        good_sections n i ss (right (is_good_section n i s) (list_all (is_good_section n i) ss) good) fits.1,
+        good_sections n i ss (right (is_well_formed_section n i s) (list_all (is_well_formed_section n i) ss) good) fits.1,
       )
 
   heading_again : (n align : ℕ) (name : List ℕ) → n ≤ 16777216 → section_of (little_bytes 4 n ++ align ∷ name) ≡ Ok (record { size = n; align = align; name = name })
   heading_again n align name small = grind (arith, common_steps)
 
   take_section : (n i : ℕ) (imports : List (List ℕ)) (ds : List Draft) (s : Section) (others : List (List ℕ)) → IsGood n i s → are_names (map (λ (d : Draft). d.name) ds ++ s.name ∷ others) ≡ true → after (sectioned imports false ds) (section_entry s) ≡ Ok (sectioned imports false (ds ++ empty_draft s ∷ []))
-  unfolding after Scanning.scanned Scanning.scan_entry Scanning.scan_section
+  unfolding after Scanning.scan_step Scanning.scan_entry Scanning.scan_section
   take_section n i imports ds s others good names = grind (arith, common_steps, heading_again, new_again)
 
   -- all headings in turn
-  take_headings : (n i : ℕ) (imports : List (List ℕ)) (ss : List Section) (ds : List Draft) (rest : List Entry) → AllByRecursion (IsGood n i) ss → are_names (map (λ (d : Draft). d.name) ds ++ map (λ (s : Section). s.name) ss) ≡ true → after_all (sectioned imports false ds) (map section_entry ss ++ rest) ≡ after_all (sectioned imports false (ds ++ map empty_draft ss)) rest
+  take_headings : (n i : ℕ) (imports : List (List ℕ)) (ss : List Section) (ds : List Draft) (rest : List RawRecord) → AllByRecursion (IsGood n i) ss → are_names (map (λ (d : Draft). d.name) ds ++ map (λ (s : Section). s.name) ss) ≡ true → after_all (sectioned imports false ds) (map section_entry ss ++ rest) ≡ after_all (sectioned imports false (ds ++ map empty_draft ss)) rest
   take_headings n i imports [] ds rest good names = ap (λ xs. after_all (sectioned imports false xs) rest) (sym (nil ds))
   take_headings n i imports (s ∷ ss) ds rest good names =
       let one = take_section n i imports ds s (map (λ (x : Section). x.name) ss) good.0 names in
@@ -173,15 +173,15 @@ module _ (v : ℕ) (files : List (List ℕ)) where
   -- ---- A literal.
 
   -- a fragment goes to the first section that isn't full
-  part_again : (imports : List (List ℕ)) (begun : Bool) (full : List Draft) (d e : Draft) (more : List Draft) (grow : Room → Result (Room × Fragment) ObjectFault) (y : Room × Fragment) → list_all is_full full ≡ true → is_full d ≡ false → grow (Scanning.room_of d) ≡ Ok y → grown d y.1 ≡ e → (Scanning.scan_part (Scanning.outline_of (sectioned imports begun (full ++ d ∷ more))) grow >>= (λ x. Ok (with_item (sectioned imports begun (full ++ d ∷ more)) x.1))) ≡ Ok (sectioned imports true (full ++ e ∷ more))
+  part_again : (imports : List (List ℕ)) (begun : Bool) (full : List Draft) (d e : Draft) (more : List Draft) (grow : SectionFill → Result (SectionFill × Fragment) ObjectFault) (y : SectionFill × Fragment) → list_all is_full full ≡ true → is_full d ≡ false → grow (Scanning.room_of d) ≡ Ok y → draft_with_fragment d y.1 ≡ e → (Scanning.scan_part (Scanning.outline_of (sectioned imports begun (full ++ d ∷ more))) grow >>= (λ x. Ok (with_item (sectioned imports begun (full ++ d ∷ more)) x.1))) ≡ Ok (sectioned imports true (full ++ e ∷ more))
   unfolding Scanning.scan_part
   part_again imports begun full d e more grow y all free h is = grind (arith, common_steps, opens, piece_there)
 
-  literal_again : (s : Section) (fs : List Fragment) (bytes body : List ℕ) → 0 < length body → (sum_by fragment_len fs + length bytes) + length body ≤ section_len s → length bytes % body_limit ≡ 0 → Scanning.room_literal body (Scanning.room_of (drafting s fs bytes)) ≡ Ok (Scanning.room_behind (Scanning.room_of (drafting s fs bytes)) (length body) (Scanning.last_behind (length body)), Literal body)
+  literal_again : (s : Section) (fs : List Fragment) (bytes body : List ℕ) → 0 < length body → (sum_by fragment_len fs + length bytes) + length body ≤ section_len s → length bytes % body_limit ≡ 0 → Scanning.room_literal body (Scanning.room_of (drafting s fs bytes)) ≡ Ok (Scanning.room_after (Scanning.room_of (drafting s fs bytes)) (length body) (Scanning.last_after (length body)), Literal body)
   unfolding Scanning.room_literal
   literal_again s fs bytes body some within full = grind (arith, common_steps)
 
-  literal_joined : (s : Section) (fs : List Fragment) (bytes body : List ℕ) → grown (drafting s fs bytes) (Literal body) ≡ drafting s fs (bytes ++ body)
+  literal_joined : (s : Section) (fs : List Fragment) (bytes body : List ℕ) → draft_with_fragment (drafting s fs bytes) (Literal body) ≡ drafting s fs (bytes ++ body)
   literal_joined s fs bytes body = grind (arith, common_steps)
 
   -- a section that has room isn't full
@@ -189,12 +189,12 @@ module _ (v : ℕ) (files : List (List ℕ)) where
   not_full s fs bytes len some within = let less : sum_by fragment_len fs + length bytes < section_len s = omega arith in grind (arith, nat_tests)
 
   take_piece : (imports : List (List ℕ)) (begun : Bool) (full more : List Draft) (s : Section) (fs : List Fragment) (bytes body : List ℕ) → list_all is_full full ≡ true → 0 < length body → (sum_by fragment_len fs + length bytes) + length body ≤ section_len s → length bytes % body_limit ≡ 0 → after (sectioned imports begun (full ++ drafting s fs bytes ∷ more)) (literal_entry body) ≡ Ok (sectioned imports true (full ++ drafting s fs (bytes ++ body) ∷ more))
-  unfolding after Scanning.scanned Scanning.scan_entry
+  unfolding after Scanning.scan_step Scanning.scan_entry
   take_piece imports begun full more s fs bytes body all some within even =
       part_again imports begun full (drafting s fs bytes) (drafting s fs (bytes ++ body)) more (Scanning.room_literal body) _ all (not_full s fs bytes (length body) some within) (literal_again s fs bytes body some within even) (literal_joined s fs bytes body)
 
   -- some records lead to these sections
-  pub record Goes (before : State) (imports : List (List ℕ)) (es rest : List Entry) (ds : List Draft) : Type 0 where
+  pub record Goes (before : State) (imports : List (List ℕ)) (es rest : List RawRecord) (ds : List Draft) : Type 0 where
     pub begun : Bool
     pub same : after_all before (es ++ rest) ≡ after_all (sectioned imports begun ds) rest
 
@@ -202,9 +202,9 @@ module _ (v : ℕ) (files : List (List ℕ)) where
   front_len bytes over = omega (arith, length-take body_limit bytes)
 
   abbrev Piecewise : ℕ → Type 0
-  Piecewise n = (imports : List (List ℕ)) (begun : Bool) (full more : List Draft) (s : Section) (fs : List Fragment) (done bytes : List ℕ) (rest : List Entry) → length bytes ≤ n → list_all is_full full ≡ true → (sum_by fragment_len fs + length done) + length bytes ≤ section_len s → length done % body_limit ≡ 0 → Goes (sectioned imports begun (full ++ drafting s fs done ∷ more)) imports (literal_entries bytes) rest (full ++ drafting s fs (done ++ bytes) ∷ more)
+  Piecewise n = (imports : List (List ℕ)) (begun : Bool) (full more : List Draft) (s : Section) (fs : List Fragment) (done bytes : List ℕ) (rest : List RawRecord) → length bytes ≤ n → list_all is_full full ≡ true → (sum_by fragment_len fs + length done) + length bytes ≤ section_len s → length done % body_limit ≡ 0 → Goes (sectioned imports begun (full ++ drafting s fs done ∷ more)) imports (literal_entries bytes) rest (full ++ drafting s fs (done ++ bytes) ∷ more)
 
-  split : (n : ℕ) (imports : List (List ℕ)) (begun : Bool) (full more : List Draft) (s : Section) (fs : List Fragment) (done bytes : List ℕ) (rest : List Entry) → 0 < length bytes → length bytes ≤ suc n → list_all is_full full ≡ true → (sum_by fragment_len fs + length done) + length bytes ≤ section_len s → length done % body_limit ≡ 0 → Piecewise n → Goes (sectioned imports begun (full ++ drafting s fs done ∷ more)) imports (literal_entries bytes) rest (full ++ drafting s fs (done ++ bytes) ∷ more)
+  split : (n : ℕ) (imports : List (List ℕ)) (begun : Bool) (full more : List Draft) (s : Section) (fs : List Fragment) (done bytes : List ℕ) (rest : List RawRecord) → 0 < length bytes → length bytes ≤ suc n → list_all is_full full ≡ true → (sum_by fragment_len fs + length done) + length bytes ≤ section_len s → length done % body_limit ≡ 0 → Piecewise n → Goes (sectioned imports begun (full ++ drafting s fs done ∷ more)) imports (literal_entries bytes) rest (full ++ drafting s fs (done ++ bytes) ∷ more)
   split n imports begun full more s fs done bytes rest some long all sum even others =
       elim (either (nat_le (length bytes) body_limit)) [
         | inl short ↦
@@ -251,26 +251,26 @@ module _ (v : ℕ) (files : List (List ℕ)) where
   room_again s fs bytes len within = let less : len ≤ section_len s - (sum_by fragment_len fs + length bytes) = omega arith in grind (arith, nat_tests)
 
   take_fill : (imports : List (List ℕ)) (begun : Bool) (full more : List Draft) (s : Section) (fs : List Fragment) (bytes : List ℕ) (n : ℕ) → list_all is_full full ≡ true → 0 < n → n < 2 ^ 32 → (sum_by fragment_len fs + length bytes) + n ≤ section_len s → Scanning.ends_in_fill (fs ++ closing bytes) ≡ false → after (sectioned imports begun (full ++ drafting s fs bytes ∷ more)) (fill_entry n) ≡ Ok (sectioned imports true (full ++ drafting s ((fs ++ closing bytes) ++ Fill n ∷ []) [] ∷ more))
-  unfolding after Scanning.scanned Scanning.scan_entry Scanning.room_fill
+  unfolding after Scanning.scan_step Scanning.scan_entry Scanning.room_fill
   take_fill imports begun full more s fs bytes n all some fits within alone =
       let d = drafting s fs bytes in
-      let y : Room × Fragment = (Scanning.room_behind (Scanning.room_of d) n last.Fill, Fill n) in
+      let y : SectionFill × Fragment = (Scanning.room_after (Scanning.room_of d) n last.Fill, Fill n) in
       let takes : Scanning.room_fill (fill_entry n).body (Scanning.room_of d) ≡ Ok y = rw (fill_again n some fits, room_again s fs bytes n within, fill_is d, alone) refl in
       part_again imports begun full d (drafting s ((fs ++ closing bytes) ++ Fill n ∷ []) []) more (Scanning.room_fill (fill_entry n).body) y all (not_full s fs bytes n some within) takes (added s fs bytes (Fill n))
 
   -- what makes a form good in a value or an assertion
-  form_parts : (n i : ℕ) (f : Form) → (is_good_form n i f && not (is_literal f)) ≡ true → (is_within n i f ≡ true) × ((is_normal f && nat_le (nodes f) node_limit && not (is_literal f)) ≡ true) × (is_normal f ≡ true)
+  form_parts : (n i : ℕ) (f : Form) → (is_well_formed_form n i f && not (is_literal f)) ≡ true → (is_within n i f ≡ true) × ((is_normal f && nat_le (nodes f) node_limit && not (is_literal f)) ≡ true) × (is_normal f ≡ true)
   form_parts n i f good = grind (arith, common_steps, left, right, and)
 
-  take_value : (n i : ℕ) (imports : List (List ℕ)) (begun : Bool) (full more : List Draft) (s : Section) (fs : List Fragment) (bytes : List ℕ) (w : Width) (o : Origin) (form : Form) → list_all is_full full ≡ true → is_good_origin v (length files) o ≡ true → length (full ++ drafting s fs bytes ∷ more) ≡ n → length imports ≡ i → OriginFits o × FitsBits form → (is_good_form n i form && not (is_literal form)) ≡ true → (sum_by fragment_len fs + length bytes) + width_len w ≤ section_len s → after (sectioned imports begun (full ++ drafting s fs bytes ∷ more)) (value_entry w o form) ≡ Ok (sectioned imports true (full ++ drafting s ((fs ++ closing bytes) ++ Value w o form ∷ []) [] ∷ more))
-  unfolding after Scanning.scanned Scanning.scan_entry Scanning.room_value
+  take_value : (n i : ℕ) (imports : List (List ℕ)) (begun : Bool) (full more : List Draft) (s : Section) (fs : List Fragment) (bytes : List ℕ) (w : Width) (o : Origin) (form : Form) → list_all is_full full ≡ true → is_well_formed_origin v (length files) o ≡ true → length (full ++ drafting s fs bytes ∷ more) ≡ n → length imports ≡ i → OriginFits o × FitsBits form → (is_well_formed_form n i form && not (is_literal form)) ≡ true → (sum_by fragment_len fs + length bytes) + width_len w ≤ section_len s → after (sectioned imports begun (full ++ drafting s fs bytes ∷ more)) (value_entry w o form) ≡ Ok (sectioned imports true (full ++ drafting s ((fs ++ closing bytes) ++ Value w o form ∷ []) [] ∷ more))
+  unfolding after Scanning.scan_step Scanning.scan_entry Scanning.room_value
   take_value n i imports begun full more s fs bytes w o form all origin count there fits good within =
       let fine = form_parts n i form good in
       let by = origin_parts v (length files) o origin in
       let some : 0 < width_len w = width_some w in
       let d = drafting s fs bytes in
       let body = (value_entry w o form).body in
-      let y : Room × Fragment = (Scanning.room_behind (Scanning.room_of d) (width_len w) last.Other, Value w o form) in
+      let y : SectionFill × Fragment = (Scanning.room_after (Scanning.room_of d) (width_len w) last.Other, Value w o form) in
       let takes : Scanning.room_value v (length files) n i body (Scanning.room_of d) ≡ Ok y = rw (value_again v w o form by.0 fits.0 fits.1 fine.2, room_again s fs bytes (width_len w) within, parts_again (length files) n i o form by.1 fine.0, fine.1) refl in
       let m = length (map Scanning.room_of (full ++ d ∷ more)) in
       let counted = takes_at n i m (length imports) body (Scanning.room_of d) y (length-map (full ++ d ∷ more) Scanning.room_of ∙ count) there takes in
@@ -279,17 +279,17 @@ module _ (v : ℕ) (files : List (List ℕ)) where
       width_some : (w : Width) → 0 < width_len w
       width_some Byte = omega arith
       width_some Word = omega arith
-      width_some HighFirst = omega arith
+      width_some BigEndianWord = omega arith
       width_some Dword = omega arith
       width_some Branch = omega arith
 
-      takes_at : (n i m j : ℕ) (body : List ℕ) (r : Room) (y : Room × Fragment) → m ≡ n → j ≡ i → Scanning.room_value v (length files) n i body r ≡ Ok y → Scanning.room_value v (length files) m j body r ≡ Ok y
+      takes_at : (n i m j : ℕ) (body : List ℕ) (r : SectionFill) (y : SectionFill × Fragment) → m ≡ n → j ≡ i → Scanning.room_value v (length files) n i body r ≡ Ok y → Scanning.room_value v (length files) m j body r ≡ Ok y
       takes_at n i m j body r y p q h = (λ k. Scanning.room_value v (length files) (p k) (q k) body r) ∙ h
 
   -- ---- The fragments of a section.
 
   -- some records lead to this section, with all its fragments
-  pub record Fills (before : State) (imports : List (List ℕ)) (es rest : List Entry) (full more : List Draft) (s : Section) (all : List Fragment) : Type 0 where
+  pub record Fills (before : State) (imports : List (List ℕ)) (es rest : List RawRecord) (full more : List Draft) (s : Section) (all : List Fragment) : Type 0 where
     pub fragments : List Fragment
     pub literal : List ℕ
     pub whole : fragments ++ closing literal ≡ all
@@ -298,10 +298,10 @@ module _ (v : ℕ) (files : List (List ℕ)) where
     pub same : after_all before (es ++ rest) ≡ after_all (sectioned imports begun (full ++ drafting s fragments literal ∷ more)) rest
 
   -- one fragment, and then the others
-  fills_next : (before : State) (imports : List (List ℕ)) (first others rest : List Entry) (full more : List Draft) (s : Section) (begun : Bool) (d : Draft) (all now : List Fragment) → now ≡ all → after_all before (first ++ (others ++ rest)) ≡ after_all (sectioned imports begun (full ++ d ∷ more)) (others ++ rest) → Fills (sectioned imports begun (full ++ d ∷ more)) imports others rest full more s now → Fills before imports (first ++ others) rest full more s all
+  fills_next : (before : State) (imports : List (List ℕ)) (first others rest : List RawRecord) (full more : List Draft) (s : Section) (begun : Bool) (d : Draft) (all now : List Fragment) → now ≡ all → after_all before (first ++ (others ++ rest)) ≡ after_all (sectioned imports begun (full ++ d ∷ more)) (others ++ rest) → Fills (sectioned imports begun (full ++ d ∷ more)) imports others rest full more s now → Fills before imports (first ++ others) rest full more s all
   fills_next before imports first others rest full more s begun d all now same one next = grind (arith, common_steps)
 
-  take_fragments : (n i : ℕ) (imports : List (List ℕ)) (gs : List Fragment) (begun : Bool) (full more : List Draft) (s : Section) (fs : List Fragment) (bytes : List ℕ) (rest : List Entry) → list_all is_full full ≡ true → length full + suc (length more) ≡ n → length imports ≡ i → list_all (is_good_fragment n i) gs ≡ true → list_all (has_good_origin v (length files)) gs ≡ true → AllByRecursion FragmentFits gs → are_apart ((fs ++ closing bytes) ++ gs) ≡ true → (sum_by fragment_len fs + length bytes) + sum_by fragment_len gs ≡ section_len s → Fills (sectioned imports begun (full ++ drafting s fs bytes ∷ more)) imports (flat_map fragment_entries gs) rest full more s ((fs ++ closing bytes) ++ gs)
+  take_fragments : (n i : ℕ) (imports : List (List ℕ)) (gs : List Fragment) (begun : Bool) (full more : List Draft) (s : Section) (fs : List Fragment) (bytes : List ℕ) (rest : List RawRecord) → list_all is_full full ≡ true → length full + suc (length more) ≡ n → length imports ≡ i → list_all (is_well_formed_fragment n i) gs ≡ true → list_all (has_good_origin v (length files)) gs ≡ true → AllByRecursion FragmentFits gs → are_apart ((fs ++ closing bytes) ++ gs) ≡ true → (sum_by fragment_len fs + length bytes) + sum_by fragment_len gs ≡ section_len s → Fills (sectioned imports begun (full ++ drafting s fs bytes ∷ more)) imports (flat_map fragment_entries gs) rest full more s ((fs ++ closing bytes) ++ gs)
   take_fragments n i imports [] begun full more s fs bytes rest all count there good placed fits apart sum = record {
     fragments = fs;
     literal = bytes;
@@ -323,30 +323,30 @@ module _ (v : ℕ) (files : List (List ℕ)) where
       let first = sum_by-cons fragment_len (Literal (c ∷ body)) gs in
       let one = take_literal (length (c ∷ body)) imports begun full more s fs [] (c ∷ body) (flat_map fragment_entries gs ++ rest) (omega arith) all (omega (arith, sum, first)) refl in
       fills_next (sectioned imports begun (full ++ drafting s fs [] ∷ more)) imports (literal_entries (c ∷ body)) (flat_map fragment_entries gs) rest full more s one.begun (drafting s fs (c ∷ body)) ((fs ++ closing []) ++ Literal (c ∷ body) ∷ gs) ((fs ++ closing (c ∷ body)) ++ gs) whole one.same
-      (take_fragments n i imports gs one.begun full more s fs (c ∷ body) rest all count there (right (is_good_fragment n i (Literal (c ∷ body))) (list_all (is_good_fragment n i) gs) good) (right (has_good_origin v (length files) (Literal (c ∷ body))) (list_all (has_good_origin v (length files)) gs) placed) fits.1 (ap are_apart whole ∙ apart) (omega (arith, sum, first)))
+      (take_fragments n i imports gs one.begun full more s fs (c ∷ body) rest all count there (right (is_well_formed_fragment n i (Literal (c ∷ body))) (list_all (is_well_formed_fragment n i) gs) good) (right (has_good_origin v (length files) (Literal (c ∷ body))) (list_all (has_good_origin v (length files)) gs) placed) fits.1 (ap are_apart whole ∙ apart) (omega (arith, sum, first)))
   take_fragments n i imports (Fill k ∷ gs) begun full more s fs bytes rest all count there good placed fits apart sum =
       let now = fs ++ closing bytes in
       let first = sum_by-cons fragment_len (Fill k) gs in
-      let some : 0 < k = (let t = left (is_good_fragment n i (Fill k)) (list_all (is_good_fragment n i) gs) good in grind (arith, nat_tests)) in
+      let some : 0 < k = (let t = left (is_well_formed_fragment n i (Fill k)) (list_all (is_well_formed_fragment n i) gs) good in grind (arith, nat_tests)) in
       let alone : Scanning.ends_in_fill now ≡ false = fill_last now k ∙ apart_last now (Fill k) gs apart in
       let whole : ((now ++ Fill k ∷ []) ++ closing []) ++ gs ≡ now ++ Fill k ∷ gs = ap (λ xs. xs ++ gs) (nil (now ++ Fill k ∷ [])) ∙ append_assoc now (Fill k ∷ []) gs in
       let one = take_fill imports begun full more s fs bytes k all some fits.0 (omega (arith, sum, first)) alone in
       fills_next (sectioned imports begun (full ++ drafting s fs bytes ∷ more)) imports (fill_entry k ∷ []) (flat_map fragment_entries gs) rest full more s true (drafting s (now ++ Fill k ∷ []) []) (now ++ Fill k ∷ gs) (((now ++ Fill k ∷ []) ++ closing []) ++ gs) whole (ap (λ r. r >>= (λ t. after_all t (flat_map fragment_entries gs ++ rest))) one)
-      (take_fragments n i imports gs true full more s (now ++ Fill k ∷ []) [] rest all count there (right (is_good_fragment n i (Fill k)) (list_all (is_good_fragment n i) gs) good) (right (has_good_origin v (length files) (Fill k)) (list_all (has_good_origin v (length files)) gs) placed) fits.1 (ap are_apart whole ∙ apart) (omega (arith, sum, first, shut_len fs bytes, sum_by-append fragment_len now (Fill k ∷ []))))
+      (take_fragments n i imports gs true full more s (now ++ Fill k ∷ []) [] rest all count there (right (is_well_formed_fragment n i (Fill k)) (list_all (is_well_formed_fragment n i) gs) good) (right (has_good_origin v (length files) (Fill k)) (list_all (has_good_origin v (length files)) gs) placed) fits.1 (ap are_apart whole ∙ apart) (omega (arith, sum, first, shut_len fs bytes, sum_by-append fragment_len now (Fill k ∷ []))))
   take_fragments n i imports (Value w o form ∷ gs) begun full more s fs bytes rest all count there good placed fits apart sum =
       let now = fs ++ closing bytes in
       let f = Value w o form in
-      let fine = left (is_good_fragment n i f) (list_all (is_good_fragment n i) gs) good in
+      let fine = left (is_well_formed_fragment n i f) (list_all (is_well_formed_fragment n i) gs) good in
       let whole : ((now ++ f ∷ []) ++ closing []) ++ gs ≡ now ++ f ∷ gs = ap (λ xs. xs ++ gs) (nil (now ++ f ∷ [])) ∙ append_assoc now (f ∷ []) gs in
       let first = sum_by-cons fragment_len f gs in
       let size : length (full ++ drafting s fs bytes ∷ more) ≡ n = length-append full (drafting s fs bytes ∷ more) ∙ count in
       let one = take_value n i imports begun full more s fs bytes w o form all (left (has_good_origin v (length files) f) (list_all (has_good_origin v (length files)) gs) placed) size there fits.0 fine (omega (arith, sum, first)) in
       fills_next (sectioned imports begun (full ++ drafting s fs bytes ∷ more)) imports (value_entry w o form ∷ []) (flat_map fragment_entries gs) rest full more s true (drafting s (now ++ f ∷ []) []) (now ++ f ∷ gs) (((now ++ f ∷ []) ++ closing []) ++ gs) whole (ap (λ r. r >>= (λ t. after_all t (flat_map fragment_entries gs ++ rest))) one)
-      (take_fragments n i imports gs true full more s (now ++ f ∷ []) [] rest all count there (right (is_good_fragment n i f) (list_all (is_good_fragment n i) gs) good) (right (has_good_origin v (length files) f) (list_all (has_good_origin v (length files)) gs) placed) fits.1 (ap are_apart whole ∙ apart) (omega (arith, sum, first, shut_len fs bytes, sum_by-append fragment_len now (f ∷ []))))
+      (take_fragments n i imports gs true full more s (now ++ f ∷ []) [] rest all count there (right (is_well_formed_fragment n i f) (list_all (is_well_formed_fragment n i) gs) good) (right (has_good_origin v (length files) f) (list_all (has_good_origin v (length files)) gs) placed) fits.1 (ap are_apart whole ∙ apart) (omega (arith, sum, first, shut_len fs bytes, sum_by-append fragment_len now (f ∷ []))))
 
   -- ---- All contents in turn.
 
-  pub record Contents (before : State) (imports : List (List ℕ)) (es rest : List Entry) (full : List Draft) (ss : List Section) : Type 0 where
+  pub record Contents (before : State) (imports : List (List ℕ)) (es rest : List RawRecord) (full : List Draft) (ss : List Section) : Type 0 where
     pub drafts : List Draft
     pub begun : Bool
     pub all_full : list_all is_full (full ++ drafts) ≡ true
@@ -360,7 +360,7 @@ module _ (v : ℕ) (files : List (List ℕ)) where
   length_map f [] = refl
   length_map f (x ∷ xs) = omega (arith, length_map f xs)
 
-  take_contents : (n i : ℕ) (imports : List (List ℕ)) (ss : List Section) (begun : Bool) (full : List Draft) (rest : List Entry) → AllByRecursion (IsGood n i) ss → list_all (λ (s : Section). list_all (has_good_origin v (length files)) s.fragments) ss ≡ true → list_all is_full full ≡ true → length full + length ss ≡ n → length imports ≡ i → Contents (sectioned imports begun (full ++ map empty_draft ss)) imports (flat_map (λ (s : Section). flat_map fragment_entries s.fragments) ss) rest full ss
+  take_contents : (n i : ℕ) (imports : List (List ℕ)) (ss : List Section) (begun : Bool) (full : List Draft) (rest : List RawRecord) → AllByRecursion (IsGood n i) ss → list_all (λ (s : Section). list_all (has_good_origin v (length files)) s.fragments) ss ≡ true → list_all is_full full ≡ true → length full + length ss ≡ n → length imports ≡ i → Contents (sectioned imports begun (full ++ map empty_draft ss)) imports (flat_map (λ (s : Section). flat_map fragment_entries s.fragments) ss) rest full ss
   take_contents n i imports [] begun full rest good placed all count there = record {
     drafts = [];
     begun = begun;
@@ -393,8 +393,8 @@ module _ (v : ℕ) (files : List (List ℕ)) where
 
   -- ---- Exports.
 
-  take_export : (imports : List (List ℕ)) (begun : Bool) (ds : List Draft) (done : List Export) (x : Export) (others : List (List ℕ)) → list_all is_full ds ≡ true → are_names (map (λ (e : Export). e.name) done ++ x.name ∷ others) ≡ true → is_good_form (length ds) (length imports) x.form ≡ true → is_good_origin v (length files) x.origin ≡ true → OriginFits x.origin × FitsBits x.form → after (holding imports begun ds done []) (export_entry x) ≡ Ok (holding imports begun ds (done ++ x ∷ []) [])
-  unfolding after Scanning.scanned Scanning.scan_entry Scanning.scan_export
+  take_export : (imports : List (List ℕ)) (begun : Bool) (ds : List Draft) (done : List Export) (x : Export) (others : List (List ℕ)) → list_all is_full ds ≡ true → are_names (map (λ (e : Export). e.name) done ++ x.name ∷ others) ≡ true → is_well_formed_form (length ds) (length imports) x.form ≡ true → is_well_formed_origin v (length files) x.origin ≡ true → OriginFits x.origin × FitsBits x.form → after (holding imports begun ds done []) (export_entry x) ≡ Ok (holding imports begun ds (done ++ x ∷ []) [])
+  unfolding after Scanning.scan_step Scanning.scan_entry Scanning.scan_export
   take_export imports begun ds done x others all names good origin fits =
       let n = length ds in
       let i = length imports in
@@ -405,12 +405,12 @@ module _ (v : ℕ) (files : List (List ℕ)) where
       let filled = all_full ds ∙ all in
       rw (filled, length-map ds Scanning.room_of, export_again v x by.0 fits.0 fits.1 normal, parts_again (length files) n i x.origin x.form by.1 (left (is_within n i x.form) (is_normal x.form) two), new_again (map (λ (e : Export). e.name) done) others x.name names, fine) refl
 
-  take_exports : (imports : List (List ℕ)) (begun : Bool) (ds : List Draft) (xs done : List Export) (rest : List Entry) → list_all is_full ds ≡ true → are_names (map (λ (e : Export). e.name) done ++ map (λ (e : Export). e.name) xs) ≡ true → list_all (λ (e : Export). is_good_form (length ds) (length imports) e.form) xs ≡ true → list_all (λ (e : Export). is_good_origin v (length files) e.origin) xs ≡ true → AllByRecursion (λ (e : Export). OriginFits e.origin × FitsBits e.form) xs → after_all (holding imports begun ds done []) (map export_entry xs ++ rest) ≡ after_all (holding imports begun ds (done ++ xs) []) rest
+  take_exports : (imports : List (List ℕ)) (begun : Bool) (ds : List Draft) (xs done : List Export) (rest : List RawRecord) → list_all is_full ds ≡ true → are_names (map (λ (e : Export). e.name) done ++ map (λ (e : Export). e.name) xs) ≡ true → list_all (λ (e : Export). is_well_formed_form (length ds) (length imports) e.form) xs ≡ true → list_all (λ (e : Export). is_well_formed_origin v (length files) e.origin) xs ≡ true → AllByRecursion (λ (e : Export). OriginFits e.origin × FitsBits e.form) xs → after_all (holding imports begun ds done []) (map export_entry xs ++ rest) ≡ after_all (holding imports begun ds (done ++ xs) []) rest
   take_exports imports begun ds [] done rest all names good placed fits = ap (λ ys. after_all (holding imports begun ds ys []) rest) (sym (nil done))
   take_exports imports begun ds (x ∷ xs) done rest all names good placed fits =
       let name_of = λ (e : Export). e.name in
-      let fine = λ (e : Export). is_good_form (length ds) (length imports) e.form in
-      let at = λ (e : Export). is_good_origin v (length files) e.origin in
+      let fine = λ (e : Export). is_well_formed_form (length ds) (length imports) e.form in
+      let at = λ (e : Export). is_well_formed_origin v (length files) e.origin in
       let one = take_export imports begun ds done x (map name_of xs) all names (left (fine x) (list_all fine xs) good) (left (at x) (list_all at xs) placed) fits.0 in
       let more : map name_of (done ++ x ∷ []) ++ map name_of xs ≡ map name_of done ++ x.name ∷ map name_of xs = ap (λ ys. ys ++ map name_of xs) (map-append name_of done (x ∷ [])) ∙ append_assoc (map name_of done) (x.name ∷ []) (map name_of xs) in
       ap (λ r. r >>= (λ t. after_all t (map export_entry xs ++ rest))) one
@@ -419,22 +419,22 @@ module _ (v : ℕ) (files : List (List ℕ)) where
 
   -- ---- Assertions.
 
-  take_assert : (imports : List (List ℕ)) (begun : Bool) (ds : List Draft) (exports : List Export) (done : List Assert) (x : Assert) → list_all is_full ds ≡ true → is_good_assert (length ds) (length imports) x ≡ true → is_good_origin v (length files) x.origin ≡ true → OriginFits x.origin × FitsBits x.form → after (holding imports begun ds exports done) (assert_entry x) ≡ Ok (holding imports begun ds exports (done ++ x ∷ []))
-  unfolding after Scanning.scanned Scanning.scan_entry Scanning.scan_assert
+  take_assert : (imports : List (List ℕ)) (begun : Bool) (ds : List Draft) (exports : List Export) (done : List Assert) (x : Assert) → list_all is_full ds ≡ true → is_well_formed_assert (length ds) (length imports) x ≡ true → is_well_formed_origin v (length files) x.origin ≡ true → OriginFits x.origin × FitsBits x.form → after (holding imports begun ds exports done) (assert_entry x) ≡ Ok (holding imports begun ds exports (done ++ x ∷ []))
+  unfolding after Scanning.scan_step Scanning.scan_entry Scanning.scan_assert
   take_assert imports begun ds exports done x all good origin fits =
       let n = length ds in
       let i = length imports in
-      let small = left (is_small_text x.text && is_good_form n i x.form) (not (is_literal x.form)) good in
-      let fine = form_parts n i x.form (and (is_good_form n i x.form) (not (is_literal x.form)) (right (is_small_text x.text) (is_good_form n i x.form) small) (right (is_small_text x.text && is_good_form n i x.form) (not (is_literal x.form)) good)) in
+      let small = left (is_small_text x.text && is_well_formed_form n i x.form) (not (is_literal x.form)) good in
+      let fine = form_parts n i x.form (and (is_well_formed_form n i x.form) (not (is_literal x.form)) (right (is_small_text x.text) (is_well_formed_form n i x.form) small) (right (is_small_text x.text && is_well_formed_form n i x.form) (not (is_literal x.form)) good)) in
       let by = origin_parts v (length files) x.origin origin in
       let filled = all_full ds ∙ all in
       rw (filled, length-map ds Scanning.room_of, assert_again v x by.0 fits.0 fits.1 fine.2, parts_again (length files) n i x.origin x.form by.1 fine.0, fine.1) refl
 
-  take_asserts : (imports : List (List ℕ)) (begun : Bool) (ds : List Draft) (exports : List Export) (xs done : List Assert) (rest : List Entry) → list_all is_full ds ≡ true → list_all (is_good_assert (length ds) (length imports)) xs ≡ true → list_all (λ (a : Assert). is_good_origin v (length files) a.origin) xs ≡ true → AllByRecursion (λ (a : Assert). OriginFits a.origin × FitsBits a.form) xs → after_all (holding imports begun ds exports done) (map assert_entry xs ++ rest) ≡ after_all (holding imports begun ds exports (done ++ xs)) rest
+  take_asserts : (imports : List (List ℕ)) (begun : Bool) (ds : List Draft) (exports : List Export) (xs done : List Assert) (rest : List RawRecord) → list_all is_full ds ≡ true → list_all (is_well_formed_assert (length ds) (length imports)) xs ≡ true → list_all (λ (a : Assert). is_well_formed_origin v (length files) a.origin) xs ≡ true → AllByRecursion (λ (a : Assert). OriginFits a.origin × FitsBits a.form) xs → after_all (holding imports begun ds exports done) (map assert_entry xs ++ rest) ≡ after_all (holding imports begun ds exports (done ++ xs)) rest
   take_asserts imports begun ds exports [] done rest all good placed fits = ap (λ ys. after_all (holding imports begun ds exports ys) rest) (sym (nil done))
   take_asserts imports begun ds exports (x ∷ xs) done rest all good placed fits =
-      let fine = is_good_assert (length ds) (length imports) in
-      let at = λ (a : Assert). is_good_origin v (length files) a.origin in
+      let fine = is_well_formed_assert (length ds) (length imports) in
+      let at = λ (a : Assert). is_well_formed_origin v (length files) a.origin in
       let one = take_assert imports begun ds exports done x all (left (fine x) (list_all fine xs) good) (left (at x) (list_all at xs) placed) fits.0 in
       ap (λ r. r >>= (λ t. after_all t (map assert_entry xs ++ rest))) one
       ∙ take_asserts imports begun ds exports xs (done ++ x ∷ []) rest all (right (fine x) (list_all fine xs) good) (right (at x) (list_all at xs) placed) fits.1
@@ -443,7 +443,7 @@ module _ (v : ℕ) (files : List (List ℕ)) where
   -- ---- The END.
 
   take_end : (imports : List (List ℕ)) (begun : Bool) (ds : List Draft) (exports : List Export) (asserts : List Assert) → list_all is_full ds ≡ true → after (holding imports begun ds exports asserts) end_entry ≡ Ok (record (holding imports begun ds exports asserts) { ended = true })
-  unfolding after Scanning.scanned Scanning.scan_entry Scanning.scan_last
+  unfolding after Scanning.scan_step Scanning.scan_entry Scanning.scan_last
   take_end imports begun ds exports asserts all = let filled = all_full ds ∙ all in rw filled refl
 
 -- ---- All records in turn.
@@ -452,9 +452,9 @@ pub record Again (o : Object) : Type 0 where
   pub state : State
   pub taken : after_all (start o.version) (entries_of o) ≡ Ok state
   pub ended : state.ended ≡ true
-  pub object : finished state ≡ Ok o
+  pub object : object_of_state state ≡ Ok o
 
-pub all_again : (o : Object) → is_good_object o ≡ true → ObjectFits o → Again o
+pub all_again : (o : Object) → is_well_formed_object o ≡ true → ObjectFits o → Again o
 all_again o good fits =
     let v = o.version in
     let fs = o.files in
@@ -471,13 +471,13 @@ all_again o good fits =
     let contents = take_contents v fs n i o.imports o.sections false [] (d ++ (f ++ last)) sections p.values refl (omega arith) refl in
     let ds = contents.drafts in
     let count : n ≡ length ds = ap length (sym contents.sections) ∙ length_map v fs section_from ds in
-    let exports = subst (λ k. list_all (λ (e : Export). is_good_form k i e.form) o.exports ≡ true) count p.exports in
-    let asserts = subst (λ k. list_all (is_good_assert k i) o.asserts ≡ true) count p.asserts in
-    let regroup : entries_behind o ≡ a ++ (b ++ (c ++ (d ++ (f ++ last)))) = append_assoc (((a ++ b) ++ c) ++ d) f last ∙ append_assoc ((a ++ b) ++ c) d (f ++ last) ∙ append_assoc (a ++ b) c (d ++ (f ++ last)) ∙ append_assoc a b (c ++ (d ++ (f ++ last))) in
+    let exports = subst (λ k. list_all (λ (e : Export). is_well_formed_form k i e.form) o.exports ≡ true) count p.exports in
+    let asserts = subst (λ k. list_all (is_well_formed_assert k i) o.asserts ≡ true) count p.asserts in
+    let regroup : entries_after o ≡ a ++ (b ++ (c ++ (d ++ (f ++ last)))) = append_assoc (((a ++ b) ++ c) ++ d) f last ∙ append_assoc ((a ++ b) ++ c) d (f ++ last) ∙ append_assoc (a ++ b) c (d ++ (f ++ last)) ∙ append_assoc a b (c ++ (d ++ (f ++ last))) in
     record {
       state = record (holding v fs o.imports contents.begun ds o.exports o.asserts) { ended = true };
       taken =
-          files_taken v fs (entries_behind o) p.files fits.files
+          files_taken v fs (entries_after o) p.files fits.files
           ∙ ap (after_all (naming v fs)) regroup
           ∙ take_imports v fs o.imports [] (b ++ (c ++ (d ++ (f ++ last)))) p.imports
           ∙ take_headings v fs n i o.imports o.sections [] (c ++ (d ++ (f ++ last))) sections p.section_names

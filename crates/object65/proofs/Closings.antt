@@ -11,14 +11,14 @@ use Rattle.object65.specs.declared.object.Fragment.TheVariants.{Literal, Fill, V
 use Rattle.object65.specs.declared.object.Origin.{Origin}
 use Rattle.object65.specs.declared.object.Width.{Width}
 use Rattle.object65.specs.Form.{Form}
-use Rattle.object65.specs.Objects.{fragment_len, has_good_origin, is_good_fragment, joins, are_apart, FragmentFits}
+use Rattle.object65.specs.Objects.{fragment_len, has_good_origin, is_well_formed_fragment, joins, are_apart, FragmentFits}
 use Rattle.object65.specs.Spelling.{fragment_entries, literal_entries, pieces, literal_entry, body_limit, entry_bytes}
-use Rattle.object65.specs.Items.{closing, is_none, grown, with_piece}
+use Rattle.object65.specs.Items.{closing, is_none, draft_with_fragment, with_piece}
 use Rattle.object65.specs.Scanning.{is_some_fill, ends_in_fill, is_filled, open_room, room_of}
 use Rattle.object65.proofs.Goods.{left, right, and}
 use Rattle.object65.specs.declared.builder.Draft.{Draft}
 use Rattle.object65.specs.declared.fault.ObjectFault.TheVariants.{OutOfOrder}
-use Rattle.object65.specs.declared.scan.Room.{Room}
+use Rattle.object65.specs.declared.scan.SectionFill.{SectionFill}
 use Rattle.std.proofs.lemmas.List.{length-drop, take_all, drop_all, take-append-le, drop-append-le}
 
 -- ---- The fragments of a section in the making, with the literal behind them; and which neighbours are apart.
@@ -96,7 +96,7 @@ shut_entries fs bytes = flat_map-append fragment_entries fs (closing bytes) ∙ 
 pub shut_len : (fs : List Fragment) (bytes : List ℕ) → sum_by fragment_len (fs ++ closing bytes) ≡ sum_by fragment_len fs + length bytes
 shut_len fs bytes = sum_by-append fragment_len fs (closing bytes) ∙ ap (λ n. sum_by fragment_len fs + n) (closing_len bytes)
 
-pub shut_good : (s i : ℕ) (fs : List Fragment) (bytes : List ℕ) → list_all (is_good_fragment s i) fs ≡ true → list_all (is_good_fragment s i) (fs ++ closing bytes) ≡ true
+pub shut_good : (s i : ℕ) (fs : List Fragment) (bytes : List ℕ) → list_all (is_well_formed_fragment s i) fs ≡ true → list_all (is_well_formed_fragment s i) (fs ++ closing bytes) ≡ true
 shut_good s i fs x good = grind (arith, common_steps)
 
 pub shut_origins : (v n : ℕ) (fs : List Fragment) (bytes : List ℕ) → list_all (has_good_origin v n) fs ≡ true → list_all (has_good_origin v n) (fs ++ closing bytes) ≡ true
@@ -120,8 +120,8 @@ all_full ds = list_all-map is_filled room_of ds
 pub record Split (ds : List Draft) : Type 0 where
   pub front : List Draft
   pub draft : Draft
-  pub behind : List Draft
-  pub all : ds ≡ front ++ draft ∷ behind
+  pub following : List Draft
+  pub all : ds ≡ front ++ draft ∷ following
   pub full : list_all is_full front ≡ true
   pub free : is_full draft ≡ false
 
@@ -133,12 +133,12 @@ seek (d ∷ ds) = next (is_full d) refl (seek ds) where
   next true full (inr p) = inr (record {
     front = d ∷ p.front;
     draft = p.draft;
-    behind = p.behind;
+    following = p.following;
     all = ap (λ xs. d ∷ xs) p.all;
     full = and (is_full d) (list_all is_full p.front) full p.full;
     free = p.free;
   })
-  next false free rest = inr (record { front = []; draft = d; behind = ds; all = refl; full = refl; free = free })
+  next false free rest = inr (record { front = []; draft = d; following = ds; all = refl; full = refl; free = free })
 
 -- ---- The place of that section.
 
@@ -155,8 +155,8 @@ draft_set [] d e ys = refl
 draft_set (x ∷ xs) d e ys = ap (λ zs. x ∷ zs) (draft_set xs d e ys)
 
 -- a fragment more in that section
-pub piece_there : (xs : List Draft) (d : Draft) (ys : List Draft) (f : Fragment) → with_piece (xs ++ d ∷ ys) (length xs) f ≡ xs ++ grown d f ∷ ys
-piece_there xs d ys f = rw (draft_there xs d ys) (draft_set xs d (grown d f) ys)
+pub piece_there : (xs : List Draft) (d : Draft) (ys : List Draft) (f : Fragment) → with_piece (xs ++ d ∷ ys) (length xs) f ≡ xs ++ draft_with_fragment d f ∷ ys
+piece_there xs d ys f = rw (draft_there xs d ys) (draft_set xs d (draft_with_fragment d f) ys)
 
 front_len : (xs : List Draft) (d : Draft) (ys : List Draft) → list_all is_full xs ≡ true → is_full d ≡ false → prefix_len is_filled (map room_of (xs ++ d ∷ ys)) ≡ length xs
 front_len [] d ys full free = rw free refl
@@ -180,20 +180,20 @@ none_open ds full = rw (past ds full) refl where
       rw (one, more) (past ds (right (is_full d) (list_all is_full ds) full))
 
 -- what was found
-pub record Opened (ds : List Draft) (place : ℕ × Room) : Type 0 where
+pub record Opened (ds : List Draft) (place : ℕ × SectionFill) : Type 0 where
   pub split : Split ds
   pub here : (length split.front, room_of split.draft) ≡ place
 
-pub opened : (ds : List Draft) (place : ℕ × Room) → open_room (map room_of ds) ≡ Ok place → Opened ds place
+pub opened : (ds : List Draft) (place : ℕ × SectionFill) → open_room (map room_of ds) ≡ Ok place → Opened ds place
 opened ds place h = go (seek ds) where
   go : (list_all is_full ds ≡ true) ⊎ Split ds → Opened ds place
   go (inl full) = let none = sym (none_open ds full) ∙ h in cc
   go (inr p) =
-      let same = sym (ap (λ xs. open_room (map room_of xs)) p.all ∙ opens p.front p.draft p.behind p.full p.free) ∙ h in
+      let same = sym (ap (λ xs. open_room (map room_of xs)) p.all ∙ opens p.front p.draft p.following p.full p.free) ∙ h in
       record { split = p; here = cc (same) }
 
 -- a fragment leaves the name
-pub grown_name : (d : Draft) (f : Fragment) → (grown d f).name ≡ d.name
+pub grown_name : (d : Draft) (f : Fragment) → (draft_with_fragment d f).name ≡ d.name
 grown_name d x = grind (arith, common_steps)
 
 -- ---- The records of a literal, one after another.

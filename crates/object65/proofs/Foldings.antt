@@ -10,7 +10,7 @@ use Rattle.base65.specs.declared.values.Op1.TheVariants.{Plus}
 use Rattle.base65.specs.declared.values.Op2.{Op2}
 use Rattle.base65.specs.declared.values.Op2.TheVariants.{Add, Subtract}
 use Rattle.base65.specs.Outcome.{◌>>=◌}
-use Rattle.base65.specs.Values.{value1, wrapped}
+use Rattle.base65.specs.Values.{value1, wrap_signed}
 use Rattle.object65.specs.Folding
 use Rattle.object65.specs.Form.{Form, lit, sec, prefix, binary, nodes}
 use Rattle.object65.specs.FormValue.{or_none, value_in, value_of_one, value_of_two}
@@ -18,25 +18,25 @@ use Rattle.object65.specs.Laws.{PrefixFoldLaw, BinaryFoldLaw, IsFolded, NormalLa
 
 -- ---- Sums that wrap.
 
-add_right : (b a n : ℤ) → wrapped (b +ℤ wrapped (a +ℤ n)) ≡ wrapped (wrapped (b +ℤ a) +ℤ n)
+add_right : (b a n : ℤ) → wrap_signed (b +ℤ wrap_signed (a +ℤ n)) ≡ wrap_signed (wrap_signed (b +ℤ a) +ℤ n)
 add_right b a n =
     let regroup : b +ℤ (a +ℤ n) ≡ (b +ℤ a) +ℤ n = omega (arith, ints) in
-    int_wrap-add_right w64 b (a +ℤ n) ∙ ap wrapped regroup ∙ sym (int_wrap-add_left w64 (b +ℤ a) n)
+    int_wrap-add_right w64 b (a +ℤ n) ∙ ap wrap_signed regroup ∙ sym (int_wrap-add_left w64 (b +ℤ a) n)
 
-add_turned : (b a n : ℤ) → wrapped (b +ℤ wrapped (a +ℤ n)) ≡ wrapped (n +ℤ wrapped (b +ℤ a))
+add_turned : (b a n : ℤ) → wrap_signed (b +ℤ wrap_signed (a +ℤ n)) ≡ wrap_signed (n +ℤ wrap_signed (b +ℤ a))
 add_turned b a n =
     let regroup : b +ℤ (a +ℤ n) ≡ n +ℤ (b +ℤ a) = omega (arith, ints) in
-    int_wrap-add_right w64 b (a +ℤ n) ∙ ap wrapped regroup ∙ sym (int_wrap-add_right w64 n (b +ℤ a))
+    int_wrap-add_right w64 b (a +ℤ n) ∙ ap wrap_signed regroup ∙ sym (int_wrap-add_right w64 n (b +ℤ a))
 
-subtract_right : (b a n : ℤ) → wrapped (b +ℤ wrapped (a -ℤ n)) ≡ wrapped (wrapped (b +ℤ a) -ℤ n)
+subtract_right : (b a n : ℤ) → wrap_signed (b +ℤ wrap_signed (a -ℤ n)) ≡ wrap_signed (wrap_signed (b +ℤ a) -ℤ n)
 subtract_right b a n =
     let regroup : b +ℤ (a -ℤ n) ≡ (b +ℤ a) +ℤ neg_ℤ n = omega (arith, ints) in
-    int_wrap-add_right w64 b (a -ℤ n) ∙ ap wrapped regroup ∙ sym (int_wrap-add_left w64 (b +ℤ a) (neg_ℤ n))
+    int_wrap-add_right w64 b (a -ℤ n) ∙ ap wrap_signed regroup ∙ sym (int_wrap-add_left w64 (b +ℤ a) (neg_ℤ n))
 
-difference : (b a c : ℤ) → wrapped (a -ℤ c) ≡ wrapped (wrapped (b +ℤ a) -ℤ wrapped (b +ℤ c))
+difference : (b a c : ℤ) → wrap_signed (a -ℤ c) ≡ wrap_signed (wrap_signed (b +ℤ a) -ℤ wrap_signed (b +ℤ c))
 difference b a c =
     let regroup : a -ℤ c ≡ (b +ℤ a) -ℤ (b +ℤ c) = omega (arith, ints) in
-    ap wrapped regroup ∙ sym (int_wrap-add_left w64 (b +ℤ a) (neg_ℤ (b +ℤ c))) ∙ sym (int_wrap-sub_right w64 (wrapped (b +ℤ a)) (b +ℤ c))
+    ap wrap_signed regroup ∙ sym (int_wrap-add_left w64 (b +ℤ a) (neg_ℤ (b +ℤ c))) ∙ sym (int_wrap-sub_right w64 (wrap_signed (b +ℤ a)) (b +ℤ c))
 
 -- ---- Values.
 
@@ -48,15 +48,15 @@ module _ {E : Type 0} (none : E) (bases : ℕ → ℤ) (imports : ℕ → Result
   any_kept op x y h e = grind (arith, common_steps)
 
   sum_kept : (f g h : Form) → Folding.fold_sum f g ≡ Ok h → value_in none bases imports h ≡ value_of_two none bases imports Add f g
-  sum_kept (sec k a) (lit n) h e = let same : sec k (wrapped (a +ℤ n)) ≡ h = cc in ap (value_in none bases imports) (sym same) ∙ ap Ok (add_right (bases k) a n)
-  sum_kept (lit n) (sec k a) h e = let same : sec k (wrapped (a +ℤ n)) ≡ h = cc in ap (value_in none bases imports) (sym same) ∙ ap Ok (add_turned (bases k) a n)
+  sum_kept (sec k a) (lit n) h e = let same : sec k (wrap_signed (a +ℤ n)) ≡ h = cc in ap (value_in none bases imports) (sym same) ∙ ap Ok (add_right (bases k) a n)
+  sum_kept (lit n) (sec k a) h e = let same : sec k (wrap_signed (a +ℤ n)) ≡ h = cc in ap (value_in none bases imports) (sym same) ∙ ap Ok (add_turned (bases k) a n)
   sum_kept f g h e = any_kept Add f g h e
 
-  sections_kept : (k m : ℕ) (a b : ℤ) (h : Form) (t : Bool) → nat_eq k m ≡ t → cond t (Ok (lit (wrapped (a -ℤ b)))) (Folding.fold_any Subtract (sec k a) (sec m b)) ≡ Ok h → value_in none bases imports h ≡ value_of_two none bases imports Subtract (sec k a) (sec m b)
+  sections_kept : (k m : ℕ) (a b : ℤ) (h : Form) (t : Bool) → nat_eq k m ≡ t → cond t (Ok (lit (wrap_signed (a -ℤ b)))) (Folding.fold_any Subtract (sec k a) (sec m b)) ≡ Ok h → value_in none bases imports h ≡ value_of_two none bases imports Subtract (sec k a) (sec m b)
   sections_kept k m a b h true t e =
-      let same : lit (wrapped (a -ℤ b)) ≡ h = cc in
+      let same : lit (wrap_signed (a -ℤ b)) ≡ h = cc in
       let one : k ≡ m = grind (arith, nat_tests) in
-      ap (value_in none bases imports) (sym same) ∙ ap Ok (difference (bases k) a b) ∙ ap (λ n. Ok (wrapped (wrapped (bases k +ℤ a) -ℤ wrapped (bases n +ℤ b)))) one
+      ap (value_in none bases imports) (sym same) ∙ ap Ok (difference (bases k) a b) ∙ ap (λ n. Ok (wrap_signed (wrap_signed (bases k +ℤ a) -ℤ wrap_signed (bases n +ℤ b)))) one
   sections_kept k m a b h false t e = any_kept Subtract (sec k a) (sec m b) h e
 
   difference_kept : (f g h : Form) → Folding.fold_difference f g ≡ Ok h → value_in none bases imports h ≡ value_of_two none bases imports Subtract f g

@@ -4,13 +4,13 @@ use Rattle.std.proofs.Common.{arith, ◌≡◌, ℕ, zero, suc, ◌-◌, List, [
 use Rattle.std.specs.Str.{is_utf8}
 use Rattle.byteorder.specs.Endian.{little_number}
 use Rattle.object65.specs.declared.object.Action.TheVariants as action
-use Rattle.object65.specs.declared.object.Width.TheVariants.{Byte, Word, HighFirst, Dword, Branch}
+use Rattle.object65.specs.declared.object.Width.TheVariants.{Byte, Word, BigEndianWord, Dword, Branch}
 use Rattle.object65.specs.Folding.{is_within, is_normal, is_literal, node_limit}
 use Rattle.object65.specs.Objects.{has_file, is_name, is_among}
 use Rattle.object65.specs.declared.object.Origin.{Origin}
 use Rattle.object65.specs.declared.fault.ObjectFault.{ObjectFault}
 use Rattle.object65.specs.declared.fault.ObjectFault.TheVariants.{FailedBefore, FileError, OutOfOrder, IndexOutOfRange, BadSize, NotCanonical}
-use Rattle.object65.specs.declared.scan.Room.{Room}
+use Rattle.object65.specs.declared.scan.SectionFill.{SectionFill}
 use Rattle.base65.specs.declared.values.Op1.{Op1}
 use Rattle.base65.specs.declared.values.Op2.{Op2}
 use Rattle.object65.specs.Bodies
@@ -104,7 +104,7 @@ unfolding Bodies.form_of_all
 all_free bytes = bound _ _ (form_free (length bytes) bytes) (λ x. chosen _ _ _ (ok _) bad)
 
 width_free : (code : ℕ) → IsFree (Bodies.width_of code)
-width_free code = chosen (code == 0) _ _ (ok Byte) (chosen (code == 1) _ _ (ok Word) (chosen (code == 2) _ _ (ok HighFirst) (chosen (code == 3) _ _ (ok Dword) (chosen (code == 4) _ _ (ok Branch) bad))))
+width_free code = chosen (code == 0) _ _ (ok Byte) (chosen (code == 1) _ _ (ok Word) (chosen (code == 2) _ _ (ok BigEndianWord) (chosen (code == 3) _ _ (ok Dword) (chosen (code == 4) _ _ (ok Branch) bad))))
 
 action_free : (code : ℕ) → IsFree (Bodies.action_of code)
 action_free code = chosen (code == 0) _ _ (ok action.Warning) (chosen (code == 1) _ _ (ok action.Error) bad)
@@ -115,13 +115,13 @@ literal_free body = chosen (length body == 0) _ _ bad (ok body)
 pub fill_free : (body : List ℕ) → IsFree (Bodies.fill_of body)
 fill_free body = chosen (not (length body == 4) || little_number 4 body == 0) _ _ bad (ok (little_number 4 body))
 
-pub room_free : (r : Room) (len : ℕ) → IsFree (Scanning.room_for r len)
+pub room_free : (r : SectionFill) (len : ℕ) → IsFree (Scanning.room_for r len)
 room_free r len = wants_size (nat_le len (r.size - r.filled))
 
 known_file_free : (n : ℕ) (o : Origin) → IsFree (Scanning.known_file n o)
 known_file_free n o = wants_index (has_file n o.file)
 
-known_free : (n i : ℕ) (f : Form) → IsFree (Scanning.known n i f)
+known_free : (n i : ℕ) (f : Form) → IsFree (Scanning.has_known_indices n i f)
 known_free n i f = wants_index (is_within n i f)
 
 pub parts_free : (m n i : ℕ) (o : Origin) (f : Form) → IsFree (Scanning.known_parts m n i o f)

@@ -10,7 +10,7 @@ use Rattle.object65.specs.declared.object.Assert.{Assert}
 use Rattle.object65.specs.declared.object.Fragment.{Fragment}
 use Rattle.object65.specs.Folding.{is_normal, is_within}
 use Rattle.object65.specs.Form.{Form}
-use Rattle.object65.specs.Objects.{is_file_name, is_name, is_printed, is_among, are_names, is_good_form, is_good_fragment, is_good_section, is_good_assert, is_good_object, are_distinct, are_files_of, has_good_origin, is_good_origin}
+use Rattle.object65.specs.Objects.{is_file_name, is_name, is_printed, is_among, are_names, is_well_formed_form, is_well_formed_fragment, is_well_formed_section, is_well_formed_assert, is_well_formed_object, are_distinct, are_files_of, has_good_origin, is_well_formed_origin}
 use Rattle.object65.specs.Record.{is_version}
 use Rattle.object65.specs.Small.{is_small_text, is_small_form, is_small_fragment, is_small_section, is_small_export, is_small_assert}
 
@@ -45,31 +45,31 @@ pub small_names : (names : List (List ℕ)) → are_names names ≡ true → lis
 small_names [] e = refl
 small_names (name ∷ names) e = and (is_small_text name) (list_all is_small_text names) (first_name name names e) (small_names names (other_names name names e))
 
-good_form_small : (s i : ℕ) (f : Form) → is_good_form s i f ≡ true → is_small_form f ≡ true
+good_form_small : (s i : ℕ) (f : Form) → is_well_formed_form s i f ≡ true → is_small_form f ≡ true
 good_form_small s i f e = right (is_within s i f && is_normal f) (is_small_form f) e
 
-good_fragment_small : (s i : ℕ) (f : Fragment) → is_good_fragment s i f ≡ true → is_small_fragment f ≡ true
+good_fragment_small : (s i : ℕ) (f : Fragment) → is_well_formed_fragment s i f ≡ true → is_small_fragment f ≡ true
 good_fragment_small s i x e = grind (arith, common_steps, good_form_small, left)
 
-good_section_small : (s i : ℕ) (x : Section) → is_small_text x.name ≡ true → is_good_section s i x ≡ true → is_small_section x ≡ true
+good_section_small : (s i : ℕ) (x : Section) → is_small_text x.name ≡ true → is_well_formed_section s i x ≡ true → is_small_section x ≡ true
 good_section_small s i x name e = grind (arith, common_steps, left, right, and, all_weaker, good_fragment_small)
 
-small_sections : (s i : ℕ) (xs : List Section) → are_names (map (λ x. x.name) xs) ≡ true → list_all (is_good_section s i) xs ≡ true → list_all is_small_section xs ≡ true
+small_sections : (s i : ℕ) (xs : List Section) → are_names (map (λ x. x.name) xs) ≡ true → list_all (is_well_formed_section s i) xs ≡ true → list_all is_small_section xs ≡ true
 small_sections s i [] names e = refl
 small_sections s i (x ∷ xs) names e =
     and (is_small_section x) (list_all is_small_section xs)
-    (good_section_small s i x (first_name x.name (map (λ y. y.name) xs) names) (left (is_good_section s i x) (list_all (is_good_section s i) xs) e))
-    (small_sections s i xs (other_names x.name (map (λ y. y.name) xs) names) (right (is_good_section s i x) (list_all (is_good_section s i) xs) e))
+    (good_section_small s i x (first_name x.name (map (λ y. y.name) xs) names) (left (is_well_formed_section s i x) (list_all (is_well_formed_section s i) xs) e))
+    (small_sections s i xs (other_names x.name (map (λ y. y.name) xs) names) (right (is_well_formed_section s i x) (list_all (is_well_formed_section s i) xs) e))
 
-small_exports : (s i : ℕ) (xs : List Export) → are_names (map (λ x. x.name) xs) ≡ true → list_all (λ x. is_good_form s i x.form) xs ≡ true → list_all is_small_export xs ≡ true
+small_exports : (s i : ℕ) (xs : List Export) → are_names (map (λ x. x.name) xs) ≡ true → list_all (λ x. is_well_formed_form s i x.form) xs ≡ true → list_all is_small_export xs ≡ true
 small_exports s i [] names e = refl
 small_exports s i (x ∷ xs) names e =
-    let rest = λ (y : Export). is_good_form s i y.form in
+    let rest = λ (y : Export). is_well_formed_form s i y.form in
     and (is_small_export x) (list_all is_small_export xs)
-    (and (is_small_text x.name) (is_small_form x.form) (first_name x.name (map (λ y. y.name) xs) names) (good_form_small s i x.form (left (is_good_form s i x.form) (list_all rest xs) e)))
-    (small_exports s i xs (other_names x.name (map (λ y. y.name) xs) names) (right (is_good_form s i x.form) (list_all rest xs) e))
+    (and (is_small_text x.name) (is_small_form x.form) (first_name x.name (map (λ y. y.name) xs) names) (good_form_small s i x.form (left (is_well_formed_form s i x.form) (list_all rest xs) e)))
+    (small_exports s i xs (other_names x.name (map (λ y. y.name) xs) names) (right (is_well_formed_form s i x.form) (list_all rest xs) e))
 
-good_assert_small : (s i : ℕ) (a : Assert) → is_good_assert s i a ≡ true → is_small_assert a ≡ true
+good_assert_small : (s i : ℕ) (a : Assert) → is_well_formed_assert s i a ≡ true → is_small_assert a ≡ true
 good_assert_small s i a e = grind (arith, common_steps, left, and, good_form_small, right)
 
 -- the parts of an object of the grammar
@@ -77,16 +77,16 @@ pub record Parts (o : Object) : Type 0 where
   pub version : is_version o.version ≡ true
   pub files : are_files_of o.version o.files ≡ true
   pub values : list_all (λ s. list_all (has_good_origin o.version (length o.files)) s.fragments) o.sections ≡ true
-  pub export_origins : list_all (λ e. is_good_origin o.version (length o.files) e.origin) o.exports ≡ true
-  pub assert_origins : list_all (λ a. is_good_origin o.version (length o.files) a.origin) o.asserts ≡ true
+  pub export_origins : list_all (λ e. is_well_formed_origin o.version (length o.files) e.origin) o.exports ≡ true
+  pub assert_origins : list_all (λ a. is_well_formed_origin o.version (length o.files) a.origin) o.asserts ≡ true
   pub imports : are_names o.imports ≡ true
   pub section_names : are_names (map (λ s. s.name) o.sections) ≡ true
   pub export_names : are_names (map (λ e. e.name) o.exports) ≡ true
-  pub sections : list_all (is_good_section (length o.sections) (length o.imports)) o.sections ≡ true
-  pub exports : list_all (λ e. is_good_form (length o.sections) (length o.imports) e.form) o.exports ≡ true
-  pub asserts : list_all (is_good_assert (length o.sections) (length o.imports)) o.asserts ≡ true
+  pub sections : list_all (is_well_formed_section (length o.sections) (length o.imports)) o.sections ≡ true
+  pub exports : list_all (λ e. is_well_formed_form (length o.sections) (length o.imports) e.form) o.exports ≡ true
+  pub asserts : list_all (is_well_formed_assert (length o.sections) (length o.imports)) o.asserts ≡ true
 
-pub parts : (o : Object) → is_good_object o ≡ true → Parts o
+pub parts : (o : Object) → is_well_formed_object o ≡ true → Parts o
 parts o e = grind (arith, common_steps)
 
 pub small_names_of : (names : List (List ℕ)) → are_distinct is_file_name names ≡ true → list_all is_file_name names ≡ true
@@ -98,17 +98,17 @@ small_names_of (name ∷ names) e =
 pub small_files : (version : ℕ) (files : List (List ℕ)) → are_files_of version files ≡ true → list_all is_file_name files ≡ true
 small_files version files e = grind (arith, common_steps, nat_tests, small_names_of)
 
-pub good_files : (o : Object) → is_good_object o ≡ true → list_all is_file_name o.files ≡ true
+pub good_files : (o : Object) → is_well_formed_object o ≡ true → list_all is_file_name o.files ≡ true
 good_files o e = small_files o.version o.files (parts o e).files
 
-pub good_imports : (o : Object) → is_good_object o ≡ true → list_all is_small_text o.imports ≡ true
+pub good_imports : (o : Object) → is_well_formed_object o ≡ true → list_all is_small_text o.imports ≡ true
 good_imports o e = small_names o.imports (parts o e).imports
 
-pub good_sections : (o : Object) → is_good_object o ≡ true → list_all is_small_section o.sections ≡ true
+pub good_sections : (o : Object) → is_well_formed_object o ≡ true → list_all is_small_section o.sections ≡ true
 good_sections o e = small_sections (length o.sections) (length o.imports) o.sections (parts o e).section_names (parts o e).sections
 
-pub good_exports : (o : Object) → is_good_object o ≡ true → list_all is_small_export o.exports ≡ true
+pub good_exports : (o : Object) → is_well_formed_object o ≡ true → list_all is_small_export o.exports ≡ true
 good_exports o e = small_exports (length o.sections) (length o.imports) o.exports (parts o e).export_names (parts o e).exports
 
-pub good_asserts : (o : Object) → is_good_object o ≡ true → list_all is_small_assert o.asserts ≡ true
-good_asserts o e = all_weaker (is_good_assert (length o.sections) (length o.imports)) is_small_assert o.asserts (good_assert_small (length o.sections) (length o.imports)) (parts o e).asserts
+pub good_asserts : (o : Object) → is_well_formed_object o ≡ true → list_all is_small_assert o.asserts ≡ true
+good_asserts o e = all_weaker (is_well_formed_assert (length o.sections) (length o.imports)) is_small_assert o.asserts (good_assert_small (length o.sections) (length o.imports)) (parts o e).asserts

@@ -17,16 +17,16 @@ use Rattle.object65.specs.declared.object.Assert.{Assert}
 use Rattle.object65.specs.declared.object.Fragment.{Fragment}
 use Rattle.object65.specs.declared.object.Origin.{Origin}
 use Rattle.object65.specs.declared.object.Fragment.TheVariants.{Literal, Fill, Value}
-use Rattle.object65.specs.declared.scan.Room.{Room}
+use Rattle.object65.specs.declared.scan.SectionFill.{SectionFill}
 use Rattle.object65.specs.Bodies.{Heading, section_of, literal_of, fill_of, value_of}
-use Rattle.object65.specs.Record.{IsBytes, Entry, is_version}
+use Rattle.object65.specs.Record.{IsBytes, RawRecord, is_version}
 use Rattle.object65.specs.Folding.{is_literal}
 use Rattle.object65.specs.Form.{Form}
-use Rattle.object65.specs.Objects.{is_name, is_among, are_distinct, are_files_of, are_names, has_file, has_file_by, has_good_origin, is_good_origin, section_limit, fragment_len, width_len, is_good_form, is_good_fragment, joins, are_apart, FragmentFits, FitsBits, OriginFits}
+use Rattle.object65.specs.Objects.{is_name, is_among, are_distinct, are_files_of, are_names, has_file, has_file_by, has_good_origin, is_well_formed_origin, section_limit, fragment_len, width_len, is_well_formed_form, is_well_formed_fragment, joins, are_apart, FragmentFits, FitsBits, OriginFits}
 use Rattle.object65.specs.Small.{is_small_text}
 use Rattle.object65.specs.Spelling.{file_entry, import_entry, literal_entry, literal_entries, fragment_entries, export_entry, assert_entry, end_entry, body_limit}
-use Rattle.object65.specs.Items.{State, closed, grown, is_none, with_fragment, with_piece, with_piece_in}
-use Rattle.object65.specs.Scanning.{canonical_open, ends_in_fill, is_fill, is_short, known, known_file, known_parts, last_of, room_fill, room_for, room_literal, room_of, room_value, wants}
+use Rattle.object65.specs.Items.{State, closed_fragments, draft_with_fragment, is_none, with_fragment, with_piece, with_piece_in}
+use Rattle.object65.specs.Scanning.{canonical_open, ends_in_fill, is_fill, is_short, has_known_indices, known_file, known_parts, last_of, room_fill, room_for, room_literal, room_of, room_value, wants}
 use Rattle.object65.proofs.Closings.{turned, nil, last_joins, last_push, apart_push, value_apart, fill_last, shut_len, shut_good, shut_apart, Opened, is_full, piece_there, joined_piece}
 use Rattle.object65.proofs.Fields.{fill_reads, value_by, value_reads}
 use Rattle.object65.proofs.Goods.{left, right, and}
@@ -35,11 +35,11 @@ use Rattle.object65.proofs.Trails.{bound, passes, IsReadEntry}
 use Rattle.object65.proofs.Scannings.{fill_is, short_is, wanted, whole}
 
 -- the record that began a section
-abbrev pub heading_entry : Draft → Entry
+abbrev pub heading_entry : Draft → RawRecord
 heading_entry d = record { kind = 2; body = little_bytes 4 d.size ++ d.align ∷ d.name }
 
 -- those that filled it
-abbrev pub content_entries : Draft → List Entry
+abbrev pub content_entries : Draft → List RawRecord
 content_entries d = flat_map fragment_entries d.fragments ++ literal_entries d.literal
 
 -- a section of an object with so many sections and imports
@@ -48,7 +48,7 @@ pub record GoodDraft (n i : ℕ) (d : Draft) : Type 0 where
   pub size : d.size ≤ section_limit
   pub filled : d.filled ≡ sum_by fragment_len d.fragments + length d.literal
   pub within : d.filled ≤ d.size
-  pub good : list_all (is_good_fragment n i) d.fragments ≡ true
+  pub good : list_all (is_well_formed_fragment n i) d.fragments ≡ true
   pub apart : are_apart d.fragments ≡ true
   -- the literal in the making stands by itself
   pub bare : (bytes : List ℕ) → last_joins d.fragments (Literal bytes) ≡ false
@@ -63,7 +63,7 @@ Filling [] = Unit {0}
 Filling (d ∷ ds) = (is_full d ≡ false → AllByRecursion IsEmptyDraft ds) × Filling ds
 
 abbrev pub is_open_form : ℕ → ℕ → Form → Bool
-is_open_form n i f = is_good_form n i f && not (is_literal f)
+is_open_form n i f = is_well_formed_form n i f && not (is_literal f)
 
 -- its values stand where the version says
 abbrev pub has_good_values : ℕ → ℕ → Draft → Bool
@@ -74,8 +74,8 @@ pub record GoodState (s : State) : Type 0 where
   pub version : is_version s.version ≡ true
   pub files : are_files_of s.version s.files ≡ true
   pub values : list_all (has_good_values s.version (length s.files)) s.drafts ≡ true
-  pub export_origins : list_all (λ e. is_good_origin s.version (length s.files) e.origin) s.exports ≡ true
-  pub assert_origins : list_all (λ a. is_good_origin s.version (length s.files) a.origin) s.asserts ≡ true
+  pub export_origins : list_all (λ e. is_well_formed_origin s.version (length s.files) e.origin) s.exports ≡ true
+  pub assert_origins : list_all (λ a. is_well_formed_origin s.version (length s.files) a.origin) s.asserts ≡ true
   pub imports : are_names s.imports ≡ true
   pub names : are_names (map (λ d. d.name) s.drafts) ≡ true
   pub export_names : are_names (map (λ e. e.name) s.exports) ≡ true
@@ -86,7 +86,7 @@ pub record GoodState (s : State) : Type 0 where
   pub exported : is_none s.exports ≡ false → list_all is_full s.drafts ≡ true
   pub asserted : is_none s.asserts ≡ false → list_all is_full s.drafts ≡ true
   pub full : s.ended ≡ true → list_all is_full s.drafts ≡ true
-  pub exports : list_all (λ e. is_good_form (length s.drafts) (length s.imports) e.form) s.exports ≡ true
+  pub exports : list_all (λ e. is_well_formed_form (length s.drafts) (length s.imports) e.form) s.exports ≡ true
   pub asserts : list_all (λ a. is_open_form (length s.drafts) (length s.imports) a.form) s.asserts ≡ true
   pub failed : s.failed ≡ false
 
@@ -100,18 +100,18 @@ abbrev pub FitAssert : Assert → Type 0
 FitAssert a = OriginFits a.origin × FitsBits a.form
 
 -- six lists of records one behind the other
-abbrev pub rows : (a b c d f g : List Entry) → List Entry
+abbrev pub rows : (a b c d f g : List RawRecord) → List RawRecord
 rows a b c d f g = ((((a ++ b) ++ c) ++ d) ++ f) ++ g
 
-abbrev pub end_entries : Bool → List Entry
+abbrev pub end_entries : Bool → List RawRecord
 end_entries ended = if ended then end_entry ∷ [] else []
 
 -- those behind the files
-abbrev pub entries_so_far : State → List Entry
+abbrev pub entries_so_far : State → List RawRecord
 entries_so_far s = rows (map import_entry s.imports) (map heading_entry s.drafts) (flat_map content_entries s.drafts) (map export_entry s.exports) (map assert_entry s.asserts) (end_entries s.ended)
 
 -- these records led there
-pub record Reached (s : State) (es : List Entry) : Type 0 where
+pub record Reached (s : State) (es : List RawRecord) : Type 0 where
   pub entries : es ≡ map file_entry s.files ++ entries_so_far s
   pub files : AllByRecursion (λ name. is_utf8 name ≡ true) s.files
   pub drafts : AllByRecursion FitDraft s.drafts
@@ -149,7 +149,7 @@ empties_good n i m j (d ∷ ds) good all = (
     size = good.0.size;
     filled = good.0.filled;
     within = good.0.within;
-    good = ap (list_all (is_good_fragment m j)) all.0.fragments;
+    good = ap (list_all (is_well_formed_fragment m j)) all.0.fragments;
     apart = good.0.apart;
     bare = good.0.bare;
   },
@@ -205,7 +205,7 @@ heading_spelled body h is reads = ap (λ (x : Heading). little_bytes 4 x.size ++
 -- ---- A fragment in its section.
 
 -- what a fragment's record does to the section that it goes to
-pub record Grows (n i : ℕ) (e : Entry) (d x : Draft) : Type 0 where
+pub record Grows (n i : ℕ) (e : RawRecord) (d x : Draft) : Type 0 where
   pub good : GoodDraft n i x
   pub name : x.name ≡ d.name
   pub heading : heading_entry x ≡ heading_entry d
@@ -215,7 +215,7 @@ pub record Grows (n i : ℕ) (e : Entry) (d x : Draft) : Type 0 where
 room_left : (d : Draft) (len : ℕ) (u : Unit {0}) → room_for (room_of d) len ≡ Ok u → len ≤ d.size - d.filled
 room_left d len u e = let room = wanted (nat_le len (d.size - d.filled)) BadSize u e in grind (arith, nat_tests)
 
-pub literal_grows : (n i : ℕ) (e : Entry) (d : Draft) (x : Room × Fragment) → e.kind ≡ 3 → GoodDraft n i d → room_literal e.body (room_of d) ≡ Ok x → Grows n i e d (grown d x.1)
+pub literal_grows : (n i : ℕ) (e : RawRecord) (d : Draft) (x : SectionFill × Fragment) → e.kind ≡ 3 → GoodDraft n i d → room_literal e.body (room_of d) ≡ Ok x → Grows n i e d (draft_with_fragment d x.1)
 unfolding room_literal
 literal_grows n i e d x kind good h =
     let b = bound (literal_of e.body) _ _ h in
@@ -228,7 +228,7 @@ literal_grows n i e d x kind good h =
     let full : whole d.literal ≡ true = sym (short_is d) ∙ wanted (not (is_short (last_of d))) NotCanonical v.0 v.1 in
     let even : length d.literal % body_limit ≡ 0 = grind (arith, nat_tests) in
     let item : Literal b.0 ≡ x.1 = (let z = v.2 in cc) in
-    let x_is : grown d (Literal e.body) ≡ grown d x.1 = ap (λ (f : Fragment). grown d f) (ap (λ (xs : List ℕ). Literal xs) same ∙ item) in
+    let x_is : draft_with_fragment d (Literal e.body) ≡ draft_with_fragment d x.1 = ap (λ (f : Fragment). draft_with_fragment d f) (ap (λ (xs : List ℕ). Literal xs) same ∙ item) in
     let e_is : literal_entry e.body ≡ e = (λ k. record { kind = sym kind k; body = e.body }) in
     rw (← x_is) (record {
       good = record {
@@ -249,35 +249,35 @@ literal_grows n i e d x kind good h =
       fits = λ read fits. fits;
     })
 
-fragment_grows : (n i : ℕ) (e : Entry) (d : Draft) (f : Fragment) → GoodDraft n i d → fragment_len f ≤ d.size - d.filled → is_good_fragment n i f ≡ true → last_joins (closed d) f ≡ false → ((bytes : List ℕ) → joins f (Literal bytes) ≡ false) → (IsReadEntry e → (fragment_entries f ≡ e ∷ []) × FragmentFits f) → Grows n i e d (with_fragment d (fragment_len f) f)
+fragment_grows : (n i : ℕ) (e : RawRecord) (d : Draft) (f : Fragment) → GoodDraft n i d → fragment_len f ≤ d.size - d.filled → is_well_formed_fragment n i f ≡ true → last_joins (closed_fragments d) f ≡ false → ((bytes : List ℕ) → joins f (Literal bytes) ≡ false) → (IsReadEntry e → (fragment_entries f ≡ e ∷ []) × FragmentFits f) → Grows n i e d (with_fragment d (fragment_len f) f)
 fragment_grows n i e d f good room fine apart bare read = grind (arith, common_steps, shut_len, sum_by-append, list_all-append, and, shut_good, apart_push, shut_apart, last_push)
 
 fill_some : (body : List ℕ) (n : ℕ) → fill_of body ≡ Ok n → 0 < n
 fill_some body n e = grind (arith, common_steps)
 
-pub fill_grows : (n i : ℕ) (e : Entry) (d : Draft) (x : Room × Fragment) → e.kind ≡ 4 → GoodDraft n i d → room_fill e.body (room_of d) ≡ Ok x → Grows n i e d (grown d x.1)
+pub fill_grows : (n i : ℕ) (e : RawRecord) (d : Draft) (x : SectionFill × Fragment) → e.kind ≡ 4 → GoodDraft n i d → room_fill e.body (room_of d) ≡ Ok x → Grows n i e d (draft_with_fragment d x.1)
 unfolding room_fill
 fill_grows n i e d x kind good h =
     let c = bound (fill_of e.body) _ _ h in
     let u = bound (room_for (room_of d) c.0) _ _ c.2 in
     let v = bound (wants (not (is_fill (last_of d))) NotCanonical) _ _ u.2 in
-    let alone : ends_in_fill (closed d) ≡ false = sym (fill_is d) ∙ turned (is_fill (last_of d)) (wanted (not (is_fill (last_of d))) NotCanonical v.0 v.1) in
+    let alone : ends_in_fill (closed_fragments d) ≡ false = sym (fill_is d) ∙ turned (is_fill (last_of d)) (wanted (not (is_fill (last_of d))) NotCanonical v.0 v.1) in
     let item : Fill c.0 ≡ x.1 = (let z = v.2 in cc) in
-    let x_is : grown d (Fill c.0) ≡ grown d x.1 = ap (λ (f : Fragment). grown d f) item in
+    let x_is : draft_with_fragment d (Fill c.0) ≡ draft_with_fragment d x.1 = ap (λ (f : Fragment). draft_with_fragment d f) item in
     let some : nat_lt 0 c.0 ≡ true = (let t = fill_some e.body c.0 c.1 in grind (arith, nat_tests)) in
-    rw (← x_is) (fragment_grows n i e d (Fill c.0) good (room_left d c.0 u.0 u.1) some (sym (fill_last (closed d) c.0) ∙ alone) (λ bytes. refl)
+    rw (← x_is) (fragment_grows n i e d (Fill c.0) good (room_left d c.0 u.0 u.1) some (sym (fill_last (closed_fragments d) c.0) ∙ alone) (λ bytes. refl)
     (λ read. let is = fill_reads e.body c.0 read.bytes c.1 in ((λ k. record { kind = sym kind k; body = sym is.0 k } ∷ []), is.1)))
 
 -- a part names what is there
-pub parts_known : (m n i : ℕ) (o : Origin) (f : Form) (u : Unit {0}) → known_parts m n i o f ≡ Ok u → (has_file m o.file ≡ true) × (known n i f ≡ Ok u)
+pub parts_known : (m n i : ℕ) (o : Origin) (f : Form) (u : Unit {0}) → known_parts m n i o f ≡ Ok u → (has_file m o.file ≡ true) × (has_known_indices n i f ≡ Ok u)
 unfolding known_parts
 parts_known m n i o f u h = let t = bound (known_file m o) _ _ h in (wanted (has_file m o.file) IndexOutOfRange t.0 t.1, t.2)
 
 -- what is known of a form that a value or an assertion holds
-pub open_form : (n i : ℕ) (f : Form) (u v : Unit {0}) → known n i f ≡ Ok u → canonical_open f ≡ Ok v → is_open_form n i f ≡ true
+pub open_form : (n i : ℕ) (f : Form) (u v : Unit {0}) → has_known_indices n i f ≡ Ok u → canonical_open f ≡ Ok v → is_open_form n i f ≡ true
 open_form n i f u v k c = grind (arith, common_steps)
 
-pub value_grows : (v m n i : ℕ) (e : Entry) (d : Draft) (x : Room × Fragment) → e.kind ≡ 5 → GoodDraft n i d → room_value v m n i e.body (room_of d) ≡ Ok x → Grows n i e d (grown d x.1)
+pub value_grows : (v m n i : ℕ) (e : RawRecord) (d : Draft) (x : SectionFill × Fragment) → e.kind ≡ 5 → GoodDraft n i d → room_value v m n i e.body (room_of d) ≡ Ok x → Grows n i e d (draft_with_fragment d x.1)
 unfolding room_value
 value_grows v m n i e d x kind good h =
     let c = bound (value_of v e.body) _ _ h in
@@ -285,21 +285,21 @@ value_grows v m n i e d x kind good h =
     let k = bound (known_parts m n i c.0.1 c.0.2) _ _ u.2 in
     let w = bound (canonical_open c.0.2) _ _ k.2 in
     let item : Value c.0.0 c.0.1 c.0.2 ≡ x.1 = (let z = w.2 in cc) in
-    let x_is : grown d (Value c.0.0 c.0.1 c.0.2) ≡ grown d x.1 = ap (λ (f : Fragment). grown d f) item in
-    rw (← x_is) (fragment_grows n i e d (Value c.0.0 c.0.1 c.0.2) good (room_left d (width_len c.0.0) u.0 u.1) (open_form n i c.0.2 k.0 w.0 (parts_known m n i c.0.1 c.0.2 k.0 k.1).1 w.1) (value_apart (closed d) c.0.0 c.0.1 c.0.2) (λ bytes. refl)
+    let x_is : draft_with_fragment d (Value c.0.0 c.0.1 c.0.2) ≡ draft_with_fragment d x.1 = ap (λ (f : Fragment). draft_with_fragment d f) item in
+    rw (← x_is) (fragment_grows n i e d (Value c.0.0 c.0.1 c.0.2) good (room_left d (width_len c.0.0) u.0 u.1) (open_form n i c.0.2 k.0 w.0 (parts_known m n i c.0.1 c.0.2 k.0 k.1).1 w.1) (value_apart (closed_fragments d) c.0.0 c.0.1 c.0.2) (λ bytes. refl)
     (λ read. let is = value_reads v e.body c.0 read.bytes c.1 in ((λ k. record { kind = sym kind k; body = sym is.0 k } ∷ []), (is.1, is.2))))
 
 -- ---- Where values stand.
 
-pub literal_placed : (v m : ℕ) (body : List ℕ) (r : Room) (y : Room × Fragment) → room_literal body r ≡ Ok y → has_good_origin v m y.1 ≡ true
+pub literal_placed : (v m : ℕ) (body : List ℕ) (r : SectionFill) (y : SectionFill × Fragment) → room_literal body r ≡ Ok y → has_good_origin v m y.1 ≡ true
 unfolding room_literal
 literal_placed v m body r y h = grind (arith, common_steps)
 
-pub fill_placed : (v m : ℕ) (body : List ℕ) (r : Room) (y : Room × Fragment) → room_fill body r ≡ Ok y → has_good_origin v m y.1 ≡ true
+pub fill_placed : (v m : ℕ) (body : List ℕ) (r : SectionFill) (y : SectionFill × Fragment) → room_fill body r ≡ Ok y → has_good_origin v m y.1 ≡ true
 unfolding room_fill
 fill_placed v m body r y h = grind (arith, common_steps)
 
-pub value_placed : (v m n i : ℕ) (body : List ℕ) (r : Room) (y : Room × Fragment) → room_value v m n i body r ≡ Ok y → has_good_origin v m y.1 ≡ true
+pub value_placed : (v m n i : ℕ) (body : List ℕ) (r : SectionFill) (y : SectionFill × Fragment) → room_value v m n i body r ≡ Ok y → has_good_origin v m y.1 ≡ true
 unfolding room_value
 value_placed v m n i body r y h =
     let c = bound (value_of v body) _ _ h in
@@ -309,22 +309,22 @@ value_placed v m n i body r y h =
     let item : Value c.0.0 c.0.1 c.0.2 ≡ y.1 = (let z = w.2 in cc) in
     ap (has_good_origin v m) (sym item) ∙ and (has_file_by v c.0.1.file) (has_file m c.0.1.file) (value_by v body c.0 c.1) (parts_known m n i c.0.1 c.0.2 k.0 k.1).0
 
-values_grown : (v m : ℕ) (d : Draft) (f : Fragment) → has_good_values v m d ≡ true → has_good_origin v m f ≡ true → has_good_values v m (grown d f) ≡ true
+values_grown : (v m : ℕ) (d : Draft) (f : Fragment) → has_good_values v m d ≡ true → has_good_origin v m f ≡ true → has_good_values v m (draft_with_fragment d f) ≡ true
 values_grown v m d x good fine = grind (arith, common_steps)
 
 -- with a fragment more in one of the sections
 pub values_with_piece : (v m : ℕ) (f : Fragment) → has_good_origin v m f ≡ true → (ds : List Draft) (k : ℕ) → list_all (has_good_values v m) ds ≡ true → list_all (has_good_values v m) (with_piece ds k f) ≡ true
 values_with_piece v m f fine ds k good = go (slice_get ds k) refl where
-  there : (ds : List Draft) (k : ℕ) (d : Draft) → slice_get ds k ≡ Some d → list_all (λ x. has_good_values v m x) ds ≡ true → list_all (λ x. has_good_values v m x) (slice_set ds k (grown d f)) ≡ true
+  there : (ds : List Draft) (k : ℕ) (d : Draft) → slice_get ds k ≡ Some d → list_all (λ x. has_good_values v m x) ds ≡ true → list_all (λ x. has_good_values v m x) (slice_set ds k (draft_with_fragment d f)) ≡ true
   there [] k d is all = all
   there (x ∷ ds) zero d is all =
       let same : x ≡ d = cc in
       let one = left (has_good_values v m x) (list_all (λ y. has_good_values v m y) ds) all in
-      and (has_good_values v m (grown d f)) (list_all (λ y. has_good_values v m y) ds)
+      and (has_good_values v m (draft_with_fragment d f)) (list_all (λ y. has_good_values v m y) ds)
       (values_grown v m d f (ap (λ (y : Draft). has_good_values v m y) (sym same) ∙ one) fine)
       (right (has_good_values v m x) (list_all (λ y. has_good_values v m y) ds) all)
   there (x ∷ ds) (suc k) d is all =
-      and (has_good_values v m x) (list_all (λ y. has_good_values v m y) (slice_set ds k (grown d f)))
+      and (has_good_values v m x) (list_all (λ y. has_good_values v m y) (slice_set ds k (draft_with_fragment d f)))
       (left (has_good_values v m x) (list_all (λ y. has_good_values v m y) ds) all)
       (there ds k d is (right (has_good_values v m x) (list_all (λ y. has_good_values v m y) ds) all))
 
@@ -335,7 +335,7 @@ values_with_piece v m f fine ds k good = go (slice_get ds k) refl where
 -- ---- A fragment among the sections.
 
 -- what becomes of the sections
-pub record Goes (n i : ℕ) (e : Entry) (ds es : List Draft) : Type 0 where
+pub record Goes (n i : ℕ) (e : RawRecord) (ds es : List Draft) : Type 0 where
   pub headings : map heading_entry es ≡ map heading_entry ds
   pub names : map (λ d. d.name) es ≡ map (λ d. d.name) ds
   pub count : length es ≡ length ds
@@ -344,24 +344,24 @@ pub record Goes (n i : ℕ) (e : Entry) (ds es : List Draft) : Type 0 where
   pub good : AllByRecursion (GoodDraft n i) es
   pub filling : Filling es
 
-past : (n i : ℕ) (e : Entry) (d : Draft) (ds es : List Draft) → GoodDraft n i d → is_full d ≡ true → Goes n i e ds es → Goes n i e (d ∷ ds) (d ∷ es)
+past : (n i : ℕ) (e : RawRecord) (d : Draft) (ds es : List Draft) → GoodDraft n i d → is_full d ≡ true → Goes n i e ds es → Goes n i e (d ∷ ds) (d ∷ es)
 past n i e d ds es good full rest = grind (arith, common_steps)
 
-here : (n i : ℕ) (e : Entry) (d x : Draft) (ds : List Draft) → AllByRecursion (GoodDraft n i) ds → AllByRecursion IsEmptyDraft ds → Grows n i e d x → Goes n i e (d ∷ ds) (x ∷ ds)
+here : (n i : ℕ) (e : RawRecord) (d x : Draft) (ds : List Draft) → AllByRecursion (GoodDraft n i) ds → AllByRecursion IsEmptyDraft ds → Grows n i e d x → Goes n i e (d ∷ ds) (x ∷ ds)
 here n i e d x ds goods empties grows = grind (arith, common_steps, empties_none, nil, empties_fill)
 
 -- with a fragment more in the first section that isn't full
-goes : (n i : ℕ) (e : Entry) (front : List Draft) (d x : Draft) (behind : List Draft) → list_all is_full front ≡ true → is_full d ≡ false → AllByRecursion (GoodDraft n i) (front ++ d ∷ behind) → Filling (front ++ d ∷ behind) → (GoodDraft n i d → Grows n i e d x) → Goes n i e (front ++ d ∷ behind) (front ++ x ∷ behind)
-goes n i e [] d x behind full free goods filling grows = here n i e d x behind goods.1 (filling.0 free) (grows goods.0)
-goes n i e (y ∷ front) d x behind full free goods filling grows =
-    past n i e y (front ++ d ∷ behind) (front ++ x ∷ behind) goods.0 (left (is_full y) (list_all is_full front) full)
-    (goes n i e front d x behind (right (is_full y) (list_all is_full front) full) free goods.1 filling.1 grows)
+goes : (n i : ℕ) (e : RawRecord) (front : List Draft) (d x : Draft) (following : List Draft) → list_all is_full front ≡ true → is_full d ≡ false → AllByRecursion (GoodDraft n i) (front ++ d ∷ following) → Filling (front ++ d ∷ following) → (GoodDraft n i d → Grows n i e d x) → Goes n i e (front ++ d ∷ following) (front ++ x ∷ following)
+goes n i e [] d x following full free goods filling grows = here n i e d x following goods.1 (filling.0 free) (grows goods.0)
+goes n i e (y ∷ front) d x following full free goods filling grows =
+    past n i e y (front ++ d ∷ following) (front ++ x ∷ following) goods.0 (left (is_full y) (list_all is_full front) full)
+    (goes n i e front d x following (right (is_full y) (list_all is_full front) full) free goods.1 filling.1 grows)
 
-pub goes_in : (n i : ℕ) (e : Entry) (ds : List Draft) (place : ℕ × Room) (f : Fragment) (o : Opened ds place) → AllByRecursion (GoodDraft n i) ds → Filling ds → (GoodDraft n i o.split.draft → Grows n i e o.split.draft (grown o.split.draft f)) → Goes n i e ds (with_piece ds place.0 f)
+pub goes_in : (n i : ℕ) (e : RawRecord) (ds : List Draft) (place : ℕ × SectionFill) (f : Fragment) (o : Opened ds place) → AllByRecursion (GoodDraft n i) ds → Filling ds → (GoodDraft n i o.split.draft → Grows n i e o.split.draft (draft_with_fragment o.split.draft f)) → Goes n i e ds (with_piece ds place.0 f)
 goes_in n i e ds place f o goods filling grows =
     let p = o.split in
     let k = length p.front in
-    let at : k ≡ place.0 = ap (λ (x : ℕ × Room). x.0) o.here in
-    let ok : Goes n i e (p.front ++ p.draft ∷ p.behind) (p.front ++ grown p.draft f ∷ p.behind) = goes n i e p.front p.draft (grown p.draft f) p.behind p.full p.free (subst (AllByRecursion (GoodDraft n i)) p.all goods) (subst Filling p.all filling) grows in
-    let put : with_piece ds place.0 f ≡ p.front ++ grown p.draft f ∷ p.behind = ap (λ j. with_piece ds j f) (sym at) ∙ ap (λ xs. with_piece xs k f) p.all ∙ piece_there p.front p.draft p.behind f in
-    subst (λ (xs : List Draft). Goes n i e xs (with_piece ds place.0 f)) (sym p.all) (subst (λ (ys : List Draft). Goes n i e (p.front ++ p.draft ∷ p.behind) ys) (sym put) ok)
+    let at : k ≡ place.0 = ap (λ (x : ℕ × SectionFill). x.0) o.here in
+    let ok : Goes n i e (p.front ++ p.draft ∷ p.following) (p.front ++ draft_with_fragment p.draft f ∷ p.following) = goes n i e p.front p.draft (draft_with_fragment p.draft f) p.following p.full p.free (subst (AllByRecursion (GoodDraft n i)) p.all goods) (subst Filling p.all filling) grows in
+    let put : with_piece ds place.0 f ≡ p.front ++ draft_with_fragment p.draft f ∷ p.following = ap (λ j. with_piece ds j f) (sym at) ∙ ap (λ xs. with_piece xs k f) p.all ∙ piece_there p.front p.draft p.following f in
+    subst (λ (xs : List Draft). Goes n i e xs (with_piece ds place.0 f)) (sym p.all) (subst (λ (ys : List Draft). Goes n i e (p.front ++ p.draft ∷ p.following) ys) (sym put) ok)

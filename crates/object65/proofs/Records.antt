@@ -4,12 +4,12 @@ use Rattle.std.proofs.Common.{◌≡◌, ◌∙◌, ◌<◌, ◌≤◌, ℕ, zer
 use Rattle.std.specs.Prelude.{IfSome, min}
 use Rattle.std.proofs.lemmas.List.{take-append-drop, take-append-le, drop-append-le, take_all, length-take, length-drop, drop-drop, take_rest, take_min, take-take}
 use Rattle.std.specs.FinMap as map
-use Rattle.base65.specs.Store.{Files, Passes}
+use Rattle.base65.specs.Store.{Files, PropagatesIoError}
 use Rattle.object65.specs.declared.fault.ObjectFault.{ObjectFault}
 use Rattle.object65.specs.declared.fault.ObjectFault.TheVariants.{CutShort, FileError, FileNotFound}
-use Rattle.object65.specs.Record.{◌>>=◌, Refuses, is_memory, is_outside, Gives, Entry}
-use Rattle.object65.specs.Reading.{head_at, head_of, record_at, end_at, in_file, front_of, whole, ending, room, IsRoomRead, records_at, object_at, IsAhead, Reader, from_place, has_record, record_in, record_len}
-use Rattle.object65.specs.Scanning.{State, start, after, finished}
+use Rattle.object65.specs.Record.{◌>>=◌, RefinesErr, is_memory, is_system_error, Refines, RawRecord}
+use Rattle.object65.specs.Reading.{head_at, head_of, record_at, end_at, in_file, front_of, body_or_cut_short, ending, bytes_before, IsRoomRead, records_at, object_at, IsAhead, RecordReaderView, from_place, has_record, record_in, record_len}
+use Rattle.object65.specs.Scanning.{State, start, after, object_of_state}
 use Rattle.object65.specs.declared.object.Object.{Object}
 use Rattle.base65.specs.Outcome.{Unless}
 use Rattle.object65.proofs.Trails.{version_kept, passes, room_on}
@@ -25,7 +25,7 @@ unfolding record_at
 cut v at limit bytes past = grind (arith, common_steps)
 
 -- a record that was read, as the borrower of the reader sees it
-pub seen : (known : Option Files) (read : Files → Result (Entry × ℕ) ObjectFault) (shown of_reader : Entry) (next : ℕ) → shown ≡ of_reader → IfSome known (λ m. read m ≡ Ok (of_reader, next)) → IfSome known (λ m. read m ≡ Ok (shown, next))
+pub seen : (known : Option Files) (read : Files → Result (RawRecord × ℕ) ObjectFault) (shown of_reader : RawRecord) (next : ℕ) → shown ≡ of_reader → IfSome known (λ m. read m ≡ Ok (of_reader, next)) → IfSome known (λ m. read m ≡ Ok (shown, next))
 seen known read shown of_reader next same h = rw same h
 
 -- from here on the same is read as from the beginning
@@ -42,29 +42,29 @@ unread : (left : ℕ) (s : State) (next limit : ℕ) (bytes : List ℕ) (f : Obj
 unread zero s next limit bytes f enough e = let is : CutShort ≡ f = cc (cut s.version next limit bytes (omega arith)) in ap Err is
 unread (suc left) s next limit bytes f enough e = rw e refl
 
-pub one : (left : ℕ) (s : State) (next limit : ℕ) (bytes : List ℕ) (r : Entry × ℕ) → length bytes ≤ next + left → record_at s.version next limit bytes ≡ Ok r → (k : ℕ) × (left ≡ suc k) × (records_at left s next limit bytes ≡ (after s r.0 >>= (λ t. if t.ended then Ok (t, r.1) else records_at k t r.1 limit bytes)))
+pub one : (left : ℕ) (s : State) (next limit : ℕ) (bytes : List ℕ) (r : RawRecord × ℕ) → length bytes ≤ next + left → record_at s.version next limit bytes ≡ Ok r → (k : ℕ) × (left ≡ suc k) × (records_at left s next limit bytes ≡ (after s r.0 >>= (λ t. if t.ended then Ok (t, r.1) else records_at k t r.1 limit bytes)))
 one zero s next limit bytes r enough e = cc (cut s.version next limit bytes (omega arith))
 one (suc left) s next limit bytes r enough e = (left, refl, rw e refl)
 
 -- what is read of the version is read by the state's
-by_state : (v : ℕ) (s : State) (next limit : ℕ) (bytes : List ℕ) (r : Result (Entry × ℕ) ObjectFault) → s.version ≡ v → record_at v next limit bytes ≡ r → record_at s.version next limit bytes ≡ r
+by_state : (v : ℕ) (s : State) (next limit : ℕ) (bytes : List ℕ) (r : Result (RawRecord × ℕ) ObjectFault) → s.version ≡ v → record_at v next limit bytes ≡ r → record_at s.version next limit bytes ≡ r
 by_state v s next limit bytes r same e = ap (λ k. record_at k next limit bytes) same ∙ e
 
 -- the four ways on
 pub stops_reading : (v : ℕ) (bytes : List ℕ) (limit at next : ℕ) (s : State) (f : ObjectFault) → Goes v bytes limit at next s → record_at v next limit bytes ≡ Err f → records_at (length bytes) (start v) at limit bytes ≡ Err f
 stops_reading v bytes limit at next s f goes e = sym goes.same ∙ unread goes.left s next limit bytes f goes.enough (by_state v s next limit bytes _ goes.version e)
 
-pub stops_taking : (v : ℕ) (bytes : List ℕ) (limit at next : ℕ) (s : State) (r : Entry × ℕ) (f : ObjectFault) → Goes v bytes limit at next s → record_at v next limit bytes ≡ Ok r → after s r.0 ≡ Err f → records_at (length bytes) (start v) at limit bytes ≡ Err f
+pub stops_taking : (v : ℕ) (bytes : List ℕ) (limit at next : ℕ) (s : State) (r : RawRecord × ℕ) (f : ObjectFault) → Goes v bytes limit at next s → record_at v next limit bytes ≡ Ok r → after s r.0 ≡ Err f → records_at (length bytes) (start v) at limit bytes ≡ Err f
 stops_taking v bytes limit at next s r f goes e h =
     let k = one goes.left s next limit bytes r goes.enough (by_state v s next limit bytes _ goes.version e) in
     sym goes.same ∙ k.2 ∙ rw h refl
 
-pub ends : (v : ℕ) (bytes : List ℕ) (limit at next : ℕ) (s t : State) (r : Entry × ℕ) → Goes v bytes limit at next s → record_at v next limit bytes ≡ Ok r → after s r.0 ≡ Ok t → t.ended ≡ true → records_at (length bytes) (start v) at limit bytes ≡ Ok (t, r.1)
+pub ends : (v : ℕ) (bytes : List ℕ) (limit at next : ℕ) (s t : State) (r : RawRecord × ℕ) → Goes v bytes limit at next s → record_at v next limit bytes ≡ Ok r → after s r.0 ≡ Ok t → t.ended ≡ true → records_at (length bytes) (start v) at limit bytes ≡ Ok (t, r.1)
 ends v bytes limit at next s t r goes e h ended =
     let k = one goes.left s next limit bytes r goes.enough (by_state v s next limit bytes _ goes.version e) in
     sym goes.same ∙ k.2 ∙ rw (h, ended) refl
 
-pub goes_on : (v : ℕ) (bytes : List ℕ) (limit at next : ℕ) (s t : State) (r : Entry × ℕ) → Goes v bytes limit at next s → record_at v next limit bytes ≡ Ok r → next < r.1 → after s r.0 ≡ Ok t → t.ended ≡ false → Goes v bytes limit at r.1 t
+pub goes_on : (v : ℕ) (bytes : List ℕ) (limit at next : ℕ) (s t : State) (r : RawRecord × ℕ) → Goes v bytes limit at next s → record_at v next limit bytes ≡ Ok r → next < r.1 → after s r.0 ≡ Ok t → t.ended ≡ false → Goes v bytes limit at r.1 t
 goes_on v bytes limit at next s t r goes e later h ended = grind (arith, common_steps, one, by_state, version_kept)
 
 -- the same where the files may not be known, and of a file that may not be there
@@ -80,89 +80,89 @@ unless true h p = tt
 unless false h p = h p
 
 -- a refusal for any cause but memory is one for any cause but memory and the store
-pub memory_outside : {A : Type 0} (e : ObjectFault) (r : Result A ObjectFault) → Refuses is_memory e r → Refuses is_outside e r
+pub memory_outside : {A : Type 0} (e : ObjectFault) (r : Result A ObjectFault) → RefinesErr is_memory e r → RefinesErr is_system_error e r
 memory_outside x r h = grind (arith, common_steps)
 
 -- a call that answered left the count of failures as it was
-pub kept_count : {T : Type 0} (old now : ℕ) (x : T) → Passes {E = ObjectFault} FileError old now (Ok x) → now ≡ old
+pub kept_count : {T : Type 0} (old now : ℕ) (x : T) → PropagatesIoError {E = ObjectFault} FileError old now (Ok x) → now ≡ old
 kept_count old now x passes = grind (arith, common_steps)
 
 -- a refusal for another cause passes nothing on
-pub none_passed : {T : Type 0} (old now : ℕ) (e : ObjectFault) → now ≡ old → (e ≡ FileError → ⊥) → Passes {T = T} FileError old now (Err e)
+pub none_passed : {T : Type 0} (old now : ℕ) (e : ObjectFault) → now ≡ old → (e ≡ FileError → ⊥) → PropagatesIoError {T = T} FileError old now (Err e)
 none_passed old now e same other = grind (arith, common_steps)
 
 -- taking refuses for no fault of a store
-pub not_stored : (s : State) (x : Entry) (e : ObjectFault) → Refuses is_memory e (after s x) → e ≡ FileError → ⊥
+pub not_stored : (s : State) (x : RawRecord) (e : ObjectFault) → RefinesErr is_memory e (after s x) → e ≡ FileError → ⊥
 not_stored s x e refused is = after_free s x (rw is at refused)
 
 module _ (v limit at next : ℕ) where
   pub begins_in : (known : Option Files) (name : List ℕ) → GoesIn v known name limit at at (start v)
   begins_in x name = grind (arith, common_steps, begins)
 
-  pub reading_stops : (known now : Option Files) (name : List ℕ) (s : State) (e : ObjectFault) → now ≡ known → GoesIn v known name limit at next s → IfSome now (λ m. Refuses is_outside e (in_file (map.get m name) (record_at v next limit))) → IfSome known (λ m. Refuses is_outside e (all_in v (map.get m name) at limit))
+  pub reading_stops : (known now : Option Files) (name : List ℕ) (s : State) (e : ObjectFault) → now ≡ known → GoesIn v known name limit at next s → IfSome now (λ m. RefinesErr is_system_error e (in_file (map.get m name) (record_at v next limit))) → IfSome known (λ m. RefinesErr is_system_error e (all_in v (map.get m name) at limit))
   reading_stops None now name s e same goes refused = tt
   reading_stops (Some m) now name s e same goes refused = file (map.get m name) goes (rw same at refused) where
-    file : (f : Option (List ℕ)) → IfSome f (λ bytes. Goes v bytes limit at next s) → Refuses is_outside e (in_file f (record_at v next limit)) → Refuses is_outside e (all_in v f at limit)
-    file None goes refused = unless (is_outside e) (λ h. let is : FileNotFound ≡ e = cc in ap Err is) refused
-    file (Some bytes) goes refused = unless (is_outside e) (stops_reading v bytes limit at next s e goes) refused
+    file : (f : Option (List ℕ)) → IfSome f (λ bytes. Goes v bytes limit at next s) → RefinesErr is_system_error e (in_file f (record_at v next limit)) → RefinesErr is_system_error e (all_in v f at limit)
+    file None goes refused = unless (is_system_error e) (λ h. let is : FileNotFound ≡ e = cc in ap Err is) refused
+    file (Some bytes) goes refused = unless (is_system_error e) (stops_reading v bytes limit at next s e goes) refused
 
-  pub taking_stops : (known now : Option Files) (name : List ℕ) (s : State) (r : Entry × ℕ) (e : ObjectFault) → now ≡ known → GoesIn v known name limit at next s → IfSome now (λ m. in_file (map.get m name) (record_at v next limit) ≡ Ok r) → Refuses is_outside e (after s r.0) → IfSome known (λ m. Refuses is_outside e (all_in v (map.get m name) at limit))
+  pub taking_stops : (known now : Option Files) (name : List ℕ) (s : State) (r : RawRecord × ℕ) (e : ObjectFault) → now ≡ known → GoesIn v known name limit at next s → IfSome now (λ m. in_file (map.get m name) (record_at v next limit) ≡ Ok r) → RefinesErr is_system_error e (after s r.0) → IfSome known (λ m. RefinesErr is_system_error e (all_in v (map.get m name) at limit))
   taking_stops None now name s r e same goes read refused = tt
   taking_stops (Some m) now name s r e same goes read refused = file (map.get m name) goes (rw same at read) where
-    file : (f : Option (List ℕ)) → IfSome f (λ bytes. Goes v bytes limit at next s) → in_file f (record_at v next limit) ≡ Ok r → Refuses is_outside e (all_in v f at limit)
+    file : (f : Option (List ℕ)) → IfSome f (λ bytes. Goes v bytes limit at next s) → in_file f (record_at v next limit) ≡ Ok r → RefinesErr is_system_error e (all_in v f at limit)
     file None goes read = cc
-    file (Some bytes) goes read = unless (is_outside e) (stops_taking v bytes limit at next s r e goes read) refused
+    file (Some bytes) goes read = unless (is_system_error e) (stops_taking v bytes limit at next s r e goes read) refused
 
-  pub ends_in : (known now : Option Files) (name : List ℕ) (s t : State) (r : Entry × ℕ) → now ≡ known → GoesIn v known name limit at next s → IfSome now (λ m. in_file (map.get m name) (record_at v next limit) ≡ Ok r) → after s r.0 ≡ Ok t → t.ended ≡ true → IfSome known (λ m. all_in v (map.get m name) at limit ≡ Ok (t, r.1))
+  pub ends_in : (known now : Option Files) (name : List ℕ) (s t : State) (r : RawRecord × ℕ) → now ≡ known → GoesIn v known name limit at next s → IfSome now (λ m. in_file (map.get m name) (record_at v next limit) ≡ Ok r) → after s r.0 ≡ Ok t → t.ended ≡ true → IfSome known (λ m. all_in v (map.get m name) at limit ≡ Ok (t, r.1))
   ends_in x now name s t r same goes read taken ended = grind (arith, common_steps, ends)
 
-  pub goes_on_in : (known now : Option Files) (name : List ℕ) (s t : State) (r : Entry × ℕ) → now ≡ known → GoesIn v known name limit at next s → IfSome now (λ m. in_file (map.get m name) (record_at v next limit) ≡ Ok r) → next < r.1 → after s r.0 ≡ Ok t → t.ended ≡ false → GoesIn v known name limit at r.1 t
+  pub goes_on_in : (known now : Option Files) (name : List ℕ) (s t : State) (r : RawRecord × ℕ) → now ≡ known → GoesIn v known name limit at next s → IfSome now (λ m. in_file (map.get m name) (record_at v next limit) ≡ Ok r) → next < r.1 → after s r.0 ≡ Ok t → t.ended ≡ false → GoesIn v known name limit at r.1 t
   goes_on_in x now name s t r same goes read later taken ended = grind (arith, common_steps, goes_on)
 
 -- a refusal behind the END is one of the whole
-behind_refused : (bytes : List ℕ) (at limit : ℕ) (first : ℕ × ℕ) (s : State) (end : ℕ) (e : ObjectFault) → head_at at limit bytes ≡ Ok first → records_at (length bytes) (start first.0) first.1 limit bytes ≡ Ok (s, end) → Refuses is_outside e (end_at end limit bytes) → Refuses is_outside e (object_at at limit bytes)
+after_refused : (bytes : List ℕ) (at limit : ℕ) (first : ℕ × ℕ) (s : State) (end : ℕ) (e : ObjectFault) → head_at at limit bytes ≡ Ok first → records_at (length bytes) (start first.0) first.1 limit bytes ≡ Ok (s, end) → RefinesErr is_system_error e (end_at end limit bytes) → RefinesErr is_system_error e (object_at at limit bytes)
 unfolding object_at
-behind_refused bytes at limit first s end e head records refused = grind (arith, common_steps)
+after_refused bytes at limit first s end e head records refused = grind (arith, common_steps)
 
-pub end_refused : (known a b : Option Files) (name : List ℕ) (at limit : ℕ) (first : ℕ × ℕ) (s : State) (end : ℕ) (e : ObjectFault) → a ≡ known → b ≡ known → IfSome known (λ m. in_file (map.get m name) (head_at at limit) ≡ Ok first) → IfSome a (λ m. all_in first.0 (map.get m name) first.1 limit ≡ Ok (s, end)) → IfSome b (λ m. Refuses is_outside e (in_file (map.get m name) (end_at end limit))) → IfSome known (λ m. Refuses is_outside e (in_file (map.get m name) (object_at at limit)))
+pub end_refused : (known a b : Option Files) (name : List ℕ) (at limit : ℕ) (first : ℕ × ℕ) (s : State) (end : ℕ) (e : ObjectFault) → a ≡ known → b ≡ known → IfSome known (λ m. in_file (map.get m name) (head_at at limit) ≡ Ok first) → IfSome a (λ m. all_in first.0 (map.get m name) first.1 limit ≡ Ok (s, end)) → IfSome b (λ m. RefinesErr is_system_error e (in_file (map.get m name) (end_at end limit))) → IfSome known (λ m. RefinesErr is_system_error e (in_file (map.get m name) (object_at at limit)))
 end_refused None a b name at limit first s end e same_a same_b head records refused = tt
 end_refused (Some m) a b name at limit first s end e same_a same_b head records refused = file (map.get m name) head (rw same_a at records) (rw same_b at refused) where
-  file : (f : Option (List ℕ)) → in_file f (head_at at limit) ≡ Ok first → all_in first.0 f first.1 limit ≡ Ok (s, end) → Refuses is_outside e (in_file f (end_at end limit)) → Refuses is_outside e (in_file f (object_at at limit))
+  file : (f : Option (List ℕ)) → in_file f (head_at at limit) ≡ Ok first → all_in first.0 f first.1 limit ≡ Ok (s, end) → RefinesErr is_system_error e (in_file f (end_at end limit)) → RefinesErr is_system_error e (in_file f (object_at at limit))
   file None head records refused = cc
-  file (Some bytes) head records refused = behind_refused bytes at limit first s end e head records refused
+  file (Some bytes) head records refused = after_refused bytes at limit first s end e head records refused
 
 -- so is one by the head, or on the way to the END
-head_stops : (f : Option (List ℕ)) (at limit : ℕ) (e : ObjectFault) → Refuses is_outside e (in_file f (head_at at limit)) → Refuses is_outside e (in_file f (object_at at limit))
+head_stops : (f : Option (List ℕ)) (at limit : ℕ) (e : ObjectFault) → RefinesErr is_system_error e (in_file f (head_at at limit)) → RefinesErr is_system_error e (in_file f (object_at at limit))
 unfolding object_at
-head_stops None at limit e refused = unless (is_outside e) (λ h. let is : FileNotFound ≡ e = cc in ap Err is) refused
-head_stops (Some bytes) at limit e refused = unless (is_outside e) (λ h. ap (λ r. r >>= (λ first. records_at (length bytes) (start first.0) first.1 limit bytes >>= (λ end. end_at end.1 limit bytes >>= (λ u. finished end.0)))) h) refused
+head_stops None at limit e refused = unless (is_system_error e) (λ h. let is : FileNotFound ≡ e = cc in ap Err is) refused
+head_stops (Some bytes) at limit e refused = unless (is_system_error e) (λ h. ap (λ r. r >>= (λ first. records_at (length bytes) (start first.0) first.1 limit bytes >>= (λ end. end_at end.1 limit bytes >>= (λ u. object_of_state end.0)))) h) refused
 
-pub head_refused : (known : Option Files) (name : List ℕ) (at limit : ℕ) (e : ObjectFault) → IfSome known (λ m. Refuses is_outside e (in_file (map.get m name) (head_at at limit))) → IfSome known (λ m. Refuses is_outside e (in_file (map.get m name) (object_at at limit)))
+pub head_refused : (known : Option Files) (name : List ℕ) (at limit : ℕ) (e : ObjectFault) → IfSome known (λ m. RefinesErr is_system_error e (in_file (map.get m name) (head_at at limit))) → IfSome known (λ m. RefinesErr is_system_error e (in_file (map.get m name) (object_at at limit)))
 head_refused None name at limit e refused = tt
 head_refused (Some m) name at limit e refused = head_stops (map.get m name) at limit e refused
 
-records_stop : (f : Option (List ℕ)) (at limit : ℕ) (first : ℕ × ℕ) (e : ObjectFault) → in_file f (head_at at limit) ≡ Ok first → Refuses is_outside e (all_in first.0 f first.1 limit) → Refuses is_outside e (in_file f (object_at at limit))
+records_stop : (f : Option (List ℕ)) (at limit : ℕ) (first : ℕ × ℕ) (e : ObjectFault) → in_file f (head_at at limit) ≡ Ok first → RefinesErr is_system_error e (all_in first.0 f first.1 limit) → RefinesErr is_system_error e (in_file f (object_at at limit))
 unfolding object_at
 records_stop None at limit first e head refused = cc
-records_stop (Some bytes) at limit first e head refused = unless (is_outside e) (λ h. ap (λ r. r >>= (λ first. records_at (length bytes) (start first.0) first.1 limit bytes >>= (λ end. end_at end.1 limit bytes >>= (λ u. finished end.0)))) head ∙ ap (λ r. r >>= (λ end. end_at end.1 limit bytes >>= (λ u. finished end.0))) h) refused
+records_stop (Some bytes) at limit first e head refused = unless (is_system_error e) (λ h. ap (λ r. r >>= (λ first. records_at (length bytes) (start first.0) first.1 limit bytes >>= (λ end. end_at end.1 limit bytes >>= (λ u. object_of_state end.0)))) head ∙ ap (λ r. r >>= (λ end. end_at end.1 limit bytes >>= (λ u. object_of_state end.0))) h) refused
 
-pub records_refused : (known now : Option Files) (name : List ℕ) (at limit : ℕ) (first : ℕ × ℕ) (e : ObjectFault) → now ≡ known → IfSome known (λ m. in_file (map.get m name) (head_at at limit) ≡ Ok first) → IfSome now (λ m. Refuses is_outside e (all_in first.0 (map.get m name) first.1 limit)) → IfSome known (λ m. Refuses is_outside e (in_file (map.get m name) (object_at at limit)))
+pub records_refused : (known now : Option Files) (name : List ℕ) (at limit : ℕ) (first : ℕ × ℕ) (e : ObjectFault) → now ≡ known → IfSome known (λ m. in_file (map.get m name) (head_at at limit) ≡ Ok first) → IfSome now (λ m. RefinesErr is_system_error e (all_in first.0 (map.get m name) first.1 limit)) → IfSome known (λ m. RefinesErr is_system_error e (in_file (map.get m name) (object_at at limit)))
 records_refused None now name at limit first e same head refused = tt
 records_refused (Some m) now name at limit first e same head refused = records_stop (map.get m name) at limit first e head (rw same at refused)
 
 -- what finishing gives behind the END is what reading the whole gives
-finish_gives : (f : Option (List ℕ)) (at limit : ℕ) (first : ℕ × ℕ) (s : State) (end : ℕ) (r : Result Object ObjectFault) → in_file f (head_at at limit) ≡ Ok first → all_in first.0 f first.1 limit ≡ Ok (s, end) → in_file f (end_at end limit) ≡ Ok tt → Gives is_memory (λ o. o) r (finished s) → Gives is_outside (λ o. o) r (in_file f (object_at at limit))
+finish_gives : (f : Option (List ℕ)) (at limit : ℕ) (first : ℕ × ℕ) (s : State) (end : ℕ) (r : Result Object ObjectFault) → in_file f (head_at at limit) ≡ Ok first → all_in first.0 f first.1 limit ≡ Ok (s, end) → in_file f (end_at end limit) ≡ Ok tt → Refines is_memory (λ o. o) r (object_of_state s) → Refines is_system_error (λ o. o) r (in_file f (object_at at limit))
 unfolding object_at
 finish_gives None at limit first s end r head records ended given = cc
-finish_gives (Some bytes) at limit first s end r head records ended given = rw whole (outside r given) where
-  whole : object_at at limit bytes ≡ finished s
-  whole = ap (λ r. r >>= (λ first. records_at (length bytes) (start first.0) first.1 limit bytes >>= (λ end. end_at end.1 limit bytes >>= (λ u. finished end.0)))) head ∙ ap (λ r. r >>= (λ end. end_at end.1 limit bytes >>= (λ u. finished end.0))) records ∙ ap (λ r. r >>= (λ u. finished s)) ended
+finish_gives (Some bytes) at limit first s end r head records ended given = rw body_or_cut_short (outside r given) where
+  body_or_cut_short : object_at at limit bytes ≡ object_of_state s
+  body_or_cut_short = ap (λ r. r >>= (λ first. records_at (length bytes) (start first.0) first.1 limit bytes >>= (λ end. end_at end.1 limit bytes >>= (λ u. object_of_state end.0)))) head ∙ ap (λ r. r >>= (λ end. end_at end.1 limit bytes >>= (λ u. object_of_state end.0))) records ∙ ap (λ r. r >>= (λ u. object_of_state s)) ended
 
-  outside : (r : Result Object ObjectFault) → Gives is_memory (λ o. o) r (finished s) → Gives is_outside (λ o. o) r (finished s)
+  outside : (r : Result Object ObjectFault) → Refines is_memory (λ o. o) r (object_of_state s) → Refines is_system_error (λ o. o) r (object_of_state s)
   outside (Ok o) h = h
   outside (Err e) h = memory_outside e _ h
 
-pub object_read : (known a b : Option Files) (name : List ℕ) (at limit : ℕ) (first : ℕ × ℕ) (s : State) (end : ℕ) (r : Result Object ObjectFault) → a ≡ known → b ≡ known → IfSome known (λ m. in_file (map.get m name) (head_at at limit) ≡ Ok first) → IfSome a (λ m. all_in first.0 (map.get m name) first.1 limit ≡ Ok (s, end)) → IfSome b (λ m. in_file (map.get m name) (end_at end limit) ≡ Ok tt) → Gives is_memory (λ o. o) r (finished s) → IfSome known (λ m. Gives is_outside (λ o. o) r (in_file (map.get m name) (object_at at limit)))
+pub object_read : (known a b : Option Files) (name : List ℕ) (at limit : ℕ) (first : ℕ × ℕ) (s : State) (end : ℕ) (r : Result Object ObjectFault) → a ≡ known → b ≡ known → IfSome known (λ m. in_file (map.get m name) (head_at at limit) ≡ Ok first) → IfSome a (λ m. all_in first.0 (map.get m name) first.1 limit ≡ Ok (s, end)) → IfSome b (λ m. in_file (map.get m name) (end_at end limit) ≡ Ok tt) → Refines is_memory (λ o. o) r (object_of_state s) → IfSome known (λ m. Refines is_system_error (λ o. o) r (in_file (map.get m name) (object_at at limit)))
 object_read None a b name at limit first s end r same_a same_b head records ended given = tt
 object_read (Some m) a b name at limit first s end r same_a same_b head records ended given = finish_gives (map.get m name) at limit first s end r head (rw same_a at records) (rw same_b at ended) given
 
@@ -173,36 +173,36 @@ always true p = tt
 always false p = p
 
 -- an answer that is what reading gives, also where it is a refusal
-as_read : {A : Type 0} (r read : Result A ObjectFault) → r ≡ read → Gives is_outside (λ x. x) r read
+as_read : {A : Type 0} (r read : Result A ObjectFault) → r ≡ read → Refines is_system_error (λ x. x) r read
 as_read (Ok x) read is = sym is
-as_read (Err e) read is = always (is_outside e) (sym is)
+as_read (Err e) read is = always (is_system_error e) (sym is)
 
 -- the head is decoded of the first bytes of the room
-pub head_read : (known : Option Files) (name : List ℕ) (at limit : ℕ) (buf : List ℕ) (n : ℕ) (r : Result (ℕ × ℕ) ObjectFault) → length buf ≡ 5 → IfSome known (λ m. IsRoomRead (map.get m name) at limit buf (Ok n)) → r ≡ head_of at (take 5 (take n buf)) → IfSome known (λ m. Gives is_outside (λ x. x) r (in_file (map.get m name) (head_at at limit)))
+pub head_read : (known : Option Files) (name : List ℕ) (at limit : ℕ) (buf : List ℕ) (n : ℕ) (r : Result (ℕ × ℕ) ObjectFault) → length buf ≡ 5 → IfSome known (λ m. IsRoomRead (map.get m name) at limit buf (Ok n)) → r ≡ head_of at (take 5 (take n buf)) → IfSome known (λ m. Refines is_system_error (λ x. x) r (in_file (map.get m name) (head_at at limit)))
 head_read None name at limit buf n r five read is = tt
 head_read (Some m) name at limit buf n r five read is = file (map.get m name) read where
-  file : (f : Option (List ℕ)) → IsRoomRead f at limit buf (Ok n) → Gives is_outside (λ x. x) r (in_file f (head_at at limit))
+  file : (f : Option (List ℕ)) → IsRoomRead f at limit buf (Ok n) → Refines is_system_error (λ x. x) r (in_file f (head_at at limit))
   file None read = absurd read
-  file (Some bytes) read = as_read r _ (is ∙ ap (λ xs. head_of at xs) (ap (λ xs. take 5 xs) read.0 ∙ take-take 5 (length buf) (room bytes at limit) (omega (arith, five))))
+  file (Some bytes) read = as_read r _ (is ∙ ap (λ xs. head_of at xs) (ap (λ xs. take 5 xs) read.0 ∙ take-take 5 (length buf) (bytes_before bytes at limit) (omega (arith, five))))
 
 -- ---- Records among bytes that were read ahead.
 
 -- a record is read of the room of an object alone
-pub at_is_in : (v at limit : ℕ) (bytes : List ℕ) → record_at v at limit bytes ≡ record_in v at (room bytes at limit)
+pub at_is_in : (v at limit : ℕ) (bytes : List ℕ) → record_at v at limit bytes ≡ record_in v at (bytes_before bytes at limit)
 unfolding record_at record_in
-at_is_in v at limit bytes = ap (λ behind. front_of v (take 3 (room bytes at limit)) >>= (λ front. whole front.1 (take front.1 behind) >>= (λ body. ending at front.0 front.1 body))) (room_on bytes at 3 limit ∙ sym (take_rest (room bytes at limit) 3))
+at_is_in v at limit bytes = ap (λ following. front_of v (take 3 (bytes_before bytes at limit)) >>= (λ front. body_or_cut_short front.1 (take front.1 following) >>= (λ body. ending at front.0 front.1 body))) (room_on bytes at 3 limit ∙ sym (take_rest (bytes_before bytes at limit) 3))
 
 -- the length that the front says
 pub front_len : (v : ℕ) (xs : List ℕ) (f : ℕ × ℕ) → front_of v (take 3 xs) ≡ Ok f → (3 + f.1 ≡ record_len xs) × (f.1 ≤ 4096)
 front_len v x f e = grind (arith, common_steps)
 
 -- what stands behind a record doesn't matter, where the record is there
-pub behind : (v at : ℕ) (xs rest : List ℕ) → 3 ≤ length xs → ((f : ℕ × ℕ) → front_of v (take 3 xs) ≡ Ok f → 3 + f.1 ≤ length xs) → record_in v at (xs ++ rest) ≡ record_in v at xs
+pub following : (v at : ℕ) (xs rest : List ℕ) → 3 ≤ length xs → ((f : ℕ × ℕ) → front_of v (take 3 xs) ≡ Ok f → 3 + f.1 ≤ length xs) → record_in v at (xs ++ rest) ≡ record_in v at xs
 unfolding record_in
-behind v at xs rest three enough =
+following v at xs rest three enough =
     rw (take_rest (xs ++ rest) 3, take_rest xs 3, take-append-le 3 xs rest three, drop-append-le 3 xs rest three) (by (front_of v (take 3 xs)) enough)
   where
-    by : (r : Result (ℕ × ℕ) ObjectFault) → ((f : ℕ × ℕ) → r ≡ Ok f → 3 + f.1 ≤ length xs) → (r >>= (λ front. whole front.1 (take front.1 (drop 3 xs ++ rest)) >>= (λ body. ending at front.0 front.1 body))) ≡ (r >>= (λ front. whole front.1 (take front.1 (drop 3 xs)) >>= (λ body. ending at front.0 front.1 body)))
+    by : (r : Result (ℕ × ℕ) ObjectFault) → ((f : ℕ × ℕ) → r ≡ Ok f → 3 + f.1 ≤ length xs) → (r >>= (λ front. body_or_cut_short front.1 (take front.1 (drop 3 xs ++ rest)) >>= (λ body. ending at front.0 front.1 body))) ≡ (r >>= (λ front. body_or_cut_short front.1 (take front.1 (drop 3 xs)) >>= (λ body. ending at front.0 front.1 body)))
     by (Err e) enough = refl
     by (Ok f) enough =
         let left : f.1 ≤ length (drop 3 xs) = omega (arith, length-drop 3 xs, enough f refl) in
@@ -218,7 +218,7 @@ filled v at xs = by (nat_le (length xs) 8192) refl
     by false h =
         let long : 8192 ≤ length xs = grind (arith, nat_tests, h) in
         let len : length (take 8192 xs) ≡ 8192 = omega (arith, length-take 8192 xs, long) in
-        sym (behind v at (take 8192 xs) (drop 8192 xs) (omega (arith, len)) (λ f e. omega (arith, len, (front_len v (take 8192 xs) f e).1))) ∙ ap (record_in v at) (take-append-drop 8192 xs)
+        sym (following v at (take 8192 xs) (drop 8192 xs) (omega (arith, len)) (λ f e. omega (arith, len, (front_len v (take 8192 xs) f e).1))) ∙ ap (record_in v at) (take-append-drop 8192 xs)
 
 -- ---- A record that is there already.
 
@@ -239,16 +239,16 @@ cut_front (suc n) (suc k) [] = sym (take_all (min (suc n) (suc k)) [] (omega ari
 cut_front (suc n) (suc k) (x ∷ xs) = let same : min (suc n) (suc k) ≡ suc (min n k) = omega arith in rw same (ap (λ ys. x ∷ ys) (cut_front n k xs))
 
 -- bytes that were kept of a file, from a place on up to a limit
-abbrev pub kept : Reader → ℕ → ℕ → List ℕ
+abbrev pub kept : RecordReaderView → ℕ → ℕ → List ℕ
 kept r at limit = take (limit - at) (from_place r.ahead r.begin at)
 
 nothing : (n : ℕ) (xs : List ℕ) → xs ≡ [] → has_record (take n xs) ≡ true → ⊥
 nothing n xs none h = (let len : length (take n xs) ≤ 0 = omega (arith, length-take n xs, ap length none) in let three : 3 ≤ length (take n xs) = grind (arith, nat_tests, h) in omega (arith, len, three))
 
-kept_none : (r : Reader) (at limit : ℕ) → r.ahead ≡ [] → has_record (kept r at limit) ≡ true → ⊥
+kept_none : (r : RecordReaderView) (at limit : ℕ) → r.ahead ≡ [] → has_record (kept r at limit) ≡ true → ⊥
 kept_none r at limit none h = grind (arith, common_steps)
 
-kept_in : (v at limit : ℕ) (r : Reader) (bytes : List ℕ) → IsAhead (Some bytes) r → has_record (kept r at limit) ≡ true → record_at v at limit bytes ≡ record_in v at (kept r at limit)
+kept_in : (v at limit : ℕ) (r : RecordReaderView) (bytes : List ℕ) → IsAhead (Some bytes) r → has_record (kept r at limit) ≡ true → record_at v at limit bytes ≡ record_in v at (kept r at limit)
 kept_in v at limit r bytes same h = by (nat_lt at r.begin) refl h
   where
     by : (b : Bool) → nat_lt at r.begin ≡ b → has_record (take (limit - at) (if b then [] else drop (at - r.begin) r.ahead)) ≡ true → record_at v at limit bytes ≡ record_in v at (take (limit - at) (if b then [] else drop (at - r.begin) r.ahead))
@@ -264,57 +264,57 @@ kept_in v at limit r bytes same h = by (nat_lt at r.begin) refl h
         let file : r.ahead ++ rest ≡ drop r.begin bytes = ap (λ ys. ys ++ rest) same ∙ take-append-drop (length r.ahead) (drop r.begin bytes) in
         let there : at ≡ r.begin + k = omega (arith, late) in
         let place : drop at bytes ≡ drop k (drop r.begin bytes) = ap (λ n. drop n bytes) there ∙ sym (drop-drop k r.begin bytes) in
-        let whole : room bytes at limit ≡ xs ++ take (limit - at - length (drop k r.ahead)) rest = ap (take (limit - at)) (place ∙ ap (drop k) (sym file)) ∙ apart (limit - at) k r.ahead rest within in
-        at_is_in v at limit bytes ∙ ap (record_in v at) whole ∙ behind v at xs (take (limit - at - length (drop k r.ahead)) rest) three (λ f e. omega (arith, enough, (front_len v xs f e).0))
+        let body_or_cut_short : bytes_before bytes at limit ≡ xs ++ take (limit - at - length (drop k r.ahead)) rest = ap (take (limit - at)) (place ∙ ap (drop k) (sym file)) ∙ apart (limit - at) k r.ahead rest within in
+        at_is_in v at limit bytes ∙ ap (record_in v at) body_or_cut_short ∙ following v at xs (take (limit - at - length (drop k r.ahead)) rest) three (λ f e. omega (arith, enough, (front_len v xs f e).0))
 
 -- ---- What reading answers.
 
-as_outside : (x : Result ℕ ObjectFault) (e : Entry) (r : Result (Entry × ℕ) ObjectFault) → Gives is_memory (λ n. (e, n)) x r → Gives is_outside (λ n. (e, n)) x r
+as_outside : (x : Result ℕ ObjectFault) (e : RawRecord) (r : Result (RawRecord × ℕ) ObjectFault) → Refines is_memory (λ n. (e, n)) x r → Refines is_system_error (λ n. (e, n)) x r
 as_outside x e r h = grind (arith, common_steps)
 
 -- what was kept, by the calls that give it
-pub kept_so : (w t f : List ℕ) (n at limit : ℕ) (r : Reader) → w ≡ take n t → n ≡ limit - at → t ≡ from_place f r.begin at → f ≡ r.ahead → w ≡ kept r at limit
+pub kept_so : (w t f : List ℕ) (n at limit : ℕ) (r : RecordReaderView) → w ≡ take n t → n ≡ limit - at → t ≡ from_place f r.begin at → f ≡ r.ahead → w ≡ kept r at limit
 kept_so w t f n at limit r a b c d = a ∙ ap (λ k. take k t) b ∙ ap (take (limit - at)) (c ∙ ap (λ xs. from_place xs r.begin at) d)
 
-pub read_kept : (known : Option Files) (name : List ℕ) (r : Reader) (v at limit : ℕ) (w : List ℕ) (x : Result ℕ ObjectFault) (e : Entry) → w ≡ kept r at limit → has_record w ≡ true → Gives is_memory (λ n. (e, n)) x (record_in v at w) → IfSome known (λ m. IsAhead (get m name) r → Gives is_outside (λ n. (e, n)) x (in_file (get m name) (record_at v at limit)))
+pub read_kept : (known : Option Files) (name : List ℕ) (r : RecordReaderView) (v at limit : ℕ) (w : List ℕ) (x : Result ℕ ObjectFault) (e : RawRecord) → w ≡ kept r at limit → has_record w ≡ true → Refines is_memory (λ n. (e, n)) x (record_in v at w) → IfSome known (λ m. IsAhead (get m name) r → Refines is_system_error (λ n. (e, n)) x (in_file (get m name) (record_at v at limit)))
 read_kept y name r v at limit w x e is has gives = grind (arith, common_steps, kept_none, kept_in, as_outside)
 
-pub read_anew : (known : Option Files) (name : List ℕ) (r : Reader) (v at limit : ℕ) (w shown : List ℕ) (x : Result ℕ ObjectFault) (e : Entry) → shown ≡ w → IfSome known (λ m. in_file (get m name) (λ bytes. Ok (take 8192 (room bytes at limit))) ≡ Ok w) → Gives is_memory (λ n. (e, n)) x (record_in v at shown) → IfSome known (λ m. IsAhead (get m name) r → Gives is_outside (λ n. (e, n)) x (in_file (get m name) (record_at v at limit)))
+pub read_anew : (known : Option Files) (name : List ℕ) (r : RecordReaderView) (v at limit : ℕ) (w shown : List ℕ) (x : Result ℕ ObjectFault) (e : RawRecord) → shown ≡ w → IfSome known (λ m. in_file (get m name) (λ bytes. Ok (take 8192 (bytes_before bytes at limit))) ≡ Ok w) → Refines is_memory (λ n. (e, n)) x (record_in v at shown) → IfSome known (λ m. IsAhead (get m name) r → Refines is_system_error (λ n. (e, n)) x (in_file (get m name) (record_at v at limit)))
 read_anew y name r v at limit w shown x e same read gives = grind (arith, common_steps, at_is_in, filled, as_outside)
 
-pub ahead_anew : (known : Option Files) (name : List ℕ) (r new : Reader) (at limit : ℕ) (w : List ℕ) → new.begin ≡ at → new.ahead ≡ w → IfSome known (λ m. in_file (get m name) (λ bytes. Ok (take 8192 (room bytes at limit))) ≡ Ok w) → IfSome known (λ m. IsAhead (get m name) r → IsAhead (get m name) new)
+pub ahead_anew : (known : Option Files) (name : List ℕ) (r new : RecordReaderView) (at limit : ℕ) (w : List ℕ) → new.begin ≡ at → new.ahead ≡ w → IfSome known (λ m. in_file (get m name) (λ bytes. Ok (take 8192 (bytes_before bytes at limit))) ≡ Ok w) → IfSome known (λ m. IsAhead (get m name) r → IsAhead (get m name) new)
 ahead_anew None name r new at limit w begin same read = tt
 ahead_anew (Some m) name r new at limit w begin same read = λ ahead. file (get m name) read
   where
     shorter : (n : ℕ) (xs : List ℕ) → take n xs ≡ take (length (take n xs)) xs
     shorter n xs = sym (take_min n xs) ∙ ap (λ k. take k xs) (sym (length-take n xs))
 
-    file : (f : Option (List ℕ)) → in_file f (λ bytes. Ok (take 8192 (room bytes at limit))) ≡ Ok w → IsAhead f new
+    file : (f : Option (List ℕ)) → in_file f (λ bytes. Ok (take 8192 (bytes_before bytes at limit))) ≡ Ok w → IsAhead f new
     file None h = absurd cc
     file (Some bytes) h =
-        let is : take 8192 (room bytes at limit) ≡ w = cc h in
+        let is : take 8192 (bytes_before bytes at limit) ≡ w = cc h in
         let taken : new.ahead ≡ take (min 8192 (limit - at)) (drop at bytes) = same ∙ sym is ∙ cut_front 8192 (limit - at) (drop at bytes) in
         rw begin (taken ∙ shorter (min 8192 (limit - at)) (drop at bytes) ∙ ap (λ xs. take (length xs) (drop at bytes)) (sym taken))
 
-pub refilled : (known : Option Files) (name : List ℕ) (at limit n : ℕ) (buf : List ℕ) → length buf ≡ 8192 → IfSome known (λ m. IsRoomRead (get m name) at limit buf (Ok n)) → IfSome known (λ m. in_file (get m name) (λ bytes. Ok (take 8192 (room bytes at limit))) ≡ Ok (take n buf))
+pub refilled : (known : Option Files) (name : List ℕ) (at limit n : ℕ) (buf : List ℕ) → length buf ≡ 8192 → IfSome known (λ m. IsRoomRead (get m name) at limit buf (Ok n)) → IfSome known (λ m. in_file (get m name) (λ bytes. Ok (take 8192 (bytes_before bytes at limit))) ≡ Ok (take n buf))
 refilled None name at limit n buf len read = tt
 refilled (Some m) name at limit n buf len read = file (get m name) read
   where
-    file : (f : Option (List ℕ)) → IsRoomRead f at limit buf (Ok n) → in_file f (λ bytes. Ok (take 8192 (room bytes at limit))) ≡ Ok (take n buf)
+    file : (f : Option (List ℕ)) → IsRoomRead f at limit buf (Ok n) → in_file f (λ bytes. Ok (take 8192 (bytes_before bytes at limit))) ≡ Ok (take n buf)
     file None h = absurd h
-    file (Some bytes) h = ap Ok (ap (λ k. take k (room bytes at limit)) (sym len) ∙ sym (h.0))
+    file (Some bytes) h = ap Ok (ap (λ k. take k (bytes_before bytes at limit)) (sym len) ∙ sym (h.0))
 
 -- ---- Reading on.
 
 -- what a reader keeps is of this file, where the files are known
-abbrev pub StandsAhead : Option Files → List ℕ → Reader → Type 0
+abbrev pub StandsAhead : Option Files → List ℕ → RecordReaderView → Type 0
 StandsAhead known name r = IfSome known (λ m. IsAhead (get m name) r)
 
-pub fresh : (known : Option Files) (name : List ℕ) (r : Reader) → r.ahead ≡ [] → StandsAhead known name r
+pub fresh : (known : Option Files) (name : List ℕ) (r : RecordReaderView) → r.ahead ≡ [] → StandsAhead known name r
 fresh x name r none = grind (arith, common_steps)
 
-pub where_ahead : (known : Option Files) (name : List ℕ) (r : Reader) (Q : Files → Type 0) → StandsAhead known name r → IfSome known (λ m. IsAhead (get m name) r → Q m) → IfSome known Q
+pub where_ahead : (known : Option Files) (name : List ℕ) (r : RecordReaderView) (Q : Files → Type 0) → StandsAhead known name r → IfSome known (λ m. IsAhead (get m name) r → Q m) → IfSome known Q
 where_ahead x name r y ahead h = grind (arith, common_steps)
 
-pub stays_ahead : (known after : Option Files) (name : List ℕ) (r new : Reader) → after ≡ known → StandsAhead known name r → IfSome known (λ m. IsAhead (get m name) r → IsAhead (get m name) new) → StandsAhead after name new
+pub stays_ahead : (known after : Option Files) (name : List ℕ) (r new : RecordReaderView) → after ≡ known → StandsAhead known name r → IfSome known (λ m. IsAhead (get m name) r → IsAhead (get m name) new) → StandsAhead after name new
 stays_ahead known after name r new same ahead h = rw same (where_ahead known name r (λ m. IsAhead (get m name) new) ahead h)

@@ -17,11 +17,11 @@ use Rattle.object65.specs.declared.object.Origin.{Origin}
 use Rattle.object65.specs.declared.object.Width.{Width}
 use Rattle.object65.specs.declared.scan.Last.{Last}
 use Rattle.object65.specs.declared.scan.Last.TheVariants as last
-use Rattle.object65.specs.declared.scan.Room.{Room}
+use Rattle.object65.specs.declared.scan.SectionFill.{SectionFill}
 use Rattle.object65.specs.Bodies.{literal_of}
-use Rattle.object65.specs.Record.{◌>>=◌, Entry, is_record_kind}
+use Rattle.object65.specs.Record.{◌>>=◌, RawRecord, is_record_kind}
 use Rattle.object65.specs.Form.{Form}
-use Rattle.object65.specs.Items.{State, closed, closing, grown, is_none, with_item}
+use Rattle.object65.specs.Items.{State, closed_fragments, closing, draft_with_fragment, is_none, with_item}
 use Rattle.object65.specs.Objects.{width_len}
 use Rattle.object65.specs.Scanning
 use Rattle.object65.specs.Spelling.{body_limit}
@@ -96,11 +96,11 @@ end_leads s body = grind (arith, common_steps)
 -- ---- Fragments.
 
 -- the room behind a record is that of the section with the fragment
-abbrev LeadsIn : Draft → Result (Room × Fragment) ObjectFault → Type 0
-LeadsIn d (Ok x) = x.0 ≡ Scanning.room_of (grown d x.1)
+abbrev LeadsIn : Draft → Result (SectionFill × Fragment) ObjectFault → Type 0
+LeadsIn d (Ok x) = x.0 ≡ Scanning.room_of (draft_with_fragment d x.1)
 LeadsIn d (Err e) = e ≡ FileError → ⊥
 
-in_read : {A : Type 0} (d : Draft) (r : Result A ObjectFault) (g : A → Result (Room × Fragment) ObjectFault) → IsFree r → ((a : A) → r ≡ Ok a → LeadsIn d (g a)) → LeadsIn d (r >>= g)
+in_read : {A : Type 0} (d : Draft) (r : Result A ObjectFault) (g : A → Result (SectionFill × Fragment) ObjectFault) → IsFree r → ((a : A) → r ≡ Ok a → LeadsIn d (g a)) → LeadsIn d (r >>= g)
 in_read d x g free h = grind (arith, common_steps)
 
 pub wanted : (b : Bool) (f : ObjectFault) (u : Unit {0}) → Scanning.wants b f ≡ Ok u → b ≡ true
@@ -124,30 +124,30 @@ nothing x part = grind (arith, common_steps)
 pub short_is : (d : Draft) → not (Scanning.is_short (Scanning.last_of d)) ≡ whole d.literal
 short_is d = grind (arith, common_steps)
 
-pub fill_is : (d : Draft) → Scanning.is_fill (Scanning.last_of d) ≡ Scanning.ends_in_fill (closed d)
+pub fill_is : (d : Draft) → Scanning.is_fill (Scanning.last_of d) ≡ Scanning.ends_in_fill (closed_fragments d)
 fill_is d = grind (arith, common_steps, literal_ends, nothing)
 
 -- behind a literal
-behind_literal : (d : Draft) (bytes : List ℕ) → is_none bytes ≡ false → whole d.literal ≡ true → Scanning.last_behind (length bytes) ≡ Scanning.last_of (grown d (Literal bytes))
-behind_literal d bytes some full = grind (arith, common_steps, nat_tests, length-append, mod-add-mod, literal_ends, longer)
+after_literal : (d : Draft) (bytes : List ℕ) → is_none bytes ≡ false → whole d.literal ≡ true → Scanning.last_after (length bytes) ≡ Scanning.last_of (draft_with_fragment d (Literal bytes))
+after_literal d bytes some full = grind (arith, common_steps, nat_tests, length-append, mod-add-mod, literal_ends, longer)
 
 -- behind another fragment
-behind_fill : (d : Draft) (n : ℕ) → last.Fill ≡ Scanning.last_of (grown d (Fill n))
-behind_fill d n = grind (arith, common_steps, nil, ends_push)
+after_fill : (d : Draft) (n : ℕ) → last.Fill ≡ Scanning.last_of (draft_with_fragment d (Fill n))
+after_fill d n = grind (arith, common_steps, nil, ends_push)
 
-behind_value : (d : Draft) (w : Width) (origin : Origin) (form : Form) → last.Other ≡ Scanning.last_of (grown d (Value w origin form))
-behind_value d w origin form = grind (arith, common_steps, nil, ends_push)
+after_value : (d : Draft) (w : Width) (origin : Origin) (form : Form) → last.Other ≡ Scanning.last_of (draft_with_fragment d (Value w origin form))
+after_value d w origin form = grind (arith, common_steps, nil, ends_push)
 
 pub literal_some : (body bytes : List ℕ) → literal_of body ≡ Ok bytes → is_none bytes ≡ false
 literal_some body bytes h = grind (arith, common_steps)
 
 literal_leads : (body : List ℕ) (d : Draft) → LeadsIn d (Scanning.room_literal body (Scanning.room_of d))
 unfolding Scanning.room_literal
-literal_leads body d = grind (arith, common_steps, in_read, literal_free, room_free, wants_canonical, behind_literal, literal_some, short_is, wanted)
+literal_leads body d = grind (arith, common_steps, in_read, literal_free, room_free, wants_canonical, after_literal, literal_some, short_is, wanted)
 
 fill_leads : (body : List ℕ) (d : Draft) → LeadsIn d (Scanning.room_fill body (Scanning.room_of d))
 unfolding Scanning.room_fill
-fill_leads body d = grind (arith, common_steps, in_read, fill_free, room_free, wants_canonical, behind_fill)
+fill_leads body d = grind (arith, common_steps, in_read, fill_free, room_free, wants_canonical, after_fill)
 
 value_leads : (v m n i : ℕ) (body : List ℕ) (d : Draft) → LeadsIn d (Scanning.room_value v m n i body (Scanning.room_of d))
 unfolding Scanning.room_value
@@ -156,26 +156,26 @@ value_leads v m n i body d =
     in_read d _ _ (room_free (Scanning.room_of d) (width_len x.0)) (λ u room.
     in_read d _ _ (parts_free m n i x.1 x.2) (λ y there.
     in_read d _ _ (open_free x.2) (λ w fine.
-    ap (λ (l : Last). Scanning.room_behind (Scanning.room_of d) (width_len x.0) l) (behind_value d x.0 x.1 x.2)))))
+    ap (λ (l : Last). Scanning.room_after (Scanning.room_of d) (width_len x.0) l) (after_value d x.0 x.1 x.2)))))
 
 names_stay : (ds : List Draft) (k : ℕ) (d e : Draft) → slice_get ds k ≡ Some d → e.name ≡ d.name → map (λ x. x.name) (slice_set ds k e) ≡ map (λ x. x.name) ds
 names_stay [] k d e there same = refl
 names_stay (x ∷ ds) zero d e there same = let is : x ≡ d = cc in ap (λ n. n ∷ map (λ y. y.name) ds) (same ∙ sym (ap (λ (y : Draft). y.name) is))
 names_stay (x ∷ ds) (suc k) d e there same = ap (λ ns. x.name ∷ ns) (names_stay ds k d e there same)
 
-grown_leads : (s : State) (k : ℕ) (d : Draft) → slice_get s.drafts k ≡ Some d → slice_get (map Scanning.room_of s.drafts) k ≡ Some (Scanning.room_of d) → (q : Result (Room × Fragment) ObjectFault) → LeadsIn d q → Leads s false (q >>= (λ x. Ok (record (Scanning.outline_of s) { rooms = slice_set (map Scanning.room_of s.drafts) k x.0; begun = true }, item.Part k d.filled x.1)))
+grown_leads : (s : State) (k : ℕ) (d : Draft) → slice_get s.drafts k ≡ Some d → slice_get (map Scanning.room_of s.drafts) k ≡ Some (Scanning.room_of d) → (q : Result (SectionFill × Fragment) ObjectFault) → LeadsIn d q → Leads s false (q >>= (λ x. Ok (record (Scanning.outline_of s) { rooms = slice_set (map Scanning.room_of s.drafts) k x.0; begun = true }, item.Part k d.filled x.1)))
 grown_leads s k d there room x h = grind (arith, common_steps, names_stay, grown_name, map-set)
 
-part_leads : (s : State) (grow : Room → Result (Room × Fragment) ObjectFault) → ((d : Draft) → LeadsIn d (grow (Scanning.room_of d))) → Leads s false (Scanning.scan_part (Scanning.outline_of s) grow)
+part_leads : (s : State) (grow : SectionFill → Result (SectionFill × Fragment) ObjectFault) → ((d : Draft) → LeadsIn d (grow (Scanning.room_of d))) → Leads s false (Scanning.scan_part (Scanning.outline_of s) grow)
 unfolding Scanning.scan_part
 part_leads s grow h = go (seek s.drafts) where
   go : (list_all is_full s.drafts ≡ true) ⊎ Split s.drafts → Leads s false (Scanning.scan_part (Scanning.outline_of s) grow)
   go (inl full) = rw (none_open s.drafts full) (refused {A = Item} OutOfOrder astray)
   go (inr p) =
       let k = length p.front in
-      let there : slice_get s.drafts k ≡ Some p.draft = ap (λ ds. slice_get ds k) p.all ∙ draft_there p.front p.draft p.behind in
-      let room : slice_get (map Scanning.room_of s.drafts) k ≡ Some (Scanning.room_of p.draft) = ap (λ ds. slice_get (map Scanning.room_of ds) k) p.all ∙ room_there p.front p.draft p.behind in
-      let opening : Scanning.open_room (map Scanning.room_of s.drafts) ≡ Ok (k, Scanning.room_of p.draft) = ap (λ ds. Scanning.open_room (map Scanning.room_of ds)) p.all ∙ opens p.front p.draft p.behind p.full p.free in
+      let there : slice_get s.drafts k ≡ Some p.draft = ap (λ ds. slice_get ds k) p.all ∙ draft_there p.front p.draft p.following in
+      let room : slice_get (map Scanning.room_of s.drafts) k ≡ Some (Scanning.room_of p.draft) = ap (λ ds. slice_get (map Scanning.room_of ds) k) p.all ∙ room_there p.front p.draft p.following in
+      let opening : Scanning.open_room (map Scanning.room_of s.drafts) ≡ Ok (k, Scanning.room_of p.draft) = ap (λ ds. Scanning.open_room (map Scanning.room_of ds)) p.all ∙ opens p.front p.draft p.following p.full p.free in
       rw opening (grown_leads s k p.draft there room (grow (Scanning.room_of p.draft)) (h p.draft))
 
 -- ---- Any record.
@@ -183,7 +183,7 @@ part_leads s grow h = go (seek s.drafts) where
 last_of_all : (v k : ℕ) → not (is_record_kind v k) ≡ false → (k == 1) ≡ false → (k == 2) ≡ false → (k == 3) ≡ false → (k == 4) ≡ false → (k == 5) ≡ false → (k == 6) ≡ false → (k == 7) ≡ false → (k == 9) ≡ false → true ≡ (k == 8)
 last_of_all v k a b c d e f g h i = grind (arith, common_steps)
 
-entry_leads : (s : State) (e : Entry) → Leads s (e.kind == 8) (Scanning.scan_entry (Scanning.outline_of s) e)
+entry_leads : (s : State) (e : RawRecord) → Leads s (e.kind == 8) (Scanning.scan_entry (Scanning.outline_of s) e)
 unfolding Scanning.scan_entry
 entry_leads s e =
     let rooms = map Scanning.room_of s.drafts in
@@ -204,6 +204,6 @@ entry_leads s e =
         let same : e.kind ≡ k = grind (arith, nat_tests) in
         subst (λ last. Leads s last q) (sym (ap (λ n. n == 8) same ∙ differs)) h
 
-pub leads : (s : State) (e : Entry) → Leads s (e.kind == 8) (Scanning.scanned (Scanning.outline_of s) e)
-unfolding Scanning.scanned
+pub leads : (s : State) (e : RawRecord) → Leads s (e.kind == 8) (Scanning.scan_step (Scanning.outline_of s) e)
+unfolding Scanning.scan_step
 leads s e = either s _ s.failed _ _ (λ h. refused {A = Item} FailedBefore failed) (λ h. either s _ s.ended _ _ (λ k. refused {A = Item} OutOfOrder astray) (λ k. entry_leads s e))

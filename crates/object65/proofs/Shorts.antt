@@ -10,8 +10,8 @@ use Rattle.object65.specs.declared.object.Fragment.{Fragment}
 use Rattle.object65.specs.declared.object.Fragment.TheVariants.{Literal, Fill, Value}
 use Rattle.object65.specs.declared.object.Object.{Object}
 use Rattle.object65.specs.declared.object.Section.{Section}
-use Rattle.object65.specs.Objects.{are_distinct, is_file_name, are_files_of, is_good_object, section_len, section_limit}
-use Rattle.object65.specs.Record.{Entry, is_record_kind}
+use Rattle.object65.specs.Objects.{are_distinct, is_file_name, are_files_of, is_well_formed_object, section_len, section_limit}
+use Rattle.object65.specs.Record.{RawRecord, is_record_kind}
 use Rattle.object65.specs.Small.{is_small_text, is_small_fragment, is_small_section, is_small_export, is_small_assert}
 use Rattle.object65.specs.Spelling.{entries_of, file_entry, import_entry, origin_bytes, section_entry, fragment_entries, literal_entry, export_entry, assert_entry, end_entry, pieces, form_bytes, body_limit}
 use Rattle.object65.proofs.Forms.{origin_len, small_text, small_form, small_export, small_assert}
@@ -20,7 +20,7 @@ use Rattle.std.specs.Prelude.{nat_le}
 use Rattle.std.proofs.lemmas.Bool.Decides.{nat_tests}
 
 -- a record that an object of this version may have
-abbrev pub IsShortEntry : ℕ → Entry → Type 0
+abbrev pub IsShortEntry : ℕ → RawRecord → Type 0
 IsShortEntry v e = (is_record_kind v e.kind ≡ true) × (length e.body ≤ body_limit)
 
 both_all : {X : Type 0} (P : X → Type 0) (xs ys : List X) → AllByRecursion P xs → AllByRecursion P ys → AllByRecursion P (xs ++ ys)
@@ -28,7 +28,7 @@ both_all P [] ys a b = b
 both_all P (x ∷ xs) ys a b = (a.0, both_all P xs ys a.1 b)
 
 -- what each of some small things is spelled by
-all_short : (v : ℕ) {X : Type 0} (small : X → Bool) (f : X → Entry) (xs : List X) → ((x : X) → small x ≡ true → IsShortEntry v (f x)) → list_all small xs ≡ true → AllByRecursion (IsShortEntry v) (map f xs)
+all_short : (v : ℕ) {X : Type 0} (small : X → Bool) (f : X → RawRecord) (xs : List X) → ((x : X) → small x ≡ true → IsShortEntry v (f x)) → list_all small xs ≡ true → AllByRecursion (IsShortEntry v) (map f xs)
 all_short v small f [] h e = tt
 all_short v small f (x ∷ xs) h e = (h x (left (small x) (list_all small xs) e), all_short v small f xs h (right (small x) (list_all small xs) e))
 
@@ -73,7 +73,7 @@ files_short v files good = go (v == 1) refl files good where
   go true is (name ∷ files) e = let some : (length (name ∷ files) == 0) ≡ false = grind (arith, nat_tests) in cc
   go false is files e = all_short v is_file_name file_entry files (λ name small. (ap (λ b. not b && true) is, (let t = small in grind (arith, nat_tests)))) (small_names_of files e)
 
-pub short_entries : (o : Object) → is_good_object o ≡ true → AllByRecursion (IsShortEntry o.version) (entries_of o)
+pub short_entries : (o : Object) → is_well_formed_object o ≡ true → AllByRecursion (IsShortEntry o.version) (entries_of o)
 short_entries o good =
     let v = o.version in
     let z = map file_entry o.files in

@@ -5,10 +5,10 @@ use Rattle.std.proofs.lemmas.Bool.Decides.{nat_tests}
 use Rattle.std.specs.List.{list_all, prefix_len}
 use Rattle.object65.specs.declared.fault.ObjectFault.{ObjectFault}
 use Rattle.object65.specs.declared.record.Item.{Item}
-use Rattle.object65.specs.Record.{◌>>=◌, Entry}
+use Rattle.object65.specs.Record.{◌>>=◌, RawRecord}
 use Rattle.object65.specs.Items.{State, with_item, with_items}
 use Rattle.object65.specs.Laws.{ItemsLaw}
-use Rattle.object65.specs.Scanning.{Outline, items_of, outline_of, scanned, after, after_all}
+use Rattle.object65.specs.Scanning.{Outline, items_of, outline_of, scan_step, after, after_all}
 use Rattle.object65.proofs.Scannings.{Leads, leads}
 
 -- ---- How what a scan keeps stays sound.
@@ -68,10 +68,10 @@ front-ends p (x ∷ xs) (suc i) d stops h = step_ends (p x) i (prefix_len p xs) 
 
 -- ---- The items of records make what the records make.
 
-one_step : (s : State) (es : List Entry) (last : Bool) (q : Result (Outline × Item) ObjectFault) → Leads s last q → ((t : State) → (items_of (outline_of t) es >>= (λ is. Ok (with_items t is))) ≡ after_all t es) → ((q >>= (λ x. items_of x.0 es >>= (λ is. Ok (x.1 ∷ is)))) >>= (λ is. Ok (with_items s is))) ≡ ((q >>= (λ x. Ok (with_item s x.1))) >>= (λ t. after_all t es))
+one_step : (s : State) (es : List RawRecord) (last : Bool) (q : Result (Outline × Item) ObjectFault) → Leads s last q → ((t : State) → (items_of (outline_of t) es >>= (λ is. Ok (with_items t is))) ≡ after_all t es) → ((q >>= (λ x. items_of x.0 es >>= (λ is. Ok (x.1 ∷ is)))) >>= (λ is. Ok (with_items s is))) ≡ ((q >>= (λ x. Ok (with_item s x.1))) >>= (λ t. after_all t es))
 one_step s es last x a rest = grind (arith, common_steps)
 
 pub items_make : ItemsLaw
 unfolding after
 items_make s [] = refl
-items_make s (e ∷ es) = one_step s es (e.kind == 8) (scanned (outline_of s) e) (leads s e) (λ t. items_make t es)
+items_make s (e ∷ es) = one_step s es (e.kind == 8) (scan_step (outline_of s) e) (leads s e) (λ t. items_make t es)

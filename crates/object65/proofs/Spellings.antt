@@ -13,14 +13,14 @@ use Rattle.object65.specs.declared.object.Object.{Object}
 use Rattle.object65.specs.declared.object.Section.{Section}
 use Rattle.object65.specs.declared.object.Export.{Export}
 use Rattle.object65.specs.declared.object.Assert.{Assert}
-use Rattle.object65.specs.Record.{IsBytes, Entry, is_version}
-use Rattle.object65.specs.Objects.{are_names, has_good_origin, has_good_origins, has_good_parts, is_good_origin, section_len, section_limit, is_good_form, is_good_fragment, is_good_section, is_good_assert, is_good_object, are_apart, ObjectFits, FragmentFits}
+use Rattle.object65.specs.Record.{IsBytes, RawRecord, is_version}
+use Rattle.object65.specs.Objects.{are_names, has_good_origin, has_good_origins, has_good_parts, is_well_formed_origin, section_len, section_limit, is_well_formed_form, is_well_formed_fragment, is_well_formed_section, is_well_formed_assert, is_well_formed_object, are_apart, ObjectFits, FragmentFits}
 use Rattle.object65.specs.Folding.{is_literal}
-use Rattle.object65.specs.Reading.{room, head_of, head_at, end_at, file_limit, records_at, object_at}
+use Rattle.object65.specs.Reading.{bytes_before, head_of, head_at, end_at, file_limit, records_at, object_at}
 use Rattle.object65.specs.Small.{is_small_text}
 use Rattle.object65.specs.Spelling.{magic, object_head, entry_bytes, entries_of, section_entry, fragment_entries, IsObject, object_bytes, body_limit}
-use Rattle.object65.specs.Items.{State, start, closed, section_from, object_from}
-use Rattle.object65.specs.Scanning.{finished, after, after_all}
+use Rattle.object65.specs.Items.{State, start, closed_fragments, section_from, object_from}
+use Rattle.object65.specs.Scanning.{object_of_state, after, after_all}
 use Rattle.object65.proofs.Closings.{is_full, nil, shut_entries, shut_good, shut_apart, shut_fits, shut_origins}
 use Rattle.object65.proofs.Goods.{left, right, and, parts}
 use Rattle.object65.proofs.Reached.{Reached, GoodState, GoodDraft, FitDraft, is_open_form, has_good_values, heading_entry, content_entries, end_entries, rows}
@@ -56,15 +56,15 @@ pub count_same : (ds : List Draft) → length (map section_from ds) ≡ length d
 count_same [] = refl
 count_same (d ∷ ds) = omega (arith, count_same ds)
 
-sections_good : (n i : ℕ) (ds : List Draft) → AllByRecursion (GoodDraft n i) ds → list_all is_full ds ≡ true → list_all (is_good_section n i) (map section_from ds) ≡ true
+sections_good : (n i : ℕ) (ds : List Draft) → AllByRecursion (GoodDraft n i) ds → list_all is_full ds ≡ true → list_all (is_well_formed_section n i) (map section_from ds) ≡ true
 sections_good n i [] good full = refl
 sections_good n i (d ∷ ds) good full =
     let size = full_size n i d good.0 (left (is_full d) (list_all is_full ds) full) in
     let limit : d.size ≤ section_limit = good.0.size in
     let small : nat_le (section_len (section_from d)) section_limit ≡ true = ap (λ k. nat_le k section_limit) size ∙ grind (arith, nat_tests) in
-    and (is_good_section n i (section_from d)) (list_all (is_good_section n i) (map section_from ds))
-    (and (nat_le d.align 15 && nat_le (section_len (section_from d)) section_limit && list_all (is_good_fragment n i) (closed d)) (are_apart (closed d))
-    (and (nat_le d.align 15 && nat_le (section_len (section_from d)) section_limit) (list_all (is_good_fragment n i) (closed d))
+    and (is_well_formed_section n i (section_from d)) (list_all (is_well_formed_section n i) (map section_from ds))
+    (and (nat_le d.align 15 && nat_le (section_len (section_from d)) section_limit && list_all (is_well_formed_fragment n i) (closed_fragments d)) (are_apart (closed_fragments d))
+    (and (nat_le d.align 15 && nat_le (section_len (section_from d)) section_limit) (list_all (is_well_formed_fragment n i) (closed_fragments d))
     (and (nat_le d.align 15) (nat_le (section_len (section_from d)) section_limit) good.0.align small)
     (shut_good n i d.fragments d.literal good.0.good))
     (shut_apart d.fragments d.literal good.0.apart good.0.bare))
@@ -77,25 +77,25 @@ sections_fit (d ∷ ds) fits = (shut_fits d.fragments d.literal fits.0, sections
 sections_placed : (v m : ℕ) (ds : List Draft) → list_all (has_good_values v m) ds ≡ true → list_all (λ (s : Section). list_all (has_good_origin v m) s.fragments) (map section_from ds) ≡ true
 sections_placed v m [] good = refl
 sections_placed v m (d ∷ ds) good =
-    and (list_all (has_good_origin v m) (closed d)) (list_all (λ (s : Section). list_all (has_good_origin v m) s.fragments) (map section_from ds))
+    and (list_all (has_good_origin v m) (closed_fragments d)) (list_all (λ (s : Section). list_all (has_good_origin v m) s.fragments) (map section_from ds))
     (shut_origins v m d.fragments d.literal (left (has_good_values v m d) (list_all (has_good_values v m) ds) good))
     (sections_placed v m ds (right (has_good_values v m d) (list_all (has_good_values v m) ds) good))
 
-asserts_good : (n i : ℕ) (xs : List Assert) → list_all (λ a. is_open_form n i a.form) xs ≡ true → list_all (λ a. is_small_text a.text) xs ≡ true → list_all (is_good_assert n i) xs ≡ true
+asserts_good : (n i : ℕ) (xs : List Assert) → list_all (λ a. is_open_form n i a.form) xs ≡ true → list_all (λ a. is_small_text a.text) xs ≡ true → list_all (is_well_formed_assert n i) xs ≡ true
 asserts_good n i [] good small = refl
 asserts_good n i (x ∷ xs) good small =
     let goods = λ (a : Assert). is_open_form n i a.form in
     let smalls = λ (a : Assert). is_small_text a.text in
     let open_one = left (goods x) (list_all goods xs) good in
-    and (is_good_assert n i x) (list_all (is_good_assert n i) xs)
-    (and (is_small_text x.text && is_good_form n i x.form) (not (is_literal x.form))
-    (and (is_small_text x.text) (is_good_form n i x.form) (left (smalls x) (list_all smalls xs) small) (left (is_good_form n i x.form) (not (is_literal x.form)) open_one))
-    (right (is_good_form n i x.form) (not (is_literal x.form)) open_one))
+    and (is_well_formed_assert n i x) (list_all (is_well_formed_assert n i) xs)
+    (and (is_small_text x.text && is_well_formed_form n i x.form) (not (is_literal x.form))
+    (and (is_small_text x.text) (is_well_formed_form n i x.form) (left (smalls x) (list_all smalls xs) small) (left (is_well_formed_form n i x.form) (not (is_literal x.form)) open_one))
+    (right (is_well_formed_form n i x.form) (not (is_literal x.form)) open_one))
     (asserts_good n i xs (right (goods x) (list_all goods xs) good) (right (smalls x) (list_all smalls xs) small))
 
 -- ---- The object behind an END.
 
-pub finished_entries : (t : State) (es : List Entry) → GoodState t → Reached t es → t.ended ≡ true → entries_of (object_from t) ≡ es
+pub finished_entries : (t : State) (es : List RawRecord) → GoodState t → Reached t es → t.ended ≡ true → entries_of (object_from t) ≡ es
 finished_entries t es good r ended = grind (arith, common_steps, rows, headings, contents, end_entries)
 
 finished_parts : (t : State) → GoodState t → list_all (λ a. is_small_text a.text) t.asserts ≡ true → t.ended ≡ true → has_good_parts (object_from t) ≡ true
@@ -107,30 +107,30 @@ finished_parts t r texts ended =
     let a = are_names t.imports in
     let b = are_names (map (λ (s : Section). s.name) (map section_from t.drafts)) in
     let c = are_names (map (λ (e : Export). e.name) t.exports) in
-    let d = list_all (is_good_section n i) (map section_from t.drafts) in
-    let f = list_all (λ (e : Export). is_good_form n i e.form) t.exports in
-    let g = list_all (is_good_assert n i) t.asserts in
+    let d = list_all (is_well_formed_section n i) (map section_from t.drafts) in
+    let f = list_all (λ (e : Export). is_well_formed_form n i e.form) t.exports in
+    let g = list_all (is_well_formed_assert n i) t.asserts in
     and (a && b && c && d && f) g
     (and (a && b && c && d) f
     (and (a && b && c) d
     (and (a && b) c (and a b r.imports (ap are_names (names_same t.drafts) ∙ r.names)) r.export_names)
-    (subst (λ k. list_all (is_good_section k i) (map section_from t.drafts) ≡ true) count (sections_good m i t.drafts r.drafts (r.full ended))))
-    (subst (λ k. list_all (λ (e : Export). is_good_form k i e.form) t.exports ≡ true) count r.exports))
-    (subst (λ k. list_all (is_good_assert k i) t.asserts ≡ true) count (asserts_good m i t.asserts r.asserts texts))
+    (subst (λ k. list_all (is_well_formed_section k i) (map section_from t.drafts) ≡ true) count (sections_good m i t.drafts r.drafts (r.full ended))))
+    (subst (λ k. list_all (λ (e : Export). is_well_formed_form k i e.form) t.exports ≡ true) count r.exports))
+    (subst (λ k. list_all (is_well_formed_assert k i) t.asserts ≡ true) count (asserts_good m i t.asserts r.asserts texts))
 
 finished_origins : (t : State) → GoodState t → has_good_origins (object_from t) ≡ true
 finished_origins t r =
     let v = t.version in
     let m = length t.files in
     let a = list_all (λ (s : Section). list_all (has_good_origin v m) s.fragments) (map section_from t.drafts) in
-    let b = list_all (λ (e : Export). is_good_origin v m e.origin) t.exports in
-    let c = list_all (λ (e : Assert). is_good_origin v m e.origin) t.asserts in
+    let b = list_all (λ (e : Export). is_well_formed_origin v m e.origin) t.exports in
+    let c = list_all (λ (e : Assert). is_well_formed_origin v m e.origin) t.asserts in
     and (a && b) c (and a b (sections_placed v m t.drafts r.values) r.export_origins) r.assert_origins
 
-pub finished_good : (t : State) → GoodState t → list_all (λ a. is_small_text a.text) t.asserts ≡ true → t.ended ≡ true → is_good_object (object_from t) ≡ true
+pub finished_good : (t : State) → GoodState t → list_all (λ a. is_small_text a.text) t.asserts ≡ true → t.ended ≡ true → is_well_formed_object (object_from t) ≡ true
 finished_good t r texts ended = grind (arith, common_steps, and, finished_origins, finished_parts)
 
-pub finished_fits : (t : State) (es : List Entry) → Reached t es → ObjectFits (object_from t)
+pub finished_fits : (t : State) (es : List RawRecord) → Reached t es → ObjectFits (object_from t)
 finished_fits t es r = grind (arith, common_steps, sections_fit)
 
 -- ---- The head and the end.
@@ -159,28 +159,28 @@ head_read at first (a ∷ b ∷ c ∷ d ∷ v ∷ xs) e =
 end_read : (xs : List ℕ) (u : Unit {0}) → (if nat_lt 0 (length (take 1 xs)) then Err BytesAfterEnd else Ok tt) ≡ Ok u → xs ≡ []
 end_read x u e = grind (arith, common_steps)
 
-finish_read : (t : State) (o : Object) → t.failed ≡ false → t.ended ≡ true → finished t ≡ Ok o → object_from t ≡ o
+finish_read : (t : State) (o : Object) → t.failed ≡ false → t.ended ≡ true → object_of_state t ≡ Ok o → object_from t ≡ o
 finish_read t o running ended e = let same : ◌≡◌ {A = Result Object ObjectFault} (Ok (object_from t)) (Ok o) = sym (ap (λ b. if b then Err FailedBefore else (if t.ended then Ok (object_from t) else Err CutShort)) running ∙ ap (λ b. if b then Ok (object_from t) else Err CutShort) ended) ∙ e in cc
 
-pub read_is_object : (bytes : List ℕ) (at limit : ℕ) (o : Object) → IsBytes (room bytes at limit) → object_at at limit bytes ≡ Ok o → IsObject (room bytes at limit) o
+pub read_is_object : (bytes : List ℕ) (at limit : ℕ) (o : Object) → IsBytes (bytes_before bytes at limit) → object_at at limit bytes ≡ Ok o → IsObject (bytes_before bytes at limit) o
 unfolding object_at
 read_is_object bytes at limit o is e =
     let h = bound (head_at at limit bytes) _ _ e in
     let begun = start h.0.0 in
     let r = bound (records_at (length bytes) begun h.0.1 limit bytes) _ _ h.2 in
     let v = bound (end_at r.0.1 limit bytes) _ _ r.2 in
-    let head = head_read at h.0 (room bytes at limit) h.1 in
-    let on : room bytes h.0.1 limit ≡ drop 5 (room bytes at limit) = ap (λ n. room bytes n limit) head.1 ∙ room_on bytes at 5 limit in
-    let t = trail (length bytes) bytes limit h.0.1 begun r.0.0 r.0.1 (subst IsBytes (sym on) (bytes_drop 5 (room bytes at limit) is)) r.1 in
+    let head = head_read at h.0 (bytes_before bytes at limit) h.1 in
+    let on : bytes_before bytes h.0.1 limit ≡ drop 5 (bytes_before bytes at limit) = ap (λ n. bytes_before bytes n limit) head.1 ∙ room_on bytes at 5 limit in
+    let t = trail (length bytes) bytes limit h.0.1 begun r.0.0 r.0.1 (subst IsBytes (sym on) (bytes_drop 5 (bytes_before bytes at limit) is)) r.1 in
     let steps = after_steps t.0 begun r.0.0 [] (good_start h.0.0 head.0) (at_start h.0.0) t.1.each t.1.taken in
     let version : h.0.0 ≡ r.0.0.version = sym (versions_kept t.0 begun r.0.0 t.1.taken) in
-    let none = end_read (room bytes r.0.1 limit) v.0 v.1 in
+    let none = end_read (bytes_before bytes r.0.1 limit) v.0 v.1 in
     let o_is = finish_read r.0.0 o steps.0.failed t.1.ended v.2 in
-    subst (IsObject (room bytes at limit)) o_is (record {
+    subst (IsObject (bytes_before bytes at limit)) o_is (record {
       good = finished_good r.0.0 steps.0 steps.1.texts t.1.ended;
       numbers = finished_fits r.0.0 t.0 steps.1;
       spelled =
-          head.2 ∙ ap (λ v. object_head v ++ drop 5 (room bytes at limit)) version ∙ ap (λ xs. object_head r.0.0.version ++ xs) (sym on ∙ t.1.spelled ∙ ap (λ xs. flat_map entry_bytes t.0 ++ xs) none ∙ nil (flat_map entry_bytes t.0) ∙ ap (flat_map entry_bytes) (sym (finished_entries r.0.0 t.0 steps.0 steps.1 t.1.ended)));
+          head.2 ∙ ap (λ v. object_head v ++ drop 5 (bytes_before bytes at limit)) version ∙ ap (λ xs. object_head r.0.0.version ++ xs) (sym on ∙ t.1.spelled ∙ ap (λ xs. flat_map entry_bytes t.0 ++ xs) none ∙ nil (flat_map entry_bytes t.0) ∙ ap (flat_map entry_bytes) (sym (finished_entries r.0.0 t.0 steps.0 steps.1 t.1.ended)));
     })
 
 -- ---- What is spelled as an object is read as that object, and as no other.
@@ -189,7 +189,7 @@ head_again : (v at : ℕ) (xs : List ℕ) → is_version v ≡ true → head_of 
 head_again v at xs known = rw known refl
 
 -- each record takes some room
-entries_fit : (es : List Entry) → length es ≤ length (flat_map entry_bytes es)
+entries_fit : (es : List RawRecord) → length es ≤ length (flat_map entry_bytes es)
 entries_fit [] = omega arith
 entries_fit (e ∷ es) = omega (arith, length-append (entry_bytes e) (flat_map entry_bytes es), entries_fit es)
 
@@ -199,18 +199,18 @@ pub record ReadsTo (bytes : List ℕ) (at limit : ℕ) (o : Object) (rest : List
   pub state : State
   pub end : ℕ
   pub records : records_at (length bytes) (start o.version) (at + 5) limit bytes ≡ Ok (state, end)
-  pub left : room bytes end limit ≡ rest
-  pub object : finished state ≡ Ok o
+  pub left : bytes_before bytes end limit ≡ rest
+  pub object : object_of_state state ≡ Ok o
 
-pub reads_to : (bytes : List ℕ) (at limit : ℕ) (o : Object) (rest : List ℕ) → is_good_object o ≡ true → ObjectFits o → room bytes at limit ≡ object_bytes o ++ rest → at + length (object_bytes o) ≤ file_limit → ReadsTo bytes at limit o rest
+pub reads_to : (bytes : List ℕ) (at limit : ℕ) (o : Object) (rest : List ℕ) → is_well_formed_object o ≡ true → ObjectFits o → bytes_before bytes at limit ≡ object_bytes o ++ rest → at + length (object_bytes o) ≤ file_limit → ReadsTo bytes at limit o rest
 reads_to bytes at limit o rest good fits is within =
     let again = all_again o good fits in
     let es = entries_of o in
-    let inside : room bytes at limit ≡ object_head o.version ++ (flat_map entry_bytes es ++ rest) = is in
-    let on : room bytes (at + 5) limit ≡ flat_map entry_bytes es ++ rest = room_on bytes at 5 limit ∙ ap (drop 5) inside in
+    let inside : bytes_before bytes at limit ≡ object_head o.version ++ (flat_map entry_bytes es ++ rest) = is in
+    let on : bytes_before bytes (at + 5) limit ≡ flat_map entry_bytes es ++ rest = room_on bytes at 5 limit ∙ ap (drop 5) inside in
     let size : length (object_bytes o) ≡ 5 + length (flat_map entry_bytes es) = omega arith in
-    let held : length (room bytes at limit) ≤ length bytes = omega (arith, length-take (limit - at) (drop at bytes), length-drop at bytes) in
-    let all : length (room bytes at limit) ≡ length (object_bytes o) + length rest = ap length is ∙ length-append (object_bytes o) rest in
+    let held : length (bytes_before bytes at limit) ≤ length bytes = omega (arith, length-take (limit - at) (drop at bytes), length-drop at bytes) in
+    let all : length (bytes_before bytes at limit) ≡ length (object_bytes o) + length rest = ap length is ∙ length-append (object_bytes o) rest in
     let enough : length es ≤ length bytes = omega (arith, entries_fit es) in
     let run = trail_again o.version es (length bytes) bytes limit (at + 5) (start o.version) again.state rest refl enough again.taken refl again.ended on (short_entries o good) (omega arith) in
     record {
@@ -228,27 +228,27 @@ all_read bytes at limit o r = rw (r.head, r.records, r.left, r.object) refl
 
 pub object_is_read : SpellingLaw
 object_is_read bytes at limit o within is =
-    let spelled : room bytes at limit ≡ object_bytes o ++ [] = is.spelled ∙ sym (nil (object_bytes o)) in
+    let spelled : bytes_before bytes at limit ≡ object_bytes o ++ [] = is.spelled ∙ sym (nil (object_bytes o)) in
     all_read bytes at limit o (reads_to bytes at limit o [] is.good is.numbers spelled (omega (arith, ap length is.spelled)))
 
 -- ---- No spelling begins another.
 
 -- a record is told from what follows it
-entry_same : (e f : Entry) (r s : List ℕ) → length e.body ≤ body_limit → length f.body ≤ body_limit → entry_bytes e ++ r ≡ entry_bytes f ++ s → (e ≡ f) × (r ≡ s)
+entry_same : (e f : RawRecord) (r s : List ℕ) → length e.body ≤ body_limit → length f.body ≤ body_limit → entry_bytes e ++ r ≡ entry_bytes f ++ s → (e ≡ f) × (r ≡ s)
 entry_same e f r s short_e short_f same =
     let kind : e.kind ≡ f.kind = cc in
     let le = little_bytes 2 (length e.body) in
     let lf = little_bytes 2 (length f.body) in
     let tails : (le ++ e.body) ++ r ≡ (lf ++ f.body) ++ s = cc in
-    let behind : le ++ (e.body ++ r) ≡ lf ++ (f.body ++ s) = sym (append_assoc le e.body r) ∙ tails ∙ append_assoc lf f.body s in
-    let len : length e.body ≡ length f.body = sym (back 2 (length e.body) (e.body ++ r) (omega arith)) ∙ ap (little_number 2) behind ∙ back 2 (length f.body) (f.body ++ s) (omega arith) in
-    let bodies : e.body ++ r ≡ f.body ++ s = sym (drop_at le (e.body ++ r) 2 (length-bytes_low_first 0 2 (length e.body))) ∙ ap (drop 2) behind ∙ drop_at lf (f.body ++ s) 2 (length-bytes_low_first 0 2 (length f.body)) in
+    let following : le ++ (e.body ++ r) ≡ lf ++ (f.body ++ s) = sym (append_assoc le e.body r) ∙ tails ∙ append_assoc lf f.body s in
+    let len : length e.body ≡ length f.body = sym (back 2 (length e.body) (e.body ++ r) (omega arith)) ∙ ap (little_number 2) following ∙ back 2 (length f.body) (f.body ++ s) (omega arith) in
+    let bodies : e.body ++ r ≡ f.body ++ s = sym (drop_at le (e.body ++ r) 2 (length-bytes_low_first 0 2 (length e.body))) ∙ ap (drop 2) following ∙ drop_at lf (f.body ++ s) 2 (length-bytes_low_first 0 2 (length f.body)) in
     let body : e.body ≡ f.body = sym (take_at e.body r (length e.body) refl) ∙ ap (take (length e.body)) bodies ∙ take_at f.body s (length e.body) (sym len) in
     let rest : r ≡ s = sym (drop_at e.body r (length e.body) refl) ∙ ap (drop (length e.body)) bodies ∙ drop_at f.body s (length e.body) (sym len) in
     ((λ i. record { kind = kind i; body = body i }), rest)
 
 -- records up to an END are told from what follows them
-same_trail : (v w : ℕ) (es fs : List Entry) (s t u : State) (more : List ℕ) → AllByRecursion (IsShortEntry v) es → AllByRecursion (IsShortEntry w) fs → after_all s es ≡ Ok t → after_all s fs ≡ Ok u → t.ended ≡ true → u.ended ≡ true → flat_map entry_bytes es ++ more ≡ flat_map entry_bytes fs → (more ≡ []) × (t ≡ u)
+same_trail : (v w : ℕ) (es fs : List RawRecord) (s t u : State) (more : List ℕ) → AllByRecursion (IsShortEntry v) es → AllByRecursion (IsShortEntry w) fs → after_all s es ≡ Ok t → after_all s fs ≡ Ok u → t.ended ≡ true → u.ended ≡ true → flat_map entry_bytes es ++ more ≡ flat_map entry_bytes fs → (more ≡ []) × (t ≡ u)
 same_trail v w [] [] s t u more short_e short_f h k over_t over_u same = (same, cc)
 same_trail v w [] (f ∷ fs) s t u more short_e short_f h k over_t over_u same =
     let here : s ≡ t = cc in
@@ -274,7 +274,7 @@ no_prefix bytes more o p a b =
     let version : p.version ≡ o.version = sym (fifth (o.version ∷ (flat_map entry_bytes (entries_of o) ++ more)) (p.version ∷ flat_map entry_bytes (entries_of p)) (ap (drop 4) whole)) in
     let taken = ap (λ v. after_all (start v) (entries_of p)) (sym version) ∙ second.taken in
     let same = same_trail o.version p.version (entries_of o) (entries_of p) (start o.version) first.state second.state more (short_entries o a.good) (short_entries p b.good) first.taken taken first.ended second.ended (ap (drop 5) whole) in
-    let objects : ◌≡◌ {A = Result Object ObjectFault} (Ok o) (Ok p) = sym first.object ∙ ap finished same.1 ∙ second.object in
+    let objects : ◌≡◌ {A = Result Object ObjectFault} (Ok o) (Ok p) = sym first.object ∙ ap object_of_state same.1 ∙ second.object in
     (same.0, cc)
   where
     fifth : (xs ys : List ℕ) → xs ≡ ys → get_or xs 0 0 ≡ get_or ys 0 0

@@ -14,15 +14,15 @@ use Rattle.object65.specs.declared.object.Assert.{Assert}
 use Rattle.object65.specs.declared.record.Item.{Item}
 use Rattle.object65.specs.declared.record.Item.TheVariants as item
 use Rattle.object65.specs.declared.object.Fragment.{Fragment}
-use Rattle.object65.specs.declared.scan.Room.{Room}
+use Rattle.object65.specs.declared.scan.SectionFill.{SectionFill}
 use Rattle.object65.specs.Bodies.{Heading, section_of, end_of, export_of, assert_of}
 use Rattle.object65.specs.Folding.{is_within, is_normal, node_limit}
 use Rattle.object65.specs.Form.{Form, nodes}
-use Rattle.object65.specs.Objects.{are_distinct, are_files_of, has_file, has_file_by, has_good_origin, is_file_name, is_good_origin, is_name, is_among, are_names, is_good_form}
-use Rattle.object65.specs.Record.{Entry, is_record_kind, is_version}
+use Rattle.object65.specs.Objects.{are_distinct, are_files_of, has_file, has_file_by, has_good_origin, is_file_name, is_well_formed_origin, is_name, is_among, are_names, is_well_formed_form}
+use Rattle.object65.specs.Record.{RawRecord, is_record_kind, is_version}
 use Rattle.object65.specs.Small.{is_small_text}
 use Rattle.object65.specs.Spelling.{file_entry, import_entry, export_entry, assert_entry, end_entry}
-use Rattle.object65.specs.Items.{State, empty_draft, grown, is_none, start, with_item, with_piece}
+use Rattle.object65.specs.Items.{State, empty_draft, draft_with_fragment, is_none, start, with_item, with_piece}
 use Rattle.object65.specs.Scanning
 use Rattle.object65.specs.Scanning.{after, after_all}
 use Rattle.object65.proofs.Closings.{turned, nil, all_push, all_full, none_open, opened}
@@ -33,43 +33,43 @@ use Rattle.object65.proofs.Trails.{bound, passes, IsReadEntry}
 use Rattle.object65.proofs.Scannings.{wanted}
 
 -- what a record that is taken does
-pub record Step (s t : State) (e : Entry) : Type 0 where
+pub record Step (s t : State) (e : RawRecord) : Type 0 where
   pub good : GoodState t
-  pub reached : (es : List Entry) → Reached s es → IsReadEntry e → Reached t (es ++ e ∷ [])
+  pub reached : (es : List RawRecord) → Reached s es → IsReadEntry e → Reached t (es ++ e ∷ [])
 
 -- ---- One record more behind those of its place.
 
-none_2 : (a : List Entry) → (a ++ []) ++ [] ≡ a
+none_2 : (a : List RawRecord) → (a ++ []) ++ [] ≡ a
 none_2 a = nil (a ++ []) ∙ nil a
 
-none_3 : (a : List Entry) → ((a ++ []) ++ []) ++ [] ≡ a
+none_3 : (a : List RawRecord) → ((a ++ []) ++ []) ++ [] ≡ a
 none_3 a = nil ((a ++ []) ++ []) ∙ none_2 a
 
-row_1 : (a e : List Entry) → rows a [] [] [] [] [] ++ e ≡ rows (a ++ e) [] [] [] [] []
+row_1 : (a e : List RawRecord) → rows a [] [] [] [] [] ++ e ≡ rows (a ++ e) [] [] [] [] []
 row_1 a e = ap (λ xs. xs ++ e) (none_2 (((a ++ []) ++ []) ++ []) ∙ none_3 a) ∙ sym (none_2 ((((a ++ e) ++ []) ++ []) ++ []) ∙ none_3 (a ++ e))
 
-row_2 : (a b e : List Entry) → rows a b [] [] [] [] ++ e ≡ rows a (b ++ e) [] [] [] []
+row_2 : (a b e : List RawRecord) → rows a b [] [] [] [] ++ e ≡ rows a (b ++ e) [] [] [] []
 row_2 a b e = ap (λ xs. xs ++ e) (none_2 (((a ++ b) ++ []) ++ []) ∙ none_2 (a ++ b)) ∙ append_assoc a b e ∙ sym (none_2 (((a ++ (b ++ e)) ++ []) ++ []) ∙ none_2 (a ++ (b ++ e)))
 
-row_3 : (a b c e : List Entry) → rows a b c [] [] [] ++ e ≡ rows a b (c ++ e) [] [] []
+row_3 : (a b c e : List RawRecord) → rows a b c [] [] [] ++ e ≡ rows a b (c ++ e) [] [] []
 row_3 a b c e = ap (λ xs. xs ++ e) (none_3 ((a ++ b) ++ c)) ∙ append_assoc (a ++ b) c e ∙ sym (none_3 ((a ++ b) ++ (c ++ e)))
 
-row_4 : (a b c d e : List Entry) → rows a b c d [] [] ++ e ≡ rows a b c (d ++ e) [] []
+row_4 : (a b c d e : List RawRecord) → rows a b c d [] [] ++ e ≡ rows a b c (d ++ e) [] []
 row_4 a b c d e = ap (λ xs. xs ++ e) (none_2 (((a ++ b) ++ c) ++ d)) ∙ append_assoc ((a ++ b) ++ c) d e ∙ sym (none_2 (((a ++ b) ++ c) ++ (d ++ e)))
 
-row_5 : (a b c d f e : List Entry) → rows a b c d f [] ++ e ≡ rows a b c d (f ++ e) []
+row_5 : (a b c d f e : List RawRecord) → rows a b c d f [] ++ e ≡ rows a b c d (f ++ e) []
 row_5 a b c d f e = ap (λ xs. xs ++ e) (nil ((((a ++ b) ++ c) ++ d) ++ f)) ∙ append_assoc (((a ++ b) ++ c) ++ d) f e ∙ sym (nil ((((a ++ b) ++ c) ++ d) ++ (f ++ e)))
 
-row_6 : (a b c d f e : List Entry) → rows a b c d f [] ++ e ≡ rows a b c d f e
+row_6 : (a b c d f e : List RawRecord) → rows a b c d f [] ++ e ≡ rows a b c d f e
 row_6 a b c d f e = ap (λ xs. xs ++ e) (nil ((((a ++ b) ++ c) ++ d) ++ f))
 
 -- a form's places are known of as many sections as there are
-known_in : (s : State) (f : Form) (u : Unit {0}) → Scanning.known (length (map Scanning.room_of s.drafts)) (length s.imports) f ≡ Ok u → Scanning.known (length s.drafts) (length s.imports) f ≡ Ok u
-known_in s f u h = ap (λ n. Scanning.known n (length s.imports) f) (sym (length-map s.drafts Scanning.room_of)) ∙ h
+known_in : (s : State) (f : Form) (u : Unit {0}) → Scanning.has_known_indices (length (map Scanning.room_of s.drafts)) (length s.imports) f ≡ Ok u → Scanning.has_known_indices (length s.drafts) (length s.imports) f ≡ Ok u
+known_in s f u h = ap (λ n. Scanning.has_known_indices n (length s.imports) f) (sym (length-map s.drafts Scanning.room_of)) ∙ h
 
 -- one record more behind the files
-behind : (files rows now es : List Entry) (e : Entry) → es ≡ files ++ rows → rows ++ e ∷ [] ≡ now → es ++ e ∷ [] ≡ files ++ now
-behind files rows now es e was more = ap (λ xs. xs ++ e ∷ []) was ∙ append_assoc files rows (e ∷ []) ∙ ap (λ xs. files ++ xs) more
+following : (files rows now es : List RawRecord) (e : RawRecord) → es ≡ files ++ rows → rows ++ e ∷ [] ≡ now → es ++ e ∷ [] ≡ files ++ now
+following files rows now es e was more = ap (λ xs. xs ++ e ∷ []) was ∙ append_assoc files rows (e ∷ []) ∙ ap (λ xs. files ++ xs) more
 
 -- ---- A FILE.
 
@@ -85,7 +85,7 @@ clash false p q = cc
 none_asserted : (s : State) → not (not (is_none s.asserts)) ≡ true → s.asserts ≡ []
 none_asserted s h = grind (arith, common_steps)
 
-file_step : (s : State) (e : Entry) (x : Scanning.Outline × Item) → e.kind ≡ 9 → is_record_kind s.version 9 ≡ true → GoodState s → s.ended ≡ false → Scanning.scan_file (Scanning.outline_of s) e.body ≡ Ok x → Step s (with_item s x.1) e
+file_step : (s : State) (e : RawRecord) (x : Scanning.Outline × Item) → e.kind ≡ 9 → is_record_kind s.version 9 ≡ true → GoodState s → s.ended ≡ false → Scanning.scan_file (Scanning.outline_of s) e.body ≡ Ok x → Step s (with_item s x.1) e
 unfolding Scanning.scan_file
 file_step s e x kind known r running h =
     let o = Scanning.outline_of s in
@@ -111,8 +111,8 @@ file_step s e x kind known r running h =
         version = r.version;
         files = files_push s.version s.files e.body known r.files short (turned (is_among s.files e.body) (right (is_utf8 e.body) (not (is_among s.files e.body)) named));
         values = ap (λ (ds : List Draft). list_all (has_good_values s.version (length files)) ds) no_drafts;
-        export_origins = ap (λ (xs : List Export). list_all (λ x. is_good_origin s.version (length files) x.origin) xs) no_exports;
-        assert_origins = ap (λ (xs : List Assert). list_all (λ x. is_good_origin s.version (length files) x.origin) xs) no_asserts;
+        export_origins = ap (λ (xs : List Export). list_all (λ x. is_well_formed_origin s.version (length files) x.origin) xs) no_exports;
+        assert_origins = ap (λ (xs : List Assert). list_all (λ x. is_well_formed_origin s.version (length files) x.origin) xs) no_asserts;
         imports = r.imports;
         names = r.names;
         export_names = r.export_names;
@@ -149,7 +149,7 @@ file_step s e x kind known r running h =
 
 -- ---- An IMPORT.
 
-import_step : (s : State) (e : Entry) (x : Scanning.Outline × Item) → e.kind ≡ 1 → GoodState s → s.ended ≡ false → Scanning.scan_import (Scanning.outline_of s) e.body ≡ Ok x → Step s (with_item s x.1) e
+import_step : (s : State) (e : RawRecord) (x : Scanning.Outline × Item) → e.kind ≡ 1 → GoodState s → s.ended ≡ false → Scanning.scan_import (Scanning.outline_of s) e.body ≡ Ok x → Step s (with_item s x.1) e
 unfolding Scanning.scan_import
 import_step s e x kind r running h =
     let o = Scanning.outline_of s in
@@ -180,13 +180,13 @@ import_step s e x kind r running h =
         exported = r.exported;
         asserted = r.asserted;
         full = r.full;
-        exports = ap (λ (xs : List Export). list_all (λ x. is_good_form (length s.drafts) (length names) x.form) xs) no_exports;
+        exports = ap (λ (xs : List Export). list_all (λ x. is_well_formed_form (length s.drafts) (length names) x.form) xs) no_exports;
         asserts = ap (λ (xs : List Assert). list_all (λ x. is_open_form (length s.drafts) (length names) x.form) xs) no_asserts;
         failed = r.failed;
       };
       reached = λ es was read. record {
         entries =
-            behind (map file_entry s.files) (entries_so_far s) _ es e was.entries
+            following (map file_entry s.files) (entries_so_far s) _ es e was.entries
             (ap (λ xs. xs ++ e ∷ []) (λ k. rows (map import_entry s.imports) (map heading_entry (no_drafts k)) (flat_map content_entries (no_drafts k)) (map export_entry (no_exports k)) (map assert_entry (no_asserts k)) (end_entries (running k)))
             ∙ row_1 (map import_entry s.imports) (e ∷ [])
             ∙ ap (λ x. rows (map import_entry s.imports ++ x ∷ []) [] [] [] [] []) e_is
@@ -202,7 +202,7 @@ import_step s e x kind r running h =
 
 -- ---- A SECTION.
 
-section_step : (s : State) (e : Entry) (x : Scanning.Outline × Item) → e.kind ≡ 2 → GoodState s → s.ended ≡ false → Scanning.scan_section (Scanning.outline_of s) e.body ≡ Ok x → Step s (with_item s x.1) e
+section_step : (s : State) (e : RawRecord) (x : Scanning.Outline × Item) → e.kind ≡ 2 → GoodState s → s.ended ≡ false → Scanning.scan_section (Scanning.outline_of s) e.body ≡ Ok x → Step s (with_item s x.1) e
 unfolding Scanning.scan_section
 section_step s e x kind r running h =
     let o = Scanning.outline_of s in
@@ -250,7 +250,7 @@ section_step s e x kind r running h =
         exported = λ some. clash (is_none s.exports) (ap (λ (xs : List Export). is_none xs) no_exports) some;
         asserted = λ some. clash (is_none s.asserts) (ap (λ (xs : List Assert). is_none xs) no_asserts) some;
         full = λ ended. clash s.ended ended running;
-        exports = ap (λ (xs : List Export). list_all (λ x. is_good_form n i x.form) xs) no_exports;
+        exports = ap (λ (xs : List Export). list_all (λ x. is_well_formed_form n i x.form) xs) no_exports;
         asserts = ap (λ (xs : List Assert). list_all (λ x. is_open_form n i x.form) xs) no_asserts;
         failed = r.failed;
       };
@@ -259,7 +259,7 @@ section_step s e x kind r running h =
           let imports = map import_entry s.imports in
           record {
             entries =
-                behind (map file_entry s.files) (entries_so_far s) _ es e was.entries
+                following (map file_entry s.files) (entries_so_far s) _ es e was.entries
                 (ap (λ xs. xs ++ e ∷ []) (λ k. rows imports (map heading_entry s.drafts) (empties_none s.drafts empties k) (map export_entry (no_exports k)) (map assert_entry (no_asserts k)) (end_entries (running k)))
                 ∙ row_2 imports (map heading_entry s.drafts) (e ∷ [])
                 ∙ ap (λ x. rows imports (map heading_entry s.drafts ++ x ∷ []) [] [] [] []) e_is
@@ -275,7 +275,7 @@ section_step s e x kind r running h =
 
 -- ---- A fragment.
 
-part_step : (s : State) (e : Entry) (x : Scanning.Outline × Item) (grow : Room → Result (Room × Fragment) ObjectFault) → ((d : Draft) (y : Room × Fragment) → GoodDraft (length s.drafts) (length s.imports) d → grow (Scanning.room_of d) ≡ Ok y → Grows (length s.drafts) (length s.imports) e d (grown d y.1)) → ((d : Draft) (y : Room × Fragment) → grow (Scanning.room_of d) ≡ Ok y → has_good_origin s.version (length s.files) y.1 ≡ true) → GoodState s → s.ended ≡ false → Scanning.scan_part (Scanning.outline_of s) grow ≡ Ok x → Step s (with_item s x.1) e
+part_step : (s : State) (e : RawRecord) (x : Scanning.Outline × Item) (grow : SectionFill → Result (SectionFill × Fragment) ObjectFault) → ((d : Draft) (y : SectionFill × Fragment) → GoodDraft (length s.drafts) (length s.imports) d → grow (Scanning.room_of d) ≡ Ok y → Grows (length s.drafts) (length s.imports) e d (draft_with_fragment d y.1)) → ((d : Draft) (y : SectionFill × Fragment) → grow (Scanning.room_of d) ≡ Ok y → has_good_origin s.version (length s.files) y.1 ≡ true) → GoodState s → s.ended ≡ false → Scanning.scan_part (Scanning.outline_of s) grow ≡ Ok x → Step s (with_item s x.1) e
 unfolding Scanning.scan_part
 part_step s e x grow grows placed r running h =
     let n = length s.drafts in
@@ -284,7 +284,7 @@ part_step s e x grow grows placed r running h =
     let g = bound (grow place.0.1) _ _ place.2 in
     let o = opened s.drafts place.0 place.1 in
     let d = o.split.draft in
-    let here : grow (Scanning.room_of d) ≡ Ok g.0 = ap (λ (p : ℕ × Room). grow p.1) o.here ∙ g.1 in
+    let here : grow (Scanning.room_of d) ≡ Ok g.0 = ap (λ (p : ℕ × SectionFill). grow p.1) o.here ∙ g.1 in
     let ds = with_piece s.drafts place.0.0 g.0.1 in
     let now = goes_in n i e s.drafts place.0 g.0.1 o r.drafts r.filling (λ good. grows d g.0 good here) in
     let exports_none = none_yet (is_none s.exports) (λ some. let none = sym (none_open s.drafts (r.exported some)) ∙ place.1 in cc) in
@@ -308,7 +308,7 @@ part_step s e x grow grows placed r running h =
         exported = λ some. clash (is_none s.exports) exports_none some;
         asserted = λ some. clash (is_none s.asserts) asserts_none some;
         full = λ ended. clash s.ended ended running;
-        exports = ap (λ (xs : List Export). list_all (λ x. is_good_form (length ds) i x.form) xs) no_exports;
+        exports = ap (λ (xs : List Export). list_all (λ x. is_well_formed_form (length ds) i x.form) xs) no_exports;
         asserts = ap (λ (xs : List Assert). list_all (λ x. is_open_form (length ds) i x.form) xs) no_asserts;
         failed = r.failed;
       };
@@ -316,7 +316,7 @@ part_step s e x grow grows placed r running h =
           let imports = map import_entry s.imports in
           record {
             entries =
-                behind (map file_entry s.files) (entries_so_far s) _ es e was.entries
+                following (map file_entry s.files) (entries_so_far s) _ es e was.entries
                 (ap (λ xs. xs ++ e ∷ []) (λ k. rows imports (map heading_entry s.drafts) (flat_map content_entries s.drafts) (map export_entry (no_exports k)) (map assert_entry (no_asserts k)) (end_entries (running k)))
                 ∙ row_3 imports (map heading_entry s.drafts) (flat_map content_entries s.drafts) (e ∷ [])
                 ∙ sym (λ k. rows imports (now.headings k) (now.contents read k) (map export_entry (no_exports k)) (map assert_entry (no_asserts k)) (end_entries (running k))));
@@ -334,7 +334,7 @@ part_step s e x grow grows placed r running h =
 
 -- ---- An EXPORT.
 
-export_step : (s : State) (e : Entry) (x : Scanning.Outline × Item) → e.kind ≡ 6 → GoodState s → s.ended ≡ false → Scanning.scan_export (Scanning.outline_of s) e.body ≡ Ok x → Step s (with_item s x.1) e
+export_step : (s : State) (e : RawRecord) (x : Scanning.Outline × Item) → e.kind ≡ 6 → GoodState s → s.ended ≡ false → Scanning.scan_export (Scanning.outline_of s) e.body ≡ Ok x → Step s (with_item s x.1) e
 unfolding Scanning.scan_export
 export_step s e x kind r running h =
     let o = Scanning.outline_of s in
@@ -348,16 +348,16 @@ export_step s e x kind r running h =
     let a = bound (export_of s.version e.body) _ _ u.2 in
     let v = bound (Scanning.known_parts (length s.files) (length o.rooms) i a.0.origin a.0.form) _ _ a.2 in
     let parts = parts_known (length s.files) (length o.rooms) i a.0.origin a.0.form v.0 v.1 in
-    let origin : is_good_origin s.version (length s.files) a.0.origin ≡ true = and (has_file_by s.version a.0.origin.file) (has_file (length s.files) a.0.origin.file) (export_by s.version e.body a.0 a.1) parts.0 in
+    let origin : is_well_formed_origin s.version (length s.files) a.0.origin ≡ true = and (has_file_by s.version a.0.origin.file) (has_file (length s.files) a.0.origin.file) (export_by s.version e.body a.0 a.1) parts.0 in
     let there = wanted (is_within n i a.0.form) IndexOutOfRange v.0 (known_in s a.0.form v.0 parts.1) in
     let w = bound (Scanning.new_name names a.0.name) _ _ v.2 in
     let named = wanted (is_name a.0.name && not (is_among names a.0.name)) NotCanonical w.0 w.1 in
     let y = bound (Scanning.canonical a.0.form) _ _ w.2 in
     let fine = wanted (is_normal a.0.form && nat_le (nodes a.0.form) node_limit) NotCanonical y.0 y.1 in
-    let form : is_good_form n i a.0.form ≡ true = and (is_within n i a.0.form && is_normal a.0.form) (nat_le (nodes a.0.form) node_limit) (and (is_within n i a.0.form) (is_normal a.0.form) there (left (is_normal a.0.form) (nat_le (nodes a.0.form) node_limit) fine)) (right (is_normal a.0.form) (nat_le (nodes a.0.form) node_limit) fine) in
+    let form : is_well_formed_form n i a.0.form ≡ true = and (is_within n i a.0.form && is_normal a.0.form) (nat_le (nodes a.0.form) node_limit) (and (is_within n i a.0.form) (is_normal a.0.form) there (left (is_normal a.0.form) (nat_le (nodes a.0.form) node_limit) fine)) (right (is_normal a.0.form) (nat_le (nodes a.0.form) node_limit) fine) in
     let xs = s.exports ++ a.0 ∷ [] in
-    let good_one = λ (z : Export). is_good_form n i z.form in
-    let placed = λ (z : Export). is_good_origin s.version (length s.files) z.origin in
+    let good_one = λ (z : Export). is_well_formed_form n i z.form in
+    let placed = λ (z : Export). is_well_formed_origin s.version (length s.files) z.origin in
     let item = item_is _ (item.Export a.0.name a.0.origin a.0.form) x y.2 in
     subst (λ (j : Item). Step s (with_item s j) e) item (record {
       good = record {
@@ -387,7 +387,7 @@ export_step s e x kind r running h =
           let c = flat_map content_entries s.drafts in
           record {
             entries =
-                behind (map file_entry s.files) (entries_so_far s) _ es e was.entries
+                following (map file_entry s.files) (entries_so_far s) _ es e was.entries
                 (ap (λ ys. ys ++ e ∷ []) (λ k. rows imports b c (map export_entry s.exports) (map assert_entry (no_asserts k)) (end_entries (running k)))
                 ∙ row_4 imports b c (map export_entry s.exports) (e ∷ [])
                 ∙ ap (λ z. rows imports b c (map export_entry s.exports ++ z ∷ []) [] []) e_is
@@ -403,7 +403,7 @@ export_step s e x kind r running h =
 
 -- ---- An ASSERT.
 
-assert_step : (s : State) (e : Entry) (x : Scanning.Outline × Item) → e.kind ≡ 7 → GoodState s → s.ended ≡ false → Scanning.scan_assert (Scanning.outline_of s) e.body ≡ Ok x → Step s (with_item s x.1) e
+assert_step : (s : State) (e : RawRecord) (x : Scanning.Outline × Item) → e.kind ≡ 7 → GoodState s → s.ended ≡ false → Scanning.scan_assert (Scanning.outline_of s) e.body ≡ Ok x → Step s (with_item s x.1) e
 unfolding Scanning.scan_assert
 assert_step s e x kind r running h =
     let o = Scanning.outline_of s in
@@ -414,13 +414,13 @@ assert_step s e x kind r running h =
     let g = bound (assert_of s.version e.body) _ _ u.2 in
     let v = bound (Scanning.known_parts (length s.files) (length o.rooms) i g.0.origin g.0.form) _ _ g.2 in
     let parts = parts_known (length s.files) (length o.rooms) i g.0.origin g.0.form v.0 v.1 in
-    let origin : is_good_origin s.version (length s.files) g.0.origin ≡ true = and (has_file_by s.version g.0.origin.file) (has_file (length s.files) g.0.origin.file) (assert_by s.version e.body g.0 g.1) parts.0 in
+    let origin : is_well_formed_origin s.version (length s.files) g.0.origin ≡ true = and (has_file_by s.version g.0.origin.file) (has_file (length s.files) g.0.origin.file) (assert_by s.version e.body g.0 g.1) parts.0 in
     let w = bound (Scanning.canonical_open g.0.form) _ _ v.2 in
     let form = open_form n i g.0.form v.0 w.0 (known_in s g.0.form v.0 parts.1) w.1 in
     let xs = s.asserts ++ g.0 ∷ [] in
     let good_one = λ (z : Assert). is_open_form n i z.form in
     let small_one = λ (z : Assert). is_small_text z.text in
-    let placed = λ (z : Assert). is_good_origin s.version (length s.files) z.origin in
+    let placed = λ (z : Assert). is_well_formed_origin s.version (length s.files) z.origin in
     let item = item_is _ (item.Assert g.0.action g.0.origin g.0.text g.0.form) x w.2 in
     subst (λ (j : Item). Step s (with_item s j) e) item (record {
       good = record {
@@ -452,7 +452,7 @@ assert_step s e x kind r running h =
           let d = map export_entry s.exports in
           record {
             entries =
-                behind (map file_entry s.files) (entries_so_far s) _ es e was.entries
+                following (map file_entry s.files) (entries_so_far s) _ es e was.entries
                 (ap (λ ys. ys ++ e ∷ []) (λ k. rows a b c d (map assert_entry s.asserts) (end_entries (running k)))
                 ∙ row_5 a b c d (map assert_entry s.asserts) (e ∷ [])
                 ∙ ap (λ z. rows a b c d (map assert_entry s.asserts ++ z ∷ []) []) e_is
@@ -471,7 +471,7 @@ assert_step s e x kind r running h =
 
 -- ---- An END.
 
-end_step : (s : State) (e : Entry) (x : Scanning.Outline × Item) → e.kind ≡ 8 → GoodState s → s.ended ≡ false → Scanning.scan_last (Scanning.outline_of s) e.body ≡ Ok x → Step s (with_item s x.1) e
+end_step : (s : State) (e : RawRecord) (x : Scanning.Outline × Item) → e.kind ≡ 8 → GoodState s → s.ended ≡ false → Scanning.scan_last (Scanning.outline_of s) e.body ≡ Ok x → Step s (with_item s x.1) e
 unfolding Scanning.scan_last
 end_step s e x kind r running h =
     let rooms = map Scanning.room_of s.drafts in
@@ -507,7 +507,7 @@ end_step s e x kind r running h =
       };
       reached = λ es was read. record {
         entries =
-            behind (map file_entry s.files) (entries_so_far s) _ es e was.entries
+            following (map file_entry s.files) (entries_so_far s) _ es e was.entries
             (ap (λ xs. xs ++ e ∷ []) (ap (λ x. rows a b c d f (end_entries x)) running) ∙ row_6 a b c d f (e ∷ []) ∙ ap (λ x. rows a b c d f (x ∷ [])) e_is);
         files = was.files;
         drafts = was.drafts;
@@ -534,7 +534,7 @@ other false x y e = refl
 same : (k j : ℕ) → (k == j) ≡ true → k ≡ j
 same k j e = grind (arith, nat_tests)
 
-entry_step : (s : State) (e : Entry) (x : Scanning.Outline × Item) → GoodState s → s.ended ≡ false → Scanning.scan_entry (Scanning.outline_of s) e ≡ Ok x → Step s (with_item s x.1) e
+entry_step : (s : State) (e : RawRecord) (x : Scanning.Outline × Item) → GoodState s → s.ended ≡ false → Scanning.scan_entry (Scanning.outline_of s) e ≡ Ok x → Step s (with_item s x.1) e
 unfolding Scanning.scan_entry
 entry_step s e x r running h =
     let m = length s.files in
@@ -589,22 +589,22 @@ entry_step s e x r running h =
       go true known = grind (arith, nat_tests)
       go false known = grind (arith, nat_tests)
 
-pub after_step : (s t : State) (e : Entry) → GoodState s → after s e ≡ Ok t → Step s t e
-unfolding after Scanning.scanned
+pub after_step : (s t : State) (e : RawRecord) → GoodState s → after s e ≡ Ok t → Step s t e
+unfolding after Scanning.scan_step
 after_step s t e r h =
-    let x = bound (Scanning.scanned (Scanning.outline_of s) e) _ _ h in
+    let x = bound (Scanning.scan_step (Scanning.outline_of s) e) _ _ h in
     let a = passes s.failed FailedBefore _ _ x.1 in
     let b = passes s.ended OutOfOrder _ _ a.1 in
     let made : with_item s x.0.1 ≡ t = (let z = x.2 in cc) in
     subst (λ (u : State). Step s u e) made (entry_step s e x.0 r b.0 b.1)
 
 -- a record that is taken leads from a good state to a good one
-pub good_after : (s t : State) (e : Entry) → GoodState s → after s e ≡ Ok t → GoodState t
+pub good_after : (s t : State) (e : RawRecord) → GoodState s → after s e ≡ Ok t → GoodState t
 good_after s t e r h = (after_step s t e r h).good
 
 -- ---- The records that led there.
 
-pub after_steps : (rest : List Entry) (s t : State) (es : List Entry) → GoodState s → Reached s es → AllByRecursion IsReadEntry rest → after_all s rest ≡ Ok t → GoodState t × Reached t (es ++ rest)
+pub after_steps : (rest : List RawRecord) (s t : State) (es : List RawRecord) → GoodState s → Reached s es → AllByRecursion IsReadEntry rest → after_all s rest ≡ Ok t → GoodState t × Reached t (es ++ rest)
 after_steps [] s t es good r all h = let here : s ≡ t = cc in (subst GoodState here good, subst (λ (x : State). Reached x (es ++ [])) here (rw (nil es) r))
 after_steps (e ∷ rest) s t es good r all h =
     let u = bound (after s e) _ _ h in

@@ -7,14 +7,14 @@ use borrow.Author.Tests.{ltb-false}
 use Rattle.byteorder.specs.Endian.{little_number, little_bytes}
 use Rattle.object65.specs.declared.fault.ObjectFault.{ObjectFault}
 use Rattle.object65.specs.declared.fault.ObjectFault.TheVariants.{CutShort, UnknownRecord, BadSize, OutOfOrder, FailedBefore}
-use Rattle.object65.specs.Record.{IsBytes, ◌>>=◌, Entry, is_record_kind}
-use Rattle.object65.specs.Reading.{front_of, whole, ending, room, record_at, file_limit, records_at}
+use Rattle.object65.specs.Record.{IsBytes, ◌>>=◌, RawRecord, is_record_kind}
+use Rattle.object65.specs.Reading.{front_of, body_or_cut_short, ending, bytes_before, record_at, file_limit, records_at}
 use Rattle.object65.specs.Spelling.{entry_bytes, body_limit}
 use Rattle.object65.proofs.Numbers.{two_bytes}
 use Rattle.std.specs.List.{flat_map, AllByRecursion}
 use Rattle.object65.specs.declared.record.Item.{Item}
 use Rattle.object65.specs.Items.{State}
-use Rattle.object65.specs.Scanning.{Outline, scanned, after, after_all}
+use Rattle.object65.specs.Scanning.{Outline, scan_step, after, after_all}
 
 -- ---- A record in the room of an object, and its bytes there.
 
@@ -36,7 +36,7 @@ drop_taken (suc n) (suc k) [] = sym (take_none (suc k - suc n))
 drop_taken (suc n) (suc k) (x ∷ xs) = let less : suc k - suc n ≡ k - n = omega arith in rw less (drop_taken n k xs)
 
 -- further on the room is what is left of it
-pub room_on : (bytes : List ℕ) (at n limit : ℕ) → room bytes (at + n) limit ≡ drop n (room bytes at limit)
+pub room_on : (bytes : List ℕ) (at n limit : ℕ) → bytes_before bytes (at + n) limit ≡ drop n (bytes_before bytes at limit)
 room_on bytes at n limit =
     let less : limit - (at + n) ≡ limit - at - n = omega arith in
     rw (less, ← drop-drop n at bytes) (sym (drop_taken n (limit - at) (drop at bytes)))
@@ -57,54 +57,54 @@ taken_all : (n : ℕ) (xs : List ℕ) → nat_lt (length (take n xs)) n ≡ fals
 taken_all n xs h = omega (arith, ltb-false _ _ h, length-take n xs)
 
 -- what a record that is read has taken of the room
-pub record TakesRecord (bytes : List ℕ) (at limit : ℕ) (x : Entry × ℕ) : Type 0 where
-  pub spelled : room bytes at limit ≡ entry_bytes x.0 ++ room bytes x.1 limit
+pub record TakesRecord (bytes : List ℕ) (at limit : ℕ) (x : RawRecord × ℕ) : Type 0 where
+  pub spelled : bytes_before bytes at limit ≡ entry_bytes x.0 ++ bytes_before bytes x.1 limit
   pub short : length x.0.body ≤ body_limit
 
-joined : (v : ℕ) (bytes : List ℕ) (at limit : ℕ) (f : ℕ × ℕ) (body : List ℕ) (x : Entry × ℕ) → IsBytes (room bytes at limit) → front_of v (take 3 (room bytes at limit)) ≡ Ok f → whole f.1 (take f.1 (room bytes (at + 3) limit)) ≡ Ok body → ending at f.0 f.1 body ≡ Ok x → TakesRecord bytes at limit x
+joined : (v : ℕ) (bytes : List ℕ) (at limit : ℕ) (f : ℕ × ℕ) (body : List ℕ) (x : RawRecord × ℕ) → IsBytes (bytes_before bytes at limit) → front_of v (take 3 (bytes_before bytes at limit)) ≡ Ok f → body_or_cut_short f.1 (take f.1 (bytes_before bytes (at + 3) limit)) ≡ Ok body → ending at f.0 f.1 body ≡ Ok x → TakesRecord bytes at limit x
 joined v bytes at limit f body x is e g h =
-    let front = front_takes v (room bytes at limit) f is e in
-    let w = passes (nat_lt (length (take f.1 (room bytes (at + 3) limit))) f.1) CutShort _ _ g in
-    let body_is : body ≡ take f.1 (room bytes (at + 3) limit) = sym (cc (w.1)) in
-    let len : length body ≡ f.1 = ap length body_is ∙ taken_all f.1 (room bytes (at + 3) limit) w.0 in
+    let front = front_takes v (bytes_before bytes at limit) f is e in
+    let w = passes (nat_lt (length (take f.1 (bytes_before bytes (at + 3) limit))) f.1) CutShort _ _ g in
+    let body_is : body ≡ take f.1 (bytes_before bytes (at + 3) limit) = sym (cc (w.1)) in
+    let len : length body ≡ f.1 = ap length body_is ∙ taken_all f.1 (bytes_before bytes (at + 3) limit) w.0 in
     let last = passes (nat_lt file_limit (at + 3 + f.1)) BadSize _ _ h in
-    let x_is : ◌≡◌ {A = Entry × ℕ} (record { kind = f.0; body = body }, at + 3 + f.1) x = cc (last.1) in
-    let after : drop 3 (room bytes at limit) ≡ body ++ room bytes (at + 3 + f.1) limit =
-    sym (room_on bytes at 3 limit) ∙ sym (take-append-drop f.1 (room bytes (at + 3) limit)) ∙ rw (← body_is, ← room_on bytes (at + 3) f.1 limit) refl in
+    let x_is : ◌≡◌ {A = RawRecord × ℕ} (record { kind = f.0; body = body }, at + 3 + f.1) x = cc (last.1) in
+    let after : drop 3 (bytes_before bytes at limit) ≡ body ++ bytes_before bytes (at + 3 + f.1) limit =
+    sym (room_on bytes at 3 limit) ∙ sym (take-append-drop f.1 (bytes_before bytes (at + 3) limit)) ∙ rw (← body_is, ← room_on bytes (at + 3) f.1 limit) refl in
     rw (← x_is) (record {
-      spelled = front.0 ∙ ap (λ ys. f.0 ∷ (little_bytes 2 f.1 ++ ys)) after ∙ ap (λ n. f.0 ∷ (little_bytes 2 n ++ (body ++ room bytes (at + 3 + f.1) limit))) (sym len);
+      spelled = front.0 ∙ ap (λ ys. f.0 ∷ (little_bytes 2 f.1 ++ ys)) after ∙ ap (λ n. f.0 ∷ (little_bytes 2 n ++ (body ++ bytes_before bytes (at + 3 + f.1) limit))) (sym len);
       short = omega (arith, len, front.1);
     })
 
-pub record_takes : (v : ℕ) (bytes : List ℕ) (at limit : ℕ) (x : Entry × ℕ) → IsBytes (room bytes at limit) → record_at v at limit bytes ≡ Ok x → TakesRecord bytes at limit x
+pub record_takes : (v : ℕ) (bytes : List ℕ) (at limit : ℕ) (x : RawRecord × ℕ) → IsBytes (bytes_before bytes at limit) → record_at v at limit bytes ≡ Ok x → TakesRecord bytes at limit x
 unfolding record_at
 record_takes v bytes at limit x is e =
-    let f = bound (front_of v (take 3 (room bytes at limit))) _ _ e in
-    let b = bound (whole f.0.1 (take f.0.1 (room bytes (at + 3) limit))) _ _ f.2 in
+    let f = bound (front_of v (take 3 (bytes_before bytes at limit))) _ _ e in
+    let b = bound (body_or_cut_short f.0.1 (take f.0.1 (bytes_before bytes (at + 3) limit))) _ _ f.2 in
     joined v bytes at limit f.0 b.0 x is f.1 b.1 b.2
 
 front_again : (v kind n : ℕ) (ys : List ℕ) → is_record_kind v kind ≡ true → n ≤ body_limit → front_of v (take 3 (kind ∷ (little_bytes 2 n ++ ys))) ≡ Ok (kind, n)
 front_again v kind n ys known short = grind (arith, common_steps)
 
-whole_again : (body rest : List ℕ) → whole (length body) (take (length body) (body ++ rest)) ≡ Ok body
+whole_again : (body rest : List ℕ) → body_or_cut_short (length body) (take (length body) (body ++ rest)) ≡ Ok body
 whole_again body rest = grind (arith, common_steps)
 
 -- a record that stands in the room is read, and what follows it is left
-pub record_again : (v : ℕ) (bytes : List ℕ) (at limit : ℕ) (e : Entry) (rest : List ℕ) → room bytes at limit ≡ entry_bytes e ++ rest → is_record_kind v e.kind ≡ true → length e.body ≤ body_limit → at + 3 + length e.body ≤ file_limit → (record_at v at limit bytes ≡ Ok (e, at + 3 + length e.body)) × (room bytes (at + 3 + length e.body) limit ≡ rest)
+pub record_again : (v : ℕ) (bytes : List ℕ) (at limit : ℕ) (e : RawRecord) (rest : List ℕ) → bytes_before bytes at limit ≡ entry_bytes e ++ rest → is_record_kind v e.kind ≡ true → length e.body ≤ body_limit → at + 3 + length e.body ≤ file_limit → (record_at v at limit bytes ≡ Ok (e, at + 3 + length e.body)) × (bytes_before bytes (at + 3 + length e.body) limit ≡ rest)
 unfolding record_at
 record_again v bytes at limit e rest is known short within = grind (arith, common_steps, front_again, room_on, whole_again, nat_tests, drop_at)
 
 -- ---- The list of records that stand one after another up to the END.
 
 -- a record that was read
-pub record IsReadEntry (e : Entry) : Type 0 where
+pub record IsReadEntry (e : RawRecord) : Type 0 where
   pub short : length e.body ≤ body_limit
   pub bytes : IsBytes e.body
 
-pub record Trail (bytes : List ℕ) (limit at end : ℕ) (s t : State) (es : List Entry) : Type 0 where
+pub record Trail (bytes : List ℕ) (limit at end : ℕ) (s t : State) (es : List RawRecord) : Type 0 where
   pub taken : after_all s es ≡ Ok t
   pub ended : t.ended ≡ true
-  pub spelled : room bytes at limit ≡ flat_map entry_bytes es ++ room bytes end limit
+  pub spelled : bytes_before bytes at limit ≡ flat_map entry_bytes es ++ bytes_before bytes end limit
   pub each : AllByRecursion IsReadEntry es
 
 bytes_front : (xs ys : List ℕ) → IsBytes (xs ++ ys) → IsBytes xs
@@ -128,25 +128,25 @@ other : {A : Type 0} (b : Bool) (x y : A) → b ≡ false → (if b then x else 
 other true x y e = cc
 other false x y e = refl
 
-read_entry : (bytes : List ℕ) (limit at : ℕ) (x : Entry × ℕ) → IsBytes (room bytes at limit) → TakesRecord bytes at limit x → IsReadEntry x.0
+read_entry : (bytes : List ℕ) (limit at : ℕ) (x : RawRecord × ℕ) → IsBytes (bytes_before bytes at limit) → TakesRecord bytes at limit x → IsReadEntry x.0
 read_entry bytes limit at x is read =
-    let inside : IsBytes (entry_bytes x.0 ++ room bytes x.1 limit) = λ i. subst (λ (ys : List ℕ). get_or ys i 0 < 256) read.spelled (is i) in
+    let inside : IsBytes (entry_bytes x.0 ++ bytes_before bytes x.1 limit) = λ i. subst (λ (ys : List ℕ). get_or ys i 0 < 256) read.spelled (is i) in
     record {
       short = read.short;
-      bytes = bytes_back (x.0.kind ∷ little_bytes 2 (length x.0.body)) x.0.body (bytes_front (entry_bytes x.0) (room bytes x.1 limit) inside);
+      bytes = bytes_back (x.0.kind ∷ little_bytes 2 (length x.0.body)) x.0.body (bytes_front (entry_bytes x.0) (bytes_before bytes x.1 limit) inside);
     }
 
-bytes_on : (bytes : List ℕ) (limit at : ℕ) (x : Entry × ℕ) → IsBytes (room bytes at limit) → TakesRecord bytes at limit x → IsBytes (room bytes x.1 limit)
-bytes_on bytes limit at x is read = bytes_back (entry_bytes x.0) (room bytes x.1 limit) (λ i. subst (λ (ys : List ℕ). get_or ys i 0 < 256) read.spelled (is i))
+bytes_on : (bytes : List ℕ) (limit at : ℕ) (x : RawRecord × ℕ) → IsBytes (bytes_before bytes at limit) → TakesRecord bytes at limit x → IsBytes (bytes_before bytes x.1 limit)
+bytes_on bytes limit at x is read = bytes_back (entry_bytes x.0) (bytes_before bytes x.1 limit) (λ i. subst (λ (ys : List ℕ). get_or ys i 0 < 256) read.spelled (is i))
 
-last_one : (bytes : List ℕ) (limit at end : ℕ) (s t u : State) (x : Entry × ℕ) → IsReadEntry x.0 → TakesRecord bytes at limit x → after s x.0 ≡ Ok u → u.ended ≡ true → u ≡ t → x.1 ≡ end → Trail bytes limit at end s t (x.0 ∷ [])
+last_one : (bytes : List ℕ) (limit at end : ℕ) (s t u : State) (x : RawRecord × ℕ) → IsReadEntry x.0 → TakesRecord bytes at limit x → after s x.0 ≡ Ok u → u.ended ≡ true → u ≡ t → x.1 ≡ end → Trail bytes limit at end s t (x.0 ∷ [])
 last_one bytes limit at end s t u x one read h over t_is end_is = grind (arith, common_steps)
 
-one_more : (bytes : List ℕ) (limit at end : ℕ) (s t u : State) (x : Entry × ℕ) (es : List Entry) → IsReadEntry x.0 → TakesRecord bytes at limit x → after s x.0 ≡ Ok u → Trail bytes limit x.1 end u t es → Trail bytes limit at end s t (x.0 ∷ es)
+one_more : (bytes : List ℕ) (limit at end : ℕ) (s t u : State) (x : RawRecord × ℕ) (es : List RawRecord) → IsReadEntry x.0 → TakesRecord bytes at limit x → after s x.0 ≡ Ok u → Trail bytes limit x.1 end u t es → Trail bytes limit at end s t (x.0 ∷ es)
 one_more bytes limit at end s t u x es one read h rest = grind (arith, common_steps)
 
 -- what was read up to the END stands there
-pub trail : (left : ℕ) (bytes : List ℕ) (limit at : ℕ) (s t : State) (end : ℕ) → IsBytes (room bytes at limit) → records_at left s at limit bytes ≡ Ok (t, end) → (es : List Entry) × Trail bytes limit at end s t es
+pub trail : (left : ℕ) (bytes : List ℕ) (limit at : ℕ) (s t : State) (end : ℕ) → IsBytes (bytes_before bytes at limit) → records_at left s at limit bytes ≡ Ok (t, end) → (es : List RawRecord) × Trail bytes limit at end s t es
 trail zero bytes limit at s t end is e = cc
 trail (suc left) bytes limit at s t end is e =
     let r = bound (record_at s.version at limit bytes) _ _ e in
@@ -164,25 +164,25 @@ trail (suc left) bytes limit at s t end is e =
     ]
 
 -- behind an END nothing is taken
-pub going : (o : Outline) (e : Entry) (x : Outline × Item) → scanned o e ≡ Ok x → o.ended ≡ false
-unfolding scanned
+pub going : (o : Outline) (e : RawRecord) (x : Outline × Item) → scan_step o e ≡ Ok x → o.ended ≡ false
+unfolding scan_step
 going o e x h = let a = passes o.failed FailedBefore _ _ h in (passes o.ended OutOfOrder _ _ a.1).0
 
-pub ended_stops : (s : State) (e : Entry) (u : State) → s.ended ≡ true → after s e ≡ Ok u → ⊥
+pub ended_stops : (s : State) (e : RawRecord) (u : State) → s.ended ≡ true → after s e ≡ Ok u → ⊥
 unfolding after
 ended_stops s e u over h = grind (arith, common_steps, bound, going)
 
 -- a record leaves the version
-pub version_kept : (s u : State) (e : Entry) → after s e ≡ Ok u → u.version ≡ s.version
+pub version_kept : (s u : State) (e : RawRecord) → after s e ≡ Ok u → u.version ≡ s.version
 unfolding after
 version_kept s u e h = grind (arith, common_steps)
 
-pub versions_kept : (es : List Entry) (s t : State) → after_all s es ≡ Ok t → t.version ≡ s.version
+pub versions_kept : (es : List RawRecord) (s t : State) → after_all s es ≡ Ok t → t.version ≡ s.version
 versions_kept [] s t h = let here : s ≡ t = cc in ap (λ (u : State). u.version) (sym here)
 versions_kept (e ∷ es) s t h = let u = bound (after s e) _ _ h in versions_kept es u.0 t u.2 ∙ version_kept s u.0 e u.1
 
 -- records that may follow each other and stand there are read
-pub trail_again : (v : ℕ) (es : List Entry) (left : ℕ) (bytes : List ℕ) (limit at : ℕ) (s t : State) (rest : List ℕ) → s.version ≡ v → length es ≤ left → after_all s es ≡ Ok t → s.ended ≡ false → t.ended ≡ true → room bytes at limit ≡ flat_map entry_bytes es ++ rest → AllByRecursion (λ e. (is_record_kind v e.kind ≡ true) × (length e.body ≤ body_limit)) es → at + length (flat_map entry_bytes es) ≤ file_limit → (end : ℕ) × (records_at left s at limit bytes ≡ Ok (t, end)) × (room bytes end limit ≡ rest)
+pub trail_again : (v : ℕ) (es : List RawRecord) (left : ℕ) (bytes : List ℕ) (limit at : ℕ) (s t : State) (rest : List ℕ) → s.version ≡ v → length es ≤ left → after_all s es ≡ Ok t → s.ended ≡ false → t.ended ≡ true → bytes_before bytes at limit ≡ flat_map entry_bytes es ++ rest → AllByRecursion (λ e. (is_record_kind v e.kind ≡ true) × (length e.body ≤ body_limit)) es → at + length (flat_map entry_bytes es) ≤ file_limit → (end : ℕ) × (records_at left s at limit bytes ≡ Ok (t, end)) × (bytes_before bytes end limit ≡ rest)
 trail_again v [] left bytes limit at s t rest same_version long taken running ended spelled each within =
     let same : s ≡ t = cc in
     cc (ap (λ (v : State). v.ended) same)
@@ -191,7 +191,7 @@ trail_again v (e ∷ es) (suc left) bytes limit at s t rest same_version long ta
     let u = bound (after s e) _ _ taken in
     let n = length (flat_map entry_bytes es) in
     let whole_len : length (flat_map entry_bytes (e ∷ es)) ≡ 3 + length e.body + n = omega (arith, length-append (entry_bytes e) (flat_map entry_bytes es)) in
-    let inside : room bytes at limit ≡ entry_bytes e ++ (flat_map entry_bytes es ++ rest) = spelled ∙ append_assoc (entry_bytes e) (flat_map entry_bytes es) rest in
+    let inside : bytes_before bytes at limit ≡ entry_bytes e ++ (flat_map entry_bytes es ++ rest) = spelled ∙ append_assoc (entry_bytes e) (flat_map entry_bytes es) rest in
     let again = record_again v bytes at limit e (flat_map entry_bytes es ++ rest) inside each.0.0 each.0.1 (omega arith) in
     let read : record_at s.version at limit bytes ≡ Ok (e, at + 3 + length e.body) = ap (λ k. record_at k at limit bytes) same_version ∙ again.0 in
     elim (either u.0.ended) [
@@ -215,6 +215,6 @@ trail_again v (e ∷ es) (suc left) bytes limit at s t rest same_version long ta
           )
     ]
   where
-    no_more : (es : List Entry) (u t : State) → u.ended ≡ true → after_all u es ≡ Ok t → (es ≡ []) × (u ≡ t)
+    no_more : (es : List RawRecord) (u t : State) → u.ended ≡ true → after_all u es ≡ Ok t → (es ≡ []) × (u ≡ t)
     no_more [] u t over h = (refl, cc)
     no_more (e ∷ es) u t over h = let v = bound (after u e) _ _ h in absurd (ended_stops u e v.0 over v.1)

@@ -11,7 +11,7 @@ use Rattle.object65.specs.declared.object.Export.{Export}
 use Rattle.object65.specs.declared.object.Assert.{Assert}
 use Rattle.object65.specs.declared.object.Fragment.{Fragment}
 use Rattle.object65.specs.Laws.{VersionLaw}
-use Rattle.object65.specs.Objects.{FragmentFits, FitsBits, ObjectFits, OriginFits, are_apart, are_names, fragment_len, has_good_origin, has_good_parts, is_good_assert, is_good_form, is_good_fragment, is_good_object, is_good_origin, is_good_section, joins}
+use Rattle.object65.specs.Objects.{FragmentFits, FitsBits, ObjectFits, OriginFits, are_apart, are_names, fragment_len, has_good_origin, has_good_parts, is_well_formed_assert, is_well_formed_form, is_well_formed_fragment, is_well_formed_object, is_well_formed_origin, is_well_formed_section, joins}
 use Rattle.object65.specs.Versions.{assert_in_one, export_in_one, fragment_in_one, in_version_one, section_in_one}
 use Rattle.object65.proofs.Goods.{Parts, and, parts}
 
@@ -38,7 +38,7 @@ same_maps g k f (x ∷ xs) h = ap (λ z. z ∷ map g (map f xs)) (h x) ∙ ap (�
 same_len : (f : Fragment) → fragment_len (fragment_in_one f) ≡ fragment_len f
 same_len x = grind (arith, common_steps)
 
-same_fragment : (s i : ℕ) (f : Fragment) → is_good_fragment s i (fragment_in_one f) ≡ is_good_fragment s i f
+same_fragment : (s i : ℕ) (f : Fragment) → is_well_formed_fragment s i (fragment_in_one f) ≡ is_well_formed_fragment s i f
 same_fragment s i x = grind (arith, common_steps)
 
 same_joins : (f g : Fragment) → joins (fragment_in_one f) (fragment_in_one g) ≡ joins f g
@@ -68,7 +68,7 @@ same_sum (f ∷ fs) =
     ∙ ap (λ n. fragment_len f + n) (same_sum fs)
     ∙ sym (sum_by-cons fragment_len f fs)
 
-same_section : (s i : ℕ) (x : Section) → is_good_section s i (section_in_one x) ≡ is_good_section s i x
+same_section : (s i : ℕ) (x : Section) → is_well_formed_section s i (section_in_one x) ≡ is_well_formed_section s i x
 same_section s i x = grind (arith, common_steps, same_sum, all_mapped, same_fragment, same_apart)
 
 -- ---- Objects.
@@ -81,27 +81,27 @@ good_parts_in_one o h =
     let a = are_names o.imports in
     let b = are_names (map (λ (x : Section). x.name) (map section_in_one o.sections)) in
     let c = are_names (map (λ (e : Export). e.name) (map export_in_one o.exports)) in
-    let sections : ℕ → Bool = λ n. list_all (is_good_section n i) (map section_in_one o.sections) in
-    let exports : ℕ → Bool = λ n. list_all (λ (e : Export). is_good_form n i e.form) (map export_in_one o.exports) in
-    let asserts : ℕ → Bool = λ n. list_all (is_good_assert n i) (map assert_in_one o.asserts) in
+    let sections : ℕ → Bool = λ n. list_all (is_well_formed_section n i) (map section_in_one o.sections) in
+    let exports : ℕ → Bool = λ n. list_all (λ (e : Export). is_well_formed_form n i e.form) (map export_in_one o.exports) in
+    let asserts : ℕ → Bool = λ n. list_all (is_well_formed_assert n i) (map assert_in_one o.asserts) in
     let section_names : b ≡ true = ap are_names (same_maps (λ (x : Section). x.name) (λ (x : Section). x.name) section_in_one o.sections (λ x. refl)) ∙ h.section_names in
     let export_names : c ≡ true = ap are_names (same_maps (λ (e : Export). e.name) (λ (e : Export). e.name) export_in_one o.exports (λ e. refl)) ∙ h.export_names in
-    let good_sections : sections s ≡ true = all_mapped (is_good_section s i) (is_good_section s i) section_in_one o.sections (same_section s i) ∙ h.sections in
-    let good_exports : exports s ≡ true = all_mapped (λ (e : Export). is_good_form s i e.form) (λ (e : Export). is_good_form s i e.form) export_in_one o.exports (λ e. refl) ∙ h.exports in
-    let good_asserts : asserts s ≡ true = all_mapped (is_good_assert s i) (is_good_assert s i) assert_in_one o.asserts (λ x. refl) ∙ h.asserts in
+    let good_sections : sections s ≡ true = all_mapped (is_well_formed_section s i) (is_well_formed_section s i) section_in_one o.sections (same_section s i) ∙ h.sections in
+    let good_exports : exports s ≡ true = all_mapped (λ (e : Export). is_well_formed_form s i e.form) (λ (e : Export). is_well_formed_form s i e.form) export_in_one o.exports (λ e. refl) ∙ h.exports in
+    let good_asserts : asserts s ≡ true = all_mapped (is_well_formed_assert s i) (is_well_formed_assert s i) assert_in_one o.asserts (λ x. refl) ∙ h.asserts in
     let front = and a b h.imports section_names in
     let names = and (a && b) c front export_names in
     ap (λ n. a && b && c && sections n && exports n && asserts n) lengths
     ∙ and (a && b && c && sections s && exports s) (asserts s) (and (a && b && c && sections s) (exports s) (and (a && b && c) (sections s) names good_sections) good_exports) good_asserts
 
-good_in_one : (o : Object) → is_good_object o ≡ true → is_good_object (in_version_one o) ≡ true
+good_in_one : (o : Object) → is_well_formed_object o ≡ true → is_well_formed_object (in_version_one o) ≡ true
 good_in_one o e =
     let values = list_all (λ (s : Section). list_all (has_good_origin 1 0) s.fragments) (map section_in_one o.sections) in
-    let said = list_all (λ (x : Export). is_good_origin 1 0 x.origin) (map export_in_one o.exports) in
-    let asked = list_all (λ (x : Assert). is_good_origin 1 0 x.origin) (map assert_in_one o.asserts) in
+    let said = list_all (λ (x : Export). is_well_formed_origin 1 0 x.origin) (map export_in_one o.exports) in
+    let asked = list_all (λ (x : Assert). is_well_formed_origin 1 0 x.origin) (map assert_in_one o.asserts) in
     let good_values : values ≡ true = all_kept (λ (s : Section). list_all (has_good_origin 1 0) s.fragments) section_in_one o.sections (λ s. all_kept (has_good_origin 1 0) fragment_in_one s.fragments one_origin) in
-    let good_said : said ≡ true = all_kept (λ (x : Export). is_good_origin 1 0 x.origin) export_in_one o.exports (λ x. refl) in
-    let good_asked : asked ≡ true = all_kept (λ (x : Assert). is_good_origin 1 0 x.origin) assert_in_one o.asserts (λ x. refl) in
+    let good_said : said ≡ true = all_kept (λ (x : Export). is_well_formed_origin 1 0 x.origin) export_in_one o.exports (λ x. refl) in
+    let good_asked : asked ≡ true = all_kept (λ (x : Assert). is_well_formed_origin 1 0 x.origin) assert_in_one o.asserts (λ x. refl) in
     let origins = and (values && said) asked (and values said good_values good_said) good_asked in
     and (values && said && asked) (has_good_parts (in_version_one o)) origins (good_parts_in_one o (parts o e))
 

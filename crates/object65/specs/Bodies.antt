@@ -12,7 +12,7 @@ use Rattle.object65.specs.declared.object.Assert.{Assert}
 use Rattle.object65.specs.declared.object.Export.{Export}
 use Rattle.object65.specs.declared.object.Origin.{Origin}
 use Rattle.object65.specs.declared.object.Width.{Width}
-use Rattle.object65.specs.declared.object.Width.TheVariants.{Byte, Word, HighFirst, Dword, Branch}
+use Rattle.object65.specs.declared.object.Width.TheVariants.{Byte, Word, BigEndianWord, Dword, Branch}
 use Rattle.object65.specs.Record.{◌>>=◌}
 use Rattle.object65.specs.Operators.{op1_of, op2_of}
 use Rattle.object65.specs.Form.{Form, lit, sec, imp, prefix, binary}
@@ -89,16 +89,16 @@ form_at zero bytes = Err BadSize
 form_at (suc depth) [] = Err BadSize
 form_at (suc depth) (code ∷ rest) = form_of_code (λ xs. form_at depth xs) code rest
 
-abbrev pub nothing_behind : {A : Type 0} → A × List ℕ → Result A ObjectFault
-nothing_behind x = if length x.1 == 0 then Ok x.0 else Err BadSize
+abbrev pub nothing_follows : {A : Type 0} → A × List ℕ → Result A ObjectFault
+nothing_follows x = if length x.1 == 0 then Ok x.0 else Err BadSize
 
 -- a form that takes all the bytes; each byte begins at most one node
 unfoldable pub form_of_all : List ℕ → Result Form ObjectFault
-form_of_all bytes = form_at (length bytes) bytes >>= nothing_behind
+form_of_all bytes = form_at (length bytes) bytes >>= nothing_follows
 
 abbrev pub width_of : ℕ → Result Width ObjectFault
 width_of code =
-    if code == 0 then Ok Byte else if code == 1 then Ok Word else if code == 2 then Ok HighFirst else if code == 3 then Ok Dword else if code == 4 then Ok Branch else Err BadSize
+    if code == 0 then Ok Byte else if code == 1 then Ok Word else if code == 2 then Ok BigEndianWord else if code == 3 then Ok Dword else if code == 4 then Ok Branch else Err BadSize
 
 abbrev pub action_of : ℕ → Result Action ObjectFault
 action_of code = if code == 0 then Ok action.Warning else if code == 1 then Ok action.Error else Err BadSize

@@ -7,7 +7,7 @@ use Rattle.base65.specs.declared.values.Op2.TheVariants.{Add, Subtract}
 use Rattle.object65.specs.declared.folding.FormFault.{FormFault}
 use Rattle.object65.specs.declared.folding.FormFault.TheVariants.{OutOfMemory, NoValue, TooLarge}
 use Rattle.object65.specs.Form.{Form, lit, sec, imp, prefix, binary, nodes}
-use Rattle.base65.specs.Values.{value1, value2, wrapped}
+use Rattle.base65.specs.Values.{value1, value2, wrap_signed}
 
 -- memory ran out
 abbrev pub lacks_memory : FormFault → Bool
@@ -18,8 +18,8 @@ lacks_memory _ = false
 abbrev pub node_limit : ℕ
 node_limit = 255
 
-abbrev pub limited : Form → Result Form FormFault
-limited f = if nat_le (nodes f) node_limit then Ok f else Err TooLarge
+abbrev pub within_node_limit : Form → Result Form FormFault
+within_node_limit f = if nat_le (nodes f) node_limit then Ok f else Err TooLarge
 
 abbrev pub literal : Option ℤ → Result Form FormFault
 literal None = Err NoValue
@@ -27,7 +27,7 @@ literal (Some v) = Ok (lit v)
 
 abbrev pub fold_prefix : Op1 → Form → Result Form FormFault
 fold_prefix op (lit v) = Ok (lit (value1 op v))
-fold_prefix op f = limited (prefix op f)
+fold_prefix op f = within_node_limit (prefix op f)
 
 -- the form of a prefix operation on a form
 abbrev pub fold1 : Op1 → Form → Result Form FormFault
@@ -36,16 +36,16 @@ fold1 op f = fold_prefix op f
 
 abbrev pub fold_any : Op2 → Form → Form → Result Form FormFault
 fold_any op (lit a) (lit b) = literal (value2 op a b)
-fold_any op f g = limited (binary op f g)
+fold_any op f g = within_node_limit (binary op f g)
 
 abbrev pub fold_sum : Form → Form → Result Form FormFault
-fold_sum (sec k a) (lit n) = Ok (sec k (wrapped (a +ℤ n)))
-fold_sum (lit n) (sec k a) = Ok (sec k (wrapped (a +ℤ n)))
+fold_sum (sec k a) (lit n) = Ok (sec k (wrap_signed (a +ℤ n)))
+fold_sum (lit n) (sec k a) = Ok (sec k (wrap_signed (a +ℤ n)))
 fold_sum f g = fold_any Add f g
 
 abbrev pub fold_difference : Form → Form → Result Form FormFault
-fold_difference (sec k a) (sec m b) = if k == m then Ok (lit (wrapped (a -ℤ b))) else fold_any Subtract (sec k a) (sec m b)
-fold_difference (sec k a) (lit n) = Ok (sec k (wrapped (a -ℤ n)))
+fold_difference (sec k a) (sec m b) = if k == m then Ok (lit (wrap_signed (a -ℤ b))) else fold_any Subtract (sec k a) (sec m b)
+fold_difference (sec k a) (lit n) = Ok (sec k (wrap_signed (a -ℤ n)))
 fold_difference f g = fold_any Subtract f g
 
 -- the form of an operation on two forms

@@ -22,12 +22,12 @@ nodes (prefix op f) = nodes f + 1
 nodes (binary op f g) = nodes f + nodes g + 1
 
 -- a form as a tree of numbers, one to one
-abbrev pub stored : Form → Gv
-stored (lit v) = gcons (gnum 0) (coded_ℤ.code v)
-stored (sec k a) = gcons (gnum 1) (gcons (gnum k) (coded_ℤ.code a))
-stored (imp j) = gcons (gnum 2) (gnum j)
-stored (prefix op f) = gcons (gnum 3) (gcons (gnum (number1 op)) (stored f))
-stored (binary op f g) = gcons (gnum 4) (gcons (gnum (number2 op)) (gcons (stored f) (stored g)))
+abbrev pub form_encoding : Form → Gv
+form_encoding (lit v) = gcons (gnum 0) (coded_ℤ.code v)
+form_encoding (sec k a) = gcons (gnum 1) (gcons (gnum k) (coded_ℤ.code a))
+form_encoding (imp j) = gcons (gnum 2) (gnum j)
+form_encoding (prefix op f) = gcons (gnum 3) (gcons (gnum (number1 op)) (form_encoding f))
+form_encoding (binary op f g) = gcons (gnum 4) (gcons (gnum (number2 op)) (gcons (form_encoding f) (form_encoding g)))
 
 same1 : (p q : Op1) → number1 p ≡ number1 q → p ≡ q
 same1 p q e = sym (op1_of-number1 p) ∙ ap op1_of e ∙ op1_of-number1 q
@@ -35,7 +35,7 @@ same1 p q e = sym (op1_of-number1 p) ∙ ap op1_of e ∙ op1_of-number1 q
 same2 : (p q : Op2) → number2 p ≡ number2 q → p ≡ q
 same2 p q e = sym (op2_of-number2 p) ∙ ap op2_of e ∙ op2_of-number2 q
 
-pub same_form : (f g : Form) → stored f ≡ stored g → f ≡ g
+pub same_form : (f g : Form) → form_encoding f ≡ form_encoding g → f ≡ g
 same_form (lit v) (lit w) e = let same : coded_ℤ.code v ≡ coded_ℤ.code w = cc in ap lit (coded_ℤ.inj v w same)
 same_form (lit v) (sec m b) e = cc
 same_form (lit v) (imp i) e = cc
@@ -54,13 +54,13 @@ same_form (imp j) (binary oq h i) e = cc
 same_form (prefix op f) (lit w) e = cc
 same_form (prefix op f) (sec m b) e = cc
 same_form (prefix op f) (imp i) e = cc
-same_form (prefix op f) (prefix oq g) e = let same : stored f ≡ stored g = cc in let o : number1 op ≡ number1 oq = cc in λ n. prefix (same1 op oq o n) (same_form f g same n)
+same_form (prefix op f) (prefix oq g) e = let same : form_encoding f ≡ form_encoding g = cc in let o : number1 op ≡ number1 oq = cc in λ n. prefix (same1 op oq o n) (same_form f g same n)
 same_form (prefix op f) (binary oq h i) e = cc
 same_form (binary op f g) (lit w) e = cc
 same_form (binary op f g) (sec m b) e = cc
 same_form (binary op f g) (imp i) e = cc
 same_form (binary op f g) (prefix oq h) e = cc
-same_form (binary op f g) (binary oq h i) e = let left : stored f ≡ stored h = cc in let right : stored g ≡ stored i = cc in let o : number2 op ≡ number2 oq = cc in λ n. binary (same2 op oq o n) (same_form f h left n) (same_form g i right n)
+same_form (binary op f g) (binary oq h i) e = let left : form_encoding f ≡ form_encoding h = cc in let right : form_encoding g ≡ form_encoding i = cc in let o : number2 op ≡ number2 oq = cc in λ n. binary (same2 op oq o n) (same_form f h left n) (same_form g i right n)
 
 abbrev pub form_code : Coded Form
-form_code = record { code = stored; inj = same_form }
+form_code = record { code = form_encoding; inj = same_form }

@@ -4,7 +4,7 @@ use Rattle.std.specs.Prelude.{ℕ, ℤ, ◌+ℤ◌, Option, Some, None, Result, 
 use Rattle.base65.specs.declared.values.Op1.{Op1}
 use Rattle.base65.specs.declared.values.Op2.{Op2}
 use Rattle.base65.specs.Outcome.{◌>>=◌}
-use Rattle.base65.specs.Values.{value1, value2, wrapped}
+use Rattle.base65.specs.Values.{value1, value2, wrap_signed}
 use Rattle.object65.specs.Form.{Form, lit, sec, imp, prefix, binary}
 
 abbrev pub or_none : {E : Type 0} → E → Option ℤ → Result ℤ E
@@ -13,7 +13,7 @@ or_none none None = Err none
 
 abbrev pub value_in : {E : Type 0} → E → (ℕ → ℤ) → (ℕ → Result ℤ E) → Form → Result ℤ E
 value_in none bases imports (lit v) = Ok v
-value_in none bases imports (sec k a) = Ok (wrapped (bases k +ℤ a))
+value_in none bases imports (sec k a) = Ok (wrap_signed (bases k +ℤ a))
 value_in none bases imports (imp j) = imports j
 value_in none bases imports (prefix op f) = value_in none bases imports f >>= (λ a. Ok (value1 op a))
 value_in none bases imports (binary op f g) = value_in none bases imports f >>= (λ a. value_in none bases imports g >>= (λ b. or_none none (value2 op a b)))

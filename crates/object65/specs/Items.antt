@@ -39,22 +39,22 @@ abbrev pub closing : List ℕ → List Fragment
 closing bytes = if is_none bytes then [] else Literal bytes ∷ []
 
 -- the fragments, with the literal behind them
-abbrev pub closed : Draft → List Fragment
-closed d = d.fragments ++ closing d.literal
+abbrev pub closed_fragments : Draft → List Fragment
+closed_fragments d = d.fragments ++ closing d.literal
 
 -- the draft with one more fragment, which is no literal
 abbrev pub with_fragment : Draft → ℕ → Fragment → Draft
-with_fragment d len f = record d { filled = d.filled + len; fragments = closed d ++ f ∷ []; literal = [] }
+with_fragment d len f = record d { filled = d.filled + len; fragments = closed_fragments d ++ f ∷ []; literal = [] }
 
 -- a section with one fragment more; a literal joins the one before it
-abbrev pub grown : Draft → Fragment → Draft
-grown d (Literal bytes) = record d { filled = d.filled + length bytes; literal = d.literal ++ bytes }
-grown d (Fill n) = with_fragment d n (Fill n)
-grown d (Value width origin form) = with_fragment d (fragment_len (Value width origin form)) (Value width origin form)
+abbrev pub draft_with_fragment : Draft → Fragment → Draft
+draft_with_fragment d (Literal bytes) = record d { filled = d.filled + length bytes; literal = d.literal ++ bytes }
+draft_with_fragment d (Fill n) = with_fragment d n (Fill n)
+draft_with_fragment d (Value width origin form) = with_fragment d (fragment_len (Value width origin form)) (Value width origin form)
 
 abbrev pub with_piece_in : List Draft → ℕ → Fragment → Option Draft → List Draft
 with_piece_in ds k f None = ds
-with_piece_in ds k f (Some d) = slice_set ds k (grown d f)
+with_piece_in ds k f (Some d) = slice_set ds k (draft_with_fragment d f)
 
 -- the sections, with a fragment more in the one at this place
 abbrev pub with_piece : List Draft → ℕ → Fragment → List Draft
@@ -89,7 +89,7 @@ has_small_text _ = true
 -- ---- The object that is made.
 
 abbrev pub section_from : Draft → section.Section
-section_from d = record { name = d.name; align = d.align; fragments = closed d }
+section_from d = record { name = d.name; align = d.align; fragments = closed_fragments d }
 
 abbrev pub object_from : State → Object
 object_from s = record { version = s.version; files = s.files; imports = s.imports; sections = map section_from s.drafts; exports = s.exports; asserts = s.asserts }

@@ -2,7 +2,7 @@ pub mod Bodies
 pub mod Folding
 pub mod Form
 pub mod FormValue
-pub mod Inner
+pub mod Internal
 pub mod Items
 pub mod Laws
 pub mod Norm

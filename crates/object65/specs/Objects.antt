@@ -12,7 +12,7 @@ use Rattle.object65.specs.declared.object.Assert.{Assert}
 use Rattle.object65.specs.declared.object.Fragment.{Fragment}
 use Rattle.object65.specs.declared.object.Fragment.TheVariants.{Literal, Fill, Value}
 use Rattle.object65.specs.declared.object.Width.{Width}
-use Rattle.object65.specs.declared.object.Width.TheVariants.{Byte, Word, HighFirst, Dword, Branch}
+use Rattle.object65.specs.declared.object.Width.TheVariants.{Byte, Word, BigEndianWord, Dword, Branch}
 use Rattle.object65.specs.Form.{Form, lit, sec, imp, prefix, binary, nodes}
 use Rattle.object65.specs.Folding.{is_normal, is_within, is_literal, node_limit}
 use Rattle.object65.specs.Record.{is_version}
@@ -23,7 +23,7 @@ use Rattle.object65.specs.Record.{is_version}
 abbrev pub width_len : Width → ℕ
 width_len Byte = 1
 width_len Word = 2
-width_len HighFirst = 2
+width_len BigEndianWord = 2
 width_len Dword = 4
 width_len Branch = 1
 
@@ -34,13 +34,13 @@ is_between low high v = int_le low v && int_le v high
 abbrev pub fits_width : Width → ℤ → Bool
 fits_width Byte v = is_between (pos 0) (pos 255) v
 fits_width Word v = is_between (pos 0) (pos 65535) v
-fits_width HighFirst v = is_between (pos 0) (pos 65535) v
+fits_width BigEndianWord v = is_between (pos 0) (pos 65535) v
 fits_width Dword v = is_between (pos 0) (pos 4294967295) v
 fits_width Branch v = is_between (negsuc 127) (pos 127) v
 
 -- the bytes of a value that fits
 abbrev pub value_bytes : Width → ℤ → List ℕ
-value_bytes HighFirst v = big_bytes 2 (cast_unsigned w64 v)
+value_bytes BigEndianWord v = big_bytes 2 (cast_unsigned w64 v)
 value_bytes width v = little_bytes (width_len width) (cast_unsigned w64 v)
 
 -- ---- Sizes.
@@ -103,20 +103,20 @@ has_file_by version None = version == 1
 has_file_by version (Some k) = not (version == 1)
 
 -- an origin in an object of this version with so many files
-abbrev pub is_good_origin : ℕ → ℕ → Origin → Bool
-is_good_origin version files origin = has_file_by version origin.file && has_file files origin.file
+abbrev pub is_well_formed_origin : ℕ → ℕ → Origin → Bool
+is_well_formed_origin version files origin = has_file_by version origin.file && has_file files origin.file
 
 -- likewise a fragment, of which values alone have an origin
 abbrev pub has_good_origin : ℕ → ℕ → Fragment → Bool
 has_good_origin version files (Literal bytes) = true
 has_good_origin version files (Fill n) = true
-has_good_origin version files (Value width origin form) = is_good_origin version files origin
+has_good_origin version files (Value width origin form) = is_well_formed_origin version files origin
 
 -- ---- Forms.
 
 -- a form of an object with so many sections and imports
-abbrev pub is_good_form : ℕ → ℕ → Form → Bool
-is_good_form sections imports f = is_within sections imports f && is_normal f && nat_le (nodes f) node_limit
+abbrev pub is_well_formed_form : ℕ → ℕ → Form → Bool
+is_well_formed_form sections imports f = is_within sections imports f && is_normal f && nat_le (nodes f) node_limit
 
 -- the numbers in it are those of 32 and 64 bits
 abbrev pub FitsBits : Form → Type 0
@@ -129,10 +129,10 @@ FitsBits (binary op f g) = FitsBits f × FitsBits g
 -- ---- Objects of the grammar.
 
 -- in a section of an object with so many sections and imports
-abbrev pub is_good_fragment : ℕ → ℕ → Fragment → Bool
-is_good_fragment sections imports (Literal bytes) = nat_lt 0 (length bytes)
-is_good_fragment sections imports (Fill n) = nat_lt 0 n
-is_good_fragment sections imports (Value width origin form) = is_good_form sections imports form && not (is_literal form)
+abbrev pub is_well_formed_fragment : ℕ → ℕ → Fragment → Bool
+is_well_formed_fragment sections imports (Literal bytes) = nat_lt 0 (length bytes)
+is_well_formed_fragment sections imports (Fill n) = nat_lt 0 n
+is_well_formed_fragment sections imports (Value width origin form) = is_well_formed_form sections imports form && not (is_literal form)
 
 -- neighbours that would be one fragment
 abbrev pub joins : Fragment → Fragment → Bool
@@ -145,11 +145,11 @@ are_apart [] = true
 are_apart (f ∷ []) = true
 are_apart (f ∷ g ∷ fs) = not (joins f g) && are_apart (g ∷ fs)
 
-abbrev pub is_good_section : ℕ → ℕ → Section → Bool
-is_good_section sections imports s = nat_le s.align 15 && nat_le (section_len s) section_limit && list_all (is_good_fragment sections imports) s.fragments && are_apart s.fragments
+abbrev pub is_well_formed_section : ℕ → ℕ → Section → Bool
+is_well_formed_section sections imports s = nat_le s.align 15 && nat_le (section_len s) section_limit && list_all (is_well_formed_fragment sections imports) s.fragments && are_apart s.fragments
 
-abbrev pub is_good_assert : ℕ → ℕ → Assert → Bool
-is_good_assert sections imports a = nat_lt (length a.text) 256 && is_good_form sections imports a.form && not (is_literal a.form)
+abbrev pub is_well_formed_assert : ℕ → ℕ → Assert → Bool
+is_well_formed_assert sections imports a = nat_lt (length a.text) 256 && is_well_formed_form sections imports a.form && not (is_literal a.form)
 
 -- what is the same in both versions
 abbrev pub has_good_parts : Object → Bool
@@ -157,20 +157,20 @@ has_good_parts o =
     let sections = length o.sections in
     let imports = length o.imports in
     are_names o.imports && are_names (map (λ s. s.name) o.sections) && are_names (map (λ e. e.name) o.exports)
-    && list_all (is_good_section sections imports) o.sections
-    && list_all (λ e. is_good_form sections imports e.form) o.exports
-    && list_all (is_good_assert sections imports) o.asserts
+    && list_all (is_well_formed_section sections imports) o.sections
+    && list_all (λ e. is_well_formed_form sections imports e.form) o.exports
+    && list_all (is_well_formed_assert sections imports) o.asserts
 
 abbrev pub has_good_origins : Object → Bool
 has_good_origins o =
-    let is_good = is_good_origin o.version (length o.files) in
+    let is_good = is_well_formed_origin o.version (length o.files) in
     list_all (λ s. list_all (has_good_origin o.version (length o.files)) s.fragments) o.sections
     && list_all (λ e. is_good e.origin) o.exports
     && list_all (λ a. is_good a.origin) o.asserts
 
 -- what has a spelling
-abbrev pub is_good_object : Object → Bool
-is_good_object o = is_version o.version && are_files_of o.version o.files && has_good_origins o && has_good_parts o
+abbrev pub is_well_formed_object : Object → Bool
+is_well_formed_object o = is_version o.version && are_files_of o.version o.files && has_good_origins o && has_good_parts o
 
 abbrev pub OriginFits : Origin → Type 0
 OriginFits origin = IfSome origin.file (λ k. k < 2 ^ 32) × (origin.line < 2 ^ 32)

@@ -4,26 +4,26 @@ use Rattle.std.specs.Str.{bytes_eq}
 use Rattle.byteorder.specs.Endian.{little_number}
 use Rattle.object65.specs.declared.fault.ObjectFault.{ObjectFault}
 use Rattle.object65.specs.declared.fault.ObjectFault.TheVariants.{NotAnObject, UnknownVersion, CutShort, UnknownRecord, BadSize, FileNotFound, BytesAfterEnd}
-use Rattle.object65.specs.Record.{◌>>=◌, Entry, is_record_kind, is_version}
+use Rattle.object65.specs.Record.{◌>>=◌, RawRecord, is_record_kind, is_version}
 use Rattle.object65.specs.Spelling.{magic, body_limit}
 use Rattle.base65.specs.declared.store.StoreFault.{StoreFault}
 use Rattle.base65.specs.declared.store.StoreFault.TheVariants as store
 use Rattle.object65.specs.declared.object.Object.{Object}
-use Rattle.object65.specs.Scanning.{State, start, after, finished}
-use Rattle.base65.specs.Store.{Files, IsBlamed, Passes, Blamed}
+use Rattle.object65.specs.Scanning.{State, start, after, object_of_state}
+use Rattle.base65.specs.Store.{Files, FailedOn, PropagatesIoError, LastFailure}
 
 -- ---- Reading an object from left to right, with the first fault that is met.
 
 -- what a file has from a place on, up to the end of a member's room
-abbrev pub room : List ℕ → ℕ → ℕ → List ℕ
-room bytes at limit = take (limit - at) (drop at bytes)
+abbrev pub bytes_before : List ℕ → ℕ → ℕ → List ℕ
+bytes_before bytes at limit = take (limit - at) (drop at bytes)
 
 -- What a call that reads a file leaves of a store: its files as before; its count of failures, a failure passed on as
 -- this error; and that the call that failed asked for this name.
-pub record Leaves {X T E : Type 0} (files_of : X → Option Files) (failures_of : X → ℕ) (blamed_of : X → Blamed) (error : E) (name : List ℕ) (old new : X) (result : Result T E) : Type 0 where
+pub record StoreFrame {X T E : Type 0} (files_of : X → Option Files) (failures_of : X → ℕ) (last_failure_of : X → LastFailure) (error : E) (name : List ℕ) (old new : X) (result : Result T E) : Type 0 where
   pub files : files_of new ≡ files_of old
-  pub count : Passes error (failures_of old) (failures_of new) result
-  pub blamed : IsErrOf result error → IsBlamed (blamed_of new) name
+  pub count : PropagatesIoError error (failures_of old) (failures_of new) result
+  pub last_failure : IsErrOf result error → FailedOn (last_failure_of new) name
 
 -- what is read of a file's bytes, or that there is no such file
 abbrev pub in_file : {A : Type 0} → Option (List ℕ) → (List ℕ → Result A ObjectFault) → Result A ObjectFault
@@ -36,7 +36,7 @@ head_of at head =
     if nat_lt (length head) 5 || not (bytes_eq (take 4 head) magic) then Err NotAnObject else if is_version (get_or head 4 0) then Ok (get_or head 4 0, at + 5) else Err UnknownVersion
 
 abbrev pub head_at : ℕ → ℕ → List ℕ → Result (ℕ × ℕ) ObjectFault
-head_at at limit bytes = head_of at (take 5 (room bytes at limit))
+head_at at limit bytes = head_of at (take 5 (bytes_before bytes at limit))
 
 -- an object or library file has at most so many bytes
 abbrev pub file_limit : ℕ
@@ -48,28 +48,28 @@ front_of version front =
     if nat_lt (length front) 3 then Err CutShort else if not (is_record_kind version (get_or front 0 0)) then Err UnknownRecord else if nat_lt body_limit (little_number 2 (drop 1 front)) then Err BadSize else Ok (get_or front 0 0, little_number 2 (drop 1 front))
 
 -- the body, where all its bytes are there
-abbrev pub whole : ℕ → List ℕ → Result (List ℕ) ObjectFault
-whole len body = if nat_lt (length body) len then Err CutShort else Ok body
+abbrev pub body_or_cut_short : ℕ → List ℕ → Result (List ℕ) ObjectFault
+body_or_cut_short len body = if nat_lt (length body) len then Err CutShort else Ok body
 
 -- the record, and where the next begins
-abbrev pub ending : ℕ → ℕ → ℕ → List ℕ → Result (Entry × ℕ) ObjectFault
+abbrev pub ending : ℕ → ℕ → ℕ → List ℕ → Result (RawRecord × ℕ) ObjectFault
 ending at kind len body = if nat_lt file_limit (at + 3 + len) then Err BadSize else Ok (record { kind = kind; body = body }, at + 3 + len)
 
 -- a record of an object of this version, and where the next begins
-unfoldable pub record_at : ℕ → ℕ → ℕ → List ℕ → Result (Entry × ℕ) ObjectFault
+unfoldable pub record_at : ℕ → ℕ → ℕ → List ℕ → Result (RawRecord × ℕ) ObjectFault
 record_at version at limit bytes = do
-  front ← front_of version (take 3 (room bytes at limit))
-  body ← whole front.1 (take front.1 (room bytes (at + 3) limit))
+  front ← front_of version (take 3 (bytes_before bytes at limit))
+  body ← body_or_cut_short front.1 (take front.1 (bytes_before bytes (at + 3) limit))
   ending at front.0 front.1 body
 
 -- nothing stands there any more
 abbrev pub end_at : ℕ → ℕ → List ℕ → Result (Unit {0}) ObjectFault
-end_at at limit bytes = if nat_lt 0 (length (take 1 (room bytes at limit))) then Err BytesAfterEnd else Ok tt
+end_at at limit bytes = if nat_lt 0 (length (take 1 (bytes_before bytes at limit))) then Err BytesAfterEnd else Ok tt
 
 -- the bytes that a call read into the buffer are the first of the room, as many as the buffer takes
 abbrev pub IsRoomRead : Option (List ℕ) → ℕ → ℕ → List ℕ → Result ℕ StoreFault → Type 0
 IsRoomRead None at limit buf (Ok n) = ⊥
-IsRoomRead (Some bytes) at limit buf (Ok n) = (take n buf ≡ take (length buf) (room bytes at limit)) × (n ≡ length (take (length buf) (room bytes at limit)))
+IsRoomRead (Some bytes) at limit buf (Ok n) = (take n buf ≡ take (length buf) (bytes_before bytes at limit)) × (n ≡ length (take (length buf) (bytes_before bytes at limit)))
 IsRoomRead file at limit buf (Err store.FileNotFound) = file ≡ None
 IsRoomRead file at limit buf (Err store.FileError) = ⊤
 IsRoomRead file at limit buf (Err store.OutOfMemory) = ⊤
@@ -77,13 +77,13 @@ IsRoomRead file at limit buf (Err store.OutOfMemory) = ⊤
 -- ---- Bytes that a reader of records has read ahead.
 
 -- What a reader is seen as: the record that it read last, and bytes of a file from a place on.
-pub record Reader : Type 0 where
-  pub entry : Entry
+pub record RecordReaderView : Type 0 where
+  pub entry : RawRecord
   pub begin : ℕ
   pub ahead : List ℕ
 
 -- these bytes are the file's; of a file that isn't there there are none
-abbrev pub IsAhead : Option (List ℕ) → Reader → Type 0
+abbrev pub IsAhead : Option (List ℕ) → RecordReaderView → Type 0
 IsAhead None r = r.ahead ≡ []
 IsAhead (Some bytes) r = r.ahead ≡ take (length r.ahead) (drop r.begin bytes)
 
@@ -100,10 +100,10 @@ abbrev pub has_record : List ℕ → Bool
 has_record bytes = nat_le 3 (length bytes) && nat_le (record_len bytes) (length bytes)
 
 -- the record with which bytes begin that stand at a place, and where the next begins
-unfoldable pub record_in : ℕ → ℕ → List ℕ → Result (Entry × ℕ) ObjectFault
+unfoldable pub record_in : ℕ → ℕ → List ℕ → Result (RawRecord × ℕ) ObjectFault
 record_in version at bytes = do
   front ← front_of version (take 3 bytes)
-  body ← whole front.1 (take front.1 (room bytes 3 (length bytes)))
+  body ← body_or_cut_short front.1 (take front.1 (bytes_before bytes 3 (length bytes)))
   ending at front.0 front.1 body
 
 -- ---- A whole object in a file.
@@ -120,4 +120,4 @@ object_at at limit bytes = do
   first ← head_at at limit bytes
   end ← records_at (length bytes) (start first.0) first.1 limit bytes
   u ← end_at end.1 limit bytes
-  finished end.0
+  object_of_state end.0

@@ -5,7 +5,7 @@ use Rattle.base65.specs.declared.store.StoreFault.TheVariants as store
 use Rattle.object65.specs.declared.fault.ObjectFault.{ObjectFault}
 use Rattle.object65.specs.declared.fault.ObjectFault.TheVariants.{FailedBefore, OutOfMemory, NotAnObject, UnknownVersion, CutShort, UnknownRecord, OutOfOrder, IndexOutOfRange, BadSize, NotCanonical, BytesAfterEnd, FileError, FileNotFound}
 use Rattle.object65.specs.declared.record.Record.{Record}
-pub use Rattle.base65.specs.Outcome.{◌>>=◌, Gives, Refuses}
+pub use Rattle.base65.specs.Outcome.{◌>>=◌, Refines, RefinesErr}
 pub use Rattle.base65.specs.Store.{IsBytes}
 
 -- ---- Why an object is refused: in words, and whether the cause lies outside the bytes.
@@ -21,10 +21,10 @@ is_memory OutOfMemory = true
 is_memory _ = false
 
 -- memory ran out or the store failed
-abbrev pub is_outside : ObjectFault → Bool
-is_outside OutOfMemory = true
-is_outside FileError = true
-is_outside _ = false
+abbrev pub is_system_error : ObjectFault → Bool
+is_system_error OutOfMemory = true
+is_system_error FileError = true
+is_system_error _ = false
 
 abbrev pub fault_text : ObjectFault → List ℕ
 fault_text FailedBefore = codes "failed before"
@@ -44,11 +44,11 @@ fault_text FileNotFound = codes "file not found"
 -- ---- Records and their kinds.
 
 -- a record without where its body lies
-pub record Entry : Type 0 where
+pub record RawRecord : Type 0 where
   pub kind : ℕ
   pub body : List ℕ
 
-abbrev pub entry_of : Record → Entry
+abbrev pub entry_of : Record → RawRecord
 entry_of r = record { kind = r.kind; body = r.body.items }
 
 -- the versions of objects

@@ -12,12 +12,12 @@ use Rattle.object65.specs.declared.object.Origin.{Origin}
 use Rattle.object65.specs.declared.object.Fragment.TheVariants.{Literal, Fill, Value}
 use Rattle.object65.specs.declared.scan.Last.{Last}
 use Rattle.object65.specs.declared.scan.Last.TheVariants as last
-use Rattle.object65.specs.declared.scan.Room.{Room}
+use Rattle.object65.specs.declared.scan.SectionFill.{SectionFill}
 use Rattle.object65.specs.Bodies.{Heading, section_of, literal_of, fill_of, value_of, export_of, assert_of, end_of}
-use Rattle.object65.specs.Record.{◌>>=◌, Entry, is_record_kind, is_version}
+use Rattle.object65.specs.Record.{◌>>=◌, RawRecord, is_record_kind, is_version}
 use Rattle.object65.specs.Folding.{is_within, is_normal, is_literal, node_limit}
 use Rattle.object65.specs.Form.{Form, nodes}
-use Rattle.object65.specs.Items.{State, is_none, closed, with_item}
+use Rattle.object65.specs.Items.{State, is_none, closed_fragments, with_item}
 use Rattle.object65.specs.Objects.{is_name, is_among, is_file_name, fragment_len, has_file, section_limit, width_len}
 use Rattle.object65.specs.Spelling.{body_limit}
 use Rattle.object65.specs.Small.{is_small_text}
@@ -42,14 +42,14 @@ abbrev pub known_file : ℕ → Origin → Result (Unit {0}) ObjectFault
 known_file files origin = wants (has_file files origin.file) IndexOutOfRange
 
 -- its sections and imports are there, of so many
-abbrev pub known : ℕ → ℕ → Form → Result (Unit {0}) ObjectFault
-known sections imports f = wants (is_within sections imports f) IndexOutOfRange
+abbrev pub has_known_indices : ℕ → ℕ → Form → Result (Unit {0}) ObjectFault
+has_known_indices sections imports f = wants (is_within sections imports f) IndexOutOfRange
 
 -- all that it names is there, of so many files, sections and imports
 unfoldable pub known_parts : ℕ → ℕ → ℕ → Origin → Form → Result (Unit {0}) ObjectFault
 known_parts files sections imports origin f = do
   u ← known_file files origin
-  known sections imports f
+  has_known_indices sections imports f
 
 -- it can't be folded and isn't too large
 abbrev pub canonical : Form → Result (Unit {0}) ObjectFault
@@ -70,10 +70,10 @@ ends_in_fill fs = is_some_fill (slice_get fs (length fs - 1))
 
 -- a record of a literal that isn't full stands last, or a fill
 abbrev pub last_of : Draft → Last
-last_of d = if not (length d.literal % body_limit == 0) then last.Short else if ends_in_fill (closed d) then last.Fill else last.Other
+last_of d = if not (length d.literal % body_limit == 0) then last.Short else if ends_in_fill (closed_fragments d) then last.Fill else last.Other
 
 -- a section in the making without its bytes
-abbrev pub room_of : Draft → Room
+abbrev pub room_of : Draft → SectionFill
 room_of d = record { size = d.size; filled = d.filled; last = last_of d }
 
 -- an object in the making without its fragments and forms
@@ -84,7 +84,7 @@ pub record Outline : Type 0 where
   pub imports : List (List ℕ)
   -- the names of the sections
   pub sections : List (List ℕ)
-  pub rooms : List Room
+  pub rooms : List SectionFill
   -- whether a fragment was taken
   pub begun : Bool
   -- the names of the exports
@@ -103,19 +103,19 @@ heading size align name = record { size = size; align = align; name = name }
 
 -- ---- Fragments.
 
-abbrev pub is_filled : Room → Bool
+abbrev pub is_filled : SectionFill → Bool
 is_filled r = r.filled == r.size
 
-abbrev pub room_at : ℕ → Option Room → Result (ℕ × Room) ObjectFault
+abbrev pub room_at : ℕ → Option SectionFill → Result (ℕ × SectionFill) ObjectFault
 room_at k None = Err OutOfOrder
 room_at k (Some r) = Ok (k, r)
 
 -- the place of the first section that isn't full, and that section
-abbrev pub open_room : List Room → Result (ℕ × Room) ObjectFault
+abbrev pub open_room : List SectionFill → Result (ℕ × SectionFill) ObjectFault
 open_room rs = room_at (prefix_len is_filled rs) (slice_get rs (prefix_len is_filled rs))
 
 -- so many bytes more are within the section
-abbrev pub room_for : Room → ℕ → Result (Unit {0}) ObjectFault
+abbrev pub room_for : SectionFill → ℕ → Result (Unit {0}) ObjectFault
 room_for r len = wants (nat_le len (r.size - r.filled)) BadSize
 
 abbrev pub is_short : Last → Bool
@@ -129,38 +129,38 @@ is_fill last.Short = false
 is_fill last.Other = false
 
 -- what stands last behind a literal of so many bytes
-abbrev pub last_behind : ℕ → Last
-last_behind len = if len % body_limit == 0 then last.Other else last.Short
+abbrev pub last_after : ℕ → Last
+last_after len = if len % body_limit == 0 then last.Other else last.Short
 
 -- the section behind a fragment
-abbrev pub room_behind : Room → ℕ → Last → Room
-room_behind r len l = record { size = r.size; filled = r.filled + len; last = l }
+abbrev pub room_after : SectionFill → ℕ → Last → SectionFill
+room_after r len l = record { size = r.size; filled = r.filled + len; last = l }
 
-unfoldable pub room_literal : List ℕ → Room → Result (Room × Fragment) ObjectFault
+unfoldable pub room_literal : List ℕ → SectionFill → Result (SectionFill × Fragment) ObjectFault
 room_literal body r = do
   bytes ← literal_of body
   u ← room_for r (length bytes)
   v ← wants (not (is_short r.last)) NotCanonical
-  Ok (room_behind r (length bytes) (last_behind (length bytes)), Literal bytes)
+  Ok (room_after r (length bytes) (last_after (length bytes)), Literal bytes)
 
-unfoldable pub room_fill : List ℕ → Room → Result (Room × Fragment) ObjectFault
+unfoldable pub room_fill : List ℕ → SectionFill → Result (SectionFill × Fragment) ObjectFault
 room_fill body r = do
   count ← fill_of body
   u ← room_for r count
   v ← wants (not (is_fill r.last)) NotCanonical
-  Ok (room_behind r count last.Fill, Fill count)
+  Ok (room_after r count last.Fill, Fill count)
 
 -- a value in an object of this version with so many files, sections and imports
-unfoldable pub room_value : ℕ → ℕ → ℕ → ℕ → List ℕ → Room → Result (Room × Fragment) ObjectFault
+unfoldable pub room_value : ℕ → ℕ → ℕ → ℕ → List ℕ → SectionFill → Result (SectionFill × Fragment) ObjectFault
 room_value version files sections imports body r = do
   value ← value_of version body
   u ← room_for r (width_len value.0)
   v ← known_parts files sections imports value.1 value.2
   w ← canonical_open value.2
-  Ok (room_behind r (width_len value.0) last.Other, Value value.0 value.1 value.2)
+  Ok (room_after r (width_len value.0) last.Other, Value value.0 value.1 value.2)
 
 -- the section that a record of a fragment of this kind grows: a literal, a fill or a value
-abbrev pub grow_room : Outline → ℕ → List ℕ → Room → Result (Room × Fragment) ObjectFault
+abbrev pub grow_room : Outline → ℕ → List ℕ → SectionFill → Result (SectionFill × Fragment) ObjectFault
 grow_room o kind body =
     if kind == 3 then room_literal body
     else if kind == 4 then room_fill body
@@ -184,7 +184,7 @@ scan_import o body = do
   Ok (record o { imports = o.imports ++ body ∷ [] }, Import body)
 
 -- a section that has no fragment yet
-abbrev pub empty_room : ℕ → Room
+abbrev pub empty_room : ℕ → SectionFill
 empty_room size = record { size = size; filled = 0; last = last.Other }
 
 -- sections stand before all fragments
@@ -197,7 +197,7 @@ scan_section o body = do
   Ok (record o { sections = o.sections ++ h.name ∷ []; rooms = o.rooms ++ empty_room h.size ∷ [] }, Section h.name h.size h.align)
 
 -- a record of a fragment, which goes to the first section that isn't full
-unfoldable pub scan_part : Outline → (Room → Result (Room × Fragment) ObjectFault) → Result (Outline × Item) ObjectFault
+unfoldable pub scan_part : Outline → (SectionFill → Result (SectionFill × Fragment) ObjectFault) → Result (Outline × Item) ObjectFault
 scan_part o grow = do
   place ← open_room o.rooms
   grown ← grow place.1
@@ -228,7 +228,7 @@ scan_last o body = do
   v ← end_of body
   Ok (record o { ended = true }, End)
 
-unfoldable pub scan_entry : Outline → Entry → Result (Outline × Item) ObjectFault
+unfoldable pub scan_entry : Outline → RawRecord → Result (Outline × Item) ObjectFault
 scan_entry o e =
     if not (is_record_kind o.version e.kind) then Err OutOfOrder
     else if e.kind == 1 then scan_import o e.body
@@ -242,13 +242,13 @@ scan_entry o e =
     else scan_last o e.body
 
 -- what is kept behind the record and the item that it gives, or the first fault
-unfoldable pub scanned : Outline → Entry → Result (Outline × Item) ObjectFault
-scanned o e = if o.failed then Err FailedBefore else if o.ended then Err OutOfOrder else scan_entry o e
+unfoldable pub scan_step : Outline → RawRecord → Result (Outline × Item) ObjectFault
+scan_step o e = if o.failed then Err FailedBefore else if o.ended then Err OutOfOrder else scan_entry o e
 
 -- the items of records one behind the other, or the first fault
-abbrev pub items_of : Outline → List Entry → Result (List Item) ObjectFault
+abbrev pub items_of : Outline → List RawRecord → Result (List Item) ObjectFault
 items_of o [] = Ok []
-items_of o (e ∷ es) = scanned o e >>= (λ x. items_of x.0 es >>= (λ is. Ok (x.1 ∷ is)))
+items_of o (e ∷ es) = scan_step o e >>= (λ x. items_of x.0 es >>= (λ is. Ok (x.1 ∷ is)))
 
 -- whether the object may end here
 abbrev pub scan_end : Outline → Result (Unit {0}) ObjectFault
@@ -257,8 +257,8 @@ scan_end o = if o.failed then Err FailedBefore else if o.ended then Ok tt else E
 -- ---- What an item keeps to.
 
 -- a fragment stands in this section, behind what was taken of it
-pub record FitsIn (room : Room) (place : ℕ) (f : Fragment) : Type 0 where
-  pub behind : place ≡ room.filled
+pub record FitsIn (room : SectionFill) (place : ℕ) (f : Fragment) : Type 0 where
+  pub following : place ≡ room.filled
   pub within : place + fragment_len f ≤ room.size
   pub size : room.size ≤ section_limit
 
@@ -267,7 +267,7 @@ abbrev pub IsWithin : Outline → Item → Type 0
 IsWithin o (File name) = ⊤
 IsWithin o (Import name) = ⊤
 IsWithin o (Section name size align) = (size ≤ section_limit) × (align ≤ 15)
-IsWithin o (Part k offset f) = (room : Room) × (slice_get o.rooms k ≡ Some room) × FitsIn room offset f
+IsWithin o (Part k offset f) = (room : SectionFill) × (slice_get o.rooms k ≡ Some room) × FitsIn room offset f
 IsWithin o (Export name origin form) = ⊤
 IsWithin o (Assert action origin text form) = is_small_text text ≡ true
 IsWithin o End = ⊤
@@ -275,25 +275,25 @@ IsWithin o End = ⊤
 -- ---- What a builder becomes by one record after another: what the items make that a scan gives.
 
 -- the state behind a record, or the first fault
-unfoldable pub after : State → Entry → Result State ObjectFault
-after s e = scanned (outline_of s) e >>= (λ x. Ok (with_item s x.1))
+unfoldable pub after : State → RawRecord → Result State ObjectFault
+after s e = scan_step (outline_of s) e >>= (λ x. Ok (with_item s x.1))
 
 -- ---- Many records.
 
-abbrev pub after_all : State → List Entry → Result State ObjectFault
+abbrev pub after_all : State → List RawRecord → Result State ObjectFault
 after_all s [] = Ok s
 after_all s (e ∷ es) = after s e >>= (λ t. after_all t es)
 
 -- a state stands for the records that lead to it from an empty object of its version
-abbrev pub StandsFor : State → List Entry → Type 0
-StandsFor s es = after_all (start s.version) es ≡ Ok s
+abbrev pub ReachedByRecords : State → List RawRecord → Type 0
+ReachedByRecords s es = after_all (start s.version) es ≡ Ok s
 
 -- some records of a version that is there lead to it
 pub record IsReached (s : State) : Type 0 where
   pub version : is_version s.version ≡ true
-  pub records : List Entry
-  pub stands : StandsFor s records
+  pub records : List RawRecord
+  pub stands : ReachedByRecords s records
 
 -- the object, where its END was taken
-abbrev pub finished : State → Result Object ObjectFault
-finished s = if s.failed then Err FailedBefore else if s.ended then Ok (object_from s) else Err CutShort
+abbrev pub object_of_state : State → Result Object ObjectFault
+object_of_state s = if s.failed then Err FailedBefore else if s.ended then Ok (object_from s) else Err CutShort

@@ -15,11 +15,11 @@ use Rattle.object65.specs.declared.object.Origin.{Origin}
 use Rattle.object65.specs.declared.object.Fragment.{Fragment}
 use Rattle.object65.specs.declared.object.Fragment.TheVariants.{Literal, Fill, Value}
 use Rattle.object65.specs.declared.object.Width.{Width}
-use Rattle.object65.specs.declared.object.Width.TheVariants.{Byte, Word, HighFirst, Dword, Branch}
+use Rattle.object65.specs.declared.object.Width.TheVariants.{Byte, Word, BigEndianWord, Dword, Branch}
 use Rattle.object65.specs.Operators.{number2}
 use Rattle.object65.specs.Form.{Form, lit, sec, imp, prefix, binary}
-use Rattle.object65.specs.Objects.{section_len, is_good_object, ObjectFits}
-use Rattle.object65.specs.Record.{Entry}
+use Rattle.object65.specs.Objects.{section_len, is_well_formed_object, ObjectFits}
+use Rattle.object65.specs.Record.{RawRecord}
 
 -- a prefix + adds nothing
 abbrev pub code1 : Op1 → List ℕ
@@ -41,7 +41,7 @@ form_bytes (binary op f g) = (0x20 + number2 op) ∷ (form_bytes f ++ form_bytes
 abbrev pub width_code : Width → ℕ
 width_code Byte = 0
 width_code Word = 1
-width_code HighFirst = 2
+width_code BigEndianWord = 2
 width_code Dword = 3
 width_code Branch = 4
 
@@ -58,13 +58,13 @@ abbrev pub pieces : ℕ → List ℕ → List (List ℕ)
 pieces zero bytes = []
 pieces (suc n) bytes = take body_limit bytes ∷ pieces n (drop body_limit bytes)
 
-abbrev pub literal_entry : List ℕ → Entry
+abbrev pub literal_entry : List ℕ → RawRecord
 literal_entry body = record { kind = 3; body = body }
 
-abbrev pub literal_entries : List ℕ → List Entry
+abbrev pub literal_entries : List ℕ → List RawRecord
 literal_entries bytes = map literal_entry (pieces ((length bytes + 4095) / body_limit) bytes)
 
-abbrev pub fill_entry : ℕ → Entry
+abbrev pub fill_entry : ℕ → RawRecord
 fill_entry n = record { kind = 4; body = little_bytes 4 n }
 
 -- the place of a file, where there is one
@@ -76,35 +76,35 @@ file_bytes (Some k) = little_bytes 4 k
 abbrev pub origin_bytes : Origin → List ℕ
 origin_bytes origin = file_bytes origin.file ++ little_bytes 4 origin.line
 
-abbrev pub value_entry : Width → Origin → Form → Entry
+abbrev pub value_entry : Width → Origin → Form → RawRecord
 value_entry width origin form = record { kind = 5; body = width_code width ∷ (origin_bytes origin ++ form_bytes form) }
 
-abbrev pub fragment_entries : Fragment → List Entry
+abbrev pub fragment_entries : Fragment → List RawRecord
 fragment_entries (Literal bytes) = literal_entries bytes
 fragment_entries (Fill n) = fill_entry n ∷ []
 fragment_entries (Value width origin form) = value_entry width origin form ∷ []
 
-abbrev pub file_entry : List ℕ → Entry
+abbrev pub file_entry : List ℕ → RawRecord
 file_entry name = record { kind = 9; body = name }
 
-abbrev pub import_entry : List ℕ → Entry
+abbrev pub import_entry : List ℕ → RawRecord
 import_entry name = record { kind = 1; body = name }
 
-abbrev pub section_entry : Section → Entry
+abbrev pub section_entry : Section → RawRecord
 section_entry s = record { kind = 2; body = little_bytes 4 (section_len s) ++ s.align ∷ s.name }
 
-abbrev pub export_entry : Export → Entry
+abbrev pub export_entry : Export → RawRecord
 export_entry e = record { kind = 6; body = length e.name ∷ (e.name ++ origin_bytes e.origin ++ form_bytes e.form) }
 
-abbrev pub assert_entry : Assert → Entry
+abbrev pub assert_entry : Assert → RawRecord
 assert_entry a = record { kind = 7; body = action_code a.action ∷ (origin_bytes a.origin ++ length a.text ∷ (a.text ++ form_bytes a.form)) }
 
-abbrev pub end_entry : Entry
+abbrev pub end_entry : RawRecord
 end_entry = record { kind = 8; body = [] }
 
 -- the records of an object behind those of its files
-abbrev pub entries_behind : Object → List Entry
-entries_behind o =
+abbrev pub entries_after : Object → List RawRecord
+entries_after o =
     map import_entry o.imports
     ++ map section_entry o.sections
     ++ flat_map (λ s. flat_map fragment_entries s.fragments) o.sections
@@ -113,10 +113,10 @@ entries_behind o =
     ++ end_entry ∷ []
 
 -- the records of an object
-abbrev pub entries_of : Object → List Entry
-entries_of o = map file_entry o.files ++ entries_behind o
+abbrev pub entries_of : Object → List RawRecord
+entries_of o = map file_entry o.files ++ entries_after o
 
-abbrev pub entry_bytes : Entry → List ℕ
+abbrev pub entry_bytes : RawRecord → List ℕ
 entry_bytes e = e.kind ∷ (little_bytes 2 (length e.body) ++ e.body)
 
 abbrev pub magic : List ℕ
@@ -132,6 +132,6 @@ object_bytes o = object_head o.version ++ flat_map entry_bytes (entries_of o)
 
 -- the bytes spell the object
 pub record IsObject (bytes : List ℕ) (o : Object) : Type 0 where
-  pub good : is_good_object o ≡ true
+  pub good : is_well_formed_object o ≡ true
   pub numbers : ObjectFits o
   pub spelled : bytes ≡ object_bytes o

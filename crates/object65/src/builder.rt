@@ -1,16 +1,16 @@
 //! An object from its records.
 
 ghost use Rattle.std.specs.Prelude.{◌≡◌, ◌≤◌, ◌<◌, ◌+◌, ◌++◌, ◌∷◌, [], Ok, OnOk, length, get_or, map, OnErr, IfOk, Err, true};
-ghost use Rattle.object65.specs.Record.{Gives, is_memory, entry_of, is_version};
-ghost use Rattle.object65.specs.Items.{closed, grown, with_item, section_from, object_from};
-ghost use Rattle.object65.specs.Objects.{fragment_len, is_good_object, section_len, section_limit};
-ghost use Rattle.object65.specs.Inner.Sound.{HasRoom, state_of, unmarked};
+ghost use Rattle.object65.specs.Record.{Refines, is_memory, entry_of, is_version};
+ghost use Rattle.object65.specs.Items.{closed_fragments, draft_with_fragment, with_item, section_from, object_from};
+ghost use Rattle.object65.specs.Objects.{fragment_len, is_well_formed_object, section_len, section_limit};
+ghost use Rattle.object65.specs.Internal.Sound.{HasRoom, state_of, without_marks};
 ghost use Rattle.std.specs.List.{AllByRecursion};
-ghost use Rattle.object65.specs.Scanning.{start, after, finished};
+ghost use Rattle.object65.specs.Scanning.{start, after, object_of_state};
 
 use crate::writing::fragment_size;
 use crate::{Assert, Export, Fragment, Item, Object, ObjectFault, Record, Scan, Section};
-use base65::Sequence;
+use base65::ListVec;
 use std::alloc::Global;
 use std::marker::Model;
 use std::mem;
@@ -18,15 +18,15 @@ use std::mem;
 /// A section in the making.
 #[derive(Drop)]
 pub struct Draft {
-    pub name: Sequence<u8>,
+    pub name: ListVec<u8>,
     pub align: u8,
     /// How many bytes the section will have.
     pub size: u32,
     /// How many it has.
     pub filled: u32,
-    pub fragments: Sequence<Fragment>,
+    pub fragments: ListVec<Fragment>,
     /// The literal behind these fragments, to which the next one is joined.
-    pub literal: Sequence<u8>,
+    pub literal: ListVec<u8>,
 }
 
 /// What has been taken of an object.
@@ -34,21 +34,21 @@ pub struct Draft {
 pub struct Parts {
     pub alloc: Global,
     pub version: u8,
-    pub files: Sequence<Sequence<u8>>,
-    pub imports: Sequence<Sequence<u8>>,
+    pub files: ListVec<ListVec<u8>>,
+    pub imports: ListVec<ListVec<u8>>,
     pub drafts: Vec<Draft>,
-    pub exports: Sequence<Export>,
-    pub asserts: Sequence<Assert>,
+    pub exports: ListVec<Export>,
+    pub asserts: ListVec<Assert>,
 }
 
 /// Puts the literal in the making behind the other fragments.
 fn close_literal(alloc: Global, draft: &mut Draft) -> Result<(), ObjectFault>
     ensures closed { OnOk result (draft.new ≡
-        record draft.old { fragments = closed draft.old; literal = [] }) }
-    ensures memory { Gives is_memory (λ u. u) result (Ok tt) }
+        record draft.old { fragments = closed_fragments draft.old; literal = [] }) }
+    ensures memory { Refines is_memory (λ u. u) result (Ok tt) }
 {
     if draft.literal.len() > 0 {
-        let literal = mem::replace(&mut draft.literal, Sequence::new(alloc));
+        let literal = mem::replace(&mut draft.literal, ListVec::new(alloc));
         draft.fragments.push(Fragment::Literal(literal))?;
     }
     Ok(())
@@ -56,8 +56,8 @@ fn close_literal(alloc: Global, draft: &mut Draft) -> Result<(), ObjectFault>
 
 /// Puts a fragment that is no literal behind the others.
 fn push_fragment(alloc: Global, draft: &mut Draft, fragment: Fragment) -> Result<(), ObjectFault>
-    ensures pushed { Gives is_memory (λ _. draft.new) result
-        (Ok (record draft.old { fragments = closed draft.old ++ fragment ∷ []; literal = [] })) }
+    ensures pushed { Refines is_memory (λ _. draft.new) result
+        (Ok (record draft.old { fragments = closed_fragments draft.old ++ fragment ∷ []; literal = [] })) }
 {
     close_literal(alloc, draft)?;
     draft.fragments.push(fragment)?;
@@ -67,7 +67,7 @@ fn push_fragment(alloc: Global, draft: &mut Draft, fragment: Fragment) -> Result
 /// Adds a fragment to a section.
 fn grow(alloc: Global, draft: &mut Draft, fragment: Fragment) -> Result<(), ObjectFault>
     requires { draft.old.filled + fragment_len fragment ≤ draft.old.size }
-    ensures { Gives is_memory (λ _. draft.new) result (Ok (grown draft.old fragment)) }
+    ensures { Refines is_memory (λ _. draft.new) result (Ok (draft_with_fragment draft.old fragment)) }
 {
     draft.filled += fragment_size(&fragment) as u32;
     if let Fragment::Literal(bytes) = &fragment {
@@ -79,8 +79,8 @@ fn grow(alloc: Global, draft: &mut Draft, fragment: Fragment) -> Result<(), Obje
 /// Adds an item.
 pub fn add_item(parts: &mut Parts, item: Item) -> Result<(), ObjectFault>
     requires { HasRoom parts.old.drafts.items item }
-    ensures { Gives is_memory (λ _. state_of parts.new) result
-        (Ok (unmarked (with_item (state_of parts.old) item))) }
+    ensures { Refines is_memory (λ _. state_of parts.new) result
+        (Ok (without_marks (with_item (state_of parts.old) item))) }
 {
     match item {
         Item::File(name) => parts.files.push(name)?,
@@ -90,8 +90,8 @@ pub fn add_item(parts: &mut Parts, item: Item) -> Result<(), ObjectFault>
             align,
             size,
             filled: 0,
-            fragments: Sequence::new(parts.alloc),
-            literal: Sequence::new(parts.alloc),
+            fragments: ListVec::new(parts.alloc),
+            literal: ListVec::new(parts.alloc),
         })?,
         Item::Part(at, _, fragment) => grow(parts.alloc, &mut parts.drafts[at], fragment)?,
         Item::Export(name, origin, form) => parts.exports.push(Export { name, origin, form })?,
@@ -108,7 +108,7 @@ pub fn add_item(parts: &mut Parts, item: Item) -> Result<(), ObjectFault>
 
 /// The section, with its last literal in place.
 fn finish_section(alloc: Global, draft: Draft) -> Result<Section, ObjectFault>
-    ensures { Gives is_memory (λ s. s) result (Ok (section_from draft)) }
+    ensures { Refines is_memory (λ s. s) result (Ok (section_from draft)) }
 {
     let mut draft = draft;
     close_literal(alloc, &mut draft)?;
@@ -120,7 +120,7 @@ fn finish_section(alloc: Global, draft: Draft) -> Result<Section, ObjectFault>
 }
 
 fn finish_sections(alloc: Global, drafts: Vec<Draft>) -> Result<Vec<Section>, ObjectFault>
-    ensures { Gives is_memory (λ v. v.items) result (Ok (map section_from drafts.items)) }
+    ensures { Refines is_memory (λ v. v.items) result (Ok (map section_from drafts.items)) }
 {
     let mut sections = Vec::new(alloc);
     for draft in drafts {
@@ -131,14 +131,14 @@ fn finish_sections(alloc: Global, drafts: Vec<Draft>) -> Result<Vec<Section>, Ob
 
 /// The object of the parts.
 pub fn finish_object(parts: Parts) -> Result<Object, ObjectFault>
-    ensures { Gives is_memory (λ o. o) result (Ok (object_from (state_of parts))) }
+    ensures { Refines is_memory (λ o. o) result (Ok (object_from (state_of parts))) }
 {
     let sections = finish_sections(parts.alloc, parts.drafts)?;
     Ok(Object {
         version: parts.version,
         files: parts.files,
         imports: parts.imports,
-        sections: Sequence::from_vec(sections),
+        sections: ListVec::from_vec(sections),
         exports: parts.exports,
         asserts: parts.asserts,
     })
@@ -163,7 +163,7 @@ impl Model for Builder {
 
     ghost coded = { Prim.hlevel (codes, form_code) };
 
-    ghost use Rattle.object65.specs.Inner.Sound.{state_in, IsWhole};
+    ghost use Rattle.object65.specs.Internal.Sound.{state_in, IsWhole};
 
     ghost view = { λ b. record (state_in b.parts b.scan) { failed = b.failed } };
 
@@ -191,20 +191,20 @@ impl Builder {
             parts: Parts {
                 alloc,
                 version,
-                files: Sequence::new(alloc),
-                imports: Sequence::new(alloc),
+                files: ListVec::new(alloc),
+                imports: ListVec::new(alloc),
                 drafts: Vec::new(alloc),
-                exports: Sequence::new(alloc),
-                asserts: Sequence::new(alloc),
+                exports: ListVec::new(alloc),
+                asserts: ListVec::new(alloc),
             },
             failed: false,
         }
     }
 
     /// Takes the next record. After a refusal each call answers that it failed before.
-    #[tactic(auto, unfolding(crate::specs::Scanning::after, crate::specs::Scanning::scanned))]
+    #[tactic(auto, unfolding(crate::specs::Scanning::after, crate::specs::Scanning::scan_step))]
     pub fn take(&mut self, next: &Record) -> Result<(), ObjectFault>
-        ensures taken { Gives is_memory (λ _. self.new) result
+        ensures taken { Refines is_memory (λ _. self.new) result
             (after self.old (entry_of next.now)) }
         ensures failed { OnErr result (self.new.failed ≡ true) }
         ensures again { self.old.failed ≡ true → result ≡ Err ObjectFault.FailedBefore }
@@ -229,10 +229,10 @@ impl Builder {
 
     /// The object, where its END was taken.
     pub fn finish(self) -> Result<Object, ObjectFault>
-        ensures finished { Gives is_memory (λ o. o) result (finished self) }
+        ensures finished { Refines is_memory (λ o. o) result (object_of_state self) }
         ensures again { self.failed ≡ true → result ≡ Err ObjectFault.FailedBefore }
         // What it gives can be written, and so its sections are within their limit.
-        ensures good { IfOk result (λ o. is_good_object o ≡ true) }
+        ensures good { IfOk result (λ o. is_well_formed_object o ≡ true) }
         ensures sized { IfOk result (λ o.
             AllByRecursion (λ s. section_len s ≤ section_limit) o.sections) }
     {

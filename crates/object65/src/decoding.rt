@@ -1,8 +1,8 @@
 //! Decodes an object's head and its records from bytes that are there, wherever they were read from.
 
 ghost use Rattle.std.specs.Prelude.{◌≡◌, ◌≤◌, ◌+◌, ◌<◌, ◌^◌, true, false, length, take, IfErr, IfOk};
-ghost use Rattle.object65.specs.Record.{Gives, is_memory, is_outside, entry_of, is_record_kind, is_version};
-ghost use Rattle.object65.specs.Reading.{file_limit, front_of, head_of, record_at, record_in, room, whole};
+ghost use Rattle.object65.specs.Record.{Refines, is_memory, is_system_error, entry_of, is_record_kind, is_version};
+ghost use Rattle.object65.specs.Reading.{file_limit, front_of, head_of, record_at, record_in, bytes_before, body_or_cut_short};
 ghost use Rattle.object65.specs.Spelling.{body_limit};
 
 use crate::format::{END, FILE, FILE_LIMIT, IMPORT, LARGEST_BODY, MAGIC, VERSION_ONE, VERSION_TWO};
@@ -17,7 +17,7 @@ pub fn decode_head(bytes: &[u8], at: u64) -> Result<(u8, u64), ObjectFault>
     ensures read { result ≡ head_of at (take 5 bytes.now) }
     ensures version { IfOk result (λ x. is_version x.0 ≡ true) }
     ensures within { IfOk result (λ x. (x.1 ≡ at + 5) × (5 ≤ length bytes.now)) }
-    ensures plain { IfErr result (λ e. is_outside e ≡ false) }
+    ensures plain { IfErr result (λ e. is_system_error e ≡ false) }
 {
     if bytes.len() < 5 || bytes[..4] != MAGIC[..] {
         return Err(ObjectFault::NotAnObject);
@@ -41,7 +41,7 @@ fn decode_front(version: u8, bytes: &[u8]) -> Result<(u8, usize), ObjectFault>
     ensures read { result ≡ front_of version (take 3 bytes.now) }
     ensures room { IfOk result (λ x. 3 ≤ length bytes.now) }
     ensures len { IfOk result (λ x. x.1 ≤ body_limit) }
-    ensures plain { IfErr result (λ e. is_outside e ≡ false) }
+    ensures plain { IfErr result (λ e. is_system_error e ≡ false) }
 {
     if bytes.len() < 3 {
         return Err(ObjectFault::CutShort);
@@ -60,11 +60,11 @@ fn decode_front(version: u8, bytes: &[u8]) -> Result<(u8, usize), ObjectFault>
 /// The body that stands at a place.
 fn body_at(bytes: &[u8], at: usize, len: usize) -> Result<&[u8], ObjectFault>
     requires { at ≤ length bytes.now }
-    ensures read { Gives is_memory (λ body. body.now) result
-        (whole len (take len (room bytes.entry.now at (length bytes.entry.now)))) }
+    ensures read { Refines is_memory (λ body. body.now) result
+        (body_or_cut_short len (take len (bytes_before bytes.entry.now at (length bytes.entry.now)))) }
     ensures len { IfOk result (λ body. length body.now ≡ len) }
     ensures within { IfOk result (λ body. at + len ≤ length bytes.entry.now) }
-    ensures plain { IfErr result (λ e. is_outside e ≡ false) }
+    ensures plain { IfErr result (λ e. is_system_error e ≡ false) }
 {
     let rest = &bytes[at..];
     if rest.len() < len {
@@ -89,11 +89,11 @@ fn fill(body: &mut ArrayVec<u8, 4096>, bytes: &[u8])
 #[tactic(auto, unfolding(crate::specs::Reading::record_in))]
 pub fn decode(space: &mut Record, version: u8, bytes: &[u8], at: u64) -> Result<u64, ObjectFault>
     requires { at + length bytes.now < 2 ^ 64 }
-    ensures read { Gives is_memory (λ n. (entry_of space.new, n)) result
+    ensures read { Refines is_memory (λ n. (entry_of space.new, n)) result
         (record_in version at bytes.now) }
     ensures bound { IfOk result (λ n. (n ≡ at + 3 + length space.new.body.items) ×
         (3 + length space.new.body.items ≤ length bytes.now) × (n ≤ file_limit)) }
-    ensures plain { IfErr result (λ e. is_outside e ≡ false) }
+    ensures plain { IfErr result (λ e. is_system_error e ≡ false) }
 {
     let (kind, len) = decode_front(version, bytes)?;
     let body = body_at(bytes, 3, len)?;
@@ -114,11 +114,11 @@ pub fn decode_record(
     at: usize,
 ) -> Result<usize, ObjectFault>
     requires { at ≤ length bytes.now }
-    ensures read { Gives is_memory (λ n. (entry_of space.new, n)) result
+    ensures read { Refines is_memory (λ n. (entry_of space.new, n)) result
         (record_at version at (length bytes.now) bytes.now) }
     ensures bound { IfOk result (λ n.
         (n ≡ at + 3 + length space.new.body.items) × (n ≤ length bytes.now)) }
-    ensures plain { IfErr result (λ e. is_outside e ≡ false) }
+    ensures plain { IfErr result (λ e. is_system_error e ≡ false) }
 {
     let next = decode(space, version, &bytes[at..], at as u64)?;
     Ok(next as usize)

@@ -2,22 +2,22 @@
 
 ghost use Rattle.std.specs.Prelude.{◌≡◌, ◌≤◌, ◌+◌, ◌%◌, length, Ok};
 ghost use Rattle.object65.specs.Bodies.{fill_of, value_of, width_of};
-ghost use Rattle.object65.specs.Record.{Gives, is_memory};
+ghost use Rattle.object65.specs.Record.{Refines, is_memory};
 ghost use Rattle.object65.specs.Objects.{has_file, width_len};
-ghost use Rattle.object65.specs.Scanning.{canonical, canonical_open, known_file, known_parts, room_for, room_behind, room_literal, room_fill, room_value};
+ghost use Rattle.object65.specs.Scanning.{canonical, canonical_open, known_file, known_parts, room_for, room_after, room_literal, room_fill, room_value};
 
 use crate::folding::{are_there, is_folded, is_limited, is_number};
 use crate::format::LARGEST_BODY;
 use crate::forming::{byte_at, form_of, origin_at};
-use crate::scan::{Kept, Last, Room};
+use crate::scan::{Last, ScanState, SectionFill};
 use crate::taking::check;
 use crate::{Fragment, Norm, ObjectFault, Origin, Width};
-use base65::Sequence;
+use base65::ListVec;
 use byteorder::{ByteOrder, LittleEndian};
 use std::alloc::Global;
 
 /// Refuses what passes the section's end.
-fn check_room(room: Room, len: u32) -> Result<(), ObjectFault>
+fn check_room(room: SectionFill, len: u32) -> Result<(), ObjectFault>
     ensures { result ≡ room_for room len }
 {
     check(
@@ -27,11 +27,11 @@ fn check_room(room: Room, len: u32) -> Result<(), ObjectFault>
 }
 
 /// The section with so many bytes more.
-fn room_behind(room: Room, len: u32, last: Last) -> Room
+fn room_after(room: SectionFill, len: u32, last: Last) -> SectionFill
     requires { room.filled + len ≤ room.size }
-    ensures { result ≡ room_behind room len last }
+    ensures { result ≡ room_after room len last }
 {
-    Room {
+    SectionFill {
         filled: room.filled + len,
         last,
         ..room
@@ -51,7 +51,7 @@ fn check_file(origin: Origin, files: usize) -> Result<(), ObjectFault>
 
 /// Refuses a part that names what isn't there in the object of which this is kept.
 #[tactic(auto, unfolding(crate::specs::Scanning::known_parts))]
-pub fn check_parts(kept: &Kept, origin: Origin, form: &Norm) -> Result<(), ObjectFault>
+pub fn check_parts(kept: &ScanState, origin: Origin, form: &Norm) -> Result<(), ObjectFault>
     ensures { result ≡ known_parts (length kept.now.files.keys) (length kept.now.rooms.items)
         (length kept.now.imports.keys) origin form.now }
 {
@@ -80,7 +80,7 @@ pub fn check_open_form(form: &Norm) -> Result<(), ObjectFault>
 
 /// How many bytes the body of a FILL asks for.
 fn read_fill(body: &[u8]) -> Result<u32, ObjectFault>
-    ensures { Gives is_memory (λ n. n) result (fill_of body.now) }
+    ensures { Refines is_memory (λ n. n) result (fill_of body.now) }
 {
     if body.len() != 4 {
         return Err(ObjectFault::BadSize);
@@ -96,10 +96,10 @@ fn read_fill(body: &[u8]) -> Result<u32, ObjectFault>
 #[tactic(auto, unfolding(crate::specs::Scanning::room_literal))]
 pub fn room_with_literal(
     alloc: Global,
-    room: Room,
+    room: SectionFill,
     body: &[u8],
-) -> Result<(Room, Fragment), ObjectFault>
-    ensures { Gives is_memory (λ x. x) result (room_literal body.now room) }
+) -> Result<(SectionFill, Fragment), ObjectFault>
+    ensures { Refines is_memory (λ x. x) result (room_literal body.now room) }
 {
     check(!body.is_empty(), ObjectFault::BadSize)?;
     let left = room.size.saturating_sub(room.filled);
@@ -110,19 +110,22 @@ pub fn room_with_literal(
     } else {
         Last::Short
     };
-    let grown = room_behind(room, body.len() as u32, last);
-    Ok((grown, Fragment::Literal(Sequence::copy_of(alloc, body)?)))
+    let grown = room_after(room, body.len() as u32, last);
+    Ok((grown, Fragment::Literal(ListVec::copy_of(alloc, body)?)))
 }
 
 /// Adds a FILL to a section.
 #[tactic(auto, unfolding(crate::specs::Scanning::room_fill))]
-pub fn room_with_fill(room: Room, body: &[u8]) -> Result<(Room, Fragment), ObjectFault>
-    ensures { Gives is_memory (λ x. x) result (room_fill body.now room) }
+pub fn room_with_fill(
+    room: SectionFill,
+    body: &[u8],
+) -> Result<(SectionFill, Fragment), ObjectFault>
+    ensures { Refines is_memory (λ x. x) result (room_fill body.now room) }
 {
     let count = read_fill(body)?;
     check_room(room, count)?;
     check(room.last != Last::Fill, ObjectFault::NotCanonical)?;
-    Ok((room_behind(room, count, Last::Fill), Fragment::Fill(count)))
+    Ok((room_after(room, count, Last::Fill), Fragment::Fill(count)))
 }
 
 /// The width of a code.
@@ -132,7 +135,7 @@ fn width_at(code: u8) -> Result<Width, ObjectFault>
     match code {
         0 => Ok(Width::Byte),
         1 => Ok(Width::Word),
-        2 => Ok(Width::HighFirst),
+        2 => Ok(Width::BigEndianWord),
         3 => Ok(Width::Dword),
         4 => Ok(Width::Branch),
         _ => Err(ObjectFault::BadSize),
@@ -145,7 +148,7 @@ pub fn width_size(width: Width) -> u32
 {
     match width {
         Width::Byte | Width::Branch => 1,
-        Width::Word | Width::HighFirst => 2,
+        Width::Word | Width::BigEndianWord => 2,
         Width::Dword => 4,
     }
 }
@@ -153,7 +156,7 @@ pub fn width_size(width: Width) -> u32
 /// The width, the origin and the form in the body of a VALUE.
 #[tactic(auto, unfolding(crate::specs::Bodies::value_of))]
 fn read_value(alloc: Global, version: u8, body: &[u8]) -> Result<(Width, Origin, Norm), ObjectFault>
-    ensures { Gives is_memory (λ x. x) result (value_of version body.now) }
+    ensures { Refines is_memory (λ x. x) result (value_of version body.now) }
 {
     let (code, rest) = byte_at(body)?;
     let width = width_at(code)?;
@@ -165,11 +168,11 @@ fn read_value(alloc: Global, version: u8, body: &[u8]) -> Result<(Width, Origin,
 /// Adds a VALUE to a section of the object of which this is kept.
 #[tactic(auto, unfolding(crate::specs::Scanning::room_value))]
 pub fn room_with_value(
-    kept: &Kept,
-    room: Room,
+    kept: &ScanState,
+    room: SectionFill,
     body: &[u8],
-) -> Result<(Room, Fragment), ObjectFault>
-    ensures { Gives is_memory (λ x. x) result
+) -> Result<(SectionFill, Fragment), ObjectFault>
+    ensures { Refines is_memory (λ x. x) result
         (room_value kept.now.version (length kept.now.files.keys) (length kept.now.rooms.items)
         (length kept.now.imports.keys) body.now room) }
 {
@@ -178,7 +181,7 @@ pub fn room_with_value(
     check_room(room, len)?;
     check_parts(kept, origin, &form)?;
     check_open_form(&form)?;
-    let grown = room_behind(room, len, Last::Other);
+    let grown = room_after(room, len, Last::Other);
     let value = Fragment::Value {
         width,
         origin,

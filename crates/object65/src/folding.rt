@@ -2,7 +2,7 @@
 
 ghost use Rattle.std.specs.Prelude.{◌≡◌, ◌&&◌, not, nat_le};
 ghost use Rattle.object65.specs.declared.folding.FormFault.TheVariants.{OutOfMemory};
-ghost use Rattle.object65.specs.Record.{Gives};
+ghost use Rattle.object65.specs.Record.{Refines};
 ghost use Rattle.object65.specs.Folding.{lacks_memory, fold1, fold_any, fold_sum, fold_difference, fold2, is_within, is_normal, is_literal, folds1, folds2, node_limit};
 ghost use Rattle.object65.specs.Form.{nodes};
 
@@ -40,13 +40,13 @@ impl<T: Drop> From<AllocFailed<T>> for FormFault {
 impl Norm {
     /// The form of a prefix operation on a form.
     pub fn prefix(alloc: Global, op: Op1, part: Norm) -> Result<Norm, FormFault>
-        ensures { Gives lacks_memory (λ f. f) result (fold1 op part) }
+        ensures { Refines lacks_memory (λ f. f) result (fold1 op part) }
     {
         if let Op1::Plus = op {
             return Ok(part);
         }
-        if let Node::Lit(value) = part.node() {
-            return Ok(Norm::new(Node::Lit(apply1(op, *value))));
+        if let Node::NumberNode(value) = part.node() {
+            return Ok(Norm::new(Node::NumberNode(apply1(op, *value))));
         }
         if count(&part) >= NODE_LIMIT {
             return Err(FormFault::TooLarge);
@@ -56,7 +56,7 @@ impl Norm {
 
     /// The form of an operation on two forms.
     pub fn binary(alloc: Global, op: Op2, left: Norm, right: Norm) -> Result<Norm, FormFault>
-        ensures { Gives lacks_memory (λ f. f) result (fold2 op left right) }
+        ensures { Refines lacks_memory (λ f. f) result (fold2 op left right) }
     {
         match op {
             Op2::Add => fold_sum(alloc, left, right),
@@ -68,11 +68,11 @@ impl Norm {
 
 /// An operation that only numbers fold.
 fn fold_any(alloc: Global, op: Op2, left: Norm, right: Norm) -> Result<Norm, FormFault>
-    ensures { Gives lacks_memory (λ f. f) result (fold_any op left right) }
+    ensures { Refines lacks_memory (λ f. f) result (fold_any op left right) }
 {
-    if let (Node::Lit(a), Node::Lit(b)) = (left.node(), right.node()) {
+    if let (Node::NumberNode(a), Node::NumberNode(b)) = (left.node(), right.node()) {
         return match apply2(op, *a, *b) {
-            Some(value) => Ok(Norm::new(Node::Lit(value))),
+            Some(value) => Ok(Norm::new(Node::NumberNode(value))),
             None => Err(FormFault::NoValue),
         };
     }
@@ -86,12 +86,12 @@ fn fold_any(alloc: Global, op: Op2, left: Norm, right: Norm) -> Result<Norm, For
 
 /// A sum, which a place and a number fold.
 fn fold_sum(alloc: Global, left: Norm, right: Norm) -> Result<Norm, FormFault>
-    ensures { Gives lacks_memory (λ f. f) result (fold_sum left right) }
+    ensures { Refines lacks_memory (λ f. f) result (fold_sum left right) }
 {
     match (left.node(), right.node()) {
-        (Node::Sec(section, offset), Node::Lit(number))
-        | (Node::Lit(number), Node::Sec(section, offset)) => {
-            Ok(Norm::new(Node::Sec(*section, offset.wrapping_add(*number))))
+        (Node::SectionOffset(section, offset), Node::NumberNode(number))
+        | (Node::NumberNode(number), Node::SectionOffset(section, offset)) => {
+            Ok(Norm::new(Node::SectionOffset(*section, offset.wrapping_add(*number))))
         }
         _ => fold_any(alloc, Op2::Add, left, right),
     }
@@ -99,14 +99,14 @@ fn fold_sum(alloc: Global, left: Norm, right: Norm) -> Result<Norm, FormFault>
 
 /// A difference, which two places of one section and a place and a number fold.
 fn fold_difference(alloc: Global, left: Norm, right: Norm) -> Result<Norm, FormFault>
-    ensures { Gives lacks_memory (λ f. f) result (fold_difference left right) }
+    ensures { Refines lacks_memory (λ f. f) result (fold_difference left right) }
 {
     match (left.node(), right.node()) {
-        (Node::Sec(k, a), Node::Sec(m, b)) if *k == *m => {
-            Ok(Norm::new(Node::Lit(a.wrapping_sub(*b))))
+        (Node::SectionOffset(k, a), Node::SectionOffset(m, b)) if *k == *m => {
+            Ok(Norm::new(Node::NumberNode(a.wrapping_sub(*b))))
         }
-        (Node::Sec(section, offset), Node::Lit(number)) => {
-            Ok(Norm::new(Node::Sec(*section, offset.wrapping_sub(*number))))
+        (Node::SectionOffset(section, offset), Node::NumberNode(number)) => {
+            Ok(Norm::new(Node::SectionOffset(*section, offset.wrapping_sub(*number))))
         }
         _ => fold_any(alloc, Op2::Subtract, left, right),
     }
@@ -117,9 +117,9 @@ pub fn are_there(form: &Norm, sections: usize, imports: usize) -> bool
     ensures { result ≡ is_within sections imports form.now }
 {
     match form.node() {
-        Node::Lit(_) => true,
-        Node::Sec(section, _) => (*section as usize) < sections,
-        Node::Imp(place) => (*place as usize) < imports,
+        Node::NumberNode(_) => true,
+        Node::SectionOffset(section, _) => (*section as usize) < sections,
+        Node::ImportedName(place) => (*place as usize) < imports,
         Node::Prefix(_, part) => are_there(part, sections, imports),
         Node::Binary(_, left, right) => {
             are_there(left, sections, imports) && are_there(right, sections, imports)
@@ -131,7 +131,7 @@ pub fn are_there(form: &Norm, sections: usize, imports: usize) -> bool
 pub fn is_number(form: &Norm) -> bool
     ensures { result ≡ is_literal form.now }
 {
-    matches!(form.node(), Node::Lit(_))
+    matches!(form.node(), Node::NumberNode(_))
 }
 
 /// Whether a prefix operation on the form would be folded.
@@ -154,11 +154,12 @@ fn folds_binary(op: Op2, left: &Norm, right: &Norm) -> bool
     match op {
         Op2::Add => matches!(
             (left.node(), right.node()),
-            (Node::Sec(..), Node::Lit(_)) | (Node::Lit(_), Node::Sec(..))
+            (Node::SectionOffset(..), Node::NumberNode(_))
+                | (Node::NumberNode(_), Node::SectionOffset(..))
         ),
         Op2::Subtract => match (left.node(), right.node()) {
-            (Node::Sec(k, _), Node::Sec(m, _)) => *k == *m,
-            (Node::Sec(..), Node::Lit(_)) => true,
+            (Node::SectionOffset(k, _), Node::SectionOffset(m, _)) => *k == *m,
+            (Node::SectionOffset(..), Node::NumberNode(_)) => true,
             _ => false,
         },
         _ => false,
@@ -170,7 +171,7 @@ pub fn is_folded(form: &Norm) -> bool
     ensures { result ≡ is_normal form.now }
 {
     match form.node() {
-        Node::Lit(_) | Node::Sec(_, _) | Node::Imp(_) => true,
+        Node::NumberNode(_) | Node::SectionOffset(_, _) | Node::ImportedName(_) => true,
         Node::Prefix(op, part) => is_folded(part) && !folds_prefix(*op, part),
         Node::Binary(op, left, right) => {
             is_folded(left) && is_folded(right) && !folds_binary(*op, left, right)

@@ -23,11 +23,11 @@ pub struct Norm {
 #[cycle(norm)]
 pub enum Node {
     /// A number.
-    Lit(i64),
+    NumberNode(i64),
     /// A place in a section: the section's number and an offset.
-    Sec(u32, i64),
+    SectionOffset(u32, i64),
     /// The value of an import, by its number.
-    Imp(u32),
+    ImportedName(u32),
     Prefix(Op1, Box<Norm>),
     Binary(Op2, Box<Norm>, Box<Norm>),
 }
@@ -63,9 +63,9 @@ impl Norm {
         ensures { IfOk result (λ f. f ≡ form.now) }
     {
         let node = match form.node() {
-            Node::Lit(value) => Node::Lit(*value),
-            Node::Sec(section, offset) => Node::Sec(*section, *offset),
-            Node::Imp(place) => Node::Imp(*place),
+            Node::NumberNode(value) => Node::NumberNode(*value),
+            Node::SectionOffset(section, offset) => Node::SectionOffset(*section, *offset),
+            Node::ImportedName(place) => Node::ImportedName(*place),
             Node::Prefix(op, part) => {
                 let part = Norm::copy_of(alloc, part)?;
                 Node::Prefix(*op, Box::new(alloc, part)?)
@@ -92,7 +92,7 @@ pub fn count(form: &Norm) -> u32
     ensures { result ≡ min (nodes form.now) (2 ^ 32 - 1) }
 {
     match &form.node {
-        Node::Lit(_) | Node::Sec(_, _) | Node::Imp(_) => 1,
+        Node::NumberNode(_) | Node::SectionOffset(_, _) | Node::ImportedName(_) => 1,
         Node::Prefix(_, part) => count(part).saturating_add(1),
         Node::Binary(_, left, right) => count(left).saturating_add(count(right)).saturating_add(1),
     }

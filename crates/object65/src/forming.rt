@@ -3,7 +3,7 @@
 ghost use Rattle.std.specs.Prelude.{◌≡◌, ◌≤◌, ◌+◌, length, Ok, IfOk, IfSome, take, drop};
 ghost use Rattle.std.specs.Int.{w64, cast_signed};
 ghost use Rattle.object65.specs.Bodies.{number_at, text_at, counted_at, op1_at, op2_at, operation_at, form_of_code, form_at, form_of_all, signed_at, line_at, file_line_at, origin_at};
-ghost use Rattle.object65.specs.Record.{Gives, is_memory};
+ghost use Rattle.object65.specs.Record.{Refines, is_memory};
 
 use crate::{Node, Norm, ObjectFault, Origin};
 use base65::{Op1, Op2};
@@ -12,7 +12,7 @@ use std::alloc::Global;
 
 /// The byte at the front, and what follows.
 pub fn byte_at(bytes: &[u8]) -> Result<(u8, &[u8]), ObjectFault>
-    ensures { Gives is_memory (λ x. (x.0, x.1.now)) result (number_at 1 bytes.now) }
+    ensures { Refines is_memory (λ x. (x.0, x.1.now)) result (number_at 1 bytes.now) }
 {
     if bytes.is_empty() {
         return Err(ObjectFault::BadSize);
@@ -23,7 +23,7 @@ pub fn byte_at(bytes: &[u8]) -> Result<(u8, &[u8]), ObjectFault>
 
 /// The number of four bytes at the front, and what follows.
 pub fn u32_at(bytes: &[u8]) -> Result<(u32, &[u8]), ObjectFault>
-    ensures { Gives is_memory (λ x. (x.0, x.1.now)) result (number_at 4 bytes.now) }
+    ensures { Refines is_memory (λ x. (x.0, x.1.now)) result (number_at 4 bytes.now) }
 {
     if bytes.len() < 4 {
         return Err(ObjectFault::BadSize);
@@ -34,7 +34,7 @@ pub fn u32_at(bytes: &[u8]) -> Result<(u32, &[u8]), ObjectFault>
 
 #[tactic(auto, unfolding(crate::specs::Bodies::line_at))]
 fn line_at(bytes: &[u8]) -> Result<(Origin, &[u8]), ObjectFault>
-    ensures { Gives is_memory (λ x. (x.0, x.1.now)) result (line_at bytes.now) }
+    ensures { Refines is_memory (λ x. (x.0, x.1.now)) result (line_at bytes.now) }
 {
     let (line, rest) = u32_at(bytes)?;
     Ok((Origin { file: None, line }, rest))
@@ -42,7 +42,7 @@ fn line_at(bytes: &[u8]) -> Result<(Origin, &[u8]), ObjectFault>
 
 #[tactic(auto, unfolding(crate::specs::Bodies::file_line_at))]
 fn file_line_at(bytes: &[u8]) -> Result<(Origin, &[u8]), ObjectFault>
-    ensures { Gives is_memory (λ x. (x.0, x.1.now)) result (file_line_at bytes.now) }
+    ensures { Refines is_memory (λ x. (x.0, x.1.now)) result (file_line_at bytes.now) }
 {
     let (file, rest) = u32_at(bytes)?;
     let (line, rest) = u32_at(rest)?;
@@ -55,7 +55,7 @@ fn file_line_at(bytes: &[u8]) -> Result<(Origin, &[u8]), ObjectFault>
 
 /// The origin at the front of bytes in an object of this version, and what follows.
 pub fn origin_at(version: u8, bytes: &[u8]) -> Result<(Origin, &[u8]), ObjectFault>
-    ensures { Gives is_memory (λ x. (x.0, x.1.now)) result (origin_at version bytes.now) }
+    ensures { Refines is_memory (λ x. (x.0, x.1.now)) result (origin_at version bytes.now) }
 {
     if version == 1 {
         line_at(bytes)
@@ -66,7 +66,7 @@ pub fn origin_at(version: u8, bytes: &[u8]) -> Result<(Origin, &[u8]), ObjectFau
 
 /// The number of eight bytes in two's complement at the front, and what follows.
 fn i64_at(bytes: &[u8]) -> Result<(i64, &[u8]), ObjectFault>
-    ensures { Gives is_memory (λ x. (x.0, x.1.now)) result (signed_at bytes.now) }
+    ensures { Refines is_memory (λ x. (x.0, x.1.now)) result (signed_at bytes.now) }
 {
     if bytes.len() < 8 {
         return Err(ObjectFault::BadSize);
@@ -78,7 +78,7 @@ fn i64_at(bytes: &[u8]) -> Result<(i64, &[u8]), ObjectFault>
 /// So many bytes as a byte at the front says, and what follows.
 #[tactic(auto, unfolding(crate::specs::Bodies::counted_at))]
 pub fn text_of(bytes: &[u8]) -> Result<(&[u8], &[u8]), ObjectFault>
-    ensures text { Gives is_memory (λ x. (x.0.now, x.1.now)) result (counted_at bytes.now) }
+    ensures text { Refines is_memory (λ x. (x.0.now, x.1.now)) result (counted_at bytes.now) }
     ensures short { IfOk result (λ x. length x.0.now ≤ 255) }
 {
     let (len, rest) = byte_at(bytes)?;
@@ -140,7 +140,7 @@ fn read_operation(
     bytes: &[u8],
     depth: usize,
 ) -> Result<(Norm, &[u8]), ObjectFault>
-    ensures { Gives is_memory (λ x. (x.0, x.1.now)) result
+    ensures { Refines is_memory (λ x. (x.0, x.1.now)) result
         (operation_at (λ xs. form_at depth xs) (op1_at code) (op2_at code) bytes.now) }
 {
     if let Some(op) = prefix_of(code) {
@@ -161,28 +161,28 @@ fn read_operation(
 /// The form of a code, behind which these bytes stand.
 #[cycle(form)]
 #[tactic(auto, unfolding(crate::specs::Bodies::lit_at, crate::specs::Bodies::sec_at, crate::specs::Bodies::imp_at))]
-fn read_behind(
+fn read_after(
     alloc: Global,
     code: u8,
     bytes: &[u8],
     depth: usize,
 ) -> Result<(Norm, &[u8]), ObjectFault>
-    ensures { Gives is_memory (λ x. (x.0, x.1.now)) result
+    ensures { Refines is_memory (λ x. (x.0, x.1.now)) result
         (form_of_code (λ xs. form_at depth xs) code bytes.now) }
 {
     match code {
         0x00 => {
             let (value, rest) = i64_at(bytes)?;
-            Ok((Norm::new(Node::Lit(value)), rest))
+            Ok((Norm::new(Node::NumberNode(value)), rest))
         }
         0x01 => {
             let (section, rest) = u32_at(bytes)?;
             let (offset, rest) = i64_at(rest)?;
-            Ok((Norm::new(Node::Sec(section, offset)), rest))
+            Ok((Norm::new(Node::SectionOffset(section, offset)), rest))
         }
         0x02 => {
             let (place, rest) = u32_at(bytes)?;
-            Ok((Norm::new(Node::Imp(place)), rest))
+            Ok((Norm::new(Node::ImportedName(place)), rest))
         }
         _ => read_operation(alloc, code, bytes, depth),
     }
@@ -191,19 +191,19 @@ fn read_behind(
 /// The form at the front, of at most so many nodes one within the other, and what follows.
 #[cycle(form)]
 fn read_form(alloc: Global, bytes: &[u8], depth: usize) -> Result<(Norm, &[u8]), ObjectFault>
-    ensures { Gives is_memory (λ x. (x.0, x.1.now)) result (form_at depth bytes.now) }
+    ensures { Refines is_memory (λ x. (x.0, x.1.now)) result (form_at depth bytes.now) }
 {
     if depth == 0 || bytes.is_empty() {
         return Err(ObjectFault::BadSize);
     }
     let (front, rest) = bytes.split_at(1);
-    read_behind(alloc, front[0], rest, depth - 1)
+    read_after(alloc, front[0], rest, depth - 1)
 }
 
 /// The form that takes all the bytes.
 #[tactic(auto, unfolding(crate::specs::Bodies::form_of_all))]
 pub fn form_of(alloc: Global, bytes: &[u8]) -> Result<Norm, ObjectFault>
-    ensures { Gives is_memory (λ f. f) result (form_of_all bytes.now) }
+    ensures { Refines is_memory (λ f. f) result (form_of_all bytes.now) }
 {
     let (form, rest) = read_form(alloc, bytes, bytes.len())?;
     if !rest.is_empty() {

@@ -1,6 +1,6 @@
 //! What holds of objects and their bytes, whatever wrote them, and of forms. Each function's contract is a law.
 
-ghost use Rattle.object65.specs.Laws.{ReadLaw, SomeFoldLaw, SomeObjectLaw, SomePartLaw, SpellingLaw, PrefixLaw, OneSpellingLaw, NumberLaw, ItemsLaw, VersionLaw, PrefixFoldLaw, BinaryFoldLaw, NormalLaw, StaysLaw};
+ghost use Rattle.object65.specs.Laws.{ReadLaw, FoldExists, ObjectExists, PartExists, SpellingLaw, PrefixLaw, SpellingIsUnique, NumberIsUnique, ItemsLaw, VersionLaw, PrefixFoldLaw, BinaryFoldLaw, NormalLaw, StaysLaw};
 
 /// What is read as an object is spelled so.
 pub fn read_is_spelled()
@@ -13,14 +13,14 @@ pub fn spelled_is_read()
 {}
 
 /// Any bytes are read as an object, or refused for a fault of their own.
-pub fn some_object()
-    ensures { SomeObjectLaw }
+pub fn object_exists()
+    ensures { ObjectExists }
 {}
 
 /// So are a head, a record and an end; and whatever was taken of an object, any record is taken, or refused for a
 /// fault of its own.
-pub fn some_part()
-    ensures { SomePartLaw }
+pub fn part_exists()
+    ensures { PartExists }
 {}
 
 /// No spelling is a proper prefix of another, and none is that of two objects.
@@ -29,13 +29,13 @@ pub fn no_spelling_begins_another()
 {}
 
 /// No object has two spellings.
-pub fn one_spelling()
-    ensures { OneSpellingLaw }
+pub fn spelling_is_unique()
+    ensures { SpellingIsUnique }
 {}
 
 /// No other bytes of the same length give a number.
-pub fn one_number()
-    ensures { NumberLaw }
+pub fn number_is_unique()
+    ensures { NumberIsUnique }
 {}
 
 /// The items that a scan gives make the object that a builder makes of the same records, and it refuses what a
@@ -62,8 +62,8 @@ pub fn binary_keeps_its_value<E>()
 {}
 
 /// Any operation on forms has a form, or a fault that isn't want of memory.
-pub fn some_fold()
-    ensures { SomeFoldLaw }
+pub fn fold_exists()
+    ensures { FoldExists }
 {}
 
 /// What folding gives can't be folded any more and has at most 255 nodes.

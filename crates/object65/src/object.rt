@@ -1,7 +1,7 @@
 //! An object as a value.
 
 use crate::Norm;
-use base65::Sequence;
+use base65::ListVec;
 
 /// A module in parts.
 #[derive(Drop)]
@@ -9,30 +9,30 @@ pub struct Object {
     /// The version of its bytes, 1 or 2.
     pub version: u8,
     /// The names of the files in which its parts stand; origins name them by their places here. Version 1 has none.
-    pub files: Sequence<Sequence<u8>>,
+    pub files: ListVec<ListVec<u8>>,
     /// The names that the module uses and doesn't define; forms name them by their places here.
-    pub imports: Sequence<Sequence<u8>>,
+    pub imports: ListVec<ListVec<u8>>,
     /// Forms name sections by their places here.
-    pub sections: Sequence<Section>,
-    pub exports: Sequence<Export>,
-    pub asserts: Sequence<Assert>,
+    pub sections: ListVec<Section>,
+    pub exports: ListVec<Export>,
+    pub asserts: ListVec<Assert>,
 }
 
 /// What a module adds to a segment.
 #[derive(Drop)]
 pub struct Section {
     /// The segment's name.
-    pub name: Sequence<u8>,
+    pub name: ListVec<u8>,
     /// The power of two to a multiple of which the section is placed.
     pub align: u8,
-    pub fragments: Sequence<Fragment>,
+    pub fragments: ListVec<Fragment>,
 }
 
 /// A piece of a section.
 #[derive(Drop)]
 pub enum Fragment {
     /// Bytes that are known.
-    Literal(Sequence<u8>),
+    Literal(ListVec<u8>),
     /// So many bytes of the linker's fill value.
     Fill(u32),
     /// A value that the linker computes, and where its statement stands.
@@ -59,7 +59,7 @@ pub enum Width {
     /// Two bytes, the low one first.
     Word = 1,
     /// Two bytes, the high one first.
-    HighFirst = 2,
+    BigEndianWord = 2,
     /// Four bytes, the low one first.
     Dword = 3,
     /// One byte in two's complement, -128 to 127.
@@ -69,7 +69,7 @@ pub enum Width {
 /// A name that a module defines for others, and where that is said.
 #[derive(Drop)]
 pub struct Export {
-    pub name: Sequence<u8>,
+    pub name: ListVec<u8>,
     pub origin: Origin,
     pub form: Norm,
 }
@@ -80,7 +80,7 @@ pub struct Assert {
     pub action: Action,
     pub origin: Origin,
     /// What is printed where the form is 0.
-    pub text: Sequence<u8>,
+    pub text: ListVec<u8>,
     pub form: Norm,
 }
 

@@ -2,12 +2,12 @@
 
 ghost use Rattle.std.specs.Prelude.{◌≡◌, ◌≤◌, ◌+◌, ◌-◌, true, length, IfOk, IfSome, IsErrOf};
 ghost use Rattle.std.specs.FinMap as map;
-ghost use Rattle.base65.specs.Store.{Asks, HoldsBytes, IsBlamedIn};
-ghost use Rattle.base65.specs.StoreFaults.{is_outside_store};
-ghost use Rattle.object65.specs.Record.{Gives, is_outside, is_version};
-ghost use Rattle.object65.specs.Reading.{Leaves, in_file, head_at, end_at, IsRoomRead, records_at, object_at};
+ghost use Rattle.base65.specs.Store.{FailsAtLastCount, HoldsBytes, FailedWithin};
+ghost use Rattle.base65.specs.StoreFaults.{is_store_system_error};
+ghost use Rattle.object65.specs.Record.{Refines, is_system_error, is_version};
+ghost use Rattle.object65.specs.Reading.{StoreFrame, in_file, head_at, end_at, IsRoomRead, records_at, object_at};
 ghost use Rattle.std.specs.List.{AllByRecursion};
-ghost use Rattle.object65.specs.Objects.{is_good_object, section_len, section_limit};
+ghost use Rattle.object65.specs.Objects.{is_well_formed_object, section_len, section_limit};
 ghost use Rattle.object65.specs.Scanning.{start};
 ghost use Rattle.object65.specs.declared.fault.ObjectFault.TheVariants.{FileError};
 
@@ -30,10 +30,10 @@ pub fn read_room<S: Store>(
         (λ m. IsRoomRead (map.get m name.now) at limit buf.new result) }
     ensures bytes { IfSome (S.files store.old)
         (λ m. HoldsBytes (map.get m name.now) result) }
-    ensures kept { Leaves S.files S.failures S.blamed StoreFault.FileError name.now store.old
+    ensures frame { StoreFrame S.files S.failures S.last_failure StoreFault.FileError name.now store.old
         store.new result }
-    ensures within { IsErrOf result StoreFault.FileError → at ≤ limit → IsBlamedIn (S.blamed store.new) name.now at limit }
-    ensures asked { Asks is_outside_store (S.failures store.old) result }
+    ensures within { IsErrOf result StoreFault.FileError → at ≤ limit → FailedWithin (S.last_failure store.new) name.now at limit }
+    ensures at_last_count { FailsAtLastCount is_store_system_error (S.failures store.old) result }
 {
     let room = limit.saturating_sub(at);
     let want = room.min(buf.len() as u64) as usize;
@@ -48,13 +48,13 @@ pub fn read_head<S: Store>(
     limit: u64,
 ) -> Result<(u8, u64), ObjectFault>
     ensures read { IfSome (S.files store.old)
-        (λ m. Gives is_outside (λ x. x) result (in_file (map.get m name.now) (head_at at limit))) }
+        (λ m. Refines is_system_error (λ x. x) result (in_file (map.get m name.now) (head_at at limit))) }
     ensures bytes { IfSome (S.files store.old)
         (λ m. HoldsBytes (map.get m name.now) result) }
-    ensures kept { Leaves S.files S.failures S.blamed FileError name.now store.old store.new
+    ensures frame { StoreFrame S.files S.failures S.last_failure FileError name.now store.old store.new
         result }
-    ensures within { IsErrOf result ObjectFault.FileError → at ≤ limit → IsBlamedIn (S.blamed store.new) name.now at limit }
-    ensures asked { Asks is_outside (S.failures store.old) result }
+    ensures within { IsErrOf result ObjectFault.FileError → at ≤ limit → FailedWithin (S.last_failure store.new) name.now at limit }
+    ensures at_last_count { FailsAtLastCount is_system_error (S.failures store.old) result }
     ensures version { IfOk result (λ x. is_version x.0 ≡ true) }
     ensures bound { IfOk result (λ x. (x.1 ≡ at + 5) × (x.1 ≤ limit)) }
 {
@@ -71,11 +71,11 @@ pub fn check_end<S: Store>(
     limit: u64,
 ) -> Result<(), ObjectFault>
     ensures read { IfSome (S.files store.old)
-        (λ m. Gives is_outside (λ u. u) result (in_file (map.get m name.now) (end_at at limit))) }
-    ensures kept { Leaves S.files S.failures S.blamed FileError name.now store.old store.new
+        (λ m. Refines is_system_error (λ u. u) result (in_file (map.get m name.now) (end_at at limit))) }
+    ensures frame { StoreFrame S.files S.failures S.last_failure FileError name.now store.old store.new
         result }
-    ensures within { IsErrOf result ObjectFault.FileError → at ≤ limit → IsBlamedIn (S.blamed store.new) name.now at limit }
-    ensures asked { Asks is_outside (S.failures store.old) result }
+    ensures within { IsErrOf result ObjectFault.FileError → at ≤ limit → FailedWithin (S.last_failure store.new) name.now at limit }
+    ensures at_last_count { FailsAtLastCount is_system_error (S.failures store.old) result }
 {
     let mut next = [0u8; 1];
     let n = read_room(store, name, at, limit, &mut next)?;
@@ -95,10 +95,10 @@ fn read_records<S: Store>(
 ) -> Result<(Builder, u64), ObjectFault>
     requires { is_version head.0 ≡ true }
     ensures read { IfSome (S.files store.old)
-        (λ m. Gives is_outside (λ x. x) result
+        (λ m. Refines is_system_error (λ x. x) result
         (in_file (map.get m name.now) (λ bytes.
         records_at (length bytes) (start head.0) head.1 limit bytes))) }
-    ensures kept { Leaves S.files S.failures S.blamed FileError name.now store.old store.new
+    ensures frame { StoreFrame S.files S.failures S.last_failure FileError name.now store.old store.new
         result }
 {
     let (version, first) = head;
@@ -124,15 +124,15 @@ pub fn read_object<S: Store>(
     limit: u64,
 ) -> Result<Object, ObjectFault>
     ensures read { IfSome (S.files store.old)
-        (λ m. Gives is_outside (λ o. o) result
+        (λ m. Refines is_system_error (λ o. o) result
         (in_file (map.get m name.now) (object_at at limit))) }
     ensures bytes { IfSome (S.files store.old)
         (λ m. HoldsBytes (map.get m name.now) result) }
-    ensures kept { Leaves S.files S.failures S.blamed FileError name.now store.old store.new
+    ensures frame { StoreFrame S.files S.failures S.last_failure FileError name.now store.old store.new
         result }
-    ensures asked { Asks is_outside (S.failures store.old) result }
+    ensures at_last_count { FailsAtLastCount is_system_error (S.failures store.old) result }
     // What is read can be written, and so its sections are within their limit, also where the store doesn't tell.
-    ensures good { IfOk result (λ o. is_good_object o ≡ true) }
+    ensures good { IfOk result (λ o. is_well_formed_object o ≡ true) }
     ensures sized { IfOk result (λ o. AllByRecursion
         (λ s. section_len s ≤ section_limit) o.sections) }
 {

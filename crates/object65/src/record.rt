@@ -2,7 +2,7 @@
 
 use crate::{Action, Fragment, Norm, Origin};
 use arrayvec::ArrayVec;
-use base65::Sequence;
+use base65::ListVec;
 
 /// One record of an object.
 #[derive(Drop)]
@@ -15,17 +15,17 @@ pub struct Record {
 #[derive(Drop)]
 pub enum Item {
     /// The name of a file.
-    File(Sequence<u8>),
+    File(ListVec<u8>),
     /// The name of an import.
-    Import(Sequence<u8>),
+    Import(ListVec<u8>),
     /// A section's name, its size, and the power of two to a multiple of which it is placed.
-    Section(Sequence<u8>, u32, u8),
+    Section(ListVec<u8>, u32, u8),
     /// A section's place, an offset in it, and what stands there: of a literal the bytes of this record.
     Part(usize, u32, Fragment),
     /// A name that the module defines for others, where that is said, and its value.
-    Export(Sequence<u8>, Origin, Norm),
+    Export(ListVec<u8>, Origin, Norm),
     /// What follows where the form is 0, where it stands, the text that is printed, and the form.
-    Assert(Action, Origin, Sequence<u8>, Norm),
+    Assert(Action, Origin, ListVec<u8>, Norm),
     /// The object ends.
     End,
 }

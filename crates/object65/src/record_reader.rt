@@ -2,9 +2,9 @@
 
 ghost use Rattle.std.specs.Prelude.{◌≡◌, ◌≤◌, ◌<◌, ◌+◌, ◌-◌, ◌^◌, [], Ok, length, false, IfOk, IfErr, IfSome, IsErrOf, OnOk, OnErr, take};
 ghost use Rattle.std.specs.FinMap as map;
-ghost use Rattle.base65.specs.Store.{Asks, IsBlamedIn};
-ghost use Rattle.object65.specs.Record.{Gives, is_memory, is_outside, entry_of};
-ghost use Rattle.object65.specs.Reading.{Leaves, IsAhead, from_place, has_record, record_in, in_file, record_at, room, file_limit};
+ghost use Rattle.base65.specs.Store.{FailsAtLastCount, FailedWithin};
+ghost use Rattle.object65.specs.Record.{Refines, is_memory, is_system_error, entry_of};
+ghost use Rattle.object65.specs.Reading.{StoreFrame, IsAhead, from_place, has_record, record_in, in_file, record_at, bytes_before, file_limit};
 ghost use Rattle.object65.specs.declared.fault.ObjectFault.TheVariants.{FileError};
 
 use crate::decoding::decode;
@@ -34,10 +34,10 @@ pub struct RecordReader {
 impl Model for RecordReader {
     ghost use Rattle.std.specs.Prelude.{take};
     ghost use Rattle.object65.specs.Record.{entry_of};
-    ghost use Rattle.object65.specs.Reading.{Reader};
+    ghost use Rattle.object65.specs.Reading.{RecordReaderView};
     ghost use Rattle.std.specs.Coded.{codes};
 
-    ghost Value = { Reader };
+    ghost Value = { RecordReaderView };
 
     ghost coded = { Prim.hlevel codes };
 
@@ -108,12 +108,12 @@ impl RecordReader {
         limit: u64,
     ) -> Result<(), ObjectFault>
         ensures read { IfSome (S.files store.old)
-            (λ m. Gives is_outside (λ _. self.new.ahead) result
-            (in_file (map.get m name.now) (λ bytes. Ok (take 8192 (room bytes at limit))))) }
-        ensures kept { Leaves S.files S.failures S.blamed FileError name.now store.old store.new
+            (λ m. Refines is_system_error (λ _. self.new.ahead) result
+            (in_file (map.get m name.now) (λ bytes. Ok (take 8192 (bytes_before bytes at limit))))) }
+        ensures frame { StoreFrame S.files S.failures S.last_failure FileError name.now store.old store.new
             result }
-        ensures within { IsErrOf result ObjectFault.FileError → at ≤ limit → IsBlamedIn (S.blamed store.new) name.now at limit }
-        ensures asked { Asks is_outside (S.failures store.old) result }
+        ensures within { IsErrOf result ObjectFault.FileError → at ≤ limit → FailedWithin (S.last_failure store.new) name.now at limit }
+        ensures at_last_count { FailsAtLastCount is_system_error (S.failures store.old) result }
         ensures begin { OnOk result (self.new.begin ≡ at) }
         ensures none { OnErr result (self.new.ahead ≡ []) }
         ensures room { OnOk result (length self.new.ahead ≤ limit - at) }
@@ -136,14 +136,14 @@ impl RecordReader {
         limit: u64,
     ) -> Result<u64, ObjectFault>
         ensures read { IfSome (S.files store.old) (λ m. IsAhead (map.get m name.now) self.old →
-            Gives is_outside (λ n. (self.new.entry, n)) result
+            Refines is_system_error (λ n. (self.new.entry, n)) result
             (in_file (map.get m name.now) (record_at version at limit))) }
         ensures ahead { IfSome (S.files store.old) (λ m. IsAhead (map.get m name.now) self.old →
             IsAhead (map.get m name.now) self.new) }
-        ensures kept { Leaves S.files S.failures S.blamed FileError name.now store.old store.new
+        ensures frame { StoreFrame S.files S.failures S.last_failure FileError name.now store.old store.new
             result }
-        ensures within { IsErrOf result ObjectFault.FileError → at ≤ limit → IsBlamedIn (S.blamed store.new) name.now at limit }
-        ensures asked { self.old.ahead ≡ [] → Asks is_outside (S.failures store.old) result }
+        ensures within { IsErrOf result ObjectFault.FileError → at ≤ limit → FailedWithin (S.last_failure store.new) name.now at limit }
+        ensures at_last_count { self.old.ahead ≡ [] → FailsAtLastCount is_system_error (S.failures store.old) result }
         ensures bound { IfOk result (λ n. (n ≡ at + 3 + length self.new.entry.body) × (n ≤ limit) ×
             (n ≤ file_limit)) }
     {
@@ -172,11 +172,11 @@ pub fn read_record<S: Store>(
     limit: u64,
 ) -> Result<(Record, u64), ObjectFault>
     ensures read { IfSome (S.files store.old)
-        (λ m. Gives is_outside (λ x. (entry_of x.0, x.1)) result
+        (λ m. Refines is_system_error (λ x. (entry_of x.0, x.1)) result
         (in_file (map.get m name.now) (record_at version at limit))) }
-    ensures kept { Leaves S.files S.failures S.blamed FileError name.now store.old store.new
+    ensures frame { StoreFrame S.files S.failures S.last_failure FileError name.now store.old store.new
         result }
-    ensures asked { Asks is_outside (S.failures store.old) result }
+    ensures at_last_count { FailsAtLastCount is_system_error (S.failures store.old) result }
     ensures bound { IfOk result (λ x. (x.1 ≡ at + 3 + length x.0.body.items) × (x.1 ≤ limit) ×
         (x.1 ≤ file_limit)) }
 {

@@ -3,18 +3,18 @@
 ghost use Rattle.std.specs.Prelude.{◌≡◌, ◌≤◌, ◌++◌, ◌∷◌, [], ◌&&◌, length, map, not, Ok, IfOk, OnOk, true, false, OnErr, Err};
 ghost use Rattle.std.specs.List.{list_all};
 ghost use Rattle.object65.specs.Bodies.{export_of, assert_of, action_of};
-ghost use Rattle.object65.specs.Record.{Gives, is_memory, entry_of, is_version};
+ghost use Rattle.object65.specs.Record.{Refines, is_memory, entry_of, is_version};
 ghost use Rattle.object65.specs.Items.{has_small_text, with_item};
 ghost use Rattle.object65.specs.Objects.{file_name_limit};
 ghost use Rattle.object65.specs.Small.{is_small_text};
-ghost use Rattle.object65.specs.Scanning.{scan_file, scan_import, scan_export, scan_assert, IsWithin, outline_of, scan_end, scanned, State, after, start};
-ghost use Rattle.object65.specs.Inner.Sound.{outline_in, IsSound, Takes};
+ghost use Rattle.object65.specs.Scanning.{scan_file, scan_import, scan_export, scan_assert, IsWithin, outline_of, scan_end, scan_step, State, after, start};
+ghost use Rattle.object65.specs.Internal.Sound.{outline_in, IsWellFormedOutline, RefinesScan};
 
 use crate::filling::{check_form, check_open_form, check_parts};
 use crate::forming::{byte_at, form_of, origin_at, text_of};
 use crate::taking::{Names, add_name, all_full, check, check_file_name, check_name, take_record};
 use crate::{Action, Assert, Export, Item, ObjectFault, Record};
-use base65::{Seed, Sequence};
+use base65::{ListVec, Seed};
 use indexmap::IndexSet;
 use std::alloc::Global;
 use std::marker::Model;
@@ -32,7 +32,7 @@ pub enum Last {
 
 /// A section in the making without its bytes.
 #[derive(Clone, Copy)]
-pub struct Room {
+pub struct SectionFill {
     /// How many bytes the section will have.
     pub size: u32,
     /// How many it has.
@@ -42,7 +42,7 @@ pub struct Room {
 
 /// What a scan keeps of the records taken: names and sizes, and no fragment.
 #[derive(Drop)]
-pub struct Kept {
+pub struct ScanState {
     pub alloc: Global,
     pub version: u8,
     /// The names of the files.
@@ -51,7 +51,7 @@ pub struct Kept {
     pub imports: Names,
     /// The names of the sections.
     pub sections: Names,
-    pub rooms: Vec<Room>,
+    pub rooms: Vec<SectionFill>,
     /// Whether a fragment was taken.
     pub begun: bool,
     /// The sections before this place are full.
@@ -65,10 +65,10 @@ pub struct Kept {
 
 /// Takes a FILE.
 #[tactic(auto, unfolding(crate::specs::Scanning::scan_file))]
-pub fn take_file(kept: &mut Kept, body: &[u8]) -> Result<Item, ObjectFault>
-    requires sound { IsSound kept.old }
+pub fn take_file(kept: &mut ScanState, body: &[u8]) -> Result<Item, ObjectFault>
+    requires sound { IsWellFormedOutline kept.old }
     requires short { length body.now ≤ file_name_limit }
-    ensures { Takes kept.old kept.new result (scan_file (outline_in kept.old) body.now) }
+    ensures { RefinesScan kept.old kept.new result (scan_file (outline_in kept.old) body.now) }
 {
     check(
         kept.imports.len() == 0
@@ -79,15 +79,15 @@ pub fn take_file(kept: &mut Kept, body: &[u8]) -> Result<Item, ObjectFault>
     )?;
     check_file_name(&kept.files, body)?;
     add_name(kept.alloc, &mut kept.files, body)?;
-    let name = Sequence::copy_of(kept.alloc, body)?;
+    let name = ListVec::copy_of(kept.alloc, body)?;
     Ok(Item::File(name))
 }
 
 /// Takes an IMPORT.
 #[tactic(auto, unfolding(crate::specs::Scanning::scan_import))]
-pub fn take_import(kept: &mut Kept, body: &[u8]) -> Result<Item, ObjectFault>
-    requires { IsSound kept.old }
-    ensures { Takes kept.old kept.new result (scan_import (outline_in kept.old) body.now) }
+pub fn take_import(kept: &mut ScanState, body: &[u8]) -> Result<Item, ObjectFault>
+    requires { IsWellFormedOutline kept.old }
+    ensures { RefinesScan kept.old kept.new result (scan_import (outline_in kept.old) body.now) }
 {
     check(
         kept.rooms.len() == 0 && kept.exports.len() == 0 && !kept.asserting,
@@ -95,27 +95,27 @@ pub fn take_import(kept: &mut Kept, body: &[u8]) -> Result<Item, ObjectFault>
     )?;
     check_name(&kept.imports, body)?;
     add_name(kept.alloc, &mut kept.imports, body)?;
-    let name = Sequence::copy_of(kept.alloc, body)?;
+    let name = ListVec::copy_of(kept.alloc, body)?;
     Ok(Item::Import(name))
 }
 
 /// The name, the origin and the form in the body of an EXPORT.
 #[tactic(auto, unfolding(crate::specs::Bodies::export_of))]
 fn read_export(alloc: Global, version: u8, body: &[u8]) -> Result<Export, ObjectFault>
-    ensures { Gives is_memory (λ e. e) result (export_of version body.now) }
+    ensures { Refines is_memory (λ e. e) result (export_of version body.now) }
 {
     let (name, rest) = text_of(body)?;
     let (origin, rest) = origin_at(version, rest)?;
     let form = form_of(alloc, rest)?;
-    let name = Sequence::copy_of(alloc, name)?;
+    let name = ListVec::copy_of(alloc, name)?;
     Ok(Export { name, origin, form })
 }
 
 /// Takes an EXPORT.
 #[tactic(auto, unfolding(crate::specs::Scanning::scan_export))]
-pub fn take_export(kept: &mut Kept, body: &[u8]) -> Result<Item, ObjectFault>
-    requires { IsSound kept.old }
-    ensures { Takes kept.old kept.new result (scan_export (outline_in kept.old) body.now) }
+pub fn take_export(kept: &mut ScanState, body: &[u8]) -> Result<Item, ObjectFault>
+    requires { IsWellFormedOutline kept.old }
+    ensures { RefinesScan kept.old kept.new result (scan_export (outline_in kept.old) body.now) }
 {
     let full = all_full(kept);
     check(full && !kept.asserting, ObjectFault::OutOfOrder)?;
@@ -141,7 +141,7 @@ fn action_at(code: u8) -> Result<Action, ObjectFault>
 /// What the body of an ASSERT says.
 #[tactic(auto, unfolding(crate::specs::Bodies::assert_of))]
 fn read_assert(alloc: Global, version: u8, body: &[u8]) -> Result<Assert, ObjectFault>
-    ensures said { Gives is_memory (λ a. a) result (assert_of version body.now) }
+    ensures said { Refines is_memory (λ a. a) result (assert_of version body.now) }
     ensures short { IfOk result (λ a. is_small_text a.text ≡ true) }
 {
     let (code, rest) = byte_at(body)?;
@@ -149,7 +149,7 @@ fn read_assert(alloc: Global, version: u8, body: &[u8]) -> Result<Assert, Object
     let (origin, rest) = origin_at(version, rest)?;
     let (text, rest) = text_of(rest)?;
     let form = form_of(alloc, rest)?;
-    let text = Sequence::copy_of(alloc, text)?;
+    let text = ListVec::copy_of(alloc, text)?;
     Ok(Assert {
         action,
         origin,
@@ -160,9 +160,9 @@ fn read_assert(alloc: Global, version: u8, body: &[u8]) -> Result<Assert, Object
 
 /// Takes an ASSERT.
 #[tactic(auto, unfolding(crate::specs::Scanning::scan_assert))]
-pub fn take_assert(kept: &mut Kept, body: &[u8]) -> Result<Item, ObjectFault>
-    requires { IsSound kept.old }
-    ensures { Takes kept.old kept.new result (scan_assert (outline_in kept.old) body.now) }
+pub fn take_assert(kept: &mut ScanState, body: &[u8]) -> Result<Item, ObjectFault>
+    requires { IsWellFormedOutline kept.old }
+    ensures { RefinesScan kept.old kept.new result (scan_assert (outline_in kept.old) body.now) }
 {
     check(all_full(kept), ObjectFault::OutOfOrder)?;
     let Assert {
@@ -180,7 +180,7 @@ pub fn take_assert(kept: &mut Kept, body: &[u8]) -> Result<Item, ObjectFault>
 /// Takes the records of an object as a `Builder` does, but keeps names and sizes alone: what a record says is
 /// handed out as an item.
 pub struct Scan {
-    kept: Kept,
+    kept: ScanState,
     failed: bool,
 }
 
@@ -188,7 +188,7 @@ impl Model for Scan {
     ghost use Rattle.std.specs.Prelude.{◌≡◌, false};
     ghost use Rattle.std.specs.Coded.{codes};
     ghost use Rattle.object65.specs.Scanning.{Outline};
-    ghost use Rattle.object65.specs.Inner.Sound.{outline_in, IsIntact};
+    ghost use Rattle.object65.specs.Internal.Sound.{outline_in, IsIntact};
 
     ghost Value = { Outline };
 
@@ -220,7 +220,7 @@ impl Scan {
         ensures { result ≡ outline_of (start version) }
     {
         Scan {
-            kept: Kept {
+            kept: ScanState {
                 alloc,
                 version,
                 files: IndexSet::with_hasher(alloc, seed),
@@ -240,11 +240,11 @@ impl Scan {
     /// Takes the next record, where a `Builder` takes it, and answers what it says. After a refusal each call
     /// answers that it failed before.
     pub fn take(&mut self, next: &Record) -> Result<Item, ObjectFault>
-        ensures scanned { Gives is_memory (λ item. (self.new, item)) result
-            (scanned self.old (entry_of next.now)) }
+        ensures scanned { Refines is_memory (λ item. (self.new, item)) result
+            (scan_step self.old (entry_of next.now)) }
         // For each object in the making that it stands for, the item is what the record adds to it.
         ensures taken { (s : State) → self.old ≡ outline_of s →
-            Gives is_memory (λ item. with_item s item) result (after s (entry_of next.now)) }
+            Refines is_memory (λ item. with_item s item) result (after s (entry_of next.now)) }
         ensures kept { (s : State) → self.old ≡ outline_of s →
             IfOk result (λ item. self.new ≡ outline_of (with_item s item)) }
         ensures within { IfOk result (λ item. IsWithin self.old item) }
@@ -255,10 +255,10 @@ impl Scan {
     }
 
     /// Takes the next record.
-    #[tactic(auto, unfolding(crate::specs::Scanning::scanned))]
+    #[tactic(auto, unfolding(crate::specs::Scanning::scan_step))]
     fn advance(&mut self, next: &Record) -> Result<Item, ObjectFault>
-        ensures scanned { Gives is_memory (λ item. (self.new, item)) result
-            (scanned self.old (entry_of next.now)) }
+        ensures scanned { Refines is_memory (λ item. (self.new, item)) result
+            (scan_step self.old (entry_of next.now)) }
         ensures within { IfOk result (λ item. IsWithin self.old item) }
         ensures failed { OnErr result (self.new.failed ≡ true) }
         ensures again { self.old.failed ≡ true → result ≡ Err ObjectFault.FailedBefore }

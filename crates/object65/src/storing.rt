@@ -12,7 +12,7 @@ pub fn fits(width: Width, value: i64) -> bool
 {
     match width {
         Width::Byte => 0 <= value && value <= 255,
-        Width::Word | Width::HighFirst => 0 <= value && value <= 65_535,
+        Width::Word | Width::BigEndianWord => 0 <= value && value <= 65_535,
         Width::Dword => 0 <= value && value <= 4_294_967_295,
         Width::Branch => -128 <= value && value <= 127,
     }
@@ -33,7 +33,7 @@ pub fn put(width: Width, value: i64) -> ArrayVec<u8, 4>
             bytes.push(low);
             bytes.push(high);
         }
-        Width::HighFirst => {
+        Width::BigEndianWord => {
             bytes.push(high);
             bytes.push(low);
         }

@@ -3,19 +3,19 @@
 ghost use Rattle.std.specs.Prelude.{◌≡◌, ◌≤◌, ◌<◌, ◌+◌, ◌++◌, ◌∷◌, [], ◌&&◌, ◌-◌, ◌%◌, not, length, nat_le, nat_lt, take, get_or, slice_get, slice_set, IfOk, IfErr, OnOk, Result, Ok, Err, true, false, map};
 ghost use Rattle.std.specs.List.{list_all, prefix_len};
 ghost use Rattle.object65.specs.Bodies.{section_of};
-ghost use Rattle.object65.specs.Record.{Gives, is_memory, entry_of};
+ghost use Rattle.object65.specs.Record.{Refines, is_memory, entry_of};
 ghost use Rattle.object65.specs.Items.{has_small_text, is_none};
 ghost use Rattle.object65.specs.Objects.{is_name, is_printed, is_among};
-ghost use Rattle.object65.specs.Inner.Sound.{outline_in, IsSound, Takes};
-ghost use Rattle.object65.specs.declared.scan.Room.{Room};
+ghost use Rattle.object65.specs.Internal.Sound.{outline_in, IsWellFormedOutline, RefinesScan};
+ghost use Rattle.object65.specs.declared.scan.SectionFill.{SectionFill};
 ghost use Rattle.object65.specs.Scanning.{is_filled, open_room, empty_room, grow_room, new_file, new_name, scan_section, scan_part, scan_last, scan_entry, heading, wants};
 
 use crate::decoding::is_kind;
 use crate::filling::{room_with_fill, room_with_literal, room_with_value};
 use crate::format::{ASSERT, EXPORT, FILE, FILL, IMPORT, LITERAL, SECTION, SECTION_LIMIT, VALUE};
-use crate::scan::{Kept, Last, Room, take_assert, take_export, take_file, take_import};
+use crate::scan::{Last, ScanState, SectionFill, take_assert, take_export, take_file, take_import};
 use crate::{Fragment, Item, ObjectFault, Record};
-use base65::{Seed, Sequence, is_utf8};
+use base65::{ListVec, Seed, is_utf8};
 use byteorder::{ByteOrder, LittleEndian};
 use indexmap::IndexSet;
 use std::alloc::Global;
@@ -38,7 +38,7 @@ fn is_printed_name(name: &[u8]) -> bool
     name.iter().all(|b| 0x20 < *b && *b < 0x7f)
 }
 
-fn is_good_name(name: &[u8]) -> bool
+fn is_well_formed_name(name: &[u8]) -> bool
     ensures { result ≡ is_name name.now }
 {
     !name.is_empty() && name.len() < 256 && is_printed_name(name)
@@ -55,7 +55,7 @@ pub fn check_name(names: &Names, name: &[u8]) -> Result<(), ObjectFault>
     ensures { result ≡ new_name (map (λ n. n.items) names.now.keys) name.now }
 {
     check(
-        is_good_name(name) && !has_name(names, name),
+        is_well_formed_name(name) && !has_name(names, name),
         ObjectFault::NotCanonical,
     )
 }
@@ -73,7 +73,7 @@ pub fn check_file_name(names: &Names, name: &[u8]) -> Result<(), ObjectFault>
 /// Adds a new name.
 pub fn add_name(alloc: Global, names: &mut Names, name: &[u8]) -> Result<(), ObjectFault>
     requires { is_among (map (λ n. n.items) names.old.keys) name.now ≡ false }
-    ensures { Gives is_memory (λ _. map (λ n. n.items) names.new.keys) result
+    ensures { Refines is_memory (λ _. map (λ n. n.items) names.new.keys) result
         (Ok (map (λ n. n.items) names.old.keys ++ name.now ∷ [])) }
 {
     let key = Vec::from_slice(alloc, name)?;
@@ -81,14 +81,14 @@ pub fn add_name(alloc: Global, names: &mut Names, name: &[u8]) -> Result<(), Obj
     Ok(())
 }
 
-fn is_full_room(room: &Room) -> bool
+fn is_full_room(room: &SectionFill) -> bool
     ensures { result ≡ is_filled room.now }
 {
     room.filled == room.size
 }
 
 /// The place of the first section that isn't full, from a place on before which all are full.
-fn first_open(rooms: &[Room], from: usize) -> usize
+fn first_open(rooms: &[SectionFill], from: usize) -> usize
     requires { from ≤ prefix_len is_filled rooms.now }
     ensures { result ≡ prefix_len is_filled rooms.now }
 {
@@ -100,14 +100,14 @@ fn first_open(rooms: &[Room], from: usize) -> usize
 }
 
 /// The place of the first section that isn't full, or the number of sections.
-fn open_place(kept: &mut Kept) -> usize
-    requires { IsSound kept.old }
+fn open_place(kept: &mut ScanState) -> usize
+    requires { IsWellFormedOutline kept.old }
     ensures place { result ≡ prefix_len is_filled kept.old.rooms.items }
     ensures within { result ≤ length kept.old.rooms.items }
     ensures filling { kept.new.filling ≡ result }
     ensures rooms { kept.new.rooms ≡ kept.old.rooms }
     ensures kept { outline_in kept.new ≡ outline_in kept.old }
-    ensures sound { IsSound kept.new }
+    ensures sound { IsWellFormedOutline kept.new }
 {
     let at = first_open(&kept.rooms, kept.filling);
     kept.filling = at;
@@ -115,13 +115,13 @@ fn open_place(kept: &mut Kept) -> usize
 }
 
 /// The section to which the next fragment goes, and its place.
-fn next_room(kept: &mut Kept) -> Result<(usize, Room), ObjectFault>
-    requires { IsSound kept.old }
+fn next_room(kept: &mut ScanState) -> Result<(usize, SectionFill), ObjectFault>
+    requires { IsWellFormedOutline kept.old }
     ensures room { result ≡ open_room kept.old.rooms.items }
     ensures filling { IfOk result (λ x. (kept.new.filling ≡ x.0) ×
         (x.0 < length kept.new.rooms.items)) }
     ensures kept { outline_in kept.new ≡ outline_in kept.old }
-    ensures sound { IsSound kept.new }
+    ensures sound { IsWellFormedOutline kept.new }
 {
     let at = open_place(kept);
     if at == kept.rooms.len() {
@@ -131,8 +131,8 @@ fn next_room(kept: &mut Kept) -> Result<(usize, Room), ObjectFault>
 }
 
 /// Keeps what the section that was being filled has become.
-fn put_room(kept: &mut Kept, at: usize, room: Room)
-    requires sound { IsSound kept.old }
+fn put_room(kept: &mut ScanState, at: usize, room: SectionFill)
+    requires sound { IsWellFormedOutline kept.old }
     requires filling { kept.old.filling ≡ at }
     requires within { at < length kept.old.rooms.items }
     ensures put { outline_in kept.new ≡
@@ -140,7 +140,7 @@ fn put_room(kept: &mut Kept, at: usize, room: Room)
           rooms = slice_set kept.old.rooms.items at room;
           begun = true;
         } }
-    ensures sound { IsSound kept.new }
+    ensures sound { IsWellFormedOutline kept.new }
 {
     kept.rooms[at] = room;
     kept.begun = true;
@@ -148,12 +148,12 @@ fn put_room(kept: &mut Kept, at: usize, room: Room)
 
 /// Grows a section by a record of a fragment of this kind.
 fn grow_room(
-    kept: &Kept,
+    kept: &ScanState,
     kind: u8,
-    room: Room,
+    room: SectionFill,
     body: &[u8],
-) -> Result<(Room, Fragment), ObjectFault>
-    ensures { Gives is_memory (λ x. x) result (grow_room (outline_in kept.now) kind body.now room) }
+) -> Result<(SectionFill, Fragment), ObjectFault>
+    ensures { Refines is_memory (λ x. x) result (grow_room (outline_in kept.now) kind body.now room) }
 {
     match kind {
         LITERAL => room_with_literal(kept.alloc, room, body),
@@ -164,9 +164,9 @@ fn grow_room(
 
 /// Takes a LITERAL, a FILL or a VALUE.
 #[tactic(auto, unfolding(crate::specs::Scanning::scan_part))]
-fn take_part(kept: &mut Kept, kind: u8, body: &[u8]) -> Result<Item, ObjectFault>
-    requires { IsSound kept.old }
-    ensures { Takes kept.old kept.new result
+fn take_part(kept: &mut ScanState, kind: u8, body: &[u8]) -> Result<Item, ObjectFault>
+    requires { IsWellFormedOutline kept.old }
+    ensures { RefinesScan kept.old kept.new result
         (scan_part (outline_in kept.old) (grow_room (outline_in kept.old) kind body.now)) }
 {
     let (at, room) = next_room(kept)?;
@@ -176,18 +176,18 @@ fn take_part(kept: &mut Kept, kind: u8, body: &[u8]) -> Result<Item, ObjectFault
 }
 
 /// Whether all sections are full.
-pub fn all_full(kept: &mut Kept) -> bool
-    requires { IsSound kept.old }
+pub fn all_full(kept: &mut ScanState) -> bool
+    requires { IsWellFormedOutline kept.old }
     ensures full { result ≡ list_all is_filled kept.old.rooms.items }
     ensures kept { outline_in kept.new ≡ outline_in kept.old }
-    ensures sound { IsSound kept.new }
+    ensures sound { IsWellFormedOutline kept.new }
 {
     open_place(kept) == kept.rooms.len()
 }
 
 /// What the body of a SECTION says: the size, the alignment and the name.
-fn read_section(alloc: Global, body: &[u8]) -> Result<(u32, u8, Sequence<u8>), ObjectFault>
-    ensures { Gives is_memory (λ x. heading x.0 x.1 x.2) result (section_of body.now) }
+fn read_section(alloc: Global, body: &[u8]) -> Result<(u32, u8, ListVec<u8>), ObjectFault>
+    ensures { Refines is_memory (λ x. heading x.0 x.1 x.2) result (section_of body.now) }
 {
     if body.len() < 5 {
         return Err(ObjectFault::BadSize);
@@ -197,24 +197,24 @@ fn read_section(alloc: Global, body: &[u8]) -> Result<(u32, u8, Sequence<u8>), O
         return Err(ObjectFault::BadSize);
     }
     let align = body[4];
-    let name = Sequence::copy_of(alloc, &body[5..])?;
+    let name = ListVec::copy_of(alloc, &body[5..])?;
     Ok((size, align, name))
 }
 
 /// Adds a section of a new name.
-fn add_room(kept: &mut Kept, name: &[u8], size: u32) -> Result<(), ObjectFault>
-    requires sound { IsSound kept.old }
+fn add_room(kept: &mut ScanState, name: &[u8], size: u32) -> Result<(), ObjectFault>
+    requires sound { IsWellFormedOutline kept.old }
     requires name { is_among (map (λ n. n.items) kept.old.sections.keys) name.now ≡ false }
-    ensures added { Gives is_memory (λ _. outline_in kept.new) result
+    ensures added { Refines is_memory (λ _. outline_in kept.new) result
         (Ok (record (outline_in kept.old) {
           sections = map (λ n. n.items) kept.old.sections.keys ++
               name.now ∷ [];
           rooms = kept.old.rooms.items ++ empty_room size ∷ [];
         })) }
-    ensures sound { OnOk result (IsSound kept.new) }
+    ensures sound { OnOk result (IsWellFormedOutline kept.new) }
 {
     add_name(kept.alloc, &mut kept.sections, name)?;
-    kept.rooms.push(Room {
+    kept.rooms.push(SectionFill {
         size,
         filled: 0,
         last: Last::Other,
@@ -224,9 +224,9 @@ fn add_room(kept: &mut Kept, name: &[u8], size: u32) -> Result<(), ObjectFault>
 
 /// Takes a SECTION.
 #[tactic(auto, unfolding(crate::specs::Scanning::scan_section))]
-fn take_section(kept: &mut Kept, body: &[u8]) -> Result<Item, ObjectFault>
-    requires { IsSound kept.old }
-    ensures { Takes kept.old kept.new result (scan_section (outline_in kept.old) body.now) }
+fn take_section(kept: &mut ScanState, body: &[u8]) -> Result<Item, ObjectFault>
+    requires { IsWellFormedOutline kept.old }
+    ensures { RefinesScan kept.old kept.new result (scan_section (outline_in kept.old) body.now) }
 {
     check(
         !kept.begun && kept.exports.len() == 0 && !kept.asserting,
@@ -241,9 +241,9 @@ fn take_section(kept: &mut Kept, body: &[u8]) -> Result<Item, ObjectFault>
 
 /// Takes an END.
 #[tactic(auto, unfolding(crate::specs::Scanning::scan_last))]
-fn take_end(kept: &mut Kept, body: &[u8]) -> Result<Item, ObjectFault>
-    requires { IsSound kept.old }
-    ensures { Takes kept.old kept.new result (scan_last (outline_in kept.old) body.now) }
+fn take_end(kept: &mut ScanState, body: &[u8]) -> Result<Item, ObjectFault>
+    requires { IsWellFormedOutline kept.old }
+    ensures { RefinesScan kept.old kept.new result (scan_last (outline_in kept.old) body.now) }
 {
     check(all_full(kept), ObjectFault::OutOfOrder)?;
     check(body.is_empty(), ObjectFault::BadSize)?;
@@ -253,9 +253,9 @@ fn take_end(kept: &mut Kept, body: &[u8]) -> Result<Item, ObjectFault>
 
 /// Takes a record, and answers its item.
 #[tactic(auto, unfolding(crate::specs::Scanning::scan_entry))]
-pub fn take_record(kept: &mut Kept, next: &Record) -> Result<Item, ObjectFault>
-    requires { IsSound kept.old }
-    ensures { Takes kept.old kept.new result
+pub fn take_record(kept: &mut ScanState, next: &Record) -> Result<Item, ObjectFault>
+    requires { IsWellFormedOutline kept.old }
+    ensures { RefinesScan kept.old kept.new result
         (scan_entry (outline_in kept.old) (entry_of next.now)) }
 {
     if !is_kind(kept.version, next.kind) {

@@ -5,7 +5,7 @@ ghost use Rattle.std.specs.List.{flat_map, list_all};
 ghost use Rattle.std.specs.Int.{w64, cast_unsigned};
 ghost use Rattle.byteorder.specs.Endian.{little_bytes};
 ghost use Rattle.object65.specs.Form.{nodes, sec};
-ghost use Rattle.object65.specs.Objects.{is_file_name, is_good_object, fragment_len, section_len, section_limit};
+ghost use Rattle.object65.specs.Objects.{is_file_name, is_well_formed_object, fragment_len, section_len, section_limit};
 ghost use Rattle.object65.specs.Operators.{number2};
 ghost use Rattle.object65.specs.Small.{is_small_text, is_small_form, is_small_fragment, is_small_section, is_small_export, is_small_assert};
 ghost use Rattle.object65.specs.Spelling.{code1, form_bytes, width_code, action_code, body_limit, entry_bytes, literal_entries, fragment_entries, fill_entry, value_entry, origin_bytes, file_entry, import_entry, section_entry, export_entry, assert_entry, entries_of, object_bytes};
@@ -17,7 +17,7 @@ use crate::format::{
 use crate::{
     Action, Assert, Export, Fragment, Node, Norm, Object, ObjectFault, Origin, Section, Width,
 };
-use base65::{Op1, Op2, Sequence};
+use base65::{ListVec, Op1, Op2};
 use byteorder::{ByteOrder, LittleEndian};
 use std::alloc::{AllocError, Global};
 
@@ -90,12 +90,12 @@ fn put_form(out: &mut Vec<u8>, form: &Norm) -> Result<(), AllocError>
     ensures { OnOk result (out.new.items ≡ out.old.items ++ form_bytes form.now) }
 {
     match form.node() {
-        Node::Lit(value) => {
+        Node::NumberNode(value) => {
             out.push(0x00)?;
             put_i64(out, *value)
         }
-        Node::Sec(section, offset) => put_place(out, *section, *offset),
-        Node::Imp(place) => {
+        Node::SectionOffset(section, offset) => put_place(out, *section, *offset),
+        Node::ImportedName(place) => {
             out.push(0x02)?;
             put_u32(out, *place)
         }
@@ -219,7 +219,7 @@ fn put_contents(
     Ok(())
 }
 
-fn put_files(out: &mut Vec<u8>, files: &[Sequence<u8>]) -> Result<(), AllocError>
+fn put_files(out: &mut Vec<u8>, files: &[ListVec<u8>]) -> Result<(), AllocError>
     requires { list_all is_file_name files.now ≡ true }
     ensures { OnOk result (out.new.items ≡ out.old.items ++
         flat_map entry_bytes (map file_entry files.now)) }
@@ -230,7 +230,7 @@ fn put_files(out: &mut Vec<u8>, files: &[Sequence<u8>]) -> Result<(), AllocError
     Ok(())
 }
 
-fn put_imports(out: &mut Vec<u8>, imports: &[Sequence<u8>]) -> Result<(), AllocError>
+fn put_imports(out: &mut Vec<u8>, imports: &[ListVec<u8>]) -> Result<(), AllocError>
     requires { list_all is_small_text imports.now ≡ true }
     ensures { OnOk result (out.new.items ≡ out.old.items ++
         flat_map entry_bytes (map import_entry imports.now)) }
@@ -363,7 +363,7 @@ fn put_object(body: &mut Vec<u8>, out: &mut Vec<u8>, object: &Object) -> Result<
 
 /// Adds the one spelling of an object. A refusal, which is want of memory alone, changes nothing.
 pub fn write_object(alloc: Global, object: &Object, out: &mut Vec<u8>) -> Result<(), ObjectFault>
-    requires { is_good_object object.now ≡ true }
+    requires { is_well_formed_object object.now ≡ true }
     ensures written { OnOk result (out.new.items ≡ out.old.items ++ object_bytes object.now) }
     ensures unchanged { OnErr result (out.new.items ≡ out.old.items) }
     ensures memory { IfErr result (λ e. e ≡ ObjectFault.OutOfMemory) }

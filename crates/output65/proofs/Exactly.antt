@@ -5,15 +5,15 @@ use Rattle.std.specs.FinMap as map
 use Rattle.std.specs.Io.KnownBytes.{Keeps}
 use Rattle.std.proofs.lemmas.Bool.Decides.{nat_tests}
 use Rattle.std.proofs.lemmas.List.{take_all, take_min}
-use Rattle.base65.specs.Store.{Files, IsBlamed, Tells}
+use Rattle.base65.specs.Store.{Files, FailedOn, RelatesFiles}
 use Rattle.base65.specs.declared.output.OutputFile.{OutputFile}
 use Rattle.output65.specs.declared.outcome.Outcome.{Outcome}
 use Rattle.output65.specs.declared.outcome.Status.{Status}
 use Rattle.output65.specs.declared.outcome.Status.TheVariants.{Failure}
-use Rattle.output65.specs.Laws.{Held, IsPart, OneNamingLaw, PerformsLaw, PrintsLaw, SaysBehindLaw, SaysLaw, StopsShortLaw, StopsWritingLaw, WritersPerformLaw, WritersStopLaw}
-use Rattle.output65.specs.Leaving.{IsPartly, Performs, Prints, SaysBehind, SaysBoth, SaysNext, Settles, StopsAt, Streams, apply, streams, took_both}
-use Rattle.output65.specs.Left.{said, said_behind, written_to}
-use Rattle.output65.specs.Stopping.{file_error_line}
+use Rattle.output65.specs.Laws.{HeldBefore, IsPart, WriteNamingIsUnique, PerformsLaw, PrintsLaw, SaysAfterLaw, SaysLaw, StopsShortLaw, StopsWritingLaw, WritersPerformLaw, WritersStopLaw}
+use Rattle.output65.specs.RunEffects.{IsPartly, PerformsOutcome, PrintsText, SaysAfter, SaysBoth, SaysNext, FilesAfterRun, StopsAt, Streams, apply, streams, took_both}
+use Rattle.output65.specs.Left.{streams_after, said_after, written_to}
+use Rattle.output65.specs.WriteFailures.{file_error_line}
 
 -- ---- One stream.
 
@@ -30,7 +30,7 @@ same_count n = grind (arith, nat_tests)
 other_count : (k n : ℕ) → k < n → false ≡ (k == n)
 other_count k n less = grind (arith, nat_tests)
 
-took : (old text : List ℕ) (new : Option (List ℕ)) (whole : Bool) → Prints (Some old) new text whole → Took old text new whole
+took : (old text : List ℕ) (new : Option (List ℕ)) (whole : Bool) → PrintsText (Some old) new text whole → Took old text new whole
 took old text None whole p = absurd p
 took old text (Some n) true p = record {
   count = length text;
@@ -40,18 +40,18 @@ took old text (Some n) true p = record {
 }
 took old text (Some n) false p = record { count = p.0; within = omega (arith, p.1); now = ap Some p.2; all = other_count p.0 (length text) p.1 }
 
-prints_true : (old text : List ℕ) (k : ℕ) → k ≤ length text → (k == length text) ≡ true → Prints (Some old) (Some (old ++ take k text)) text true
+prints_true : (old text : List ℕ) (k : ℕ) → k ≤ length text → (k == length text) ≡ true → PrintsText (Some old) (Some (old ++ take k text)) text true
 prints_true old text k le all = let whole : length text ≤ k = grind (arith, nat_tests) in ap (λ (xs : List ℕ). old ++ xs) (take_all k text whole)
 
-prints_false : (old text : List ℕ) (k : ℕ) → k ≤ length text → (k == length text) ≡ false → Prints (Some old) (Some (old ++ take k text)) text false
+prints_false : (old text : List ℕ) (k : ℕ) → k ≤ length text → (k == length text) ≡ false → PrintsText (Some old) (Some (old ++ take k text)) text false
 prints_false old text k le few = let less : k < length text = grind (arith, nat_tests) in (k, less, refl)
 
-prints : (old text : List ℕ) (k : ℕ) (whole : Bool) → k ≤ length text → whole ≡ (k == length text) → Prints (Some old) (Some (old ++ take k text)) text whole
+prints : (old text : List ℕ) (k : ℕ) (whole : Bool) → k ≤ length text → whole ≡ (k == length text) → PrintsText (Some old) (Some (old ++ take k text)) text whole
 prints old text k true le is = prints_true old text k le (sym is)
 prints old text k false le is = prints_false old text k le (sym is)
 
 pub prints_exactly : PrintsLaw
-prints_exactly old text new whole = (λ p. let t = took old text new whole p in (t.count, t.within, t.now, t.all), λ q. subst (λ (n : Option (List ℕ)). Prints (Some old) n text whole) (sym q.2) (prints old text q.0 whole q.1 q.3))
+prints_exactly old text new whole = (λ p. let t = took old text new whole p in (t.count, t.within, t.now, t.all), λ q. subst (λ (n : Option (List ℕ)). PrintsText (Some old) n text whole) (sym q.2) (prints old text q.0 whole q.1 q.3))
 
 -- ---- Two streams.
 
@@ -78,17 +78,17 @@ record Said (io : Streams) (a b out err : List ℕ) : Type 0 where
   second : ℕ
   first_within : first ≤ length out
   second_within : second ≤ length err
-  now : io ≡ said a b out err first second
+  now : io ≡ streams_after a b out err first second
 
-said_whole : (a b out err : List ℕ) (i j : ℕ) → (i == length out) ≡ true → said a b out err i j ≡ streams (Some a) (Some (a ++ out)) false (Some b) (Some (b ++ take j err)) (not (j == length err))
+said_whole : (a b out err : List ℕ) (i j : ℕ) → (i == length out) ≡ true → streams_after a b out err i j ≡ streams (Some a) (Some (a ++ out)) false (Some b) (Some (b ++ take j err)) (not (j == length err))
 said_whole a b out err i j e = rw e refl
 
-said_part : (a b out err : List ℕ) (i j : ℕ) → (i == length out) ≡ false → said a b out err i j ≡ streams (Some a) (Some (a ++ take i out)) true (Some b) (Some b) false
+said_part : (a b out err : List ℕ) (i j : ℕ) → (i == length out) ≡ false → streams_after a b out err i j ≡ streams (Some a) (Some (a ++ take i out)) true (Some b) (Some b) false
 said_part a b out err i j e = rw e refl
 
-module _ (io : Streams) (a b out err : List ℕ) (held : Held io a b) where
+module _ (io : Streams) (a b out err : List ℕ) (held : HeldBefore io a b) where
   first_took : SaysBoth io out err → Took a out io.out_new (not io.out_refused)
-  first_took s = took a out io.out_new (not io.out_refused) (subst (λ (x : Option (List ℕ)). Prints x io.out_new out (not io.out_refused)) held.0 s.0)
+  first_took s = took a out io.out_new (not io.out_refused) (subst (λ (x : Option (List ℕ)). PrintsText x io.out_new out (not io.out_refused)) held.0 s.0)
 
   says_to : SaysBoth io out err → Said io a b out err
   says_to s = go io.out_refused refl s.1
@@ -100,7 +100,7 @@ module _ (io : Streams) (a b out err : List ℕ) (held : Held io a b) where
       go false is next =
           let all : (t.count == length out) ≡ true = sym t.all ∙ ap not is in
           let whole : length out ≤ t.count = grind (arith, nat_tests) in
-          let u = took b err io.err_new (not io.err_refused) (subst (λ (x : Option (List ℕ)). Prints x io.err_new err (not io.err_refused)) held.1 next) in
+          let u = took b err io.err_new (not io.err_refused) (subst (λ (x : Option (List ℕ)). PrintsText x io.err_new err (not io.err_refused)) held.1 next) in
           record {
             first = t.count;
             second = u.count;
@@ -118,10 +118,10 @@ module _ (io : Streams) (a b out err : List ℕ) (held : Held io a b) where
             now = same_streams io _ _ _ _ _ _ held.0 t.now is held.1 (kept b io.err_new (subst (λ (x : Option (List ℕ)). Keeps x io.err_new) held.1 next.0)) next.1 ∙ sym (said_part a b out err t.count 0 few);
           }
 
-says_from : (a b out err : List ℕ) (i j : ℕ) → i ≤ length out → j ≤ length err → SaysBoth (said a b out err i j) out err
+says_from : (a b out err : List ℕ) (i j : ℕ) → i ≤ length out → j ≤ length err → SaysBoth (streams_after a b out err i j) out err
 says_from a b out err i j le more = go (i == length out) refl
   where
-    go : (r : Bool) → (i == length out) ≡ r → SaysBoth (said a b out err i j) out err
+    go : (r : Bool) → (i == length out) ≡ r → SaysBoth (streams_after a b out err i j) out err
     go true e = subst (λ (x : Streams). SaysBoth x out err) (sym (said_whole a b out err i j e)) (refl, prints b err j (not (not (j == length err))) more (twice (j == length err)))
     go false e = subst (λ (x : Streams). SaysBoth x out err) (sym (said_part a b out err i j e)) (prints_false a out i le e, (refl, refl))
 
@@ -133,19 +133,19 @@ says_exactly io a b out err held = (
 
 -- ---- A run.
 
-took_of : (a b out err : List ℕ) (i j : ℕ) → took_both (said a b out err i j) ≡ ((i == length out) && (j == length err))
+took_of : (a b out err : List ℕ) (i j : ℕ) → took_both (streams_after a b out err i j) ≡ ((i == length out) && (j == length err))
 took_of a b out err i j = go (i == length out) refl
   where
-    go : (r : Bool) → (i == length out) ≡ r → took_both (said a b out err i j) ≡ ((i == length out) && (j == length err))
+    go : (r : Bool) → (i == length out) ≡ r → took_both (streams_after a b out err i j) ≡ ((i == length out) && (j == length err))
     go true e = ap took_both (said_whole a b out err i j e) ∙ twice (j == length err) ∙ sym (ap (λ (x : Bool). x && (j == length err)) e)
     go false e = ap took_both (said_part a b out err i j e) ∙ sym (ap (λ (x : Bool). x && (j == length err)) e)
 
 module _ (o : Outcome) (old : Files) (new : Option Files) (status : Status) where
-  settles_to : (r : Bool) → Settles o old new status r → (new ≡ Some (if r then apply o.outputs old else old)) × (status ≡ (if r then o.status else Failure))
+  settles_to : (r : Bool) → FilesAfterRun o old new status r → (new ≡ Some (if r then apply o.outputs old else old)) × (status ≡ (if r then o.status else Failure))
   settles_to true s = s
   settles_to false s = s
 
-  settles_from : (r : Bool) → (new ≡ Some (if r then apply o.outputs old else old)) → (status ≡ (if r then o.status else Failure)) → Settles o old new status r
+  settles_from : (r : Bool) → (new ≡ Some (if r then apply o.outputs old else old)) → (status ≡ (if r then o.status else Failure)) → FilesAfterRun o old new status r
   settles_from true s t = (s, t)
   settles_from false s t = (s, t)
 
@@ -154,49 +154,49 @@ performs_exactly o old new io status a b held = (
   λ p.
       let t = says_to io a b o.out o.err held p.said in
       let r : took_both io ≡ ((t.first == length o.out) && (t.second == length o.err)) = ap took_both t.now ∙ took_of a b o.out o.err t.first t.second in
-      let s = settles_to o old new status _ (subst (Settles o old new status) r p.settled) in
+      let s = settles_to o old new status _ (subst (FilesAfterRun o old new status) r p.settled) in
       (t.first, t.second, t.first_within, t.second_within, t.now, s.0, s.1),
   λ q. record {
     said = subst (λ (x : Streams). SaysBoth x o.out o.err) (sym q.4) (says_from a b o.out o.err q.0 q.1 q.2 q.3);
-    settled = subst (Settles o old new status) (sym (ap took_both q.4 ∙ took_of a b o.out o.err q.0 q.1)) (settles_from o old new status _ q.5 q.6);
+    settled = subst (FilesAfterRun o old new status) (sym (ap took_both q.4 ∙ took_of a b o.out o.err q.0 q.1)) (settles_from o old new status _ q.5 q.6);
   },
 )
 
 -- ---- Behind both texts.
 
 -- how many bytes standard error took of a text of a fault
-record Behind (io : Streams) (a b out err fault : List ℕ) : Type 0 where
+record Following (io : Streams) (a b out err fault : List ℕ) : Type 0 where
   count : ℕ
   within : count ≤ length fault
-  now : io ≡ said_behind a b out err fault count
+  now : io ≡ said_after a b out err fault count
 
-module _ (io : Streams) (a b out err fault : List ℕ) (held : Held io a b) where
-  behind_to : SaysBehind io out err fault → Behind io a b out err fault
-  behind_to s =
-      let first : Prints (Some a) io.out_new out true = subst (λ (r : Bool). Prints (Some a) io.out_new out (not r)) s.taken (subst (λ (x : Option (List ℕ)). Prints x io.out_new out (not io.out_refused)) held.0 s.said.0) in
+module _ (io : Streams) (a b out err fault : List ℕ) (held : HeldBefore io a b) where
+  after_to : SaysAfter io out err fault → Following io a b out err fault
+  after_to s =
+      let first : PrintsText (Some a) io.out_new out true = subst (λ (r : Bool). PrintsText (Some a) io.out_new out (not r)) s.taken (subst (λ (x : Option (List ℕ)). PrintsText x io.out_new out (not io.out_refused)) held.0 s.said.0) in
       let next : SaysNext false (streams io.out_old io.out_new io.out_refused io.err_old s.err_mid false) err = subst (λ (r : Bool). SaysNext r (streams io.out_old io.out_new io.out_refused io.err_old s.err_mid false) err) s.taken s.said.1 in
-      let second : Prints (Some b) s.err_mid err true = subst (λ (x : Option (List ℕ)). Prints x s.err_mid err true) held.1 next in
+      let second : PrintsText (Some b) s.err_mid err true = subst (λ (x : Option (List ℕ)). PrintsText x s.err_mid err true) held.1 next in
       let t = whole a out io.out_new first in
       let u = whole b err s.err_mid second in
-      let v = took (b ++ err) fault io.err_new (not io.err_refused) (subst (λ (x : Option (List ℕ)). Prints x io.err_new fault (not io.err_refused)) u s.behind) in
+      let v = took (b ++ err) fault io.err_new (not io.err_refused) (subst (λ (x : Option (List ℕ)). PrintsText x io.err_new fault (not io.err_refused)) u s.following) in
       record { count = v.count; within = v.within; now = same_streams io _ _ _ _ _ _ held.0 t s.taken held.1 v.now (turned io.err_refused _ v.all) }
     where
-      whole : (old text : List ℕ) (new : Option (List ℕ)) → Prints (Some old) new text true → new ≡ Some (old ++ text)
+      whole : (old text : List ℕ) (new : Option (List ℕ)) → PrintsText (Some old) new text true → new ≡ Some (old ++ text)
       whole old text None p = absurd p
       whole old text (Some n) p = ap Some p
 
-behind_from : (a b out err fault : List ℕ) (k : ℕ) → k ≤ length fault → SaysBehind (said_behind a b out err fault k) out err fault
-behind_from a b out err fault k le = record {
+after_from : (a b out err fault : List ℕ) (k : ℕ) → k ≤ length fault → SaysAfter (said_after a b out err fault k) out err fault
+after_from a b out err fault k le = record {
   err_mid = Some (b ++ err);
   said = (refl, refl);
   taken = refl;
-  behind = prints (b ++ err) fault k (not (not (k == length fault))) le (twice (k == length fault));
+  following = prints (b ++ err) fault k (not (not (k == length fault))) le (twice (k == length fault));
 }
 
-pub says_behind_exactly : SaysBehindLaw
-says_behind_exactly io a b out err fault held = (
-  λ s. let t = behind_to io a b out err fault held s in (t.count, t.within, t.now),
-  λ q. subst (λ (x : Streams). SaysBehind x out err fault) (sym q.2) (behind_from a b out err fault q.0 q.1),
+pub says_after_exactly : SaysAfterLaw
+says_after_exactly io a b out err fault held = (
+  λ s. let t = after_to io a b out err fault held s in (t.count, t.within, t.now),
+  λ q. subst (λ (x : Streams). SaysAfter x out err fault) (sym q.2) (after_from a b out err fault q.0 q.1),
 )
 
 -- ---- An output that is written in part.
@@ -208,7 +208,7 @@ record Stopped (outputs : List OutputFile) (place : ℕ) (old : Files) (new : Op
   within : IsPart output part
   now : new ≡ Some (written_to outputs place output part old)
 
-stopped : (outputs : List OutputFile) (place : ℕ) (old : Files) (new : Option Files) → Tells (StopsAt outputs place) (Some old) new → Stopped outputs place old new
+stopped : (outputs : List OutputFile) (place : ℕ) (old : Files) (new : Option Files) → RelatesFiles (StopsAt outputs place) (Some old) new → Stopped outputs place old new
 stopped outputs place old None left = absurd left
 stopped outputs place old (Some n) left = go left.2
   where
@@ -226,17 +226,17 @@ stops_at : (outputs : List OutputFile) (place : ℕ) (output : OutputFile) (part
 stops_at outputs place output None old there = (output, there, inl refl)
 stops_at outputs place output (Some n) old there = (output, there, inr (n, refl))
 
-left_at : (outputs : List OutputFile) (place : ℕ) (output : OutputFile) (part : Option ℕ) (old : Files) (new : Option Files) → slice_get outputs place ≡ Some output → new ≡ Some (written_to outputs place output part old) → Tells (StopsAt outputs place) (Some old) new
-left_at outputs place output part old new there is = subst (λ (f : Option Files). Tells (StopsAt outputs place) (Some old) f) (sym is) (stops_at outputs place output part old there)
+left_at : (outputs : List OutputFile) (place : ℕ) (output : OutputFile) (part : Option ℕ) (old : Files) (new : Option Files) → slice_get outputs place ≡ Some output → new ≡ Some (written_to outputs place output part old) → RelatesFiles (StopsAt outputs place) (Some old) new
+left_at outputs place output part old new there is = subst (λ (f : Option Files). RelatesFiles (StopsAt outputs place) (Some old) f) (sym is) (stops_at outputs place output part old there)
 
 pub stops_short_exactly : StopsShortLaw
 stops_short_exactly o memory old new io status a b held = (
   λ s.
       let t = stopped o.outputs s.place old new s.left in
-      let u = behind_to io a b o.out o.err memory held s.said in
+      let u = after_to io a b o.out o.err memory held s.said in
       (s.place, t.output, t.part, u.count, t.there, t.within, t.now, u.within, u.now, s.failed),
   λ q. record {
-    said = subst (λ (x : Streams). SaysBehind x o.out o.err memory) (sym q.8) (behind_from a b o.out o.err memory q.3 q.7);
+    said = subst (λ (x : Streams). SaysAfter x o.out o.err memory) (sym q.8) (after_from a b o.out o.err memory q.3 q.7);
     place = q.0;
     left = left_at o.outputs q.0 q.1 q.2 old new q.4 q.6;
     failed = q.9;
@@ -244,20 +244,20 @@ stops_short_exactly o memory old new io status a b held = (
 )
 
 pub stops_writing_exactly : StopsWritingLaw
-stops_writing_exactly o old new blamed io status a b held = (
+stops_writing_exactly o old new last_failure io status a b held = (
   λ s.
       let t = stopped o.outputs s.place old new s.left in
       let same : s.output ≡ t.output = let both : Some s.output ≡ Some t.output = sym s.at ∙ t.there in cc in
       let line = file_error_line t.output.name in
-      let u = behind_to io a b o.out o.err line held (subst (λ (x : OutputFile). SaysBehind io o.out o.err (file_error_line x.name)) same s.said) in
-      (s.place, t.output, t.part, u.count, t.there, t.within, t.now, subst (λ (x : OutputFile). IsBlamed blamed x.name) same s.asked, u.within, u.now, s.failed),
+      let u = after_to io a b o.out o.err line held (subst (λ (x : OutputFile). SaysAfter io o.out o.err (file_error_line x.name)) same s.said) in
+      (s.place, t.output, t.part, u.count, t.there, t.within, t.now, subst (λ (x : OutputFile). FailedOn last_failure x.name) same s.asked, u.within, u.now, s.failed),
   λ q. record {
     place = q.0;
     left = left_at o.outputs q.0 q.1 q.2 old new q.4 q.6;
     output = q.1;
     at = q.4;
     asked = q.7;
-    said = subst (λ (x : Streams). SaysBehind x o.out o.err (file_error_line q.1.name)) (sym q.9) (behind_from a b o.out o.err (file_error_line q.1.name) q.3 q.8);
+    said = subst (λ (x : Streams). SaysAfter x o.out o.err (file_error_line q.1.name)) (sym q.9) (after_from a b o.out o.err (file_error_line q.1.name) q.3 q.8);
     failed = q.10;
   },
 )
@@ -271,31 +271,31 @@ writers_perform_exactly o old new status a b out err = (
       let t = (performs_exactly o old new io status a b (refl, refl)).0 w.2 in
       (t.0, t.1, t.2, t.3, ap (λ (x : Streams). x.out_new) t.4, ap (λ (x : Streams). x.err_new) t.4, t.5, t.6),
   λ q.
-      let io = said a b o.out o.err q.0 q.1 in
+      let io = streams_after a b o.out o.err q.0 q.1 in
       let p = (performs_exactly o old new io status a b (held_before a b o.out o.err q.0 q.1)).1 (q.0, q.1, q.2, q.3, refl, q.6, q.7) in
       let same : io ≡ streams (Some a) out io.out_refused (Some b) err io.err_refused = same_streams io _ _ _ _ _ _ (held_before a b o.out o.err q.0 q.1).0 (sym q.4) refl (held_before a b o.out o.err q.0 q.1).1 (sym q.5) refl in
-      (io.out_refused, io.err_refused, subst (λ (x : Streams). Performs o old new x status) same p),
+      (io.out_refused, io.err_refused, subst (λ (x : Streams). PerformsOutcome o old new x status) same p),
 )
   where
-    held_before : (a b out err : List ℕ) (i j : ℕ) → Held (said a b out err i j) a b
+    held_before : (a b out err : List ℕ) (i j : ℕ) → HeldBefore (streams_after a b out err i j) a b
     held_before a b out err i j = go (i == length out) refl
       where
-        go : (r : Bool) → (i == length out) ≡ r → Held (said a b out err i j) a b
-        go true e = subst (λ (x : Streams). Held x a b) (sym (said_whole a b out err i j e)) (refl, refl)
-        go false e = subst (λ (x : Streams). Held x a b) (sym (said_part a b out err i j e)) (refl, refl)
+        go : (r : Bool) → (i == length out) ≡ r → HeldBefore (streams_after a b out err i j) a b
+        go true e = subst (λ (x : Streams). HeldBefore x a b) (sym (said_whole a b out err i j e)) (refl, refl)
+        go false e = subst (λ (x : Streams). HeldBefore x a b) (sym (said_part a b out err i j e)) (refl, refl)
 
 pub writers_stop_exactly : WritersStopLaw
 writers_stop_exactly out_text err_text fault a b out err = (
   λ w.
       let io = streams (Some a) out w.0 (Some b) err w.1 in
-      let t = behind_to io a b out_text err_text fault (refl, refl) w.2 in
+      let t = after_to io a b out_text err_text fault (refl, refl) w.2 in
       (t.count, t.within, ap (λ (x : Streams). x.out_new) t.now, ap (λ (x : Streams). x.err_new) t.now),
   λ q.
-      let io = said_behind a b out_text err_text fault q.0 in
-      let p = behind_from a b out_text err_text fault q.0 q.1 in
+      let io = said_after a b out_text err_text fault q.0 in
+      let p = after_from a b out_text err_text fault q.0 q.1 in
       let same : io ≡ streams (Some a) out false (Some b) err io.err_refused = same_streams io _ _ _ _ _ _ refl (sym q.2) refl refl (sym q.3) refl in
-      (false, io.err_refused, subst (λ (x : Streams). SaysBehind x out_text err_text fault) same p),
+      (false, io.err_refused, subst (λ (x : Streams). SaysAfter x out_text err_text fault) same p),
 )
 
-pub one_naming : OneNamingLaw
-one_naming o old new c io status s = subst (λ (n : List ℕ). SaysBehind io o.out o.err (file_error_line n)) (sym s.asked) s.said
+pub one_naming : WriteNamingIsUnique
+one_naming o old new c io status s = subst (λ (n : List ℕ). SaysAfter io o.out o.err (file_error_line n)) (sym s.asked) s.said

@@ -1,18 +1,18 @@
 -- Outcomes whose files aren't all written since a call of the store fails.
 use Rattle.std.proofs.Common.{◌≡◌, ℕ, ◌<◌, true, false, Option, Some, None, refl, slice_get}
 use Rattle.std.specs.Prelude.{IfSome}
-use Rattle.base65.specs.Store.{Files, IsBlamed, Tells, Blamed}
+use Rattle.base65.specs.Store.{Files, FailedOn, RelatesFiles, LastFailure}
 use Rattle.base65.specs.declared.store.StoreFault.{StoreFault}
 use Rattle.base65.specs.declared.store.StoreFault.TheVariants.{OutOfMemory, FileNotFound, FileError}
 use Rattle.base65.specs.declared.output.OutputFile.{OutputFile}
-use Rattle.output65.specs.Leaving.{SaysBehind, StopsAt, Streams, is_failure as is_unwritten_failure}
-use Rattle.output65.specs.Stopping.{StopsWriting, file_error_line}
+use Rattle.output65.specs.RunEffects.{SaysAfter, StopsAt, Streams, is_failure as is_unwritten_failure}
+use Rattle.output65.specs.WriteFailures.{StopsWriting, file_error_line}
 use Rattle.output65.specs.declared.outcome.Outcome.{Outcome}
 use Rattle.output65.specs.declared.outcome.Status.{Status}
 use Rattle.output65.specs.declared.outcome.Status.TheVariants.{Failure}
-use Rattle.output65.specs.declared.writing.Unwritten.{Unwritten}
+use Rattle.output65.specs.declared.writing.WriteError.{WriteError}
 
-file_error : (u : Unwritten) → is_unwritten_failure u ≡ true → u.fault ≡ FileError
+file_error : (u : WriteError) → is_unwritten_failure u ≡ true → u.fault ≡ FileError
 file_error u = go u.fault refl
   where
     go : (f : StoreFault) → u.fault ≡ f → is_unwritten_failure u ≡ true → u.fault ≡ FileError
@@ -21,10 +21,10 @@ file_error u = go u.fault refl
     go FileNotFound e h = let no : is_unwritten_failure u ≡ false = rw e refl in cc
 
 -- where a file isn't written since a call failed
-pub stops_writing : (known new : Option Files) (fm fn : ℕ) (o : Outcome) (u : Unwritten) (blamed : Blamed) (io : Streams) (status : Status) → status ≡ Failure → (fm < fn → is_unwritten_failure u ≡ true) → Tells (StopsAt o.outputs u.place) known new → ((file : OutputFile) → u.fault ≡ FileError → slice_get o.outputs u.place ≡ Some file → SaysBehind io o.out o.err (file_error_line file.name)) → ((file : OutputFile) → u.fault ≡ FileError → slice_get o.outputs u.place ≡ Some file → IsBlamed blamed file.name) → IfSome known (λ m. fm < fn → StopsWriting o m new blamed io status)
-stops_writing None new fm fn o u blamed io status failed told left said asked = tt
-stops_writing (Some m) None fm fn o u blamed io status failed told left said asked = absurd left
-stops_writing (Some m) (Some n) fm fn o u blamed io status failed told left said asked = λ rose. record {
+pub stops_writing : (known new : Option Files) (fm fn : ℕ) (o : Outcome) (u : WriteError) (last_failure : LastFailure) (io : Streams) (status : Status) → status ≡ Failure → (fm < fn → is_unwritten_failure u ≡ true) → RelatesFiles (StopsAt o.outputs u.place) known new → ((file : OutputFile) → u.fault ≡ FileError → slice_get o.outputs u.place ≡ Some file → SaysAfter io o.out o.err (file_error_line file.name)) → ((file : OutputFile) → u.fault ≡ FileError → slice_get o.outputs u.place ≡ Some file → FailedOn last_failure file.name) → IfSome known (λ m. fm < fn → StopsWriting o m new last_failure io status)
+stops_writing None new fm fn o u last_failure io status failed told left said asked = tt
+stops_writing (Some m) None fm fn o u last_failure io status failed told left said asked = absurd left
+stops_writing (Some m) (Some n) fm fn o u last_failure io status failed told left said asked = λ rose. record {
   place = u.place;
   left = left;
   output = left.0;

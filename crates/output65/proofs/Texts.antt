@@ -3,16 +3,16 @@ use Rattle.std.proofs.Common.{◌≡◌, ◌∙◌, ℕ, ◌<◌, ◌≤◌, ari
 use Rattle.std.specs.FinMap as map
 use Rattle.std.proofs.lemmas.List.{take_at, drop_at, append-nil, map-append, take-append-drop, take-append-le, take_more}
 use Rattle.std.proofs.lemmas.Grind.{flat_map-append}
-use Rattle.cli65.specs.Messages.{joined}
+use Rattle.cli65.specs.Messages.{concat_texts}
 use Rattle.std.specs.Io.KnownBytes.{Appends, Keeps}
 use Rattle.std.specs.Ordering.{nat_cmp, eq_by_cmp}
 use Rattle.std.specs.Cmp.{eq_by_cmp_equiv}
 use Rattle.std.specs.Cmp.Lexicographic.{slice_cmp, nat_list_cmp_total}
-use Rattle.base65.specs.Store.{Files, Tells, NoneFailed, HasFailed, Appends as Appended}
+use Rattle.base65.specs.Store.{Files, RelatesFiles, NoneFailed, HasFailed, AppendsToFile as Appended}
 use Rattle.base65.specs.declared.store.StoreFault.{StoreFault}
 use Rattle.base65.specs.declared.store.StoreFault.TheVariants.{OutOfMemory, FileNotFound, FileError}
-use Rattle.output65.specs.Leaving.{Prints, SaysBoth, IsPartly, apply, StopsAt, StopsShort, Streams, streams, SaysBehind, took_both, is_failure, is_file_error}
-use Rattle.output65.specs.declared.writing.Unwritten.{Unwritten}
+use Rattle.output65.specs.RunEffects.{PrintsText, SaysBoth, IsPartly, apply, StopsAt, StopsShort, Streams, streams, SaysAfter, took_both, is_failure, is_file_error}
+use Rattle.output65.specs.declared.writing.WriteError.{WriteError}
 use Rattle.base65.proofs.Filling.{take-add}
 use Rattle.output65.specs.declared.outcome.Outcome.{Outcome}
 use Rattle.output65.specs.declared.outcome.Status.{Status}
@@ -37,7 +37,7 @@ shorter : (done rest text : List ℕ) → text ≡ done ++ rest → 0 < length r
 shorter done rest text e h = omega (arith, ap length e, length-append done rest)
 
 -- a stream that fails keeps what it has
-pub printed_part : (old mid new : Option (List ℕ)) (text rest : List ℕ) → 0 < length rest → length rest ≤ length text → Printing old mid text rest → Appends mid new [] → Prints old new text false
+pub printed_part : (old mid new : Option (List ℕ)) (text rest : List ℕ) → 0 < length rest → length rest ≤ length text → Printing old mid text rest → Appends mid new [] → PrintsText old new text false
 printed_part None mid new text rest some within p k = omega arith
 printed_part (Some o) None new text rest some within p k = absurd p
 printed_part (Some o) (Some m) None text rest some within p k = absurd k
@@ -64,7 +64,7 @@ replaced m name a b =
       twice false x y z = refl
 
 -- a file that goes on being written
-pub written_more : (known mid new : Option Files) (name bytes rest : List ℕ) (n : ℕ) → Tells (λ old m. Writing old name bytes rest m) known mid → Tells (λ m x. Appended m name rest x (Ok n)) mid new → Tells (λ old x. Writing old name bytes (drop n rest) x) known new
+pub written_more : (known mid new : Option Files) (name bytes rest : List ℕ) (n : ℕ) → RelatesFiles (λ old m. Writing old name bytes rest m) known mid → RelatesFiles (λ m x. Appended m name rest x (Ok n)) mid new → RelatesFiles (λ old x. Writing old name bytes (drop n rest) x) known new
 written_more None mid new name bytes rest n p q = tt
 written_more (Some o) None new name bytes rest n p q = absurd p
 written_more (Some o) (Some m) None name bytes rest n p q = absurd q
@@ -82,7 +82,7 @@ unchanged FileNotFound m x name rest h = h.1
 unchanged FileError m x name rest h = h
 
 -- a file that is left in part
-pub written_part : (e : StoreFault) (known mid new : Option Files) (name bytes rest : List ℕ) → Tells (λ old m. Writing old name bytes rest m) known mid → Tells (λ m x. Appended m name rest x (Err e)) mid new → Tells (λ old x. IsPartly old name bytes x) known new
+pub written_part : (e : StoreFault) (known mid new : Option Files) (name bytes rest : List ℕ) → RelatesFiles (λ old m. Writing old name bytes rest m) known mid → RelatesFiles (λ m x. Appended m name rest x (Err e)) mid new → RelatesFiles (λ old x. IsPartly old name bytes x) known new
 written_part e None mid new name bytes rest p q = tt
 written_part e (Some o) None new name bytes rest p q = absurd p
 written_part e (Some o) (Some m) None name bytes rest p q = absurd q
@@ -101,7 +101,7 @@ begun_there FileNotFound o m x name bytes rest p q e =
     let none : map.get m name ≡ None = q.0 in
     cc
 
-pub still_there : (e : StoreFault) (known mid new : Option Files) (name bytes rest : List ℕ) → Tells (λ old m. Writing old name bytes rest m) known mid → Tells (λ m x. Appended m name rest x (Err e)) mid new → IfSome known (λ m. IsErrOf {T = Unit {0}} (Err e) FileNotFound → ⊥)
+pub still_there : (e : StoreFault) (known mid new : Option Files) (name bytes rest : List ℕ) → RelatesFiles (λ old m. Writing old name bytes rest m) known mid → RelatesFiles (λ m x. Appended m name rest x (Err e)) mid new → IfSome known (λ m. IsErrOf {T = Unit {0}} (Err e) FileNotFound → ⊥)
 still_there e None mid new name bytes rest p q = tt
 still_there e (Some o) None new name bytes rest p q = absurd p
 still_there e (Some o) (Some m) None name bytes rest p q = absurd q
@@ -112,7 +112,7 @@ apply-append [] o m = refl
 apply-append (p ∷ os) o m = apply-append os o (map.insert m p.name p.bytes)
 
 -- one more output
-pub next_output : (known mid new : Option Files) (outputs : List OutputFile) (i : ℕ) (o : OutputFile) → i < length outputs → o ≡ get_or outputs i o → Tells (λ old m. m ≡ apply (take i outputs) old) known mid → Tells (λ m n. n ≡ map.insert m o.name o.bytes) mid new → Tells (λ old n. n ≡ apply (take (i + 1) outputs) old) known new
+pub next_output : (known mid new : Option Files) (outputs : List OutputFile) (i : ℕ) (o : OutputFile) → i < length outputs → o ≡ get_or outputs i o → RelatesFiles (λ old m. m ≡ apply (take i outputs) old) known mid → RelatesFiles (λ m n. n ≡ map.insert m o.name o.bytes) mid new → RelatesFiles (λ old n. n ≡ apply (take (i + 1) outputs) old) known new
 next_output None mid new outputs i o h is p q = tt
 next_output (Some a) None new outputs i o h is p q = absurd p
 next_output (Some a) (Some m) None outputs i o h is p q = absurd q
@@ -120,7 +120,7 @@ next_output (Some a) (Some m) (Some n) outputs i o h is p q =
     let more : take (i + 1) outputs ≡ take i outputs ++ o ∷ [] = take_more outputs i o h ∙ ap (λ (e : OutputFile). take i outputs ++ e ∷ []) (sym is) in
     q ∙ ap (λ (w : Files). map.insert w o.name o.bytes) p ∙ sym (apply-append (take i outputs) o a) ∙ ap (λ (os : List OutputFile). apply os a) (sym more)
 
-said_more : (old mid new : Option (List ℕ)) (text more : List ℕ) (whole : Bool) → Prints old mid text true → Prints mid new more whole → Prints old new (text ++ more) whole
+said_more : (old mid new : Option (List ℕ)) (text more : List ℕ) (whole : Bool) → PrintsText old mid text true → PrintsText mid new more whole → PrintsText old new (text ++ more) whole
 said_more None mid new text more true p q = tt
 said_more None None new text more false p q = omega (arith, q, length-append text more)
 said_more None (Some m) None text more false p q = absurd q
@@ -137,7 +137,7 @@ said_more (Some o) (Some m) (Some n) text more false p q = (
     front : (xs ys : List ℕ) (k : ℕ) → take (length xs + k) (xs ++ ys) ≡ xs ++ take k ys
     front xs ys k = take-add (length xs) k (xs ++ ys) ∙ rw (take_at xs ys (length xs) refl, drop_at xs ys (length xs) refl) refl
 
-said_within : (old new : Option (List ℕ)) (text more : List ℕ) → Prints old new text false → Prints old new (text ++ more) false
+said_within : (old new : Option (List ℕ)) (text more : List ℕ) → PrintsText old new text false → PrintsText old new (text ++ more) false
 said_within None new text more p = omega (arith, p, length-append text more)
 said_within (Some o) None text more p = p
 said_within (Some o) (Some n) text more p = (
@@ -149,21 +149,21 @@ said_within (Some o) (Some n) text more p = (
 -- Texts that are said one behind the other: one of them stops short, behind all before it.
 module _ {X : Type 0} (text : X → List ℕ) where
   abbrev all_of : List X → List ℕ
-  all_of xs = joined (map text xs)
+  all_of xs = concat_texts (map text xs)
 
   all_of-append : (xs ys : List X) → all_of (xs ++ ys) ≡ all_of xs ++ all_of ys
-  all_of-append xs ys = ap joined (map-append text xs ys) ∙ flat_map-append (λ p. p) (map text xs) (map text ys)
+  all_of-append xs ys = ap concat_texts (map-append text xs ys) ∙ flat_map-append (λ p. p) (map text xs) (map text ys)
 
-  pub stops_within : (old mid new : Option (List ℕ)) (xs : List X) (i : ℕ) (d : X) → i < length xs → Prints old mid (all_of (take i xs)) true → Prints mid new (text (get_or xs i d)) false → Prints old new (all_of xs) false
+  pub stops_within : (old mid new : Option (List ℕ)) (xs : List X) (i : ℕ) (d : X) → i < length xs → PrintsText old mid (all_of (take i xs)) true → PrintsText mid new (text (get_or xs i d)) false → PrintsText old new (all_of xs) false
   stops_within old mid new xs i d h p q =
       let x : X = get_or xs i d in
       let more : take (i + 1) xs ≡ take i xs ++ x ∷ [] = take_more xs i d h in
       let last : all_of (take (i + 1) xs) ≡ all_of (take i xs) ++ text x = ap all_of more ∙ all_of-append (take i xs) (x ∷ []) ∙ ap (λ t. all_of (take i xs) ++ t) (append-nil (text x)) in
       let cut : all_of xs ≡ (all_of (take i xs) ++ text x) ++ all_of (drop (i + 1) xs) =
       ap all_of (sym (take-append-drop (i + 1) xs)) ∙ all_of-append (take (i + 1) xs) (drop (i + 1) xs) ∙ ap (λ t. t ++ all_of (drop (i + 1) xs)) last in
-      subst (λ t. Prints old new t false) (sym cut) (said_within old new (all_of (take i xs) ++ text x) (all_of (drop (i + 1) xs)) (said_more old mid new (all_of (take i xs)) (text x) false p q))
+      subst (λ t. PrintsText old new t false) (sym cut) (said_within old new (all_of (take i xs) ++ text x) (all_of (drop (i + 1) xs)) (said_more old mid new (all_of (take i xs)) (text x) false p q))
 
-by_cause : (u : Unwritten) → is_failure u ≡ false → (u.fault ≡ FileNotFound → ⊥) → u.fault ≡ OutOfMemory
+by_cause : (u : WriteError) → is_failure u ≡ false → (u.fault ≡ FileNotFound → ⊥) → u.fault ≡ OutOfMemory
 by_cause u = go u.fault refl
   where
     go : (f : StoreFault) → u.fault ≡ f → is_failure u ≡ false → (u.fault ≡ FileNotFound → ⊥) → u.fault ≡ OutOfMemory
@@ -178,19 +178,19 @@ both_took false true h = absurd cc
 both_took true err h = absurd cc
 
 -- what is said behind the texts of both
-pub behind_both : (io mid : Streams) (out err fault : List ℕ) → mid ≡ streams io.out_old io.out_new io.out_refused io.err_old mid.err_new mid.err_refused → took_both mid ≡ true → SaysBoth mid out err → Prints mid.err_new io.err_new fault (not io.err_refused) → SaysBehind io out err fault
-behind_both io mid out err fault same took said more =
+pub after_both : (io mid : Streams) (out err fault : List ℕ) → mid ≡ streams io.out_old io.out_new io.out_refused io.err_old mid.err_new mid.err_refused → took_both mid ≡ true → SaysBoth mid out err → PrintsText mid.err_new io.err_new fault (not io.err_refused) → SaysAfter io out err fault
+after_both io mid out err fault same took said more =
     let none = both_took mid.out_refused mid.err_refused took in
     let taken : io.out_refused ≡ false = sym (ap (λ (x : Streams). x.out_refused) same) ∙ none.0 in
     record {
       err_mid = mid.err_new;
       said = subst (λ (b : Bool). SaysBoth (streams io.out_old io.out_new io.out_refused io.err_old mid.err_new b) out err) none.1 (subst (λ (x : Streams). SaysBoth x out err) same said);
       taken = taken;
-      behind = more;
+      following = more;
     }
 
 -- outputs that aren't all written
-pub short : (known new : Option Files) (fo fm fn : ℕ) (o : Outcome) (memory : List ℕ) (u : Unwritten) (io : Streams) (status : Status) (P : Files → Type 0) → status ≡ Failure → fo ≤ fm → fm ≡ fn → (is_failure u ≡ true → HasFailed fo fm) → IfSome known (λ m. u.fault ≡ FileNotFound → ⊥) → Tells (StopsAt o.outputs u.place) known new → (u.fault ≡ OutOfMemory → SaysBehind io o.out o.err memory) → IfSome known (λ m. NoneFailed fo fn → P m ⊎ StopsShort o memory m new io status)
+pub short : (known new : Option Files) (fo fm fn : ℕ) (o : Outcome) (memory : List ℕ) (u : WriteError) (io : Streams) (status : Status) (P : Files → Type 0) → status ≡ Failure → fo ≤ fm → fm ≡ fn → (is_failure u ≡ true → HasFailed fo fm) → IfSome known (λ m. u.fault ≡ FileNotFound → ⊥) → RelatesFiles (StopsAt o.outputs u.place) known new → (u.fault ≡ OutOfMemory → SaysAfter io o.out o.err memory) → IfSome known (λ m. NoneFailed fo fn → P m ⊎ StopsShort o memory m new io status)
 short None new fo fm fn o memory u io status P e later same cause there left said = tt
 short (Some m) new fo fm fn o memory u io status P e later same cause there left said = λ none.
     let want : u.fault ≡ OutOfMemory = by_cause u (not_failed (is_failure u) refl none) there in

@@ -7,19 +7,19 @@ use Rattle.base65.specs.declared.output.OutputFile.{OutputFile}
 use Rattle.output65.specs.declared.outcome.Outcome.{Outcome}
 use Rattle.output65.specs.declared.outcome.Status.{Status}
 use Rattle.output65.specs.declared.outcome.Status.TheVariants.{Failure}
-use Rattle.output65.specs.Leaving.{Streams, apply, streams}
+use Rattle.output65.specs.RunEffects.{Streams, apply, streams}
 
 -- Standard output took i bytes of its text and standard error j bytes of its own, of which it takes none unless standard output
 -- took all.
-abbrev pub said : List ℕ → List ℕ → List ℕ → List ℕ → ℕ → ℕ → Streams
-said out_old err_old out err i j =
+abbrev pub streams_after : List ℕ → List ℕ → List ℕ → List ℕ → ℕ → ℕ → Streams
+streams_after out_old err_old out err i j =
     if i == length out
     then streams (Some out_old) (Some (out_old ++ out)) false (Some err_old) (Some (err_old ++ take j err)) (not (j == length err))
     else streams (Some out_old) (Some (out_old ++ take i out)) true (Some err_old) (Some err_old) false
 
 -- both took all, and behind that standard error took k bytes of a text of a fault
-abbrev pub said_behind : List ℕ → List ℕ → List ℕ → List ℕ → List ℕ → ℕ → Streams
-said_behind out_old err_old out err fault k =
+abbrev pub said_after : List ℕ → List ℕ → List ℕ → List ℕ → List ℕ → ℕ → Streams
+said_after out_old err_old out err fault k =
     streams (Some out_old) (Some (out_old ++ out)) false (Some err_old) (Some ((err_old ++ err) ++ take k fault)) (not (k == length fault))
 
 -- the files and the status of a run by what the streams took

@@ -1,6 +1,6 @@
 pub mod Laws
-pub mod Leaving
+pub mod RunEffects
 pub mod Left
 pub mod Outputs
-pub mod Stopping
+pub mod WriteFailures
 pub mod Stream

@@ -5,7 +5,7 @@ mod read_ahead;
 ghost use Rattle.std.specs.Prelude.{◌≡◌, ◌<◌, ◌-◌, ◌+◌, ◌≤◌, ◌^◌, None, IfOk, IfErr, length};
 
 use crate::disk_store::read_ahead::ReadAhead;
-use base65::{Seed, Store, StoreFault, Text};
+use base65::{PathString, Seed, Store, StoreFault};
 use std::alloc::Global;
 use std::fs::OpenOptions;
 use std::io::{ErrorKind, Write};
@@ -15,7 +15,7 @@ use std::{fs, io};
 /// A file that is being written.
 #[derive(Drop)]
 struct Writing<F> {
-    name: Text,
+    name: PathString,
     file: F,
 }
 
@@ -80,7 +80,7 @@ impl<R: Files> DiskStore<R> {
             let last = self.reading.take();
             let file = fs::open(&self.files, name)?;
             self.reading = Some(match last {
-                Some(last) => last.with_file(Text::copy_of(self.alloc, name)?, file),
+                Some(last) => last.with_file(PathString::copy_of(self.alloc, name)?, file),
                 None => ReadAhead::new(self.alloc, name, file)?,
             });
         }
@@ -95,7 +95,7 @@ impl<R: Files> DiskStore<R> {
         match self.writing.take() {
             Some(writing) if writing.name.as_str() == name => Ok(writing),
             _ => {
-                let copy = Text::copy_of(self.alloc, name)?;
+                let copy = PathString::copy_of(self.alloc, name)?;
                 let file = OpenOptions::new().append(true).open(&self.files, name)?;
                 Ok(Writing { name: copy, file })
             }
@@ -123,7 +123,7 @@ impl<R: Files> DiskStore<R> {
     {
         self.reading = None;
         self.writing = None;
-        let copy = Text::copy_of(self.alloc, name)?;
+        let copy = PathString::copy_of(self.alloc, name)?;
         let file = fs::create(&self.files, name)?;
         self.writing = Some(Writing { name: copy, file });
         Ok(())
@@ -150,7 +150,7 @@ impl<R: Files> Store for DiskStore<R> {
 
     ghost failures = { λ s. s.failures };
 
-    ghost blamed = { λ _. None };
+    ghost last_failure = { λ _. None };
 
     fn seed(&self) -> Seed {
         self.seed

@@ -1,7 +1,7 @@
 //! What a run leaves is one thing, and there is one, by what each stream took and each call of the store answered. Each
 //! function's contract is a law.
 
-ghost use Rattle.output65.specs.Laws.{OneNamingLaw, PerformsLaw, PrintsLaw, SaysBehindLaw, SaysLaw, StopsShortLaw, StopsWritingLaw, WritersPerformLaw, WritersStopLaw};
+ghost use Rattle.output65.specs.Laws.{WriteNamingIsUnique, PerformsLaw, PrintsLaw, SaysAfterLaw, SaysLaw, StopsShortLaw, StopsWritingLaw, WritersPerformLaw, WritersStopLaw};
 
 /// A stream that prints a text holds so many bytes of it, and all exactly where it says so.
 pub fn prints_exactly()
@@ -19,8 +19,8 @@ pub fn performs_exactly()
 {}
 
 /// Behind both texts standard error holds so many bytes of a text of a fault.
-pub fn says_behind_exactly()
-    ensures { SaysBehindLaw }
+pub fn says_after_exactly()
+    ensures { SaysAfterLaw }
 {}
 
 /// Where memory runs out at an output, those before it are written, it is in part or not at all, and no later one.
@@ -44,6 +44,6 @@ pub fn writers_stop_exactly()
 {}
 
 /// A call that failed while files were written has one message, by the name that it asked for.
-pub fn one_naming()
-    ensures { OneNamingLaw }
+pub fn write_naming_is_unique()
+    ensures { WriteNamingIsUnique }
 {}

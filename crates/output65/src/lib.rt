@@ -13,7 +13,7 @@ mod writing;
 pub use disk_store::DiskStore;
 pub use outcome::{Outcome, Status};
 pub use outputs::{outputs_of, with_map};
-pub use performing::{perform, say_memory};
+pub use performing::{commit_outcome, print_out_of_memory};
 pub use printing::print;
 pub use stream::Stream;
 pub use writing::write_file;

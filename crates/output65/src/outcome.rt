@@ -1,6 +1,6 @@
 //! What a command does.
 
-use base65::{OutputFile, Sequence};
+use base65::{ListVec, OutputFile};
 
 /// What a run answers to its caller.
 #[derive(Clone, Copy, Debug, PartialEq, Eq)]
@@ -14,9 +14,9 @@ pub enum Status {
 #[derive(Drop)]
 pub struct Outcome {
     /// For standard output.
-    pub out: Sequence<u8>,
+    pub out: ListVec<u8>,
     /// For standard error.
-    pub err: Sequence<u8>,
-    pub outputs: Sequence<OutputFile>,
+    pub err: ListVec<u8>,
+    pub outputs: ListVec<OutputFile>,
     pub status: Status,
 }

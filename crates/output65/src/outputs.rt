@@ -3,20 +3,20 @@
 ghost use Rattle.std.specs.Prelude.{◌≡◌, IfOk, option_map};
 ghost use Rattle.output65.specs.Outputs.{outputs_of, with_map};
 
-use base65::{OutputFile, Sequence, Text};
+use base65::{ListVec, OutputFile, PathString};
 use std::alloc::{AllocError, Global};
 
 /// The file of a name, or none where the name is empty.
 pub fn outputs_of(
     alloc: Global,
     name: &str,
-    bytes: Sequence<u8>,
-) -> Result<Sequence<OutputFile>, AllocError>
+    bytes: ListVec<u8>,
+) -> Result<ListVec<OutputFile>, AllocError>
     ensures { IfOk result (λ outputs. outputs ≡ outputs_of name.now bytes) }
 {
-    let mut outputs = Sequence::new(alloc);
+    let mut outputs = ListVec::new(alloc);
     if !name.is_empty() {
-        let name = Text::copy_of(alloc, name)?;
+        let name = PathString::copy_of(alloc, name)?;
         outputs.push(OutputFile { name, bytes })?;
     }
     Ok(outputs)
@@ -26,13 +26,13 @@ pub fn outputs_of(
 pub fn with_map(
     alloc: Global,
     name: Option<&str>,
-    mut files: Sequence<OutputFile>,
-    map: Sequence<u8>,
-) -> Result<Sequence<OutputFile>, AllocError>
+    mut files: ListVec<OutputFile>,
+    map: ListVec<u8>,
+) -> Result<ListVec<OutputFile>, AllocError>
     ensures { IfOk result (λ outputs. outputs ≡ with_map (option_map (λ s. s.now) name.entry) files map) }
 {
     if let Some(name) = name {
-        let name = Text::copy_of(alloc, name)?;
+        let name = PathString::copy_of(alloc, name)?;
         files.push(OutputFile { name, bytes: map })?;
     }
     Ok(files)

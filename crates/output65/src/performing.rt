@@ -2,15 +2,15 @@
 
 ghost use Rattle.std.specs.Prelude.{◌≡◌, ◌<◌, ◌≤◌, ◌⊎◌, [], slice_get, IfSome, Some, false, not};
 ghost use Rattle.base65.specs.Store.{NoneFailed};
-ghost use Rattle.output65.specs.Leaving.{AreSame, Prints, SaysBoth, Performs, StopsShort, between, took_both};
+ghost use Rattle.output65.specs.RunEffects.{AreSame, PrintsText, SaysBoth, PerformsOutcome, StopsShort, between, took_both};
 ghost use Rattle.cli65.specs.Messages.{memory_line};
 ghost use Rattle.base65.specs.declared.output.OutputFile.{OutputFile};
-ghost use Rattle.output65.specs.Stopping.{StopsWriting, file_error_line};
+ghost use Rattle.output65.specs.WriteFailures.{StopsWriting, file_error_line};
 
 use crate::outcome::{Outcome, Status};
 use crate::printing::{print, print_all};
 use crate::stream::Stream;
-use crate::writing::{Unwritten, write_outputs};
+use crate::writing::{WriteError, write_outputs};
 use base65::{OutputFile, Store, StoreFault};
 use std::io::Write;
 
@@ -22,8 +22,8 @@ fn say_both<W: Write, E: Write>(
     err: &mut Stream<'_, E>,
     error_text: &[u8],
 ) -> bool
-    requires out { out.old.has_refused ≡ false }
-    requires err { err.old.has_refused ≡ false }
+    requires out { out.old.has_failed ≡ false }
+    requires err { err.old.has_failed ≡ false }
     ensures same { AreSame out.old out.new err.old err.new }
     ensures said { SaysBoth (between W.contents E.contents out.old out.new err.old err.new) text.now error_text.now }
     ensures took { result ≡ took_both (between W.contents E.contents out.old out.new err.old err.new) }
@@ -35,32 +35,32 @@ fn say_both<W: Write, E: Write>(
 }
 
 /// Says that memory ran out, behind a name, and answers whether the stream took all of it.
-pub fn say_memory<E: Write>(err: &mut Stream<'_, E>, name: &str) -> bool
-    requires { err.old.has_refused ≡ false }
+pub fn print_out_of_memory<E: Write>(err: &mut Stream<'_, E>, name: &str) -> bool
+    requires { err.old.has_failed ≡ false }
     ensures same { err.new.writer.ghost_name ≡ err.old.writer.ghost_name }
-    ensures said { Prints (E.contents err.old.writer.now) (E.contents err.new.writer.now) (memory_line name.now) (not err.new.has_refused) }
-    ensures took { result ≡ not err.new.has_refused }
+    ensures said { PrintsText (E.contents err.old.writer.now) (E.contents err.new.writer.now) (memory_line name.now) (not err.new.has_failed) }
+    ensures took { result ≡ not err.new.has_failed }
 {
     print_all(err, &[name.as_bytes(), b": Error: out of memory\n"])
 }
 
 /// Says why an output isn't written: that memory ran out, or what befell its file. Answers whether the stream
 /// took all of it.
-fn say_unwritten<E: Write>(
+fn print_write_error<E: Write>(
     err: &mut Stream<'_, E>,
     outputs: &[OutputFile],
-    unwritten: Unwritten,
+    unwritten: WriteError,
     memory_name: &str,
 ) -> bool
-    requires { err.old.has_refused ≡ false }
+    requires { err.old.has_failed ≡ false }
     ensures same { err.new.writer.ghost_name ≡ err.old.writer.ghost_name }
     ensures memory { unwritten.fault ≡ StoreFault.OutOfMemory →
-        Prints (E.contents err.old.writer.now) (E.contents err.new.writer.now) (memory_line memory_name.now) (not err.new.has_refused) }
+        PrintsText (E.contents err.old.writer.now) (E.contents err.new.writer.now) (memory_line memory_name.now) (not err.new.has_failed) }
     ensures failed { (file : OutputFile) → unwritten.fault ≡ StoreFault.FileError → slice_get outputs.now unwritten.place ≡ Some file →
-        Prints (E.contents err.old.writer.now) (E.contents err.new.writer.now) (file_error_line file.name) (not err.new.has_refused) }
+        PrintsText (E.contents err.old.writer.now) (E.contents err.new.writer.now) (file_error_line file.name) (not err.new.has_failed) }
 {
     let words: &[u8] = match unwritten.fault {
-        StoreFault::OutOfMemory => return say_memory(err, memory_name),
+        StoreFault::OutOfMemory => return print_out_of_memory(err, memory_name),
         StoreFault::FileNotFound => b": Error: file not found\n",
         StoreFault::FileError => b": Error: file error\n",
     };
@@ -73,27 +73,27 @@ fn say_unwritten<E: Write>(
 /// Carries an outcome out: says its texts, standard output's first, and then writes its files in order. Where
 /// a stream doesn't take its text nothing further is said or written; where a file isn't written no later one
 /// is, and the cause is said: want of memory behind the name handed in. Both answer failure.
-pub fn perform<S: Store, W: Write, E: Write>(
+pub fn commit_outcome<S: Store, W: Write, E: Write>(
     outcome: &Outcome,
     store: &mut S,
     out: &mut Stream<'_, W>,
     err: &mut Stream<'_, E>,
     memory_name: &str,
 ) -> Status
-    requires out { out.old.has_refused ≡ false }
-    requires err { err.old.has_refused ≡ false }
+    requires out { out.old.has_failed ≡ false }
+    requires err { err.old.has_failed ≡ false }
     ensures same { AreSame out.old out.new err.old err.new }
     ensures done { IfSome (S.files store.old) (λ m. NoneFailed (S.failures store.old) (S.failures store.new) →
-        Performs outcome.now m (S.files store.new)
+        PerformsOutcome outcome.now m (S.files store.new)
         (between W.contents E.contents out.old out.new err.old err.new) result
         ⊎ StopsShort outcome.now (memory_line memory_name.now) m (S.files store.new)
         (between W.contents E.contents out.old out.new err.old err.new) result) }
     ensures plain { outcome.now.outputs ≡ [] → IfSome (S.files store.old) (λ m.
-        Performs outcome.now m (S.files store.new)
+        PerformsOutcome outcome.now m (S.files store.new)
         (between W.contents E.contents out.old out.new err.old err.new) result) }
-    ensures untouched { outcome.now.outputs ≡ [] → S.blamed store.new ≡ S.blamed store.old }
+    ensures untouched { outcome.now.outputs ≡ [] → S.last_failure store.new ≡ S.last_failure store.old }
     ensures failed { IfSome (S.files store.old) (λ m. S.failures store.old < S.failures store.new →
-        StopsWriting outcome.now m (S.files store.new) (S.blamed store.new)
+        StopsWriting outcome.now m (S.files store.new) (S.last_failure store.new)
         (between W.contents E.contents out.old out.new err.old err.new) result) }
     ensures later { S.failures store.old ≤ S.failures store.new }
     ensures rose { S.failures store.old < S.failures store.new → result ≡ Status.Failure }
@@ -105,7 +105,7 @@ pub fn perform<S: Store, W: Write, E: Write>(
     match write_outputs(store, outcome.outputs.as_slice()) {
         Ok(()) => outcome.status,
         Err(unwritten) => {
-            say_unwritten(err, outcome.outputs.as_slice(), unwritten, memory_name);
+            print_write_error(err, outcome.outputs.as_slice(), unwritten, memory_name);
             Status::Failure
         }
     }

@@ -1,8 +1,8 @@
 //! Text to a stream.
 
 ghost use Rattle.std.specs.Prelude.{◌≡◌, false, map, not};
-ghost use Rattle.output65.specs.Leaving.{Prints};
-ghost use Rattle.cli65.specs.Messages.{joined};
+ghost use Rattle.output65.specs.RunEffects.{PrintsText};
+ghost use Rattle.cli65.specs.Messages.{concat_texts};
 
 use crate::stream::Stream;
 use std::io::Write;
@@ -10,10 +10,10 @@ use std::io::Write;
 /// Prints a text, and answers whether the stream took all of it. Where it didn't, it has the first part, and has refused
 /// the rest.
 pub fn print<W: Write>(stream: &mut Stream<'_, W>, text: &[u8]) -> bool
-    requires { stream.old.has_refused ≡ false }
+    requires { stream.old.has_failed ≡ false }
     ensures same { stream.new.writer.ghost_name ≡ stream.old.writer.ghost_name }
-    ensures printed { Prints (W.contents stream.old.writer.now) (W.contents stream.new.writer.now) text.now result }
-    ensures refused { result ≡ not stream.new.has_refused }
+    ensures printed { PrintsText (W.contents stream.old.writer.now) (W.contents stream.new.writer.now) text.now result }
+    ensures refused { result ≡ not stream.new.has_failed }
 {
     let mut rest = text;
     'printing: while !rest.is_empty() {
@@ -28,10 +28,10 @@ pub fn print<W: Write>(stream: &mut Stream<'_, W>, text: &[u8]) -> bool
 
 /// Prints texts one behind the other as one text.
 pub fn print_all<W: Write>(stream: &mut Stream<'_, W>, parts: &[&[u8]]) -> bool
-    requires { stream.old.has_refused ≡ false }
+    requires { stream.old.has_failed ≡ false }
     ensures same { stream.new.writer.ghost_name ≡ stream.old.writer.ghost_name }
-    ensures printed { Prints (W.contents stream.old.writer.now) (W.contents stream.new.writer.now) (joined (map (λ p. p.now) parts.now)) result }
-    ensures refused { result ≡ not stream.new.has_refused }
+    ensures printed { PrintsText (W.contents stream.old.writer.now) (W.contents stream.new.writer.now) (concat_texts (map (λ p. p.now) parts.now)) result }
+    ensures refused { result ≡ not stream.new.has_failed }
 {
     for part in parts {
         if !print(stream, part) {

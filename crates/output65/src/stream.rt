@@ -12,7 +12,7 @@ use std::io::Write;
 #[derive(Drop)]
 pub struct Stream<'a, W> {
     writer: &'a mut W,
-    has_refused: bool,
+    has_failed: bool,
 }
 
 impl<'a, W: Write> Stream<'a, W> {
@@ -20,32 +20,32 @@ impl<'a, W: Write> Stream<'a, W> {
     pub fn over(writer: &'a mut W) -> Stream<'a, W>
         ensures same { result.writer.ghost_name ≡ writer.entry.ghost_name }
         ensures holds { result.writer.now ≡ writer.old }
-        ensures fresh { result.has_refused ≡ false }
+        ensures fresh { result.has_failed ≡ false }
     {
         Stream {
             writer,
-            has_refused: false,
+            has_failed: false,
         }
     }
 
     /// Whether it has refused.
-    pub fn has_refused(&self) -> bool
-        ensures { result ≡ self.now.has_refused }
+    pub fn has_failed(&self) -> bool
+        ensures { result ≡ self.now.has_failed }
     {
-        self.has_refused
+        self.has_failed
     }
 
     /// Asks the writer once to take a text that isn't empty, and answers what it answers.
     pub fn write(&mut self, text: &[u8]) -> io::Result<usize>
-        requires asked { self.old.has_refused ≡ false }
+        requires asked { self.old.has_failed ≡ false }
         requires some { 0 < length text.now }
         ensures same { self.new.writer.ghost_name ≡ self.old.writer.ghost_name }
         ensures bound { IfOk result (λ n. n ≤ length text.now) }
         ensures bytes { WriteAppends (W.contents self.old.writer.now) (W.contents self.new.writer.now) result text.now }
-        ensures refused { self.new.has_refused ≡ is_refusal result }
+        ensures refused { self.new.has_failed ≡ is_refusal result }
     {
         let result = self.writer.write(text);
-        self.has_refused = match &result {
+        self.has_failed = match &result {
             Ok(n) => *n == 0,
             Err(_) => true,
         };

@@ -5,19 +5,19 @@ use Rattle.std.specs.Prelude.{if◌then◌else◌, ⊤}
 use Rattle.std.specs.List.{AllByRecursion}
 use Rattle.std.proofs.lemmas.List.{length-map}
 use Rattle.base65.specs.Outcome.{◌>>=◌}
-use Rattle.script65.specs.declared.script.Area.{Area}
-use Rattle.script65.specs.declared.script.Row.{Row}
-use Rattle.script65.specs.PlacingLaws.{AllPlaced, RowsThere, SameNeeds, AllWithin, AreApart, AreBehind, AreWithin, NoOverlap}
+use Rattle.script65.specs.declared.script.MemoryArea.{MemoryArea}
+use Rattle.script65.specs.declared.script.SegmentRow.{SegmentRow}
+use Rattle.script65.specs.PlacingLaws.{AllPlaced, RowsThere, SameNeeds, AllWithin, AreApart, AreAfter, AreWithin, NoOverlap}
 use Rattle.script65.specs.Places.{address_in}
-use Rattle.script65.specs.Placing.{area_place, areas_from, has_row, is_in, row_after, row_place, rows_exist, rows_from, size_of, standing, unplaced, fitted, moved, sized_row}
+use Rattle.script65.specs.Placing.{area_place, areas_from, has_row, is_in, row_after, row_place, rows_exist, rows_from, size_of, standing, unplaced_row, place_sized_row, state_after_row, sized_row}
 use Rattle.script65.specs.AreaSums.{bounds_in}
-use Rattle.script65.specs.declared.placement.AreaPlace.{AreaPlace}
+use Rattle.script65.specs.declared.placement.AreaPlacement.{AreaPlacement}
 use Rattle.script65.specs.declared.placement.PlaceFault.{PlaceFault}
 use Rattle.script65.specs.declared.placement.PlaceFault.TheVariants.{NoRow}
 use Rattle.script65.specs.declared.placement.Placement.{Placement}
 use Rattle.script65.specs.declared.placement.SegmentNeed.{SegmentNeed}
 use Rattle.script65.specs.declared.placing.site.Bounds.{Bounds}
-use Rattle.script65.specs.declared.placing.site.Spot.{Spot}
+use Rattle.script65.specs.declared.placing.site.RowState.{RowState}
 use Rattle.script65.proofs.Walks.{bind_ok, one_longer, Kept, Made, all_hold, bounds_order, get_before, get_last}
 use Rattle.script65.specs.declared.script.Script.{Script}
 use Rattle.std.proofs.lemmas.Option.{slice_get_within}
@@ -25,15 +25,15 @@ use Rattle.std.proofs.lemmas.Option.{slice_get_within}
 -- ---- A place for each area and each row.
 
 abbrev Reached : Type 0
-Reached = List Spot × ℕ
+Reached = List RowState × ℕ
 
-abbrev front : Spot → Result Reached PlaceFault → Result Reached PlaceFault
+abbrev front : RowState → Result Reached PlaceFault → Result Reached PlaceFault
 front s rest = rest >>= λ y. Ok (s ∷ y.0, y.1)
 
 same_pair : (x y : Reached) → ◌≡◌ {A = Result Reached PlaceFault} (Ok x) (Ok y) → x ≡ y
 same_pair x y h = cc
 
-rows_kept : (k : ℕ) (a : Area) (b : Bounds) (rs : List Row) (ss : List Spot) (cursor : ℕ) (x : Reached) → rows_from k a b rs ss cursor ≡ Ok x → length x.0 ≡ length ss
+rows_kept : (k : ℕ) (a : MemoryArea) (b : Bounds) (rs : List SegmentRow) (ss : List RowState) (cursor : ℕ) (x : Reached) → rows_from k a b rs ss cursor ≡ Ok x → length x.0 ≡ length ss
 rows_kept k a b [] ss cursor x h = ap (λ (z : Reached). length z.0) (sym (same_pair (ss, cursor) x h))
 rows_kept k a b (r ∷ rs) [] cursor x h = ap (λ (z : Reached). length z.0) (sym (same_pair ([], cursor) x h))
 rows_kept k a b (r ∷ rs) (s ∷ ss) cursor x h = by (is_in k r) h (λ c y e. rows_kept k a b rs ss c y e)
@@ -41,7 +41,7 @@ rows_kept k a b (r ∷ rs) (s ∷ ss) cursor x h = by (is_in k r) h (λ c y e. r
     by : (t : Bool) → (if t then (row_after k a b r s cursor >>= λ x. front x.0 (rows_from k a b rs ss x.1)) else front s (rows_from k a b rs ss cursor)) ≡ Ok x → ((c : ℕ) (y : Reached) → rows_from k a b rs ss c ≡ Ok y → length y.0 ≡ length ss) → length x.0 ≡ length (s ∷ ss)
     by true h again =
         let f = bind_ok (row_after k a b r s cursor) (λ x. front x.0 (rows_from k a b rs ss x.1)) x h in
-        let z : Spot × ℕ = f.0 in
+        let z : RowState × ℕ = f.0 in
         let g = bind_ok (rows_from k a b rs ss z.1) (λ y. Ok (z.0 ∷ y.0, y.1)) x f.2 in
         let y : Reached = g.0 in
         ap (λ (z : Reached). length z.0) (sym (same_pair (z.0 ∷ y.0, y.1) x g.2)) ∙ ap suc (again z.1 y g.1)
@@ -50,7 +50,7 @@ rows_kept k a b (r ∷ rs) (s ∷ ss) cursor x h = by (is_in k r) h (λ c y e. r
         let y : Reached = g.0 in
         ap (λ (z : Reached). length z.0) (sym (same_pair (s ∷ y.0, y.1) x g.2)) ∙ ap suc (again cursor y g.1)
 
-areas_kept : (all : List Area) (rows : List Row) (areas : List Area) (k : ℕ) (before : List AreaPlace) (ss : List Spot) (q : Placement) → areas_from k all rows areas before ss ≡ Ok q → (length q.areas ≡ length before + length areas) × (length q.rows ≡ length ss)
+areas_kept : (all : List MemoryArea) (rows : List SegmentRow) (areas : List MemoryArea) (k : ℕ) (before : List AreaPlacement) (ss : List RowState) (q : Placement) → areas_from k all rows areas before ss ≡ Ok q → (length q.areas ≡ length before + length areas) × (length q.rows ≡ length ss)
 areas_kept all rows [] k before ss q h = grind (arith, common_steps)
 areas_kept all rows (a ∷ rest) k before ss q h =
     let d = bind_ok (bounds_in (standing k all rows a before ss)) (λ b. rows_from k a b rows ss b.start >>= λ x. areas_from (k + 1) all rows rest (before ++ area_place b x.1 ∷ []) x.0) q h in
@@ -65,14 +65,14 @@ areas_kept all rows (a ∷ rest) k before ss q h =
 
 pub all_placed : AllPlaced
 all_placed script needs p h =
-    let f = bind_ok (rows_exist script.rows needs) (λ u. areas_from 0 script.areas script.rows script.areas [] (map (unplaced needs) script.rows)) p h in
-    let kept = areas_kept script.areas script.rows script.areas 0 [] (map (unplaced needs) script.rows) p f.2 in
+    let f = bind_ok (rows_exist script.rows needs) (λ u. areas_from 0 script.areas script.rows script.areas [] (map (unplaced_row needs) script.rows)) p h in
+    let kept = areas_kept script.areas script.rows script.areas 0 [] (map (unplaced_row needs) script.rows) p f.2 in
     let none : 0 + length script.areas ≡ length script.areas = omega arith in
-    (kept.0 ∙ none, kept.1 ∙ length-map script.rows (unplaced needs))
+    (kept.0 ∙ none, kept.1 ∙ length-map script.rows (unplaced_row needs))
 
 -- ---- Each segment that is needed has a row.
 
-all_exist : (rows : List Row) (needs : List SegmentNeed) → rows_exist rows needs ≡ Ok tt → AllByRecursion (λ (n : SegmentNeed). has_row rows n.name ≡ true) needs
+all_exist : (rows : List SegmentRow) (needs : List SegmentNeed) → rows_exist rows needs ≡ Ok tt → AllByRecursion (λ (n : SegmentNeed). has_row rows n.name ≡ true) needs
 all_exist rows [] h = tt
 all_exist rows (n ∷ needs) h = grind (arith, common_steps, (all_exist rows needs))
 
@@ -81,16 +81,16 @@ rows_there script needs p h = grind (arith, common_steps, all_exist, bind_ok)
 
 -- ---- Names and sizes of needs.
 
-names_exist : List Row → List (List ℕ) → Result (Unit {0}) PlaceFault
+names_exist : List SegmentRow → List (List ℕ) → Result (Unit {0}) PlaceFault
 names_exist rows [] = Ok tt
 names_exist rows (n ∷ ns) = cond (has_row rows n) (names_exist rows ns) (Err (NoRow n))
 
-exist_by_name : (rows : List Row) (ns : List SegmentNeed) → rows_exist rows ns ≡ names_exist rows (map (λ (n : SegmentNeed). n.name) ns)
+exist_by_name : (rows : List SegmentRow) (ns : List SegmentNeed) → rows_exist rows ns ≡ names_exist rows (map (λ (n : SegmentNeed). n.name) ns)
 unfolding names_exist
 exist_by_name rows [] = refl
 exist_by_name rows (n ∷ ns) = ap (λ z. cond (has_row rows n.name) z (Err (NoRow n.name))) (exist_by_name rows ns)
 
-rows_alike : (needs others : List SegmentNeed) → ((name : List ℕ) → size_of needs name ≡ size_of others name) → (rows : List Row) → map (unplaced needs) rows ≡ map (unplaced others) rows
+rows_alike : (needs others : List SegmentNeed) → ((name : List ℕ) → size_of needs name ≡ size_of others name) → (rows : List SegmentRow) → map (unplaced_row needs) rows ≡ map (unplaced_row others) rows
 rows_alike needs others h [] = refl
 rows_alike needs others h (r ∷ rows) = grind (arith, common_steps, (rows_alike needs others h rows))
 
@@ -100,81 +100,81 @@ same_needs script needs others names sizes = grind (arith, common_steps, exist_b
 -- ---- No two rows of an area overlap, and each lies within it.
 
 -- where a row stands in an area, by its spot
-abbrev at_in : ℕ → Row → Spot → ℕ
+abbrev at_in : ℕ → SegmentRow → RowState → ℕ
 at_in k r s = address_in k r (row_place s)
 
-abbrev size_in : Spot → ℕ
+abbrev size_in : RowState → ℕ
 size_in s = unwrap_or s.size 0
 
 -- a row in an area
 
 -- an address behind the cursor at which a row was placed
-pub record Placed (k : ℕ) (b : Bounds) (r : Row) (s : Spot) (cursor : ℕ) (x : Spot × ℕ) : Type 0 where
+pub record Placed (k : ℕ) (b : Bounds) (r : SegmentRow) (s : RowState) (cursor : ℕ) (x : RowState × ℕ) : Type 0 where
   pub at : ℕ
-  pub spot : x.0 ≡ moved k r at s
+  pub spot : x.0 ≡ state_after_row k r at s
   pub end : x.1 ≡ at + size_in s
   pub low : cursor ≤ at
   pub high : cursor ≤ b.end → x.1 ≤ b.end
 
-fitted_placed : (k : ℕ) (a : Area) (b : Bounds) (r : Row) (s : Spot) (n at cursor : ℕ) (x : Spot × ℕ) → s.size ≡ Some n → fitted k a b r s n at cursor ≡ Ok x → Placed k b r s cursor x
-unfolding fitted
+fitted_placed : (k : ℕ) (a : MemoryArea) (b : Bounds) (r : SegmentRow) (s : RowState) (n at cursor : ℕ) (x : RowState × ℕ) → s.size ≡ Some n → place_sized_row k a b r s n at cursor ≡ Ok x → Placed k b r s cursor x
+unfolding place_sized_row
 fitted_placed k a b r s n at cursor x sized h = grind (arith, common_steps)
 
-sized_placed : (k : ℕ) (a : Area) (b : Bounds) (r : Row) (s : Spot) (o : Option ℕ) (cursor : ℕ) (x : Spot × ℕ) → s.size ≡ o → sized_row k a b r s o cursor ≡ Ok x → Placed k b r s cursor x
+sized_placed : (k : ℕ) (a : MemoryArea) (b : Bounds) (r : SegmentRow) (s : RowState) (o : Option ℕ) (cursor : ℕ) (x : RowState × ℕ) → s.size ≡ o → sized_row k a b r s o cursor ≡ Ok x → Placed k b r s cursor x
 sized_placed k a b r s y cursor x e h = grind (arith, common_steps, fitted_placed)
 
-pub row_placed : (k : ℕ) (a : Area) (b : Bounds) (r : Row) (s : Spot) (cursor : ℕ) (x : Spot × ℕ) → row_after k a b r s cursor ≡ Ok x → Placed k b r s cursor x
+pub row_placed : (k : ℕ) (a : MemoryArea) (b : Bounds) (r : SegmentRow) (s : RowState) (cursor : ℕ) (x : RowState × ℕ) → row_after k a b r s cursor ≡ Ok x → Placed k b r s cursor x
 unfolding row_after
 row_placed k a b r s cursor x h = grind (arith, common_steps, sized_placed)
 
-moved_size : (k at : ℕ) (r : Row) (s : Spot) → (moved k r at s).size ≡ s.size
-unfolding moved
+moved_size : (k at : ℕ) (r : SegmentRow) (s : RowState) → (state_after_row k r at s).size ≡ s.size
+unfolding state_after_row
 moved_size k at r s = refl
 
-moved_there : (k at : ℕ) (r : Row) (s : Spot) → is_in k r ≡ true → at_in k r (moved k r at s) ≡ at
-unfolding moved is_in
+moved_there : (k at : ℕ) (r : SegmentRow) (s : RowState) → is_in k r ≡ true → at_in k r (state_after_row k r at s) ≡ at
+unfolding state_after_row is_in
 moved_there k at r s i = grind (arith, common_steps)
 
-moved_elsewhere : (j k at : ℕ) (r : Row) (s : Spot) → j ≢ k → is_in j r ≡ true → at_in j r (moved k r at s) ≡ at_in j r s
-unfolding moved is_in
+moved_elsewhere : (j k at : ℕ) (r : SegmentRow) (s : RowState) → j ≢ k → is_in j r ≡ true → at_in j r (state_after_row k r at s) ≡ at_in j r s
+unfolding state_after_row is_in
 moved_elsewhere j k at r s apart i = grind (arith, common_steps)
 
 -- the rows of one area
 
-abbrev AllFrom : ℕ → ℕ → List Row → List Spot → Type 0
+abbrev AllFrom : ℕ → ℕ → List SegmentRow → List RowState → Type 0
 AllFrom k cursor (r ∷ rs) (s ∷ ss) = (is_in k r ≡ true → cursor ≤ at_in k r s) × AllFrom k cursor rs ss
 AllFrom k cursor _ _ = ⊤
 
-from_lower : (k low high : ℕ) (rs : List Row) (ss : List Spot) → low ≤ high → AllFrom k high rs ss → AllFrom k low rs ss
+from_lower : (k low high : ℕ) (rs : List SegmentRow) (ss : List RowState) → low ≤ high → AllFrom k high rs ss → AllFrom k low rs ss
 from_lower k low high [] ss le h = tt
 from_lower k low high (r ∷ rs) [] le h = tt
 from_lower k low high (r ∷ rs) (s ∷ ss) le h = ((λ i. let g = h.0 i in omega arith), from_lower k low high rs ss le h.1)
 
-abbrev AllTo : ℕ → ℕ → List Row → List Spot → Type 0
+abbrev AllTo : ℕ → ℕ → List SegmentRow → List RowState → Type 0
 AllTo k end (r ∷ rs) (s ∷ ss) = (is_in k r ≡ true → at_in k r s + size_in s ≤ end) × AllTo k end rs ss
 AllTo k end _ _ = ⊤
 
-behind_from : (k : ℕ) (r : Row) (s : Spot) (end : ℕ) (rs : List Row) (ss : List Spot) → (is_in k r ≡ true → at_in k r s + size_in s ≤ end) → AllFrom k end rs ss → AreBehind k r (row_place s) rs (map row_place ss)
-behind_from k r s end [] ss e h = tt
-behind_from k r s end (later ∷ rs) [] e h = tt
-behind_from k r s end (later ∷ rs) (q ∷ qs) e h = ((λ i j. let a = e i in let b = h.0 j in omega arith), behind_from k r s end rs qs e h.1)
+after_from : (k : ℕ) (r : SegmentRow) (s : RowState) (end : ℕ) (rs : List SegmentRow) (ss : List RowState) → (is_in k r ≡ true → at_in k r s + size_in s ≤ end) → AllFrom k end rs ss → AreAfter k r (row_place s) rs (map row_place ss)
+after_from k r s end [] ss e h = tt
+after_from k r s end (later ∷ rs) [] e h = tt
+after_from k r s end (later ∷ rs) (q ∷ qs) e h = ((λ i j. let a = e i in let b = h.0 j in omega arith), after_from k r s end rs qs e h.1)
 
 -- rows that lie between a cursor and an end, and apart
-abbrev IsGood : ℕ → ℕ → ℕ → List Row → List Spot → Type 0
+abbrev IsGood : ℕ → ℕ → ℕ → List SegmentRow → List RowState → Type 0
 IsGood k cursor end rs ts = AllFrom k cursor rs ts × AreApart k rs (map row_place ts) × AllTo k end rs ts
 
 first_of_pair : (x y : Reached) → ◌≡◌ {A = Result Reached PlaceFault} (Ok x) (Ok y) → x ≡ y
 first_of_pair x y h = cc
 
-rows_good : (k : ℕ) (a : Area) (b : Bounds) (rs : List Row) (ss ts : List Spot) (cursor last : ℕ) → cursor ≤ b.end → rows_from k a b rs ss cursor ≡ Ok (ts, last) → IsGood k cursor b.end rs ts
+rows_good : (k : ℕ) (a : MemoryArea) (b : Bounds) (rs : List SegmentRow) (ss ts : List RowState) (cursor last : ℕ) → cursor ≤ b.end → rows_from k a b rs ss cursor ≡ Ok (ts, last) → IsGood k cursor b.end rs ts
 rows_good k a b [] ss ts cursor last room h = (tt, tt, tt)
 rows_good k a b (r ∷ rs) [] ts cursor last room h = grind (arith, common_steps, first_of_pair)
 rows_good k a b (r ∷ rs) (s ∷ ss) ts cursor last room h = by (is_in k r) refl h (λ c us l small e. rows_good k a b rs ss us c l small e)
   where
-    by : (t : Bool) → is_in k r ≡ t → (if t then (row_after k a b r s cursor >>= λ x. front x.0 (rows_from k a b rs ss x.1)) else front s (rows_from k a b rs ss cursor)) ≡ Ok (ts, last) → ((c : ℕ) (us : List Spot) (l : ℕ) → c ≤ b.end → rows_from k a b rs ss c ≡ Ok (us, l) → IsGood k c b.end rs us) → IsGood k cursor b.end (r ∷ rs) ts
+    by : (t : Bool) → is_in k r ≡ t → (if t then (row_after k a b r s cursor >>= λ x. front x.0 (rows_from k a b rs ss x.1)) else front s (rows_from k a b rs ss cursor)) ≡ Ok (ts, last) → ((c : ℕ) (us : List RowState) (l : ℕ) → c ≤ b.end → rows_from k a b rs ss c ≡ Ok (us, l) → IsGood k c b.end rs us) → IsGood k cursor b.end (r ∷ rs) ts
     by true i h again =
         let f = bind_ok (row_after k a b r s cursor) (λ x. front x.0 (rows_from k a b rs ss x.1)) (ts, last) h in
-        let x : Spot × ℕ = f.0 in
+        let x : RowState × ℕ = f.0 in
         let g = bind_ok (rows_from k a b rs ss x.1) (λ y. Ok (x.0 ∷ y.0, y.1)) (ts, last) f.2 in
         let y : Reached = g.0 in
         let p : Placed k b r s cursor x = row_placed k a b r s cursor x f.1 in
@@ -187,7 +187,7 @@ rows_good k a b (r ∷ rs) (s ∷ ss) ts cursor last room h = by (is_in k r) ref
         let e = first_of_pair (x.0 ∷ y.0, y.1) (ts, last) g.2 in
         subst (IsGood k cursor b.end (r ∷ rs)) (ap (λ z. z.0) e) (
           ((λ j. omega arith), from_lower k cursor x.1 rs y.0 (omega arith) good.0),
-          (behind_from k r x.0 x.1 rs y.0 (λ j. omega arith) good.0, good.1),
+          (after_from k r x.0 x.1 rs y.0 (λ j. omega arith) good.0, good.1),
           ((λ j. omega arith), good.2),
         )
     by false i h again =
@@ -197,26 +197,26 @@ rows_good k a b (r ∷ rs) (s ∷ ss) ts cursor last room h = by (is_in k r) ref
         let e = first_of_pair (s ∷ y.0, y.1) (ts, last) g.2 in
         let never : is_in k r ≡ true → ⊥ = (λ j. let n : true ≡ false = sym j ∙ i in cc) in
         subst (IsGood k cursor b.end (r ∷ rs)) (ap (λ z. z.0) e)
-        (((λ j. absurd (never j)), good.0), (behind_from k r s cursor rs y.0 (λ j. absurd (never j)) good.0, good.1), ((λ j. absurd (never j)), good.2))
+        (((λ j. absurd (never j)), good.0), (after_from k r s cursor rs y.0 (λ j. absurd (never j)) good.0, good.1), ((λ j. absurd (never j)), good.2))
 
 -- the rows of other areas stay
 
-abbrev Same : ℕ → List Row → List Spot → List Spot → Type 0
+abbrev Same : ℕ → List SegmentRow → List RowState → List RowState → Type 0
 Same k (r ∷ rs) (s ∷ ss) (t ∷ ts) = (size_in t ≡ size_in s) × (is_in k r ≡ true → at_in k r t ≡ at_in k r s) × Same k rs ss ts
 Same k (r ∷ rs) (s ∷ ss) [] = ⊥
 Same k (r ∷ rs) [] (t ∷ ts) = ⊥
 Same k (r ∷ rs) [] [] = ⊤
 Same k [] ss ts = ⊤
 
-rows_same : (j k : ℕ) (a : Area) (b : Bounds) (rs : List Row) (ss ts : List Spot) (cursor last : ℕ) → j ≢ k → rows_from k a b rs ss cursor ≡ Ok (ts, last) → Same j rs ss ts
+rows_same : (j k : ℕ) (a : MemoryArea) (b : Bounds) (rs : List SegmentRow) (ss ts : List RowState) (cursor last : ℕ) → j ≢ k → rows_from k a b rs ss cursor ≡ Ok (ts, last) → Same j rs ss ts
 rows_same j k a b [] ss ts cursor last apart h = tt
 rows_same j k a b (r ∷ rs) [] ts cursor last apart h = grind (arith, common_steps, first_of_pair)
 rows_same j k a b (r ∷ rs) (s ∷ ss) ts cursor last apart h = by (is_in k r) h (λ c us l e. rows_same j k a b rs ss us c l apart e)
   where
-    by : (t : Bool) → (if t then (row_after k a b r s cursor >>= λ x. front x.0 (rows_from k a b rs ss x.1)) else front s (rows_from k a b rs ss cursor)) ≡ Ok (ts, last) → ((c : ℕ) (us : List Spot) (l : ℕ) → rows_from k a b rs ss c ≡ Ok (us, l) → Same j rs ss us) → Same j (r ∷ rs) (s ∷ ss) ts
+    by : (t : Bool) → (if t then (row_after k a b r s cursor >>= λ x. front x.0 (rows_from k a b rs ss x.1)) else front s (rows_from k a b rs ss cursor)) ≡ Ok (ts, last) → ((c : ℕ) (us : List RowState) (l : ℕ) → rows_from k a b rs ss c ≡ Ok (us, l) → Same j rs ss us) → Same j (r ∷ rs) (s ∷ ss) ts
     by true h again =
         let f = bind_ok (row_after k a b r s cursor) (λ x. front x.0 (rows_from k a b rs ss x.1)) (ts, last) h in
-        let x : Spot × ℕ = f.0 in
+        let x : RowState × ℕ = f.0 in
         let g = bind_ok (rows_from k a b rs ss x.1) (λ y. Ok (x.0 ∷ y.0, y.1)) (ts, last) f.2 in
         let y : Reached = g.0 in
         let p : Placed k b r s cursor x = row_placed k a b r s cursor x f.1 in
@@ -229,27 +229,27 @@ rows_same j k a b (r ∷ rs) (s ∷ ss) ts cursor last apart h = by (is_in k r) 
         let e = first_of_pair (s ∷ y.0, y.1) (ts, last) g.2 in
         subst (Same j (r ∷ rs) (s ∷ ss)) (ap (λ z. z.0) e) (refl, (λ i. refl), again cursor y.0 y.1 g.1)
 
-behind_same : (k : ℕ) (r : Row) (s t : Spot) (rs : List Row) (ss ts : List Spot) → size_in t ≡ size_in s → (is_in k r ≡ true → at_in k r t ≡ at_in k r s) → Same k rs ss ts → AreBehind k r (row_place s) rs (map row_place ss) → AreBehind k r (row_place t) rs (map row_place ts)
-behind_same k r s t [] ss ts size at same h = tt
-behind_same k r s t (later ∷ rs) [] [] size at same h = tt
-behind_same k r s t (later ∷ rs) [] (u ∷ us) size at same h = absurd same
-behind_same k r s t (later ∷ rs) (q ∷ qs) [] size at same h = absurd same
-behind_same k r s t (later ∷ rs) (q ∷ qs) (u ∷ us) size at same h =
-    ((λ i j. let a = at i in let b = same.1 j in let c = h.0 i j in omega arith), behind_same k r s t rs qs us size at same.2 h.1)
+after_same : (k : ℕ) (r : SegmentRow) (s t : RowState) (rs : List SegmentRow) (ss ts : List RowState) → size_in t ≡ size_in s → (is_in k r ≡ true → at_in k r t ≡ at_in k r s) → Same k rs ss ts → AreAfter k r (row_place s) rs (map row_place ss) → AreAfter k r (row_place t) rs (map row_place ts)
+after_same k r s t [] ss ts size at same h = tt
+after_same k r s t (later ∷ rs) [] [] size at same h = tt
+after_same k r s t (later ∷ rs) [] (u ∷ us) size at same h = absurd same
+after_same k r s t (later ∷ rs) (q ∷ qs) [] size at same h = absurd same
+after_same k r s t (later ∷ rs) (q ∷ qs) (u ∷ us) size at same h =
+    ((λ i j. let a = at i in let b = same.1 j in let c = h.0 i j in omega arith), after_same k r s t rs qs us size at same.2 h.1)
 
-apart_same : (k : ℕ) (rs : List Row) (ss ts : List Spot) → Same k rs ss ts → AreApart k rs (map row_place ss) → AreApart k rs (map row_place ts)
+apart_same : (k : ℕ) (rs : List SegmentRow) (ss ts : List RowState) → Same k rs ss ts → AreApart k rs (map row_place ss) → AreApart k rs (map row_place ts)
 apart_same k [] ss ts same h = tt
 apart_same k (r ∷ rs) [] [] same h = tt
 apart_same k (r ∷ rs) [] (t ∷ ts) same h = absurd same
 apart_same k (r ∷ rs) (s ∷ ss) [] same h = absurd same
-apart_same k (r ∷ rs) (s ∷ ss) (t ∷ ts) same h = (behind_same k r s t rs ss ts same.0 same.1 same.2 h.0, apart_same k rs ss ts same.2 h.1)
+apart_same k (r ∷ rs) (s ∷ ss) (t ∷ ts) same h = (after_same k r s t rs ss ts same.0 same.1 same.2 h.0, apart_same k rs ss ts same.2 h.1)
 
-within_of : (k : ℕ) (place : AreaPlace) (rs : List Row) (ts : List Spot) → AllFrom k place.start rs ts → AllTo k (place.start + place.size) rs ts → AreWithin k place rs (map row_place ts)
+within_of : (k : ℕ) (place : AreaPlacement) (rs : List SegmentRow) (ts : List RowState) → AllFrom k place.start rs ts → AllTo k (place.start + place.size) rs ts → AreWithin k place rs (map row_place ts)
 within_of k place [] ts f t = tt
 within_of k place (r ∷ rs) [] f t = tt
 within_of k place (r ∷ rs) (s ∷ ss) f t = ((λ i. (f.0 i, t.0 i)), within_of k place rs ss f.1 t.1)
 
-within_same : (k : ℕ) (place : AreaPlace) (rs : List Row) (ss ts : List Spot) → Same k rs ss ts → AreWithin k place rs (map row_place ss) → AreWithin k place rs (map row_place ts)
+within_same : (k : ℕ) (place : AreaPlacement) (rs : List SegmentRow) (ss ts : List RowState) → Same k rs ss ts → AreWithin k place rs (map row_place ss) → AreWithin k place rs (map row_place ts)
 within_same k place [] ss ts same h = tt
 within_same k place (r ∷ rs) [] [] same h = tt
 within_same k place (r ∷ rs) [] (t ∷ ts) same h = absurd same
@@ -259,13 +259,13 @@ within_same k place (r ∷ rs) (s ∷ ss) (t ∷ ts) same h =
 
 -- all areas
 
-abbrev ApartIn : List Row → ℕ → List AreaPlace → List Spot → Type 0
+abbrev ApartIn : List SegmentRow → ℕ → List AreaPlacement → List RowState → Type 0
 ApartIn rows j placed ss = AreApart j rows (map row_place ss)
 
-abbrev WithinIn : List Row → ℕ → List AreaPlace → List Spot → Type 0
-WithinIn rows j placed ss = (place : AreaPlace) → slice_get placed j ≡ Some place → AreWithin j place rows (map row_place ss)
+abbrev WithinIn : List SegmentRow → ℕ → List AreaPlacement → List RowState → Type 0
+WithinIn rows j placed ss = (place : AreaPlacement) → slice_get placed j ≡ Some place → AreWithin j place rows (map row_place ss)
 
-to_place : (b : Bounds) (last k : ℕ) (rows : List Row) (ts : List Spot) → b.start ≤ b.end → AllTo k b.end rows ts → AllTo k ((area_place b last).start + (area_place b last).size) rows ts
+to_place : (b : Bounds) (last k : ℕ) (rows : List SegmentRow) (ts : List RowState) → b.start ≤ b.end → AllTo k b.end rows ts → AllTo k ((area_place b last).start + (area_place b last).size) rows ts
 to_place b last k rows ts le h = grind (arith, common_steps)
 
 apart_made : (script : Script) → Made script (ApartIn script.rows)

@@ -10,23 +10,23 @@ use Rattle.std.proofs.lemmas.List.{drop-drop}
 use Rattle.std.proofs.lemmas.List.Folds.{find-append, list_any-append}
 use Rattle.script65.specs.declared.fault.Fault.{Fault}
 use Rattle.script65.specs.declared.fault.Fault.TheVariants.{AttributeMissing, Excluded, OutOfRange}
-use Rattle.script65.specs.declared.script.Access.TheVariants.{ReadOnly}
+use Rattle.script65.specs.declared.script.SegmentType.TheVariants.{ReadOnly}
 use Rattle.script65.specs.AreaSums.{come_to, difference, sum_of}
-use Rattle.script65.specs.Attributes.{Block, Meaning, Role, Takes, Value, a_byte, a_file, a_sum, access, address_width, an_area, area, area_access, attributes, byte, exported, flag, imported, meanings, meant, memory, number, number_from, one_of, output_file, role, row_access, row_of, said, segments, symbol_role, symbols, unknown_sum, weak, width, yes_or_no}
-use Rattle.script65.specs.Breaks.{Place, between_blocks, behind_block_word, between_entries, behind_name, between_attributes, behind_word, before_value, before_term, behind_term, behind_value}
-use Rattle.script65.specs.Entries.{Entries, Entry, Given, Part, as_number, as_role, as_word, closing_fault, given_for, is_given, no_entries, number_for, opened, part_of, role_for, sum_of_parts, symbol_closing, value_for, value_of, with_entry, with_given}
+use Rattle.script65.specs.Attributes.{Block, KeywordValue, SymbolType, ValueKind, Value, a_byte, a_file, a_sum, access, address_width, an_area, area, area_access, attributes, byte, exported, flag, imported, keywords, meant, memory, number, number_from, one_of, output_file, role, row_access, find_keyword, value_of_word, segments, symbol_role, symbols, unknown_sum, weak, width, yes_or_no}
+use Rattle.script65.specs.SyntaxErrors.{ParseState, between_blocks, after_block_word, between_entries, after_name, between_attributes, after_word, before_value, before_term, after_term, after_value}
+use Rattle.script65.specs.Entries.{Entries, ConfigEntry, AttributeValue, ParsedTerm, as_number, as_role, as_word, entry_fault, given_for, is_given, no_entries, number_for, new_entry, part_of, role_for, sum_of_parts, symbol_closing, value_for, value_of, with_entry, with_given}
 use Rattle.script65.specs.FirstFaults.{GoesToWrongEnd, InAttribute, InBlock, InEntry, InSum, IsInGrammar, IsWrong, first_term, next_term, value_of_import, wrong_entry}
-use Rattle.script65.specs.Grammar.{AreAttributes, AreBlocks, AreTerms, IsAttribute, IsTerm, IsValue, IsWritten, Perhaps, Stands, attribute, more, no_attribute, one, sign}
+use Rattle.script65.specs.Grammar.{AreAttributes, AreBlocks, AreTerms, IsAttribute, IsTerm, IsValue, IsWritten, IsOptionalToken, TokenAt, attribute, more, no_attribute, one, sign}
 use Rattle.script65.specs.Tokens.{Lexeme, brace, colon, end_brace, equals, front, gap, numeral, output, plus, semicolon, the_end, token, word}
-use Rattle.script65.proofs.NoContinuation.{behind_place}
-use Rattle.script65.proofs.StoodBefore.{AttributeWord, Before, BlockWord, EntryName, SumBegun, TermsBehind, ValueBehind, block_ends, brace_stands, colon_stands, entry_ends, sum_more, value_ends}
+use Rattle.script65.proofs.NoContinuation.{after_place}
+use Rattle.script65.proofs.StoodBefore.{AttributeWord, Before, BlockWord, EntryName, SumBegun, TermsAfter, ValueAfter, block_ends, brace_stands, colon_stands, entry_ends, sum_more, value_ends}
 use Rattle.script65.proofs.Unnamed.{find_all, not_over}
 
 -- ---- Tokens of their own lines.
 
-behind : (xs ys : List ℕ) → drop (length xs) (xs ++ ys) ≡ ys
-behind [] ys = refl
-behind (x ∷ xs) ys = behind xs ys
+following : (xs ys : List ℕ) → drop (length xs) (xs ++ ys) ≡ ys
+following [] ys = refl
+following (x ∷ xs) ys = following xs ys
 
 no_more : (n : ℕ) → ◌≡◌ {A = List ℕ} (drop n []) []
 no_more zero = refl
@@ -37,7 +37,7 @@ module _ (other : List ℕ) where
   record Next (l : Lexeme) (at : ℕ) (text : List ℕ) : Type 0 where
     pub next : ℕ
     pub further : at ≤ next
-    pub stands : Stands other l at next
+    pub stands : TokenAt other l at next
     pub rest : drop next other ≡ text
 
   next_token : (at : ℕ) (w text : List ℕ) (l : Lexeme) → drop at other ≡ 10 ∷ (w ++ text) → front (w ++ text) ≡ (l, length w) → gap false (w ++ text) ≡ 0 → Next l at text
@@ -50,8 +50,8 @@ module _ (other : List ℕ) where
       record {
         next = (at + 1) + length w;
         further = omega arith;
-        stands = record { lexeme = ap (λ (x : Lexeme × ℕ). x.0) front_is; behind = omega (arith, gap_is, long) };
-        rest = sym (drop-drop (length w) (at + 1) other) ∙ ap (drop (length w)) here ∙ behind w text;
+        stands = record { lexeme = ap (λ (x : Lexeme × ℕ). x.0) front_is; following = omega (arith, gap_is, long) };
+        rest = sym (drop-drop (length w) (at + 1) other) ∙ ap (drop (length w)) here ∙ following w text;
       }
 
   end_there : (at : ℕ) → drop at other ≡ 10 ∷ [] → (token other at).lexeme ≡ the_end
@@ -63,19 +63,19 @@ module _ (other : List ℕ) where
 -- ---- What an attribute may take.
 
 -- such a value leaves a sum open, and a symbol an export
-abbrev pub Fits : Takes → Value → Type 0
+abbrev pub Fits : ValueKind → Value → Type 0
 Fits a_sum v = v ≡ unknown_sum
 Fits (one_of symbol_role) v = v ≡ meant (role exported)
 Fits _ v = ⊤
 
-record Filler (takes : Takes) : Type 0 where
+record Filler (takes : ValueKind) : Type 0 where
   pub text : List ℕ
   pub lexeme : Lexeme
   pub value : Value
   pub fits : Fits takes value
   pub reads : (t : List ℕ) → front (text ++ 10 ∷ t) ≡ (lexeme, length text)
   pub begins : (t : List ℕ) → gap false (text ++ 10 ∷ t) ≡ 0
-  pub is : (other a : List ℕ) (at next : ℕ) → Stands other lexeme at next → (ps : List Part) × IsValue other takes (record { word = a; value = value; parts = ps }) at next
+  pub is : (other a : List ℕ) (at next : ℕ) → TokenAt other lexeme at next → (ps : List ParsedTerm) × IsValue other takes (record { word = a; value = value; parts = ps }) at next
 
 abbrev sum_filler : Filler a_sum
 sum_filler = record {
@@ -118,13 +118,13 @@ area_filler = record { text = 120 ∷ []; lexeme = word (120 ∷ []); value = ar
 abbrev file_filler : Filler a_file
 file_filler = record { text = codes "%O"; lexeme = output; value = output_file; fits = tt; reads = λ t. refl; begins = λ t. refl; is = λ other a at next s. ([], (output, s, refl, refl)) }
 
-abbrev FillerOf : List ℕ × Takes → Type 0
+abbrev FillerOf : List ℕ × ValueKind → Type 0
 FillerOf row = Filler row.1
 
-filler : (b : Block) (w : List ℕ) (row : List ℕ × Takes) → row_of w (attributes b) ≡ Some row → FillerOf row
-filler memory w row h = find_all FillerOf (λ (row : List ℕ × Takes). str_eq_ignore_ascii_case w row.0) (attributes memory) row (sum_filler, (sum_filler, (area_access_filler, (file_filler, (flag_filler, (byte_filler, (flag_filler, tt))))))) h
-filler segments w row h = find_all FillerOf (λ (row : List ℕ × Takes). str_eq_ignore_ascii_case w row.0) (attributes segments) row (area_filler, (area_filler, (row_access_filler, (align_filler, (align_filler, (number_filler, (number_filler, (byte_filler, (flag_filler, (flag_filler, tt)))))))))) h
-filler symbols w row h = find_all FillerOf (λ (row : List ℕ × Takes). str_eq_ignore_ascii_case w row.0) (attributes symbols) row (role_filler, (number_filler, (width_filler, tt))) h
+filler : (b : Block) (w : List ℕ) (row : List ℕ × ValueKind) → find_keyword w (attributes b) ≡ Some row → FillerOf row
+filler memory w row h = find_all FillerOf (λ (row : List ℕ × ValueKind). str_eq_ignore_ascii_case w row.0) (attributes memory) row (sum_filler, (sum_filler, (area_access_filler, (file_filler, (flag_filler, (byte_filler, (flag_filler, tt))))))) h
+filler segments w row h = find_all FillerOf (λ (row : List ℕ × ValueKind). str_eq_ignore_ascii_case w row.0) (attributes segments) row (area_filler, (area_filler, (row_access_filler, (align_filler, (align_filler, (number_filler, (number_filler, (byte_filler, (flag_filler, (flag_filler, tt)))))))))) h
+filler symbols w row h = find_all FillerOf (λ (row : List ℕ × ValueKind). str_eq_ignore_ascii_case w row.0) (attributes symbols) row (role_filler, (number_filler, (width_filler, tt))) h
 
 -- ---- What an entry gives, as far as its `;` asks.
 
@@ -133,7 +133,7 @@ Shape memory = Option Value × Option Value
 Shape segments = Option Value
 Shape symbols = Option Value × Option Value
 
-abbrev shape_of : (b : Block) → Entry → Shape b
+abbrev shape_of : (b : Block) → ConfigEntry → Shape b
 shape_of memory e = (value_for (codes "start") e, value_for (codes "size") e)
 shape_of segments e = value_for (codes "load") e
 shape_of symbols e = (value_for (codes "type") e, value_for (codes "value") e)
@@ -156,29 +156,29 @@ close memory s = if not (is_some s.0 && is_some s.1) then Some AttributeMissing 
 close segments s = if is_some s then None else Some AttributeMissing
 close symbols s = symbol_closing (option_and_then as_role s.0) (is_some s.1)
 
-some_value : (o : Option Given) → is_some o ≡ is_some (option_map (λ (g : Given). g.value) o)
+some_value : (o : Option AttributeValue) → is_some o ≡ is_some (option_map (λ (g : AttributeValue). g.value) o)
 some_value None = refl
 some_value (Some g) = refl
 
-closing_is : (b : Block) (e : Entry) → closing_fault b e ≡ close b (shape_of b e)
+closing_is : (b : Block) (e : ConfigEntry) → entry_fault b e ≡ close b (shape_of b e)
 closing_is memory e =
     ap (λ x. if not (x && is_given (codes "size") e) then Some AttributeMissing else if nat_lt (2 ^ 32) (number_in (value_for (codes "start") e) + number_in (value_for (codes "size") e)) then Some OutOfRange else None) (some_value (given_for (codes "start") e))
     ∙ ap (λ x. if not (is_some (value_for (codes "start") e) && x) then Some AttributeMissing else if nat_lt (2 ^ 32) (number_in (value_for (codes "start") e) + number_in (value_for (codes "size") e)) then Some OutOfRange else None) (some_value (given_for (codes "size") e))
 closing_is segments e = ap (λ x. if x then None else Some AttributeMissing) (some_value (given_for (codes "load") e))
 closing_is symbols e = ap (symbol_closing (role_for e)) (some_value (given_for (codes "value") e))
 
-given_more : (a : List ℕ) (g : Given) (e : Entry) → given_for a (with_given g e) ≡ option_or (given_for a e) (cond (bytes_eq a g.word) (Some g) None)
-given_more a g e = find-append (λ (g : Given). bytes_eq a g.word) e.given (g ∷ [])
+given_more : (a : List ℕ) (g : AttributeValue) (e : ConfigEntry) → given_for a (with_given g e) ≡ option_or (given_for a e) (cond (bytes_eq a g.word) (Some g) None)
+given_more a g e = find-append (λ (g : AttributeValue). bytes_eq a g.word) e.given (g ∷ [])
 
-value_more : (o : Option Given) (c : Bool) (g : Given) → option_map (λ (g : Given). g.value) (option_or o (cond c (Some g) None)) ≡ option_or (option_map (λ (g : Given). g.value) o) (cond c (Some g.value) None)
+value_more : (o : Option AttributeValue) (c : Bool) (g : AttributeValue) → option_map (λ (g : AttributeValue). g.value) (option_or o (cond c (Some g) None)) ≡ option_or (option_map (λ (g : AttributeValue). g.value) o) (cond c (Some g.value) None)
 value_more None true g = refl
 value_more None false g = refl
 value_more (Some d) c g = refl
 
-value_is : (a : List ℕ) (g : Given) (e : Entry) → value_for a (with_given g e) ≡ put a g.word g.value (value_for a e)
-value_is a g e = ap (option_map (λ (g : Given). g.value)) (given_more a g e) ∙ value_more (given_for a e) (bytes_eq a g.word) g
+value_is : (a : List ℕ) (g : AttributeValue) (e : ConfigEntry) → value_for a (with_given g e) ≡ put a g.word g.value (value_for a e)
+value_is a g e = ap (option_map (λ (g : AttributeValue). g.value)) (given_more a g e) ∙ value_more (given_for a e) (bytes_eq a g.word) g
 
-shape_is : (b : Block) (g : Given) (e : Entry) → shape_of b (with_given g e) ≡ shape_more b (shape_of b e) g.word g.value
+shape_is : (b : Block) (g : AttributeValue) (e : ConfigEntry) → shape_of b (with_given g e) ≡ shape_more b (shape_of b e) g.word g.value
 shape_is memory g e =
     ap (λ x. (x, value_for (codes "size") (with_given g e))) (value_is (codes "start") g e)
     ∙ ap (λ x. (put (codes "start") g.word g.value (value_for (codes "start") e), x)) (value_is (codes "size") g e)
@@ -195,11 +195,11 @@ or_some : (o : Option Value) (v : Value) → is_some (option_or o (Some v)) ≡ 
 or_some None v = refl
 or_some (Some u) v = refl
 
-none_value : (o : Option Given) → is_some o ≡ false → option_map (λ (g : Given). g.value) o ≡ None
+none_value : (o : Option AttributeValue) → is_some o ≡ false → option_map (λ (g : AttributeValue). g.value) o ≡ None
 none_value None k = refl
 none_value (Some g) k = absurd cc
 
-none_given : (o : Option Given) → option_map (λ (g : Given). g.value) o ≡ None → is_some o ≡ false
+none_given : (o : Option AttributeValue) → option_map (λ (g : AttributeValue). g.value) o ≡ None → is_some o ≡ false
 none_given None k = refl
 none_given (Some g) k = absurd cc
 
@@ -241,24 +241,24 @@ difference_small added taken v h = by (nat_le taken added) (nat_lt (added - take
     by true false lt k = absurd cc
     by false y lt k = absurd cc
 
-sum_small : (ps : List Part) (v : Value) → sum_of_parts ps ≡ Some v → IsSmall (Some v)
-sum_small ps v h = by (list_any (λ (p : Part). not (is_some p.number)) ps) h
+sum_small : (ps : List ParsedTerm) (v : Value) → sum_of_parts ps ≡ Some v → IsSmall (Some v)
+sum_small ps v h = by (list_any (λ (p : ParsedTerm). not (is_some p.number)) ps) h
   where
-    by : (x : Bool) → (if x then Some unknown_sum else option_map number (sum_of (λ (p : Part). p.minus) (λ (p : Part). unwrap_or p.number 0) ps)) ≡ Some v → IsSmall (Some v)
+    by : (x : Bool) → (if x then Some unknown_sum else option_map number (sum_of (λ (p : ParsedTerm). p.minus) (λ (p : ParsedTerm). unwrap_or p.number 0) ps)) ≡ Some v → IsSmall (Some v)
     by true k = let is : unknown_sum ≡ v = cc in subst (λ v. IsSmall (Some v)) is zero_small
-    by false k = difference_small (come_to (λ (p : Part). not p.minus) (λ (p : Part). unwrap_or p.number 0) ps) (come_to (λ (p : Part). p.minus) (λ (p : Part). unwrap_or p.number 0) ps) v k
+    by false k = difference_small (come_to (λ (p : ParsedTerm). not p.minus) (λ (p : ParsedTerm). unwrap_or p.number 0) ps) (come_to (λ (p : ParsedTerm). p.minus) (λ (p : ParsedTerm). unwrap_or p.number 0) ps) v k
 
 abbrev IsRoleValue : Value → Type 0
 IsRoleValue v = is_some (as_role v) ≡ true
 
-role_meant : (w : List ℕ) (v : Value) → as_word (said w (meanings symbol_role)) ≡ Ok v → IsRoleValue v
-role_meant w v h = by (row_of w (meanings symbol_role)) refl h
+role_meant : (w : List ℕ) (v : Value) → as_word (value_of_word w (keywords symbol_role)) ≡ Ok v → IsRoleValue v
+role_meant w v h = by (find_keyword w (keywords symbol_role)) refl h
   where
-    by : (o : Option (List ℕ × Meaning)) → row_of w (meanings symbol_role) ≡ o → as_word (option_map (λ (row : List ℕ × Meaning). row.1) o) ≡ Ok v → IsRoleValue v
+    by : (o : Option (List ℕ × KeywordValue)) → find_keyword w (keywords symbol_role) ≡ o → as_word (option_map (λ (row : List ℕ × KeywordValue). row.1) o) ≡ Ok v → IsRoleValue v
     by None k h = absurd cc
     by (Some row) k h =
         let is : meant row.1 ≡ v = cc in
-        subst IsRoleValue is (find_all (λ (row : List ℕ × Meaning). IsRoleValue (meant row.1)) (λ (row : List ℕ × Meaning). str_eq_ignore_ascii_case w row.0) (meanings symbol_role) row (refl, (refl, (refl, tt))) k)
+        subst IsRoleValue is (find_all (λ (row : List ℕ × KeywordValue). IsRoleValue (meant row.1)) (λ (row : List ℕ × KeywordValue). str_eq_ignore_ascii_case w row.0) (keywords symbol_role) row (refl, (refl, (refl, tt))) k)
 
 role_value : (l : Lexeme) (v : Value) → value_of (one_of symbol_role) l ≡ Ok v → IsRoleValue v
 role_value (word w) v h = role_meant w v h
@@ -273,15 +273,15 @@ new_typed None v h k = k
 new_typed (Some u) v h k = h
 
 -- so it stays with each attribute
-abbrev KeepsSound : (b : Block) → List ℕ × Takes → Type 0
-KeepsSound b row = (bytes : List ℕ) (g : Given) (at to : ℕ) → IsValue bytes row.1 g at to → (s : Shape b) → IsSound b s → IsSound b (shape_more b s row.0 g.value)
+abbrev KeepsSound : (b : Block) → List ℕ × ValueKind → Type 0
+KeepsSound b row = (bytes : List ℕ) (g : AttributeValue) (at to : ℕ) → IsValue bytes row.1 g at to → (s : Shape b) → IsSound b s → IsSound b (shape_more b s row.0 g.value)
 
 other_areas : (s : Shape memory) → IsSound memory s → IsSmall (option_or s.0 None) × IsSmall (option_or s.1 None)
 other_areas s h = (other_small s.0 h.0, other_small s.1 h.1)
 
-row_keeps : (b : Block) (w : List ℕ) (row : List ℕ × Takes) → row_of w (attributes b) ≡ Some row → KeepsSound b row
+row_keeps : (b : Block) (w : List ℕ) (row : List ℕ × ValueKind) → find_keyword w (attributes b) ≡ Some row → KeepsSound b row
 row_keeps memory w row k =
-    find_all (KeepsSound memory) (λ (row : List ℕ × Takes). str_eq_ignore_ascii_case w row.0) (attributes memory) row (
+    find_all (KeepsSound memory) (λ (row : List ℕ × ValueKind). str_eq_ignore_ascii_case w row.0) (attributes memory) row (
       λ bytes g at to v s h. (new_small s.0 g.value h.0 (sum_small g.parts g.value v.1), other_small s.1 h.1),
       (
         λ bytes g at to v s h. (other_small s.0 h.0, new_small s.1 g.value h.1 (sum_small g.parts g.value v.1)),
@@ -302,7 +302,7 @@ row_keeps memory w row k =
     ) k
 row_keeps segments w row k = λ bytes g at to v s h. tt
 row_keeps symbols w row k =
-    find_all (KeepsSound symbols) (λ (row : List ℕ × Takes). str_eq_ignore_ascii_case w row.0) (attributes symbols) row (
+    find_all (KeepsSound symbols) (λ (row : List ℕ × ValueKind). str_eq_ignore_ascii_case w row.0) (attributes symbols) row (
       λ bytes g at to v s h. new_typed s.0 g.value h (role_value v.0 g.value v.2),
       (
         λ bytes g at to v s h. other_typed s.0 h,
@@ -310,19 +310,19 @@ row_keeps symbols w row k =
       ),
     ) k
 
-none_sound : (b : Block) (name : List ℕ) (at : ℕ) → IsSound b (shape_of b (opened name at))
+none_sound : (b : Block) (name : List ℕ) (at : ℕ) → IsSound b (shape_of b (new_entry name at))
 none_sound memory name at = (zero_small, zero_small)
 none_sound segments name at = tt
 none_sound symbols name at = tt
 
-attributes_sound : (bytes : List ℕ) (b : Block) (e f : Entry) (at to : ℕ) → AreAttributes bytes b e f at to → IsSound b (shape_of b e) → IsSound b (shape_of b f)
+attributes_sound : (bytes : List ℕ) (b : Block) (e f : ConfigEntry) (at to : ℕ) → AreAttributes bytes b e f at to → IsSound b (shape_of b e) → IsSound b (shape_of b f)
 attributes_sound bytes b _ _ _ _ (no_attribute e at) s = s
 attributes_sound bytes b _ _ _ _ (attribute e f g at mid to h rest) s =
     attributes_sound bytes b (with_given g e) f mid to rest
     (subst (IsSound b) (sym (shape_is b g e)) (row_keeps b h.written (g.word, h.takes) h.known bytes g h.start h.end h.value (shape_of b e) s))
 
-sound : (bytes : List ℕ) (b : Block) (es : Entries) (e : Entry) (at : ℕ) → InEntry bytes b es e at → IsSound b (shape_of b e)
-sound bytes b es e at h = attributes_sound bytes b (opened e.name e.at) e h.start at h.gives (none_sound b e.name e.at)
+sound : (bytes : List ℕ) (b : Block) (es : Entries) (e : ConfigEntry) (at : ℕ) → InEntry bytes b es e at → IsSound b (shape_of b e)
+sound bytes b es e at h = attributes_sound bytes b (new_entry e.name e.at) e h.start at h.gives (none_sound b e.name e.at)
 
 -- ---- What is wrong at the `;` with such a value, or was before.
 
@@ -353,28 +353,28 @@ no_export : (x : Bool) (fault : Fault) → symbol_closing (Some exported) x ≡ 
 no_export true fault k ne = no_fault fault k
 no_export false fault k ne = not_missing fault k ne
 
-with_value : (o : Option Role) (fault : Fault) → symbol_closing o true ≡ Some fault → fault ≢ AttributeMissing → o ≡ Some imported
+with_value : (o : Option SymbolType) (fault : Fault) → symbol_closing o true ≡ Some fault → fault ≢ AttributeMissing → o ≡ Some imported
 with_value None fault k ne = absurd (not_missing fault k ne)
 with_value (Some imported) fault k ne = refl
 with_value (Some exported) fault k ne = absurd (no_fault fault k)
 with_value (Some weak) fault k ne = absurd (no_fault fault k)
 
 -- the value of an import
-abbrev IsValueOf : Block → Entry → List ℕ → Type 0
+abbrev IsValueOf : Block → ConfigEntry → List ℕ → Type 0
 IsValueOf symbols e a = (a ≡ codes "value") × (role_for e ≡ Some imported)
 IsValueOf _ e a = ⊥
 
-abbrev WasWrong : (b : Block) → List ℕ × Takes → Type 0
-WasWrong b row = (e : Entry) → is_given row.0 e ≡ false → IsSound b (shape_of b e) → (v : Value) → Fits row.1 v → (fault : Fault) → close b (shape_more b (shape_of b e) row.0 v) ≡ Some fault → fault ≢ AttributeMissing → (closing_fault b e ≡ Some fault) ⊎ IsValueOf b e row.0
+abbrev WasWrong : (b : Block) → List ℕ × ValueKind → Type 0
+WasWrong b row = (e : ConfigEntry) → is_given row.0 e ≡ false → IsSound b (shape_of b e) → (v : Value) → Fits row.1 v → (fault : Fault) → close b (shape_more b (shape_of b e) row.0 v) ≡ Some fault → fault ≢ AttributeMissing → (entry_fault b e ≡ Some fault) ⊎ IsValueOf b e row.0
 
-was_area : (e : Entry) (fault : Fault) → close memory (option_or (value_for (codes "start") e) None, option_or (value_for (codes "size") e) None) ≡ Some fault → closing_fault memory e ≡ Some fault
+was_area : (e : ConfigEntry) (fault : Fault) → close memory (option_or (value_for (codes "start") e) None, option_or (value_for (codes "size") e) None) ≡ Some fault → entry_fault memory e ≡ Some fault
 was_area e fault k =
     closing_is memory e
     ∙ ap (λ (o : Option Value). close memory (o, value_for (codes "size") e)) (sym (or_none (value_for (codes "start") e)))
     ∙ ap (λ (o : Option Value). close memory (option_or (value_for (codes "start") e) None, o)) (sym (or_none (value_for (codes "size") e)))
     ∙ k
 
-was_symbol : (e : Entry) (fault : Fault) → close symbols (option_or (value_for (codes "type") e) None, option_or (value_for (codes "value") e) None) ≡ Some fault → closing_fault symbols e ≡ Some fault
+was_symbol : (e : ConfigEntry) (fault : Fault) → close symbols (option_or (value_for (codes "type") e) None, option_or (value_for (codes "value") e) None) ≡ Some fault → entry_fault symbols e ≡ Some fault
 was_symbol e fault k =
     closing_is symbols e
     ∙ ap (λ (o : Option Value). close symbols (o, value_for (codes "value") e)) (sym (or_none (value_for (codes "type") e)))
@@ -407,9 +407,9 @@ was_value e once s v fits fault k ne =
           (sym (ap (λ (o : Option Value). symbol_closing (option_and_then as_role o) (is_some (option_or (value_for (codes "value") e) (Some v)))) (or_none (value_for (codes "type") e)) ∙ ap (symbol_closing (role_for e)) (or_some (value_for (codes "value") e) v)) ∙ k) ne,
     )
 
-was_wrong : (b : Block) (w : List ℕ) (row : List ℕ × Takes) → row_of w (attributes b) ≡ Some row → WasWrong b row
+was_wrong : (b : Block) (w : List ℕ) (row : List ℕ × ValueKind) → find_keyword w (attributes b) ≡ Some row → WasWrong b row
 was_wrong memory w row known =
-    find_all (WasWrong memory) (λ (row : List ℕ × Takes). str_eq_ignore_ascii_case w row.0) (attributes memory) row (
+    find_all (WasWrong memory) (λ (row : List ℕ × ValueKind). str_eq_ignore_ascii_case w row.0) (attributes memory) row (
       was_start,
       (
         was_size,
@@ -430,7 +430,7 @@ was_wrong memory w row known =
     ) known
 was_wrong segments w row known = λ e once s v fits fault k ne. absurd (no_row (is_some (put (codes "load") row.0 v (value_for (codes "load") e))) fault k ne)
 was_wrong symbols w row known =
-    find_all (WasWrong symbols) (λ (row : List ℕ × Takes). str_eq_ignore_ascii_case w row.0) (attributes symbols) row (
+    find_all (WasWrong symbols) (λ (row : List ℕ × ValueKind). str_eq_ignore_ascii_case w row.0) (attributes symbols) row (
       was_type,
       (
         was_value,
@@ -440,30 +440,30 @@ was_wrong symbols w row known =
 
 -- ---- Places in an attribute are behind its word.
 
-perhaps_behind : (bytes : List ℕ) (l : Lexeme) (at next : ℕ) → Perhaps bytes l at next → at ≤ next
-perhaps_behind bytes l at next (inl s) = omega (arith, behind_place bytes at, s.behind)
-perhaps_behind bytes l at next (inr same) = omega arith
+perhaps_after : (bytes : List ℕ) (l : Lexeme) (at next : ℕ) → IsOptionalToken bytes l at next → at ≤ next
+perhaps_after bytes l at next (inl s) = omega (arith, after_place bytes at, s.following)
+perhaps_after bytes l at next (inr same) = omega arith
 
-terms_behind : (bytes : List ℕ) (taken : Bool) (ps : List Part) (at next : ℕ) → AreTerms bytes taken ps at next → at ≤ next
-terms_behind bytes _ _ _ _ (one taken p at next h) = omega (arith, behind_place bytes at, h.stands.behind)
-terms_behind bytes _ _ _ _ (more taken then_taken p ps at mid start next h s rest) =
-    omega (arith, behind_place bytes at, h.stands.behind, behind_place bytes mid, s.behind, terms_behind bytes then_taken ps start next rest)
+terms_after : (bytes : List ℕ) (taken : Bool) (ps : List ParsedTerm) (at next : ℕ) → AreTerms bytes taken ps at next → at ≤ next
+terms_after bytes _ _ _ _ (one taken p at next h) = omega (arith, after_place bytes at, h.stands.following)
+terms_after bytes _ _ _ _ (more taken then_taken p ps at mid start next h s rest) =
+    omega (arith, after_place bytes at, h.stands.following, after_place bytes mid, s.following, terms_after bytes then_taken ps start next rest)
 
-sum_behind : (bytes : List ℕ) (start at : ℕ) (ps : List Part) (taken : Bool) → InSum bytes start ps taken at → start ≤ at
-sum_behind bytes start _ _ _ first_term = omega arith
-sum_behind bytes start _ _ _ (next_term ps taken mid at terms s) = omega (arith, terms_behind bytes false ps start mid terms, behind_place bytes mid, s.behind)
+sum_after : (bytes : List ℕ) (start at : ℕ) (ps : List ParsedTerm) (taken : Bool) → InSum bytes start ps taken at → start ≤ at
+sum_after bytes start _ _ _ first_term = omega arith
+sum_after bytes start _ _ _ (next_term ps taken mid at terms s) = omega (arith, terms_after bytes false ps start mid terms, after_place bytes mid, s.following)
 
-attribute_behind : (bytes : List ℕ) (b : Block) (es : Entries) (e : Entry) (row : List ℕ × Takes) (at : ℕ) (h : InAttribute bytes b es e row at) → h.begin ≤ at
-attribute_behind bytes b es e row at h = omega (arith, behind_place bytes h.begin, h.stands.behind, perhaps_behind bytes equals h.behind_word at h.equals_sign)
+attribute_after : (bytes : List ℕ) (b : Block) (es : Entries) (e : ConfigEntry) (row : List ℕ × ValueKind) (at : ℕ) (h : InAttribute bytes b es e row at) → h.begin ≤ at
+attribute_after bytes b es e row at h = omega (arith, after_place bytes h.begin, h.stands.following, perhaps_after bytes equals h.after_word at h.equals_sign)
 
 -- where an entry is wrong with an attribute that has begun, it was before, or it is an import
-wrong_before : (bytes : List ℕ) (b : Block) (es : Entries) (e : Entry) (row : List ℕ × Takes) (at place : ℕ) → InAttribute bytes b es e row at → at ≤ place → (v : Value) → Fits row.1 v → (ps : List Part) (fault : Fault) → closing_fault b (with_given (record { word = row.0; value = v; parts = ps }) e) ≡ Some fault → fault ≢ AttributeMissing → IsWrong bytes place
+wrong_before : (bytes : List ℕ) (b : Block) (es : Entries) (e : ConfigEntry) (row : List ℕ × ValueKind) (at place : ℕ) → InAttribute bytes b es e row at → at ≤ place → (v : Value) → Fits row.1 v → (ps : List ParsedTerm) (fault : Fault) → entry_fault b (with_given (record { word = row.0; value = v; parts = ps }) e) ≡ Some fault → fault ≢ AttributeMissing → IsWrong bytes place
 wrong_before bytes b es e row at place h le v fits ps fault k ne =
-    let more : Given = record { word = row.0; value = v; parts = ps } in
+    let more : AttributeValue = record { word = row.0; value = v; parts = ps } in
     by b h (was_wrong b h.written row h.known e h.once (sound bytes b es e h.begin h.inside) v fits fault (ap (close b) (sym (shape_is b more e)) ∙ sym (closing_is b (with_given more e)) ∙ k) ne)
   where
-    by : (b : Block) (h : InAttribute bytes b es e row at) → (closing_fault b e ≡ Some fault) ⊎ IsValueOf b e row.0 → IsWrong bytes place
-    by b h (inl c) = wrong_entry b es e fault h.begin h.inside (omega (arith, attribute_behind bytes b es e row at h)) c ne
+    by : (b : Block) (h : InAttribute bytes b es e row at) → (entry_fault b e ≡ Some fault) ⊎ IsValueOf b e row.0 → IsWrong bytes place
+    by b h (inl c) = wrong_entry b es e fault h.begin h.inside (omega (arith, attribute_after bytes b es e row at h)) c ne
     by symbols h (inr i) = value_of_import es e row at h le i.0 i.1
     by memory h (inr i) = absurd i
     by segments h (inr i) = absurd i
@@ -480,7 +480,7 @@ abbrev row_text : Option Value → List ℕ
 row_text (Some v) = 59 ∷ 10 ∷ 125 ∷ 10 ∷ []
 row_text None = codes "load" ++ 10 ∷ 120 ∷ 10 ∷ 59 ∷ 10 ∷ 125 ∷ 10 ∷ []
 
-abbrev typed_text : Option Role → Option Value → List ℕ
+abbrev typed_text : Option SymbolType → Option Value → List ℕ
 typed_text (Some exported) None = codes "value" ++ 10 ∷ 49 ∷ 10 ∷ 59 ∷ 10 ∷ 125 ∷ 10 ∷ []
 typed_text (Some weak) None = codes "value" ++ 10 ∷ 49 ∷ 10 ∷ 59 ∷ 10 ∷ 125 ∷ 10 ∷ []
 typed_text _ _ = 59 ∷ 10 ∷ 125 ∷ 10 ∷ []
@@ -496,14 +496,14 @@ shape_text symbols s = symbol_text s.0 s.1
 
 module _ (other : List ℕ) where
   -- an entry that gives one attribute more
-  record Gives (b : Block) (es : Entries) (e : Entry) (a : List ℕ) (v : Value) (at : ℕ) (text : List ℕ) : Type 0 where
-    pub parts : List Part
+  record Gives (b : Block) (es : Entries) (e : ConfigEntry) (a : List ℕ) (v : Value) (at : ℕ) (text : List ℕ) : Type 0 where
+    pub parts : List ParsedTerm
     pub next : ℕ
     pub further : at ≤ next
     pub inside : InEntry other b es (with_given (record { word = a; value = v; parts = parts }) e) next
     pub rest : drop next other ≡ 10 ∷ text
 
-  filled : (b : Block) (es : Entries) (e : Entry) (a : List ℕ) (takes : Takes) (at : ℕ) (text : List ℕ) (f : Filler takes) → InAttribute other b es e (a, takes) at → drop at other ≡ 10 ∷ (f.text ++ 10 ∷ text) → Gives b es e a f.value at text
+  filled : (b : Block) (es : Entries) (e : ConfigEntry) (a : List ℕ) (takes : ValueKind) (at : ℕ) (text : List ℕ) (f : Filler takes) → InAttribute other b es e (a, takes) at → drop at other ≡ 10 ∷ (f.text ++ 10 ∷ text) → Gives b es e a f.value at text
   filled b es e a takes at text f h d =
       let n = next_token other at f.text (10 ∷ text) f.lexeme d (f.reads text) (f.begins text) in
       let v = f.is other a at n.next n.stands in
@@ -515,10 +515,10 @@ module _ (other : List ℕ) where
         rest = n.rest;
       }
 
-  given_next : (b : Block) (es : Entries) (e : Entry) (w a : List ℕ) (takes : Takes) (at : ℕ) (text : List ℕ) (f : Filler takes) → row_of w (attributes b) ≡ Some (a, takes) → is_given a e ≡ false → front (w ++ 10 ∷ (f.text ++ 10 ∷ text)) ≡ (word w, length w) → gap false (w ++ 10 ∷ (f.text ++ 10 ∷ text)) ≡ 0 → InEntry other b es e at → drop at other ≡ 10 ∷ (w ++ 10 ∷ (f.text ++ 10 ∷ text)) → Gives b es e a f.value at text
+  given_next : (b : Block) (es : Entries) (e : ConfigEntry) (w a : List ℕ) (takes : ValueKind) (at : ℕ) (text : List ℕ) (f : Filler takes) → find_keyword w (attributes b) ≡ Some (a, takes) → is_given a e ≡ false → front (w ++ 10 ∷ (f.text ++ 10 ∷ text)) ≡ (word w, length w) → gap false (w ++ 10 ∷ (f.text ++ 10 ∷ text)) ≡ 0 → InEntry other b es e at → drop at other ≡ 10 ∷ (w ++ 10 ∷ (f.text ++ 10 ∷ text)) → Gives b es e a f.value at text
   given_next b es e w a takes at text f known once reads begins h d =
       let n = next_token other at w (10 ∷ (f.text ++ 10 ∷ text)) (word w) d reads begins in
-      let g = filled b es e a takes n.next text f (record { begin = at; written = w; behind_word = n.next; inside = h; stands = n.stands; known = known; once = once; equals_sign = inr refl }) n.rest in
+      let g = filled b es e a takes n.next text f (record { begin = at; written = w; after_word = n.next; inside = h; stands = n.stands; known = known; once = once; equals_sign = inr refl }) n.rest in
       record { parts = g.parts; next = g.next; further = omega (arith, n.further, g.further); inside = g.inside; rest = g.rest }
 
   -- a text ends well, or at a `;`, if W is so
@@ -527,8 +527,8 @@ module _ (other : List ℕ) where
     Ends = IsInGrammar other ⊎ (W × GoesToWrongEnd other place)
 
     -- if an entry is wrong, W is so
-    abbrev IfWrong : Block → Entry → Type 0
-    IfWrong b e = (fault : Fault) → closing_fault b e ≡ Some fault → fault ≢ AttributeMissing → W
+    abbrev IfWrong : Block → ConfigEntry → Type 0
+    IfWrong b e = (fault : Fault) → entry_fault b e ≡ Some fault → fault ≢ AttributeMissing → W
 
     text_closes : (es : Entries) (at : ℕ) → AreBlocks other no_entries es 0 at → drop at other ≡ 10 ∷ [] → Ends
     text_closes es at h d = inl (es, record { end = at; blocks = h; ends = end_there other at d })
@@ -538,13 +538,13 @@ module _ (other : List ℕ) where
         let n = next_token other at (125 ∷ []) (10 ∷ []) end_brace d refl refl in
         text_closes es n.next (block_ends other b es at n.next h n.stands) n.rest
 
-    entry_closes : (b : Block) (es : Entries) (e : Entry) (at : ℕ) → place ≤ at → IfWrong b e → (closing_fault b e ≡ Some AttributeMissing → ⊥) → InEntry other b es e at → drop at other ≡ 10 ∷ 59 ∷ 10 ∷ 125 ∷ 10 ∷ [] → Ends
-    entry_closes b es e at le wrong whole h d = by (closing_fault b e) refl
+    entry_closes : (b : Block) (es : Entries) (e : ConfigEntry) (at : ℕ) → place ≤ at → IfWrong b e → (entry_fault b e ≡ Some AttributeMissing → ⊥) → InEntry other b es e at → drop at other ≡ 10 ∷ 59 ∷ 10 ∷ 125 ∷ 10 ∷ [] → Ends
+    entry_closes b es e at le wrong whole h d = by (entry_fault b e) refl
       where
         n : Next other semicolon at (10 ∷ 125 ∷ 10 ∷ [])
         n = next_token other at (59 ∷ []) (10 ∷ 125 ∷ 10 ∷ []) semicolon d refl refl
 
-        by : (o : Option Fault) → closing_fault b e ≡ o → Ends
+        by : (o : Option Fault) → entry_fault b e ≡ o → Ends
         by None k = block_closes b (with_entry b e es) n.next (entry_ends other b es e at n.next h k n.stands) n.rest
         by (Some fault) k =
             let ne : fault ≢ AttributeMissing = λ m. whole (k ∙ ap (λ f. Some f) m) in
@@ -558,19 +558,19 @@ module _ (other : List ℕ) where
         by true k = cc
         by false k = cc
 
-    area_is : (e : Entry) (s z : Option Value) → value_for (codes "start") e ≡ s → value_for (codes "size") e ≡ z → closing_fault memory e ≡ close memory (s, z)
+    area_is : (e : ConfigEntry) (s z : Option Value) → value_for (codes "start") e ≡ s → value_for (codes "size") e ≡ z → entry_fault memory e ≡ close memory (s, z)
     area_is e s z j k =
         closing_is memory e
         ∙ ap (λ (o : Option Value). close memory (o, value_for (codes "size") e)) j
         ∙ ap (λ (o : Option Value). close memory (s, o)) k
 
-    area_closes : (u v : Value) (es : Entries) (e : Entry) (at : ℕ) → place ≤ at → IfWrong memory e → value_for (codes "start") e ≡ Some u → value_for (codes "size") e ≡ Some v → InEntry other memory es e at → drop at other ≡ 10 ∷ 59 ∷ 10 ∷ 125 ∷ 10 ∷ [] → Ends
+    area_closes : (u v : Value) (es : Entries) (e : ConfigEntry) (at : ℕ) → place ≤ at → IfWrong memory e → value_for (codes "start") e ≡ Some u → value_for (codes "size") e ≡ Some v → InEntry other memory es e at → drop at other ≡ 10 ∷ 59 ∷ 10 ∷ 125 ∷ 10 ∷ [] → Ends
     area_closes u v es e at le wrong j k h d = entry_closes memory es e at le wrong (λ m. area_whole u v (sym (area_is e (Some u) (Some v) j k) ∙ m)) h d
 
-    size_closes : (u : Value) (es : Entries) (e : Entry) (at : ℕ) → place ≤ at → value_for (codes "start") e ≡ Some u → value_for (codes "size") e ≡ None → InEntry other memory es e at → drop at other ≡ 10 ∷ (codes "size" ++ 10 ∷ 120 ∷ 10 ∷ 59 ∷ 10 ∷ 125 ∷ 10 ∷ []) → Ends
+    size_closes : (u : Value) (es : Entries) (e : ConfigEntry) (at : ℕ) → place ≤ at → value_for (codes "start") e ≡ Some u → value_for (codes "size") e ≡ None → InEntry other memory es e at → drop at other ≡ 10 ∷ (codes "size" ++ 10 ∷ 120 ∷ 10 ∷ 59 ∷ 10 ∷ 125 ∷ 10 ∷ []) → Ends
     size_closes u es e at le j k h d =
         let g = given_next memory es e (codes "size") (codes "size") a_sum at (59 ∷ 10 ∷ 125 ∷ 10 ∷ []) sum_filler refl (none_given (given_for (codes "size") e) k) refl refl h d in
-        let with_size : Given = record { word = codes "size"; value = unknown_sum; parts = g.parts } in
+        let with_size : AttributeValue = record { word = codes "size"; value = unknown_sum; parts = g.parts } in
         let start_is : value_for (codes "start") (with_given with_size e) ≡ Some u = value_is (codes "start") with_size e ∙ or_none (value_for (codes "start") e) ∙ j in
         let size_is : value_for (codes "size") (with_given with_size e) ≡ Some unknown_sum = value_is (codes "size") with_size e ∙ ap (λ (o : Option Value). option_or o (Some unknown_sum)) k in
         let small : IsSmall (Some u) = subst IsSmall j (sound other memory es e at h).0 in
@@ -578,12 +578,12 @@ module _ (other : List ℕ) where
         (λ fault c ne. absurd (open_size (Some u) small fault (sym (area_is (with_given with_size e) (Some u) (Some unknown_sum) start_is size_is) ∙ c) ne))
         start_is size_is g.inside g.rest
 
-    memory_closes : (s z : Option Value) (es : Entries) (e : Entry) (at : ℕ) → place ≤ at → IfWrong memory e → value_for (codes "start") e ≡ s → value_for (codes "size") e ≡ z → InEntry other memory es e at → drop at other ≡ 10 ∷ memory_text s z → Ends
+    memory_closes : (s z : Option Value) (es : Entries) (e : ConfigEntry) (at : ℕ) → place ≤ at → IfWrong memory e → value_for (codes "start") e ≡ s → value_for (codes "size") e ≡ z → InEntry other memory es e at → drop at other ≡ 10 ∷ memory_text s z → Ends
     memory_closes (Some u) (Some v) es e at le wrong j k h d = area_closes u v es e at le wrong j k h d
     memory_closes (Some u) None es e at le wrong j k h d = size_closes u es e at le j k h d
     memory_closes None (Some v) es e at le wrong j k h d =
         let g = given_next memory es e (codes "start") (codes "start") a_sum at (59 ∷ 10 ∷ 125 ∷ 10 ∷ []) sum_filler refl (none_given (given_for (codes "start") e) j) refl refl h d in
-        let with_start : Given = record { word = codes "start"; value = unknown_sum; parts = g.parts } in
+        let with_start : AttributeValue = record { word = codes "start"; value = unknown_sum; parts = g.parts } in
         let start_is : value_for (codes "start") (with_given with_start e) ≡ Some unknown_sum = value_is (codes "start") with_start e ∙ ap (λ (o : Option Value). option_or o (Some unknown_sum)) j in
         let size_is : value_for (codes "size") (with_given with_start e) ≡ Some v = value_is (codes "size") with_start e ∙ or_none (value_for (codes "size") e) ∙ k in
         let small : IsSmall (Some v) = subst IsSmall k (sound other memory es e at h).1 in
@@ -592,52 +592,52 @@ module _ (other : List ℕ) where
         start_is size_is g.inside g.rest
     memory_closes None None es e at le wrong j k h d =
         let g = given_next memory es e (codes "start") (codes "start") a_sum at (codes "size" ++ 10 ∷ 120 ∷ 10 ∷ 59 ∷ 10 ∷ 125 ∷ 10 ∷ []) sum_filler refl (none_given (given_for (codes "start") e) j) refl refl h d in
-        let with_start : Given = record { word = codes "start"; value = unknown_sum; parts = g.parts } in
+        let with_start : AttributeValue = record { word = codes "start"; value = unknown_sum; parts = g.parts } in
         size_closes unknown_sum es (with_given with_start e) g.next (omega (arith, g.further))
         (value_is (codes "start") with_start e ∙ ap (λ (o : Option Value). option_or o (Some unknown_sum)) j)
         (value_is (codes "size") with_start e ∙ or_none (value_for (codes "size") e) ∙ k)
         g.inside g.rest
 
     -- rows
-    row_is : (e : Entry) (o : Option Value) → value_for (codes "load") e ≡ o → closing_fault segments e ≡ close segments o
+    row_is : (e : ConfigEntry) (o : Option Value) → value_for (codes "load") e ≡ o → entry_fault segments e ≡ close segments o
     row_is e o j = closing_is segments e ∙ ap (close segments) j
 
     never : (o : Option Fault) → o ≡ None → o ≡ Some AttributeMissing → ⊥
     never o n k = no_fault AttributeMissing (sym n ∙ k)
 
-    right : (b : Block) (e : Entry) → closing_fault b e ≡ None → IfWrong b e
+    right : (b : Block) (e : ConfigEntry) → entry_fault b e ≡ None → IfWrong b e
     right b e n fault k ne = absurd (no_fault fault (sym n ∙ k))
 
-    right_closes : (b : Block) (es : Entries) (e : Entry) (at : ℕ) → place ≤ at → closing_fault b e ≡ None → InEntry other b es e at → drop at other ≡ 10 ∷ 59 ∷ 10 ∷ 125 ∷ 10 ∷ [] → Ends
-    right_closes b es e at le n h d = entry_closes b es e at le (right b e n) (never (closing_fault b e) n) h d
+    right_closes : (b : Block) (es : Entries) (e : ConfigEntry) (at : ℕ) → place ≤ at → entry_fault b e ≡ None → InEntry other b es e at → drop at other ≡ 10 ∷ 59 ∷ 10 ∷ 125 ∷ 10 ∷ [] → Ends
+    right_closes b es e at le n h d = entry_closes b es e at le (right b e n) (never (entry_fault b e) n) h d
 
-    row_closes : (o : Option Value) (es : Entries) (e : Entry) (at : ℕ) → place ≤ at → value_for (codes "load") e ≡ o → InEntry other segments es e at → drop at other ≡ 10 ∷ row_text o → Ends
+    row_closes : (o : Option Value) (es : Entries) (e : ConfigEntry) (at : ℕ) → place ≤ at → value_for (codes "load") e ≡ o → InEntry other segments es e at → drop at other ≡ 10 ∷ row_text o → Ends
     row_closes (Some u) es e at le j h d = right_closes segments es e at le (row_is e (Some u) j) h d
     row_closes None es e at le j h d =
         let g = given_next segments es e (codes "load") (codes "load") an_area at (59 ∷ 10 ∷ 125 ∷ 10 ∷ []) area_filler refl (none_given (given_for (codes "load") e) j) refl refl h d in
-        let with_load : Given = record { word = codes "load"; value = area (120 ∷ []); parts = g.parts } in
+        let with_load : AttributeValue = record { word = codes "load"; value = area (120 ∷ []); parts = g.parts } in
         right_closes segments es (with_given with_load e) g.next (omega (arith, g.further))
         (row_is (with_given with_load e) (Some (area (120 ∷ []))) (value_is (codes "load") with_load e ∙ ap (λ (o : Option Value). option_or o (Some (area (120 ∷ [])))) j))
         g.inside g.rest
 
     -- symbols
-    symbol_is : (e : Entry) (o : Option Role) (v : Option Value) → role_for e ≡ o → value_for (codes "value") e ≡ v → closing_fault symbols e ≡ symbol_closing o (is_some v)
+    symbol_is : (e : ConfigEntry) (o : Option SymbolType) (v : Option Value) → role_for e ≡ o → value_for (codes "value") e ≡ v → entry_fault symbols e ≡ symbol_closing o (is_some v)
     symbol_is e o v j k =
         closing_is symbols e
         ∙ ap (λ o. symbol_closing o (is_some (value_for (codes "value") e))) j
         ∙ ap (λ (v : Option Value). symbol_closing o (is_some v)) k
 
-    value_closes : (kind : Role) (es : Entries) (e : Entry) (at : ℕ) → symbol_closing (Some kind) true ≡ None → place ≤ at → role_for e ≡ Some kind → value_for (codes "value") e ≡ None → InEntry other symbols es e at → drop at other ≡ 10 ∷ (codes "value" ++ 10 ∷ 49 ∷ 10 ∷ 59 ∷ 10 ∷ 125 ∷ 10 ∷ []) → Ends
+    value_closes : (kind : SymbolType) (es : Entries) (e : ConfigEntry) (at : ℕ) → symbol_closing (Some kind) true ≡ None → place ≤ at → role_for e ≡ Some kind → value_for (codes "value") e ≡ None → InEntry other symbols es e at → drop at other ≡ 10 ∷ (codes "value" ++ 10 ∷ 49 ∷ 10 ∷ 59 ∷ 10 ∷ 125 ∷ 10 ∷ []) → Ends
     value_closes kind es e at closing le j k h d =
         let g = given_next symbols es e (codes "value") (codes "value") (number_from 0 0xffffffff) at (59 ∷ 10 ∷ 125 ∷ 10 ∷ []) number_filler refl (none_given (given_for (codes "value") e) k) refl refl h d in
-        let with_it : Given = record { word = codes "value"; value = number 1; parts = g.parts } in
+        let with_it : AttributeValue = record { word = codes "value"; value = number 1; parts = g.parts } in
         right_closes symbols es (with_given with_it e) g.next (omega (arith, g.further))
         (symbol_is (with_given with_it e) (Some kind) (Some (number 1))
         (ap (option_and_then as_role) (value_is (codes "type") with_it e ∙ or_none (value_for (codes "type") e)) ∙ j)
         (value_is (codes "value") with_it e ∙ ap (λ (o : Option Value). option_or o (Some (number 1))) k) ∙ closing)
         g.inside g.rest
 
-    typed_closes : (o : Option Role) (v : Option Value) (es : Entries) (e : Entry) (at : ℕ) → is_some o ≡ true → place ≤ at → IfWrong symbols e → role_for e ≡ o → value_for (codes "value") e ≡ v → InEntry other symbols es e at → drop at other ≡ 10 ∷ typed_text o v → Ends
+    typed_closes : (o : Option SymbolType) (v : Option Value) (es : Entries) (e : ConfigEntry) (at : ℕ) → is_some o ≡ true → place ≤ at → IfWrong symbols e → role_for e ≡ o → value_for (codes "value") e ≡ v → InEntry other symbols es e at → drop at other ≡ 10 ∷ typed_text o v → Ends
     typed_closes None v es e at some le wrong j k h d = absurd cc
     typed_closes (Some exported) None es e at some le wrong j k h d = value_closes exported es e at refl le j k h d
     typed_closes (Some weak) None es e at some le wrong j k h d = value_closes weak es e at refl le j k h d
@@ -650,10 +650,10 @@ module _ (other : List ℕ) where
         excluded_whole : ◌≡◌ {A = Option Fault} (Some Excluded) (Some AttributeMissing) → ⊥
         excluded_whole m = cc
 
-    symbol_closes : (o v : Option Value) (es : Entries) (e : Entry) (at : ℕ) → place ≤ at → IfWrong symbols e → value_for (codes "type") e ≡ o → value_for (codes "value") e ≡ v → InEntry other symbols es e at → drop at other ≡ 10 ∷ symbol_text o v → Ends
+    symbol_closes : (o v : Option Value) (es : Entries) (e : ConfigEntry) (at : ℕ) → place ≤ at → IfWrong symbols e → value_for (codes "type") e ≡ o → value_for (codes "value") e ≡ v → InEntry other symbols es e at → drop at other ≡ 10 ∷ symbol_text o v → Ends
     symbol_closes None v es e at le wrong j k h d =
         let g = given_next symbols es e (codes "type") (codes "type") (one_of symbol_role) at (typed_text (Some exported) v) role_filler refl (none_given (given_for (codes "type") e) j) refl refl h d in
-        let with_type : Given = record { word = codes "type"; value = meant (role exported); parts = g.parts } in
+        let with_type : AttributeValue = record { word = codes "type"; value = meant (role exported); parts = g.parts } in
         let role_is : role_for (with_given with_type e) ≡ Some exported = ap (option_and_then as_role) (value_is (codes "type") with_type e ∙ ap (λ (o : Option Value). option_or o (Some (meant (role exported)))) j) in
         typed_closes (Some exported) v es (with_given with_type e) g.next refl (omega (arith, g.further))
         (λ fault c ne. absurd (no_export (is_some (value_for (codes "value") (with_given with_type e))) fault (sym (symbol_is (with_given with_type e) (Some exported) (value_for (codes "value") (with_given with_type e)) role_is refl) ∙ c) ne))
@@ -663,16 +663,16 @@ module _ (other : List ℕ) where
     symbol_closes (Some u) v es e at le wrong j k h d =
         typed_closes (as_role u) v es e at (subst IsTyped j (sound other symbols es e at h)) le wrong (ap (option_and_then as_role) j) k h d
 
-    closes : (b : Block) (es : Entries) (e : Entry) (at : ℕ) → place ≤ at → IfWrong b e → InEntry other b es e at → drop at other ≡ 10 ∷ shape_text b (shape_of b e) → Ends
+    closes : (b : Block) (es : Entries) (e : ConfigEntry) (at : ℕ) → place ≤ at → IfWrong b e → InEntry other b es e at → drop at other ≡ 10 ∷ shape_text b (shape_of b e) → Ends
     closes memory es e at le wrong h d = memory_closes (value_for (codes "start") e) (value_for (codes "size") e) es e at le wrong refl refl h d
     closes segments es e at le wrong h d = row_closes (value_for (codes "load") e) es e at le refl h d
     closes symbols es e at le wrong h d = symbol_closes (value_for (codes "type") e) (value_for (codes "value") e) es e at le wrong refl refl h d
 
     -- with one attribute more
-    more_closes : (b : Block) (es : Entries) (e : Entry) (g : Given) (at : ℕ) → place ≤ at → IfWrong b (with_given g e) → InEntry other b es (with_given g e) at → drop at other ≡ 10 ∷ shape_text b (shape_more b (shape_of b e) g.word g.value) → Ends
+    more_closes : (b : Block) (es : Entries) (e : ConfigEntry) (g : AttributeValue) (at : ℕ) → place ≤ at → IfWrong b (with_given g e) → InEntry other b es (with_given g e) at → drop at other ≡ 10 ∷ shape_text b (shape_more b (shape_of b e) g.word g.value) → Ends
     more_closes b es e g at le wrong h d = closes b es (with_given g e) at le wrong h (d ∙ ap (λ s. 10 ∷ shape_text b s) (sym (shape_is b g e)))
 
-    value_there : (b : Block) (es : Entries) (e : Entry) (row : List ℕ × Takes) (at : ℕ) (f : Filler row.1) → place ≤ at → ((ps : List Part) → IfWrong b (with_given (record { word = row.0; value = f.value; parts = ps }) e)) → InAttribute other b es e row at → drop at other ≡ 10 ∷ (f.text ++ 10 ∷ shape_text b (shape_more b (shape_of b e) row.0 f.value)) → Ends
+    value_there : (b : Block) (es : Entries) (e : ConfigEntry) (row : List ℕ × ValueKind) (at : ℕ) (f : Filler row.1) → place ≤ at → ((ps : List ParsedTerm) → IfWrong b (with_given (record { word = row.0; value = f.value; parts = ps }) e)) → InAttribute other b es e row at → drop at other ≡ 10 ∷ (f.text ++ 10 ∷ shape_text b (shape_more b (shape_of b e) row.0 f.value)) → Ends
     value_there b es e row at f le wrong h d =
         let g = filled b es e row.0 row.1 at (shape_text b (shape_more b (shape_of b e) row.0 f.value)) f h d in
         more_closes b es e (record { word = row.0; value = f.value; parts = g.parts }) g.next (omega (arith, g.further)) (wrong g.parts) g.inside g.rest
@@ -682,20 +682,20 @@ module _ (other : List ℕ) where
     or_true true = refl
     or_true false = refl
 
-    named : (ps : List Part) (p : Part) → p.number ≡ None → sum_of_parts (ps ++ p ∷ []) ≡ Some unknown_sum
+    named : (ps : List ParsedTerm) (p : ParsedTerm) → p.number ≡ None → sum_of_parts (ps ++ p ∷ []) ≡ Some unknown_sum
     named ps p n =
-        let some : list_any (λ (p : Part). not (is_some p.number)) (ps ++ p ∷ []) ≡ true =
-        list_any-append (λ (p : Part). not (is_some p.number)) ps (p ∷ [])
-        ∙ ap (λ o. list_any (λ (p : Part). not (is_some p.number)) ps || (not (is_some o) || false)) n
-        ∙ or_true (list_any (λ (p : Part). not (is_some p.number)) ps) in
-        ap (λ c. if c then Some unknown_sum else option_map number (sum_of (λ (p : Part). p.minus) (λ (p : Part). unwrap_or p.number 0) (ps ++ p ∷ []))) some
+        let some : list_any (λ (p : ParsedTerm). not (is_some p.number)) (ps ++ p ∷ []) ≡ true =
+        list_any-append (λ (p : ParsedTerm). not (is_some p.number)) ps (p ∷ [])
+        ∙ ap (λ o. list_any (λ (p : ParsedTerm). not (is_some p.number)) ps || (not (is_some o) || false)) n
+        ∙ or_true (list_any (λ (p : ParsedTerm). not (is_some p.number)) ps) in
+        ap (λ c. if c then Some unknown_sum else option_map number (sum_of (λ (p : ParsedTerm). p.minus) (λ (p : ParsedTerm). unwrap_or p.number 0) (ps ++ p ∷ []))) some
 
-    term_there : (b : Block) (es : Entries) (e : Entry) (a : List ℕ) (ps : List Part) (taken : Bool) (at : ℕ) → place ≤ at → ((ps : List Part) → IfWrong b (with_given (record { word = a; value = unknown_sum; parts = ps }) e)) → SumBegun other b es e a ps taken at → drop at other ≡ 10 ∷ 120 ∷ 10 ∷ shape_text b (shape_more b (shape_of b e) a unknown_sum) → Ends
+    term_there : (b : Block) (es : Entries) (e : ConfigEntry) (a : List ℕ) (ps : List ParsedTerm) (taken : Bool) (at : ℕ) → place ≤ at → ((ps : List ParsedTerm) → IfWrong b (with_given (record { word = a; value = unknown_sum; parts = ps }) e)) → SumBegun other b es e a ps taken at → drop at other ≡ 10 ∷ 120 ∷ 10 ∷ shape_text b (shape_more b (shape_of b e) a unknown_sum) → Ends
     term_there b es e a ps taken at le wrong h d =
         let n = next_token other at (120 ∷ []) (10 ∷ shape_text b (shape_more b (shape_of b e) a unknown_sum)) (word (120 ∷ [])) d refl refl in
-        let p : Part = record { minus = taken; number = None; name = 120 ∷ []; at = (token other at).at } in
+        let p : ParsedTerm = record { minus = taken; number = None; name = 120 ∷ []; at = (token other at).at } in
         let is : IsTerm other taken p at n.next = record { lexeme = word (120 ∷ []); stands = n.stands; part = refl } in
-        let g : Given = record { word = a; value = unknown_sum; parts = ps ++ p ∷ [] } in
+        let g : AttributeValue = record { word = a; value = unknown_sum; parts = ps ++ p ∷ [] } in
         more_closes b es e g n.next (omega (arith, n.further)) (wrong (ps ++ p ∷ []))
         (value_ends other b es (with_given g e) n.next n.next (record { before = e; given = g; takes = a_sum; start = h.start; inside = h.inside; value = (sum_more other h.start at n.next ps taken p h.sum is, named ps p refl); same = refl }) (inr refl))
         n.rest
@@ -703,7 +703,7 @@ module _ (other : List ℕ) where
 -- ---- Behind each place.
 
 -- a text that can stand behind a place of another
-pub record Closed (bytes : List ℕ) (es : Entries) (p : Place) (at : ℕ) : Type 0 where
+pub record Closed (bytes : List ℕ) (es : Entries) (p : ParseState) (at : ℕ) : Type 0 where
   pub text : List ℕ
   pub ends : (other : List ℕ) → Before other es p at → drop at other ≡ 10 ∷ text → IsInGrammar other ⊎ (IsWrong bytes at × GoesToWrongEnd other at)
 
@@ -711,21 +711,21 @@ at_least : (n : ℕ) → n ≤ n
 at_least n = omega arith
 
 -- an entry that gives nothing lacks an attribute
-nothing_given : (b : Block) (e : Entry) (name : List ℕ) (at : ℕ) → e ≡ opened name at → (fault : Fault) → closing_fault b e ≡ Some fault → fault ≢ AttributeMissing → ⊥
-nothing_given memory e name at new fault k ne = not_missing fault (sym (ap (closing_fault memory) new) ∙ k) ne
-nothing_given segments e name at new fault k ne = not_missing fault (sym (ap (closing_fault segments) new) ∙ k) ne
-nothing_given symbols e name at new fault k ne = not_missing fault (sym (ap (closing_fault symbols) new) ∙ k) ne
+nothing_given : (b : Block) (e : ConfigEntry) (name : List ℕ) (at : ℕ) → e ≡ new_entry name at → (fault : Fault) → entry_fault b e ≡ Some fault → fault ≢ AttributeMissing → ⊥
+nothing_given memory e name at new fault k ne = not_missing fault (sym (ap (entry_fault memory) new) ∙ k) ne
+nothing_given segments e name at new fault k ne = not_missing fault (sym (ap (entry_fault segments) new) ∙ k) ne
+nothing_given symbols e name at new fault k ne = not_missing fault (sym (ap (entry_fault symbols) new) ∙ k) ne
 
-pub closed : (bytes : List ℕ) (es : Entries) (p : Place) (at : ℕ) → Before bytes es p at → Closed bytes es p at
+pub closed : (bytes : List ℕ) (es : Entries) (p : ParseState) (at : ℕ) → Before bytes es p at → Closed bytes es p at
 closed bytes es between_blocks at h = record { text = []; ends = λ other i d. text_closes other at (IsWrong bytes at) es at i d }
-closed bytes es (behind_block_word b) at h = record {
+closed bytes es (after_block_word b) at h = record {
   text = 123 ∷ 10 ∷ 125 ∷ 10 ∷ [];
   ends = λ other i d.
       let n = next_token other at (123 ∷ []) (10 ∷ 125 ∷ 10 ∷ []) brace d refl refl in
       block_closes other at (IsWrong bytes at) b es n.next (brace_stands other b es at n.next i n.stands) n.rest;
 }
 closed bytes es (between_entries b) at h = record { text = 125 ∷ 10 ∷ []; ends = λ other i d. block_closes other at (IsWrong bytes at) b es at i d }
-closed bytes es (behind_name b e) at h = record {
+closed bytes es (after_name b e) at h = record {
   text = 58 ∷ 10 ∷ shape_text b (shape_of b e);
   ends = λ other i d.
       let n = next_token other at (58 ∷ []) (10 ∷ shape_text b (shape_of b e)) colon d refl refl in
@@ -735,15 +735,15 @@ closed bytes es (between_attributes b e) at h = record {
   text = shape_text b (shape_of b e);
   ends = λ other i d. closes other at (IsWrong bytes at) b es e at (at_least at) (λ fault k ne. wrong_entry b es e fault at h (at_least at) k ne) i d;
 }
-closed bytes es (behind_word b e row) at h =
+closed bytes es (after_word b e row) at h =
     let f = filler b h.written row h.known in
-    let within : InAttribute bytes b es e row at = record { begin = h.begin; written = h.written; behind_word = at; inside = h.inside; stands = h.stands; known = h.known; once = h.once; equals_sign = inr refl } in
+    let within : InAttribute bytes b es e row at = record { begin = h.begin; written = h.written; after_word = at; inside = h.inside; stands = h.stands; known = h.known; once = h.once; equals_sign = inr refl } in
     record {
       text = f.text ++ 10 ∷ shape_text b (shape_more b (shape_of b e) row.0 f.value);
       ends = λ other i d.
           value_there other at (IsWrong bytes at) b es e row at f (at_least at)
           (λ ps fault k ne. wrong_before bytes b es e row at at within (at_least at) f.value f.fits ps fault k ne)
-          (record { begin = i.begin; written = i.written; behind_word = at; inside = i.inside; stands = i.stands; known = i.known; once = i.once; equals_sign = inr refl }) d;
+          (record { begin = i.begin; written = i.written; after_word = at; inside = i.inside; stands = i.stands; known = i.known; once = i.once; equals_sign = inr refl }) d;
     }
 closed bytes es (before_value b e row) at h =
     let f = filler b h.written row h.known in
@@ -755,17 +755,17 @@ closed bytes es (before_term b e a ps taken) at h = record {
   text = 120 ∷ 10 ∷ shape_text b (shape_more b (shape_of b e) a unknown_sum);
   ends = λ other i d.
       term_there other at (IsWrong bytes at) b es e a ps taken at (at_least at)
-      (λ qs fault k ne. wrong_before bytes b es e (a, a_sum) h.start at h.inside (sum_behind bytes h.start at ps taken h.sum) unknown_sum refl qs fault k ne) i d;
+      (λ qs fault k ne. wrong_before bytes b es e (a, a_sum) h.start at h.inside (sum_after bytes h.start at ps taken h.sum) unknown_sum refl qs fault k ne) i d;
 }
-closed bytes es (behind_term b e a ps) at h = record {
+closed bytes es (after_term b e a ps) at h = record {
   text = 43 ∷ 10 ∷ 120 ∷ 10 ∷ shape_text b (shape_more b (shape_of b e) a unknown_sum);
   ends = λ other i d.
       let n = next_token other at (43 ∷ []) (10 ∷ 120 ∷ 10 ∷ shape_text b (shape_more b (shape_of b e) a unknown_sum)) plus d refl refl in
       term_there other at (IsWrong bytes at) b es e a ps false n.next n.further
-      (λ qs fault k ne. wrong_before bytes b es e (a, a_sum) h.start at h.inside (terms_behind bytes false ps h.start at h.terms) unknown_sum refl qs fault k ne)
+      (λ qs fault k ne. wrong_before bytes b es e (a, a_sum) h.start at h.inside (terms_after bytes false ps h.start at h.terms) unknown_sum refl qs fault k ne)
       (record { start = i.start; inside = i.inside; sum = next_term ps false at n.next i.terms n.stands }) n.rest;
 }
-closed bytes es (behind_value b e) at h = record {
+closed bytes es (after_value b e) at h = record {
   text = shape_text b (shape_of b e);
   ends = λ other i d.
       closes other at (IsWrong bytes at) b es e at (at_least at)

@@ -4,7 +4,7 @@ use Rattle.std.proofs.Common.{◌≡◌, ◌<◌, ◌≤◌, ◌+◌, ℕ, zero,
 use Rattle.std.specs.Prelude.{Result}
 use Rattle.std.specs.Option.{option_map}
 use Rattle.std.proofs.lemmas.Option.{slice_get_read}
-use Rattle.base65.specs.Outcome.{each, ◌>>=◌, Unless}
+use Rattle.base65.specs.Outcome.{try_map, ◌>>=◌, Unless}
 
 -- ---- Lists that are made item by item.
 
@@ -42,24 +42,24 @@ pub map_end : {A B : Type 0} (f : A → B) (done : List B) (xs : List A) → don
 map_end f done xs inv at = sym (ap (λ l. done ++ map f l) (drop_end xs (length done) at) ∙ append_none done) ∙ inv
 
 -- what is done, and then the rest
-abbrev pub behind : {E B : Type 0} → List B → Result (List B) E → Result (List B) E
-behind done rest = rest >>= (λ ys. Ok (done ++ ys))
+abbrev pub following : {E B : Type 0} → List B → Result (List B) E → Result (List B) E
+following done rest = rest >>= (λ ys. Ok (done ++ ys))
 
-behind_one : {E B : Type 0} (done : List B) (y : B) (rest : Result (List B) E) → behind done (rest >>= (λ ys. Ok (y ∷ ys))) ≡ behind (done ++ y ∷ []) rest
-behind_one done y x = grind (arith, common_steps)
+after_one : {E B : Type 0} (done : List B) (y : B) (rest : Result (List B) E) → following done (rest >>= (λ ys. Ok (y ∷ ys))) ≡ following (done ++ y ∷ []) rest
+after_one done y x = grind (arith, common_steps)
 
-pub each_step : {E A B : Type 0} (f : A → Result B E) (done : List B) (xs : List A) (x : A) (y : B) → behind done (each f (drop (length done) xs)) ≡ each f xs → slice_get xs (length done) ≡ Some x → f x ≡ Ok y → behind (done ++ y ∷ []) (each f (drop (length (done ++ y ∷ [])) xs)) ≡ each f xs
+pub each_step : {E A B : Type 0} (f : A → Result B E) (done : List B) (xs : List A) (x : A) (y : B) → following done (try_map f (drop (length done) xs)) ≡ try_map f xs → slice_get xs (length done) ≡ Some x → f x ≡ Ok y → following (done ++ y ∷ []) (try_map f (drop (length (done ++ y ∷ [])) xs)) ≡ try_map f xs
 each_step f done xs x y inv at e =
-    ap (λ n. behind (done ++ y ∷ []) (each f (drop n xs))) (longer done y)
-    ∙ sym (behind_one done y (each f (drop (suc (length done)) xs)))
-    ∙ sym (ap (λ r. behind done (r >>= λ y. each f (drop (suc (length done)) xs) >>= λ ys. Ok (y ∷ ys))) e)
-    ∙ sym (ap (λ l. behind done (each f l)) (drop_at xs (length done) x at))
+    ap (λ n. following (done ++ y ∷ []) (try_map f (drop n xs))) (longer done y)
+    ∙ sym (after_one done y (try_map f (drop (suc (length done)) xs)))
+    ∙ sym (ap (λ r. following done (r >>= λ y. try_map f (drop (suc (length done)) xs) >>= λ ys. Ok (y ∷ ys))) e)
+    ∙ sym (ap (λ l. following done (try_map f l)) (drop_at xs (length done) x at))
     ∙ inv
 
-pub each_stops : {E A B : Type 0} (f : A → Result B E) (done : List B) (xs : List A) (x : A) (e : E) → behind done (each f (drop (length done) xs)) ≡ each f xs → slice_get xs (length done) ≡ Some x → f x ≡ Err e → each f xs ≡ Err e
+pub each_stops : {E A B : Type 0} (f : A → Result B E) (done : List B) (xs : List A) (x : A) (e : E) → following done (try_map f (drop (length done) xs)) ≡ try_map f xs → slice_get xs (length done) ≡ Some x → f x ≡ Err e → try_map f xs ≡ Err e
 each_stops f done xs x e inv at h = grind (arith, common_steps, drop_at)
 
-pub each_end : {E A B : Type 0} (f : A → Result B E) (done : List B) (xs : List A) → behind done (each f (drop (length done) xs)) ≡ each f xs → slice_get xs (length done) ≡ None → each f xs ≡ Ok done
+pub each_end : {E A B : Type 0} (f : A → Result B E) (done : List B) (xs : List A) → following done (try_map f (drop (length done) xs)) ≡ try_map f xs → slice_get xs (length done) ≡ None → try_map f xs ≡ Ok done
 each_end f done xs inv at = grind (arith, common_steps, drop_end, append_none)
 
 -- no item, seen by f

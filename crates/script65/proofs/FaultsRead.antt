@@ -4,14 +4,14 @@ use Rattle.std.specs.Prelude.{IfSome, codes, if◌then◌else◌, nat_lt, not, u
 use Rattle.std.specs.Option.{option_map_or}
 use Rattle.script65.specs.declared.fault.Fault.{Fault}
 use Rattle.script65.specs.declared.fault.Fault.TheVariants.{AttributeMissing, AttributeTwice, Excluded, NameTwice, OutOfRange, SyntaxError, UnknownAttribute}
-use Rattle.script65.specs.declared.fault.Stop.{Stop}
-use Rattle.script65.specs.Attributes.{Block, Role, Takes, Value, a_byte, a_file, a_sum, an_area, attributes, blocks, imported, memory, number_from, one_of, row_of, said, segments, symbols}
-use Rattle.script65.specs.Breaks.{Place, on, stop, move, moves, between_blocks, behind_block_word, between_entries, behind_name, between_attributes, behind_word, before_value, before_term, behind_term}
-use Rattle.script65.specs.Breaks as breaks
-use Rattle.script65.specs.Entries.{Entries, Entry, Part, closing_fault, has_name, is_given, last_part, no_entries, number_for, opened, part_of, role_for, sum_of_parts, symbol_closing, value_of}
+use Rattle.script65.specs.declared.fault.FaultAt.{FaultAt}
+use Rattle.script65.specs.Attributes.{Block, SymbolType, ValueKind, Value, a_byte, a_file, a_sum, an_area, attributes, blocks, imported, memory, number_from, one_of, find_keyword, value_of_word, segments, symbols}
+use Rattle.script65.specs.SyntaxErrors.{ParseState, on, stop, token_move, moves, between_blocks, after_block_word, between_entries, after_name, between_attributes, after_word, before_value, before_term, after_term}
+use Rattle.script65.specs.SyntaxErrors as breaks
+use Rattle.script65.specs.Entries.{Entries, ConfigEntry, ParsedTerm, entry_fault, has_name, is_given, last_part, no_entries, number_for, new_entry, part_of, role_for, sum_of_parts, symbol_closing, value_of}
 use Rattle.script65.specs.Faults.{stop_at}
 use Rattle.script65.specs.FirstFaults.{HasFault, InAttribute, InBlock, InEntry, InSum, NumberedFaults, attribute_twice, first_term, is_sign, name_twice, next_term, unknown_attribute, wrong_end, wrong_number, wrong_sum, wrong_term}
-use Rattle.script65.specs.Grammar.{Perhaps, sign}
+use Rattle.script65.specs.Grammar.{IsOptionalToken, sign}
 use Rattle.script65.specs.Tokens.{Lexeme, brace, colon, equals, minus, plus, semicolon, token, word}
 use Rattle.script65.proofs.StoodBefore.{fault_of}
 use Rattle.script65.proofs.TokenByToken.{Reads, stops}
@@ -19,8 +19,8 @@ use Rattle.script65.proofs.Written.{IsFine, attributes_read, blocks_read, entrie
 
 -- ---- Faults that are no syntax errors.
 
-fine_at : (fault : Fault) (place : ℕ) → (fault ≡ SyntaxError → ⊥) → (at : ℕ) → ◌≡◌ {A = Result Entries Stop} (Err (stop_at fault place)) (Err (stop_at SyntaxError at)) → ⊥
-fine_at fault place own at e = let same : stop_at fault place ≡ stop_at SyntaxError at = cc in own (ap (λ (s : Stop). s.fault) same)
+fine_at : (fault : Fault) (place : ℕ) → (fault ≡ SyntaxError → ⊥) → (at : ℕ) → ◌≡◌ {A = Result Entries FaultAt} (Err (stop_at fault place)) (Err (stop_at SyntaxError at)) → ⊥
+fine_at fault place own at e = let same : stop_at fault place ≡ stop_at SyntaxError at = cc in own (ap (λ (s : FaultAt). s.fault) same)
 
 name_own : NameTwice ≡ SyntaxError → ⊥
 name_own e = cc
@@ -40,7 +40,7 @@ range_own e = cc
 excluded_own : Excluded ≡ SyntaxError → ⊥
 excluded_own e = cc
 
-symbol_own : (o : Option Role) (valued : Bool) → IfSome (symbol_closing o valued) (λ f. f ≡ SyntaxError → ⊥)
+symbol_own : (o : Option SymbolType) (valued : Bool) → IfSome (symbol_closing o valued) (λ f. f ≡ SyntaxError → ⊥)
 symbol_own None valued = missing_own
 symbol_own (Some imported) true = excluded_own
 symbol_own (Some imported) false = tt
@@ -51,7 +51,7 @@ row_own : (given : Bool) → IfSome (if given then None else Some AttributeMissi
 row_own true = tt
 row_own false = missing_own
 
-closing_own : (b : Block) (e : Entry) → IfSome (closing_fault b e) (λ f. f ≡ SyntaxError → ⊥)
+closing_own : (b : Block) (e : ConfigEntry) → IfSome (entry_fault b e) (λ f. f ≡ SyntaxError → ⊥)
 closing_own memory e = area_own (not (is_given (codes "start") e && is_given (codes "size") e)) (nat_lt (2 ^ 32) (unwrap_or (number_for (codes "start") e) 0 + unwrap_or (number_for (codes "size") e) 0))
   where
     area_own : (lacks wide : Bool) → IfSome (if◌then◌else◌ {A = Option Fault} lacks (Some AttributeMissing) (if wide then Some OutOfRange else None)) (λ f. f ≡ SyntaxError → ⊥)
@@ -61,10 +61,10 @@ closing_own memory e = area_own (not (is_given (codes "start") e && is_given (co
 closing_own segments e = row_own (is_given (codes "load") e)
 closing_own symbols e = symbol_own (role_for e) (is_given (codes "value") e)
 
-end_own : (b : Block) (e : Entry) (fault : Fault) → closing_fault b e ≡ Some fault → fault ≡ SyntaxError → ⊥
+end_own : (b : Block) (e : ConfigEntry) (fault : Fault) → entry_fault b e ≡ Some fault → fault ≡ SyntaxError → ⊥
 end_own b e fault k = subst (λ o. IfSome o (λ f. f ≡ SyntaxError → ⊥)) k (closing_own b e)
 
-pub fault_own : (bytes : List ℕ) (f : Stop) → HasFault bytes f → f.fault ≡ SyntaxError → ⊥
+pub fault_own : (bytes : List ℕ) (f : FaultAt) → HasFault bytes f → f.fault ≡ SyntaxError → ⊥
 fault_own bytes _ (name_twice b es w at h e k) = name_own
 fault_own bytes _ (unknown_attribute b es f w at h e k) = unknown_own
 fault_own bytes _ (attribute_twice b es f w row at h e k given) = twice_own
@@ -76,70 +76,70 @@ fault_own bytes _ (wrong_sum b es e a ps start at h t s k) = range_own
 module _ (bytes : List ℕ) where
   -- ---- What is read behind what stands there.
 
-  module _ (r : Result Entries Stop) (fine : IsFine bytes r) where
+  module _ (r : Result Entries FaultAt) (fine : IsFine bytes r) where
     block_read : (b : Block) (es : Entries) (at : ℕ) → InBlock bytes b es at → Reads bytes es (between_entries b) at r → Reads bytes no_entries between_blocks 0 r
     block_read b es at h k =
         blocks_read bytes no_entries h.before r fine 0 h.begin h.blocks_before
-        (steps bytes h.before h.before between_blocks (behind_block_word b) (word h.written) h.begin h.behind_word r h.stands (ap (λ o. option_map_or (λ b. on h.before (behind_block_word b)) o (stop SyntaxError (token bytes h.begin).at)) h.known)
-        (steps bytes h.before h.before (behind_block_word b) (between_entries b) brace h.behind_word h.start r h.opens refl
+        (steps bytes h.before h.before between_blocks (after_block_word b) (word h.written) h.begin h.after_word r h.stands (ap (λ o. option_map_or (λ b. on h.before (after_block_word b)) o (stop SyntaxError (token bytes h.begin).at)) h.known)
+        (steps bytes h.before h.before (after_block_word b) (between_entries b) brace h.after_word h.start r h.opens refl
         (entries_read bytes b h.before es r fine h.start at h.entries_before k)))
 
-    entry_read : (b : Block) (es : Entries) (e : Entry) (at : ℕ) → InEntry bytes b es e at → Reads bytes es (between_attributes b e) at r → Reads bytes no_entries between_blocks 0 r
+    entry_read : (b : Block) (es : Entries) (e : ConfigEntry) (at : ℕ) → InEntry bytes b es e at → Reads bytes es (between_attributes b e) at r → Reads bytes no_entries between_blocks 0 r
     entry_read b es e at h k =
         block_read b es h.begin h.inside
-        (steps bytes es es (between_entries b) (behind_name b (opened e.name e.at)) (word e.name) h.begin h.behind_name r h.name
-        (ap (λ (x : Bool). if x then stop NameTwice (token bytes h.begin).at else on es (behind_name b (opened e.name (token bytes h.begin).at))) h.fresh ∙ ap (λ n. on es (behind_name b (opened e.name n))) (sym h.place))
-        (steps bytes es es (behind_name b (opened e.name e.at)) (between_attributes b (opened e.name e.at)) colon h.behind_name h.start r h.colon_behind refl
-        (attributes_read bytes es b (opened e.name e.at) e r fine h.start at h.gives k)))
+        (steps bytes es es (between_entries b) (after_name b (new_entry e.name e.at)) (word e.name) h.begin h.after_name r h.name
+        (ap (λ (x : Bool). if x then stop NameTwice (token bytes h.begin).at else on es (after_name b (new_entry e.name (token bytes h.begin).at))) h.fresh ∙ ap (λ n. on es (after_name b (new_entry e.name n))) (sym h.place))
+        (steps bytes es es (after_name b (new_entry e.name e.at)) (between_attributes b (new_entry e.name e.at)) colon h.after_name h.start r h.colon_after refl
+        (attributes_read bytes es b (new_entry e.name e.at) e r fine h.start at h.gives k)))
 
-    attribute_read : (b : Block) (es : Entries) (e : Entry) (row : List ℕ × Takes) (at : ℕ) → InAttribute bytes b es e row at → Reads bytes es (before_value b e row) at r → Reads bytes no_entries between_blocks 0 r
+    attribute_read : (b : Block) (es : Entries) (e : ConfigEntry) (row : List ℕ × ValueKind) (at : ℕ) → InAttribute bytes b es e row at → Reads bytes es (before_value b e row) at r → Reads bytes no_entries between_blocks 0 r
     attribute_read b es e row at h k =
         entry_read b es e h.begin h.inside
-        (steps bytes es es (between_attributes b e) (behind_word b e row) (word h.written) h.begin h.behind_word r h.stands
-        (ap (λ o. breaks.known_attribute es b e o (token bytes h.begin).at) h.known ∙ ap (λ (x : Bool). if x then stop AttributeTwice (token bytes h.begin).at else on es (behind_word b e row)) h.once)
+        (steps bytes es es (between_attributes b e) (after_word b e row) (word h.written) h.begin h.after_word r h.stands
+        (ap (λ o. breaks.known_attribute es b e o (token bytes h.begin).at) h.known ∙ ap (λ (x : Bool). if x then stop AttributeTwice (token bytes h.begin).at else on es (after_word b e row)) h.once)
         (begins h.equals_sign))
       where
-        begins : Perhaps bytes equals h.behind_word at → Reads bytes es (behind_word b e row) h.behind_word r
-        begins (inl s) = steps bytes es es (behind_word b e row) (before_value b e row) equals h.behind_word at r s refl k
-        begins (inr same) = passes bytes es r fine (before_value b e row) (behind_word b e row) h.behind_word (equals_passes bytes es b e row.0 row.1 (token bytes h.behind_word).lexeme (token bytes h.behind_word).at) (subst (λ n. Reads bytes es (before_value b e row) n r) (sym same) k)
+        begins : IsOptionalToken bytes equals h.after_word at → Reads bytes es (after_word b e row) h.after_word r
+        begins (inl s) = steps bytes es es (after_word b e row) (before_value b e row) equals h.after_word at r s refl k
+        begins (inr same) = passes bytes es r fine (before_value b e row) (after_word b e row) h.after_word (equals_passes bytes es b e row.0 row.1 (token bytes h.after_word).lexeme (token bytes h.after_word).at) (subst (λ n. Reads bytes es (before_value b e row) n r) (sym same) k)
 
     -- where a term stands next
-    sum_read : (b : Block) (es : Entries) (e : Entry) (a : List ℕ) (start at : ℕ) (ps : List Part) (taken : Bool) → InAttribute bytes b es e (a, a_sum) start → InSum bytes start ps taken at → Reads bytes es (before_term b e a ps taken) at r → Reads bytes no_entries between_blocks 0 r
+    sum_read : (b : Block) (es : Entries) (e : ConfigEntry) (a : List ℕ) (start at : ℕ) (ps : List ParsedTerm) (taken : Bool) → InAttribute bytes b es e (a, a_sum) start → InSum bytes start ps taken at → Reads bytes es (before_term b e a ps taken) at r → Reads bytes no_entries between_blocks 0 r
     sum_read b es e a start _ _ _ h first_term k =
         attribute_read b es e (a, a_sum) start h (same_moves bytes es es (before_value b e (a, a_sum)) (before_term b e a [] false) start r refl k)
     sum_read b es e a start _ _ _ h (next_term ps taken mid at terms s) k =
         attribute_read b es e (a, a_sum) start h
         (terms_read bytes es b e a [] ps false (before_value b e (a, a_sum)) start mid r terms refl
-        (steps bytes es es (behind_term b e a ps) (before_term b e a ps taken) (sign taken) mid at r s (sign_goes bytes es b e a ps taken (token bytes mid).at) k))
+        (steps bytes es es (after_term b e a ps) (before_term b e a ps taken) (sign taken) mid at r s (sign_goes bytes es b e a ps taken (token bytes mid).at) k))
 
   -- ---- Each fault.
 
   -- a sum without a value ends where no sign stands
-  sum_stops : (es : Entries) (b : Block) (e : Entry) (a : List ℕ) (ps : List Part) (l : Lexeme) (at : ℕ) → is_sign l ≡ false → sum_of_parts ps ≡ None → breaks.sign_or_end es b e a ps l at ≡ stop OutOfRange (last_part ps)
+  sum_stops : (es : Entries) (b : Block) (e : ConfigEntry) (a : List ℕ) (ps : List ParsedTerm) (l : Lexeme) (at : ℕ) → is_sign l ≡ false → sum_of_parts ps ≡ None → breaks.sign_or_end es b e a ps l at ≡ stop OutOfRange (last_part ps)
   sum_stops es b e a ps plus at s k = let never : true ≡ false = s in absurd cc
   sum_stops es b e a ps minus at s k = let never : true ≡ false = s in absurd cc
   sum_stops es b e a ps l at s k = ap (λ o. breaks.sum_end es b e a ps o l at) k
 
   -- a value that is no sum
-  value_stops : (es : Entries) (b : Block) (e : Entry) (a : List ℕ) (takes : Takes) (l : Lexeme) (at : ℕ) → value_of takes l ≡ Err OutOfRange → breaks.attribute_value es b e a takes l at ≡ stop OutOfRange at
+  value_stops : (es : Entries) (b : Block) (e : ConfigEntry) (a : List ℕ) (takes : ValueKind) (l : Lexeme) (at : ℕ) → value_of takes l ≡ Err OutOfRange → breaks.attribute_value es b e a takes l at ≡ stop OutOfRange at
   value_stops es b e a a_sum l at k = let never : ◌≡◌ {A = Result Value Fault} (Err SyntaxError) (Err OutOfRange) = k in absurd cc
-  value_stops es b e a (number_from low high) l at k = ap (breaks.give es b e a at) k
-  value_stops es b e a a_byte l at k = ap (breaks.give es b e a at) k
-  value_stops es b e a (one_of words) l at k = ap (breaks.give es b e a at) k
-  value_stops es b e a an_area l at k = ap (breaks.give es b e a at) k
-  value_stops es b e a a_file l at k = ap (breaks.give es b e a at) k
+  value_stops es b e a (number_from low high) l at k = ap (breaks.attribute_move es b e a at) k
+  value_stops es b e a a_byte l at k = ap (breaks.attribute_move es b e a at) k
+  value_stops es b e a (one_of words) l at k = ap (breaks.attribute_move es b e a at) k
+  value_stops es b e a an_area l at k = ap (breaks.attribute_move es b e a at) k
+  value_stops es b e a a_file l at k = ap (breaks.attribute_move es b e a at) k
 
-  pub fault_reads : (f : Stop) → HasFault bytes f → Reads bytes no_entries between_blocks 0 (Err f)
+  pub fault_reads : (f : FaultAt) → HasFault bytes f → Reads bytes no_entries between_blocks 0 (Err f)
   fault_reads _ (name_twice b es w at h e k) =
       block_read (Err (stop_at NameTwice (token bytes at).at)) (fine_at NameTwice (token bytes at).at name_own) b es at h
-      (stops es (between_entries b) at NameTwice (token bytes at).at (ap (λ l. breaks.entry_name es b l (token bytes at).at) e ∙ ap (λ (x : Bool). if x then stop NameTwice (token bytes at).at else on es (behind_name b (opened w (token bytes at).at))) k))
+      (stops es (between_entries b) at NameTwice (token bytes at).at (ap (λ l. breaks.entry_name es b l (token bytes at).at) e ∙ ap (λ (x : Bool). if x then stop NameTwice (token bytes at).at else on es (after_name b (new_entry w (token bytes at).at))) k))
   fault_reads _ (unknown_attribute b es f w at h e k) =
       entry_read (Err (stop_at UnknownAttribute (token bytes at).at)) (fine_at UnknownAttribute (token bytes at).at unknown_own) b es f at h
       (stops es (between_attributes b f) at UnknownAttribute (token bytes at).at (ap (λ l. breaks.attribute_or_end es b f l (token bytes at).at) e ∙ ap (λ o. breaks.known_attribute es b f o (token bytes at).at) k))
   fault_reads _ (attribute_twice b es f w row at h e k given) =
       entry_read (Err (stop_at AttributeTwice (token bytes at).at)) (fine_at AttributeTwice (token bytes at).at twice_own) b es f at h
       (stops es (between_attributes b f) at AttributeTwice (token bytes at).at
-      (ap (λ l. breaks.attribute_or_end es b f l (token bytes at).at) e ∙ ap (λ o. breaks.known_attribute es b f o (token bytes at).at) k ∙ ap (λ (x : Bool). if x then stop AttributeTwice (token bytes at).at else on es (behind_word b f row)) given))
+      (ap (λ l. breaks.attribute_or_end es b f l (token bytes at).at) e ∙ ap (λ o. breaks.known_attribute es b f o (token bytes at).at) k ∙ ap (λ (x : Bool). if x then stop AttributeTwice (token bytes at).at else on es (after_word b f row)) given))
   fault_reads _ (wrong_end b es e fault at h s k) =
       entry_read (Err (stop_at fault (token bytes at).at)) (fine_at fault (token bytes at).at (end_own b e fault k)) b es e at h
       (stops es (between_attributes b e) at fault (token bytes at).at (ap (λ l. breaks.attribute_or_end es b e l (token bytes at).at) s ∙ ap (λ o. breaks.entry_end es b e o (token bytes at).at) k))
@@ -152,7 +152,7 @@ module _ (bytes : List ℕ) where
   fault_reads _ (wrong_sum b es e a ps start at h t s k) =
       attribute_read (Err (stop_at OutOfRange (last_part ps))) (fine_at OutOfRange (last_part ps) range_own) b es e (a, a_sum) start h
       (terms_read bytes es b e a [] ps false (before_value b e (a, a_sum)) start at (Err (stop_at OutOfRange (last_part ps))) t refl
-      (stops es (behind_term b e a ps) at OutOfRange (last_part ps) (sum_stops es b e a ps (token bytes at).lexeme (token bytes at).at s k)))
+      (stops es (after_term b e a ps) at OutOfRange (last_part ps) (sum_stops es b e a ps (token bytes at).lexeme (token bytes at).at s k)))
 
 pub numbered_faults : NumberedFaults
 numbered_faults bytes f = (fault_of bytes f, λ h. is_read bytes (Err f) (fault_reads bytes f h))

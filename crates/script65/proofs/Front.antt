@@ -7,16 +7,16 @@ use Rattle.std.specs.Option.{option_map_or}
 use Rattle.std.proofs.lemmas.List.{drop_all}
 use Rattle.std.proofs.lemmas.List.Folds.{length-prefix_len}
 use Rattle.base65.specs.Digit.{digits}
-use Rattle.script65.specs.Entries.{Part, last_part}
-use Rattle.script65.specs.Tokens.{decimal_behind, front, gap, is_letter, is_word_byte, numeral, token, word, word_behind, written}
+use Rattle.script65.specs.Entries.{ParsedTerm, last_part}
+use Rattle.script65.specs.Tokens.{decimal_after, front, gap, is_letter, is_word_byte, numeral, token, word, word_after, token_bytes}
 
 take_more : (n : ℕ) (b : ℕ) (bs : List ℕ) → take (1 + n) (b ∷ bs) ≡ b ∷ take n bs
 take_more n b bs = let e : 1 + n ≡ suc n = omega arith in rw e refl
 
-words : (b : ℕ) (bs : List ℕ) → (word (take (1 + prefix_len is_word_byte bs) (b ∷ bs)), 1 + prefix_len is_word_byte bs) ≡ word_behind b (take_while is_word_byte bs)
+words : (b : ℕ) (bs : List ℕ) → (word (take (1 + prefix_len is_word_byte bs) (b ∷ bs)), 1 + prefix_len is_word_byte bs) ≡ word_after b (take_while is_word_byte bs)
 words b bs = rw (length-prefix_len is_word_byte bs, take_more (prefix_len is_word_byte bs) b bs) refl
 
-decimals : (b : ℕ) (bs : List ℕ) → (numeral (digits 10 (take (1 + prefix_len is_ascii_digit bs) (b ∷ bs))), 1 + prefix_len is_ascii_digit bs) ≡ decimal_behind b (take_while is_ascii_digit bs)
+decimals : (b : ℕ) (bs : List ℕ) → (numeral (digits 10 (take (1 + prefix_len is_ascii_digit bs) (b ∷ bs))), 1 + prefix_len is_ascii_digit bs) ≡ decimal_after b (take_while is_ascii_digit bs)
 decimals b bs = rw (length-prefix_len is_ascii_digit bs, take_more (prefix_len is_ascii_digit bs) b bs) refl
 
 all : {A : Type 0} (xs : List A) → take (length xs) xs ≡ xs
@@ -48,15 +48,15 @@ take_none zero = refl
 take_none (suc n) = refl
 
 -- behind a text there is no token
-pub none_behind : (bytes : List ℕ) (at : ℕ) → length bytes < at → [] ≡ written bytes (token bytes at)
+pub none_after : (bytes : List ℕ) (at : ℕ) → length bytes < at → [] ≡ token_bytes bytes (token bytes at)
 unfolding token
-none_behind bytes at h =
+none_after bytes at h =
     let from = at + gap false (drop at bytes) in
     let none : drop from bytes ≡ [] = drop_all from bytes (omega arith) in
     sym (ap (take ((from + (front (drop from bytes)).1) - from)) none ∙ take_none ((from + (front (drop from bytes)).1) - from))
 
 -- the place of the last of some terms
-pub last_is : (ps : List Part) → option_map_or (λ (p : Part). p.at) (slice_get ps (length ps - 1)) 0 ≡ last_part ps
+pub last_is : (ps : List ParsedTerm) → option_map_or (λ (p : ParsedTerm). p.at) (slice_get ps (length ps - 1)) 0 ≡ last_part ps
 last_is [] = refl
 last_is (p ∷ []) = refl
 last_is (p ∷ q ∷ ps) = let e : length (p ∷ q ∷ ps) - 1 ≡ suc (length (q ∷ ps) - 1) = omega arith in rw e (last_is (q ∷ ps))

@@ -6,7 +6,7 @@ use Rattle.std.specs.Str.{is_utf8}
 use Rattle.std.specs.Char.{is_ascii_digit, is_ascii_hexdigit}
 use Rattle.script65.proofs.LongestTokens.{longest_tokens}
 use Rattle.script65.proofs.OneReading.{some_bytes}
-use Rattle.script65.specs.Tokens.{IsFront, Lexeme, Token, front, gap, begins_with, decimal_behind, hex_behind, is_blank, is_letter, is_string_byte, is_word_byte, mark, none, output, string, string_behind, the_end, token, token_from, word_behind}
+use Rattle.script65.specs.Tokens.{IsFront, Lexeme, Token, front, gap, begins_with, decimal_after, hex_after, is_blank, is_letter, is_string_byte, is_word_byte, mark, none, output, string, string_after, the_end, token, token_from, word_after}
 
 -- a text that is another up to so many bytes, and goes on in a new line
 pub data Cut : ℕ → List ℕ → List ℕ → Type 0 where
@@ -82,19 +82,19 @@ front_kept _ _ _ (ends [] rest) le solid = absurd solid
 front_kept _ _ _ (ends (x ∷ xs) rest) le solid = absurd (omega (arith, some_bytes x xs))
 front_kept _ _ _ (goes n x xs ys h) le solid = by (is_letter x) (is_ascii_digit x) (x == 36) (x == 34) (x == 37) le solid
   where
-    hexes : (ds : List ℕ) → take_while is_ascii_hexdigit xs ≡ ds → (hex_behind ds).1 ≤ suc n → IsSolid (hex_behind ds).0 → hex_behind (take_while is_ascii_hexdigit ys) ≡ hex_behind ds
+    hexes : (ds : List ℕ) → take_while is_ascii_hexdigit xs ≡ ds → (hex_after ds).1 ≤ suc n → IsSolid (hex_after ds).0 → hex_after (take_while is_ascii_hexdigit ys) ≡ hex_after ds
     hexes [] e le solid = absurd solid
-    hexes (d ∷ ds) e le solid = ap hex_behind (while_kept is_ascii_hexdigit refl n xs ys h (omega (arith, ap length e)) ∙ e)
+    hexes (d ∷ ds) e le solid = ap hex_after (while_kept is_ascii_hexdigit refl n xs ys h (omega (arith, ap length e)) ∙ e)
 
     closed : List ℕ → List ℕ → Bool
     closed text bs = begins_with 34 (drop (length text) bs) && is_utf8 text && not (list_any (λ b. b == 37) text)
 
-    strings : (c : Bool) → closed (take_while is_string_byte xs) xs ≡ c → (if◌then◌else◌ {A = Lexeme × ℕ} c (string (take_while is_string_byte xs), 2 + length (take_while is_string_byte xs)) (none, 1)).1 ≤ suc n → IsSolid (if◌then◌else◌ {A = Lexeme × ℕ} c (string (take_while is_string_byte xs), 2 + length (take_while is_string_byte xs)) (none, 1)).0 → string_behind (take_while is_string_byte ys) ys ≡ (if c then (string (take_while is_string_byte xs), 2 + length (take_while is_string_byte xs)) else (none, 1))
+    strings : (c : Bool) → closed (take_while is_string_byte xs) xs ≡ c → (if◌then◌else◌ {A = Lexeme × ℕ} c (string (take_while is_string_byte xs), 2 + length (take_while is_string_byte xs)) (none, 1)).1 ≤ suc n → IsSolid (if◌then◌else◌ {A = Lexeme × ℕ} c (string (take_while is_string_byte xs), 2 + length (take_while is_string_byte xs)) (none, 1)).0 → string_after (take_while is_string_byte ys) ys ≡ (if c then (string (take_while is_string_byte xs), 2 + length (take_while is_string_byte xs)) else (none, 1))
     strings false e le solid = absurd solid
     strings true e le solid =
         let same = while_kept is_string_byte refl n xs ys h (omega arith) in
         let closes : begins_with 34 (drop (length (take_while is_string_byte xs)) ys) ≡ begins_with 34 (drop (length (take_while is_string_byte xs)) xs) = begins_kept 34 (length (take_while is_string_byte xs)) n xs ys h (omega arith) in
-        ap (λ text. string_behind text ys) same
+        ap (λ text. string_after text ys) same
         ∙ ap (λ b. if b && is_utf8 (take_while is_string_byte xs) && not (list_any (λ b. b == 37) (take_while is_string_byte xs)) then (string (take_while is_string_byte xs), 2 + length (take_while is_string_byte xs)) else (none, 1)) closes
         ∙ ap (λ b. if b then (string (take_while is_string_byte xs), 2 + length (take_while is_string_byte xs)) else (none, 1)) e
 
@@ -104,16 +104,16 @@ front_kept _ _ _ (goes n x xs ys h) le solid = by (is_letter x) (is_ascii_digit 
 
     answer : List ℕ → Bool → Bool → Bool → Bool → Bool → Lexeme × ℕ
     answer bs a b c d e =
-        if a then word_behind x (take_while is_word_byte bs)
-        else if b then decimal_behind x (take_while is_ascii_digit bs)
-        else if c then hex_behind (take_while is_ascii_hexdigit bs)
-        else if d then string_behind (take_while is_string_byte bs) bs
+        if a then word_after x (take_while is_word_byte bs)
+        else if b then decimal_after x (take_while is_ascii_digit bs)
+        else if c then hex_after (take_while is_ascii_hexdigit bs)
+        else if d then string_after (take_while is_string_byte bs) bs
         else if e then (if begins_with 79 bs then (output, 2) else (none, 1))
         else (mark x, 1)
 
     by : (a b c d e : Bool) → (answer xs a b c d e).1 ≤ suc n → IsSolid (answer xs a b c d e).0 → answer ys a b c d e ≡ answer xs a b c d e
-    by true b c d e le solid = ap (word_behind x) (while_kept is_word_byte refl n xs ys h (omega arith))
-    by false true c d e le solid = ap (decimal_behind x) (while_kept is_ascii_digit refl n xs ys h (omega arith))
+    by true b c d e le solid = ap (word_after x) (while_kept is_word_byte refl n xs ys h (omega arith))
+    by false true c d e le solid = ap (decimal_after x) (while_kept is_ascii_digit refl n xs ys h (omega arith))
     by false false true d e le solid = hexes (take_while is_ascii_hexdigit xs) refl le solid
     by false false false true e le solid = strings (closed (take_while is_string_byte xs) xs) refl le solid
     by false false false false true le solid = outputs (begins_with 79 xs) refl le solid
@@ -132,7 +132,7 @@ solid_within here = by (front here).0 (front here).1 (longest_tokens here)
     by none n h solid = absurd solid
     by _ n h solid = h.within
 
-pub token_within : (bytes : List ℕ) (at : ℕ) → at ≤ length bytes → IsSolid (token bytes at).lexeme → ((token bytes at).behind ≤ length bytes) × (at < (token bytes at).behind)
+pub token_within : (bytes : List ℕ) (at : ℕ) → at ≤ length bytes → IsSolid (token bytes at).lexeme → ((token bytes at).following ≤ length bytes) × (at < (token bytes at).following)
 unfolding token
 token_within bytes at le solid =
     let p = at + gap false (drop at bytes) in
@@ -140,7 +140,7 @@ token_within bytes at le solid =
     let some = solid_some (drop p bytes) solid in
     (omega (arith, length-drop p bytes), omega arith)
 
-pub token_kept : (bytes other : List ℕ) (at n : ℕ) → Cut n bytes other → (token bytes at).behind ≤ n → IsSolid (token bytes at).lexeme → token other at ≡ token bytes at
+pub token_kept : (bytes other : List ℕ) (at n : ℕ) → Cut n bytes other → (token bytes at).following ≤ n → IsSolid (token bytes at).lexeme → token other at ≡ token bytes at
 unfolding token
 token_kept bytes other at n h le solid =
     let g = gap false (drop at bytes) in
@@ -150,4 +150,4 @@ token_kept bytes other at n h le solid =
     let left_there : p + (n - p) ≡ n = omega arith in
     let same_gap : gap false (drop at other) ≡ g = gap_kept false (n - at) (drop at bytes) (drop at other) (cut_drop at (n - at) n bytes other left h) (omega arith) in
     let same_front : front (drop p other) ≡ front (drop p bytes) = front_kept (n - p) (drop p bytes) (drop p other) (cut_drop p (n - p) n bytes other left_there h) (omega arith) solid in
-    ap (λ k. token_from other (at + k)) same_gap ∙ ap (λ (f : Lexeme × ℕ). let t : Token = record { lexeme = f.0; at = p; behind = p + f.1 } in t) same_front
+    ap (λ k. token_from other (at + k)) same_gap ∙ ap (λ (f : Lexeme × ℕ). let t : Token = record { lexeme = f.0; at = p; following = p + f.1 } in t) same_front

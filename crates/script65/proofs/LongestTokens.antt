@@ -13,7 +13,7 @@ use Rattle.std.proofs.lemmas.List.Sums.{prefix_len-le-length}
 use Rattle.base65.specs.Digit.{digits}
 use Rattle.script65.proofs.Unnamed.{find_all}
 use Rattle.script65.specs.Laws.{LongestTokens}
-use Rattle.script65.specs.Tokens.{Lexeme, IsFront, IsLongest, Spells, spells_word, spells_decimal, spells_hex, spells_string, spells_output, spells_mark, word, numeral, string, output, none, is_letter, is_word_byte, is_string_byte, begins_with, string_behind, hex_behind, word_behind, decimal_behind, marks, mark}
+use Rattle.script65.specs.Tokens.{Lexeme, IsFront, IsLongest, SpellsToken, spells_word, spells_decimal, spells_hex, spells_string, spells_output, spells_mark, word, numeral, string, output, none, is_letter, is_word_byte, is_string_byte, begins_with, string_after, hex_after, word_after, decimal_after, marks, mark}
 
 -- ---- Texts whose bytes are all so.
 
@@ -53,7 +53,7 @@ first_all p b bs h = by (p b) (list_all p bs) h
     by true false h = absurd cc
     by false y h = absurd cc
 
-begins : (t : List ℕ) (k : Lexeme) → Spells t k → (c : ℕ) (cs : List ℕ) → t ≡ c ∷ cs → Begins c cs
+begins : (t : List ℕ) (k : Lexeme) → SpellsToken t k → (c : ℕ) (cs : List ℕ) → t ≡ c ∷ cs → Begins c cs
 begins _ _ (spells_word b bs h k) c cs e = let x : b ≡ c = cc in let y : bs ≡ cs = cc in by_word (ap is_letter (sym x) ∙ h) (ap (list_all is_word_byte) (sym y) ∙ k)
 begins _ _ (spells_decimal b bs h) c cs e = let x : b ≡ c = cc in let y : bs ≡ cs = cc in let f = first_all is_ascii_digit b bs h in by_decimal (ap is_ascii_digit (sym x) ∙ f.0) (ap (list_all is_ascii_digit) (sym y) ∙ f.1)
 begins _ _ (spells_hex b bs h) c cs e = let x : 36 ≡ c = cc in let y : b ∷ bs ≡ cs = cc in by_hex (sym x) b bs (sym y) (ap (list_all is_ascii_hexdigit) (sym y) ∙ h)
@@ -64,7 +64,7 @@ begins _ _ (spells_mark b l h) c cs e = let x : b ≡ c = cc in let y : [] ≡ c
 apart : (x : ℕ) (xs ys : List ℕ) → xs ≡ [] → xs ≡ x ∷ ys → ⊥
 apart x xs ys e f = let never : [] ≡ x ∷ ys = sym e ∙ f in cc
 
-some_text : (t : List ℕ) (k : Lexeme) → Spells t k → t ≡ [] → ⊥
+some_text : (t : List ℕ) (k : Lexeme) → SpellsToken t k → t ≡ [] → ⊥
 some_text _ _ (spells_word b bs h k) e = absurd cc
 some_text _ _ (spells_decimal b bs h) e = absurd cc
 some_text _ _ (spells_hex b bs h) e = absurd cc
@@ -74,7 +74,7 @@ some_text _ _ (spells_mark b l h) e = absurd cc
 
 -- what is so of each text by what it begins with
 module _ (b : ℕ) (bs : List ℕ) (P : ℕ → Type 0) (bound : (m : ℕ) → m ≤ length bs → Begins b (take m bs) → P (suc m)) where
-  by_begin : (m : ℕ) (k : Lexeme) → m ≤ length (b ∷ bs) → Spells (take m (b ∷ bs)) k → P m
+  by_begin : (m : ℕ) (k : Lexeme) → m ≤ length (b ∷ bs) → SpellsToken (take m (b ∷ bs)) k → P m
   by_begin zero k le h = absurd (some_text (take 0 (b ∷ bs)) k h refl)
   by_begin (suc m) k le h = bound m (omega arith) (begins (take (suc m) (b ∷ bs)) k h b (take m bs) refl)
 
@@ -97,7 +97,7 @@ is_it b n e = eq-eqb b n e
 words : (b : ℕ) (bs : List ℕ) → is_letter b ≡ true → IsLongest (b ∷ bs) (word (b ∷ take_while is_word_byte bs)) (1 + length (take_while is_word_byte bs))
 words b bs h = record {
   within = omega (arith, count, prefix_len-le-length is_word_byte bs);
-  spells = subst (λ t. Spells t (word (b ∷ take_while is_word_byte bs))) (sym front_is) (spells_word b (take_while is_word_byte bs) h (all_front is_word_byte bs));
+  spells = subst (λ t. SpellsToken t (word (b ∷ take_while is_word_byte bs))) (sym front_is) (spells_word b (take_while is_word_byte bs) h (all_front is_word_byte bs));
   longest = by_begin b bs (λ m. m ≤ 1 + length (take_while is_word_byte bs)) bound;
 }
   where
@@ -118,7 +118,7 @@ words b bs h = record {
 decimals : (b : ℕ) (bs : List ℕ) → is_letter b ≡ false → is_ascii_digit b ≡ true → IsLongest (b ∷ bs) (numeral (digits 10 (b ∷ take_while is_ascii_digit bs))) (1 + length (take_while is_ascii_digit bs))
 decimals b bs g h = record {
   within = omega (arith, count, prefix_len-le-length is_ascii_digit bs);
-  spells = subst (λ t. Spells t (numeral (digits 10 (b ∷ take_while is_ascii_digit bs)))) (sym front_is) (spells_decimal b (take_while is_ascii_digit bs) (ap (λ c. c && list_all is_ascii_digit (take_while is_ascii_digit bs)) h ∙ all_front is_ascii_digit bs));
+  spells = subst (λ t. SpellsToken t (numeral (digits 10 (b ∷ take_while is_ascii_digit bs)))) (sym front_is) (spells_decimal b (take_while is_ascii_digit bs) (ap (λ c. c && list_all is_ascii_digit (take_while is_ascii_digit bs)) h ∙ all_front is_ascii_digit bs));
   longest = by_begin b bs (λ m. m ≤ 1 + length (take_while is_ascii_digit bs)) bound;
 }
   where
@@ -142,7 +142,7 @@ no_mark b n l e out some = let never : ◌≡◌ {A = Option (ℕ × Lexeme)} No
 apart_numbers : (m n : ℕ) → (m == n) ≡ false → m ≡ n → ⊥
 apart_numbers m n h e = true_false (m == n) (eq-eqb m n e) h
 
-no_hex : (bs : List ℕ) → take_while is_ascii_hexdigit bs ≡ [] → (m : ℕ) (k : Lexeme) → m ≤ length (36 ∷ bs) → Spells (take m (36 ∷ bs)) k → ⊥
+no_hex : (bs : List ℕ) → take_while is_ascii_hexdigit bs ≡ [] → (m : ℕ) (k : Lexeme) → m ≤ length (36 ∷ bs) → SpellsToken (take m (36 ∷ bs)) k → ⊥
 no_hex bs e = by_begin 36 bs (λ m. ⊥) bound
   where
     bound : (m : ℕ) → m ≤ length bs → Begins 36 (take m bs) → ⊥
@@ -159,7 +159,7 @@ no_hex bs e = by_begin 36 bs (λ m. ⊥) bound
 hexes : (d : ℕ) (bs ds : List ℕ) → take_while is_ascii_hexdigit bs ≡ d ∷ ds → IsLongest (36 ∷ bs) (numeral (digits 16 (d ∷ ds))) (1 + length (d ∷ ds))
 hexes d bs ds e = record {
   within = omega (arith, count, prefix_len-le-length is_ascii_hexdigit bs);
-  spells = subst (λ t. Spells t (numeral (digits 16 (d ∷ ds)))) (sym front_is) (spells_hex d ds (ap (list_all is_ascii_hexdigit) (sym e) ∙ all_front is_ascii_hexdigit bs));
+  spells = subst (λ t. SpellsToken t (numeral (digits 16 (d ∷ ds)))) (sym front_is) (spells_hex d ds (ap (list_all is_ascii_hexdigit) (sym e) ∙ all_front is_ascii_hexdigit bs));
   longest = by_begin 36 bs (λ m. m ≤ 1 + length (d ∷ ds)) bound;
 }
   where
@@ -231,7 +231,7 @@ string_bound bs m le (by_mark l f g) = absurd (no_mark 34 34 l refl refl g)
 strings : (bs : List ℕ) → IsString bs (take_while is_string_byte bs) → IsLongest (34 ∷ bs) (string (take_while is_string_byte bs)) (2 + length (take_while is_string_byte bs))
 strings bs h = record {
   within = omega (arith, begins_within (length (take_while is_string_byte bs)) bs h.closes);
-  spells = subst (λ t. Spells t (string (take_while is_string_byte bs))) (sym front_is) (spells_string (take_while is_string_byte bs) (all_front is_string_byte bs) h.utf8 (unfolded (list_any (λ b. b == 37) (take_while is_string_byte bs)) h.folds));
+  spells = subst (λ t. SpellsToken t (string (take_while is_string_byte bs))) (sym front_is) (spells_string (take_while is_string_byte bs) (all_front is_string_byte bs) h.utf8 (unfolded (list_any (λ b. b == 37) (take_while is_string_byte bs)) h.folds));
   longest = by_begin 34 bs (λ m. m ≤ 2 + length (take_while is_string_byte bs)) (λ m le b. omega (arith, (string_bound bs m le b).0));
 }
   where
@@ -247,7 +247,7 @@ strings bs h = record {
         let s : 2 + length (take_while is_string_byte bs) ≡ suc (suc (length (take_while is_string_byte bs))) = omega arith in
         ap (λ n. take n (34 ∷ bs)) s ∙ ap (λ l. 34 ∷ l) (closed (length (take_while is_string_byte bs)) bs h.closes ∙ ap (λ n. take n bs ++ 34 ∷ []) (length-prefix_len is_string_byte bs))
 
-string_front : (bs : List ℕ) → IsFront (34 ∷ bs) (string_behind (take_while is_string_byte bs) bs).0 (string_behind (take_while is_string_byte bs) bs).1
+string_front : (bs : List ℕ) → IsFront (34 ∷ bs) (string_after (take_while is_string_byte bs) bs).0 (string_after (take_while is_string_byte bs) bs).1
 string_front bs = by (begins_with 34 (drop (length text) bs)) refl (is_utf8 text) refl (not (list_any (λ b. b == 37) text)) refl
   where
     text : List ℕ
@@ -256,7 +256,7 @@ string_front bs = by (begins_with 34 (drop (length text) bs)) refl (is_utf8 text
     answer : Bool → Lexeme × ℕ
     answer x = if x then (string (take_while is_string_byte bs), 2 + length (take_while is_string_byte bs)) else (none, 1)
 
-    never : (IsString bs (take_while is_string_byte bs) → ⊥) → (m : ℕ) (k : Lexeme) → m ≤ length (34 ∷ bs) → Spells (take m (34 ∷ bs)) k → ⊥
+    never : (IsString bs (take_while is_string_byte bs) → ⊥) → (m : ℕ) (k : Lexeme) → m ≤ length (34 ∷ bs) → SpellsToken (take m (34 ∷ bs)) k → ⊥
     never out = by_begin 34 bs (λ m. ⊥) (λ m le b. out (string_bound bs m le b).1)
 
     by : (x : Bool) → begins_with 34 (drop (length (take_while is_string_byte bs)) bs) ≡ x → (y : Bool) → is_utf8 (take_while is_string_byte bs) ≡ y → (z : Bool) → not (list_any (λ b. b == 37) (take_while is_string_byte bs)) ≡ z → IsFront (34 ∷ bs) (answer (x && y && z)).0 (answer (x && y && z)).1
@@ -290,7 +290,7 @@ output_front bs = by bs (begins_with 79 bs) refl
         let x : c ≡ 79 = eqb-true c 79 h in
         record {
           within = omega arith;
-          spells = subst (λ c. Spells (take 2 (37 ∷ c ∷ cs)) output) (sym x) spells_output;
+          spells = subst (λ c. SpellsToken (take 2 (37 ∷ c ∷ cs)) output) (sym x) spells_output;
           longest = by_begin 37 (c ∷ cs) (λ m. m ≤ 2) (λ m le b. omega (arith, (output_bound (c ∷ cs) m le b).0));
         }
 
@@ -333,21 +333,21 @@ longest_tokens (b ∷ bs) = by (is_letter b) refl (is_ascii_digit b) refl (b == 
   where
     answer : Bool → Bool → Bool → Bool → Bool → Lexeme × ℕ
     answer x y z u v =
-        if x then word_behind b (take_while is_word_byte bs)
-        else if y then decimal_behind b (take_while is_ascii_digit bs)
-        else if z then hex_behind (take_while is_ascii_hexdigit bs)
-        else if u then string_behind (take_while is_string_byte bs) bs
+        if x then word_after b (take_while is_word_byte bs)
+        else if y then decimal_after b (take_while is_ascii_digit bs)
+        else if z then hex_after (take_while is_ascii_hexdigit bs)
+        else if u then string_after (take_while is_string_byte bs) bs
         else if v then (if begins_with 79 bs then (output, 2) else (none, 1))
         else (mark b, 1)
 
-    hex_there : (ds : List ℕ) → take_while is_ascii_hexdigit bs ≡ ds → IsFront (36 ∷ bs) (hex_behind ds).0 (hex_behind ds).1
+    hex_there : (ds : List ℕ) → take_while is_ascii_hexdigit bs ≡ ds → IsFront (36 ∷ bs) (hex_after ds).0 (hex_after ds).1
     hex_there [] e = no_hex bs e
     hex_there (d ∷ ds) e = hexes d bs ds e
 
     by : (x : Bool) → is_letter b ≡ x → (y : Bool) → is_ascii_digit b ≡ y → (z : Bool) → (b == 36) ≡ z → (u : Bool) → (b == 34) ≡ u → (v : Bool) → (b == 37) ≡ v → IsFront (b ∷ bs) (answer x y z u v).0 (answer x y z u v).1
     by true h y i z j u k v l = words b bs h
     by false h true i z j u k v l = decimals b bs h i
-    by false h false i true j u k v l = let e : b ≡ 36 = eqb-true b 36 j in subst (λ b. IsFront (b ∷ bs) (hex_behind (take_while is_ascii_hexdigit bs)).0 (hex_behind (take_while is_ascii_hexdigit bs)).1) (sym e) (hex_there (take_while is_ascii_hexdigit bs) refl)
-    by false h false i false j true k v l = let e : b ≡ 34 = eqb-true b 34 k in subst (λ b. IsFront (b ∷ bs) (string_behind (take_while is_string_byte bs) bs).0 (string_behind (take_while is_string_byte bs) bs).1) (sym e) (string_front bs)
+    by false h false i true j u k v l = let e : b ≡ 36 = eqb-true b 36 j in subst (λ b. IsFront (b ∷ bs) (hex_after (take_while is_ascii_hexdigit bs)).0 (hex_after (take_while is_ascii_hexdigit bs)).1) (sym e) (hex_there (take_while is_ascii_hexdigit bs) refl)
+    by false h false i false j true k v l = let e : b ≡ 34 = eqb-true b 34 k in subst (λ b. IsFront (b ∷ bs) (string_after (take_while is_string_byte bs) bs).0 (string_after (take_while is_string_byte bs) bs).1) (sym e) (string_front bs)
     by false h false i false j false k true l = let e : b ≡ 37 = eqb-true b 37 l in subst (λ b. IsFront (b ∷ bs) (if◌then◌else◌ {A = Lexeme × ℕ} (begins_with 79 bs) (output, 2) (none, 1)).0 (if◌then◌else◌ {A = Lexeme × ℕ} (begins_with 79 bs) (output, 2) (none, 1)).1) (sym e) (output_front bs)
     by false h false i false j false k false l = mark_front b bs h i j k l

@@ -5,7 +5,7 @@ use Rattle.std.specs.Prelude.{◌==◌, ◌||◌, if◌then◌else◌, find, cod
 use Rattle.std.specs.Option.{option_map}
 use Rattle.std.proofs.lemmas.Bool.Decides.{nat_tests}
 use Rattle.std.proofs.lemmas.List.{drop_all, append_cancel_right, take-append-drop}
-use Rattle.script65.specs.declared.script.Row.{Row}
+use Rattle.script65.specs.declared.script.SegmentRow.{SegmentRow}
 use Rattle.script65.specs.Placing.{is_in, places_in, has_row, rows_exist, size_of}
 use Rattle.script65.proofs.Eaches.{append_none, drop_item}
 use Rattle.std.specs.Str.{bytes_eq}
@@ -15,8 +15,8 @@ use Rattle.std.specs.List.{position_or_len}
 use Rattle.std.proofs.lemmas.Slice.Eq.{bytes_eq-Decides}
 use Rattle.std.proofs.Math.Path.{fun_ext}
 use Rattle.std.proofs.Math.Seq.{drop-append_seam}
-use Rattle.script65.specs.declared.reading.entries.Entry.{Entry}
-use Rattle.script65.specs.Inner.Tables.{part_at}
+use Rattle.script65.specs.declared.reading.entries.ConfigEntry.{ConfigEntry}
+use Rattle.script65.specs.Internal.Tables.{part_at}
 
 -- ---- The rows of each area.
 
@@ -24,25 +24,25 @@ use Rattle.script65.specs.Inner.Tables.{part_at}
 abbrev pub with_if : Bool → ℕ → List ℕ → List ℕ
 with_if b i m = if b then m ++ i ∷ [] else m
 
-pub added_twice : (k i : ℕ) (r : Row) (o : Option (List ℕ)) → r.load ≢ r.run → option_map (with_if (r.load == k) i) (option_map (with_if (r.run == k) i) o) ≡ option_map (with_if (is_in k r) i) o
+pub added_twice : (k i : ℕ) (r : SegmentRow) (o : Option (List ℕ)) → r.load ≢ r.run → option_map (with_if (r.load == k) i) (option_map (with_if (r.run == k) i) o) ≡ option_map (with_if (is_in k r) i) o
 unfolding is_in
 added_twice k i r x apart = grind (arith, common_steps)
 
-pub added_once : (k i : ℕ) (r : Row) (o : Option (List ℕ)) → r.load ≡ r.run → option_map (with_if (r.run == k) i) o ≡ option_map (with_if (is_in k r) i) o
+pub added_once : (k i : ℕ) (r : SegmentRow) (o : Option (List ℕ)) → r.load ≡ r.run → option_map (with_if (r.run == k) i) o ≡ option_map (with_if (is_in k r) i) o
 unfolding is_in
 added_once k i r o same = grind (arith, common_steps)
 
 -- what the members so far and the rest are
-abbrev pub Collects : ℕ → List Row → ℕ → Option (List ℕ) → Type 0
+abbrev pub Collects : ℕ → List SegmentRow → ℕ → Option (List ℕ) → Type 0
 Collects k rows i o = (m : List ℕ) × (o ≡ Some m) × (m ++ places_in k i (drop i rows) ≡ places_in k 0 rows)
 
-pub collects_none : (k : ℕ) (rows : List Row) (o : Option (List ℕ)) → o ≡ Some [] → Collects k rows 0 o
+pub collects_none : (k : ℕ) (rows : List SegmentRow) (o : Option (List ℕ)) → o ≡ Some [] → Collects k rows 0 o
 collects_none k x o e = grind (arith, common_steps)
 
-pub collects_more : (k : ℕ) (rows : List Row) (i : ℕ) (r : Row) (old new : Option (List ℕ)) → i < length rows → r ≡ get_or rows i r → new ≡ option_map (with_if (is_in k r) i) old → Collects k rows i old → Collects k rows (i + 1) new
+pub collects_more : (k : ℕ) (rows : List SegmentRow) (i : ℕ) (r : SegmentRow) (old new : Option (List ℕ)) → i < length rows → r ≡ get_or rows i r → new ≡ option_map (with_if (is_in k r) i) old → Collects k rows i old → Collects k rows (i + 1) new
 collects_more k rows i r old new lt at e h = grind (arith, common_steps)
 
-pub collects_all : (k : ℕ) (rows : List Row) (i : ℕ) (o : Option (List ℕ)) → length rows ≤ i → Collects k rows i o → o ≡ Some (places_in k 0 rows)
+pub collects_all : (k : ℕ) (rows : List SegmentRow) (i : ℕ) (o : Option (List ℕ)) → length rows ≤ i → Collects k rows i o → o ≡ Some (places_in k 0 rows)
 collects_all k rows i o le h = h.1 ∙ ap Some (sym (ap (λ l. h.0 ++ places_in k i l) (drop_all i rows le) ∙ append_none h.0) ∙ h.2)
 
 -- ---- What segments need, by name.
@@ -51,18 +51,18 @@ or_false : (b : Bool) → (b || false) ≡ b
 or_false true = refl
 or_false false = refl
 
-pub name_step : (rows : List Row) (i : ℕ) (r : Row) (name : List ℕ) (old new : Bool) → i < length rows → r ≡ get_or rows i r → new ≡ cond (bytes_eq r.name name) true old → (old || has_row (drop i rows) name) ≡ has_row rows name → (new || has_row (drop (i + 1) rows) name) ≡ has_row rows name
+pub name_step : (rows : List SegmentRow) (i : ℕ) (r : SegmentRow) (name : List ℕ) (old new : Bool) → i < length rows → r ≡ get_or rows i r → new ≡ cond (bytes_eq r.name name) true old → (old || has_row (drop i rows) name) ≡ has_row rows name → (new || has_row (drop (i + 1) rows) name) ≡ has_row rows name
 unfolding has_row
 name_step rows i r name old new lt at e inv = grind (arith, common_steps)
 
-pub name_end : (rows : List Row) (i : ℕ) (name : List ℕ) (old : Bool) → length rows ≤ i → (old || has_row (drop i rows) name) ≡ has_row rows name → old ≡ has_row rows name
+pub name_end : (rows : List SegmentRow) (i : ℕ) (name : List ℕ) (old : Bool) → length rows ≤ i → (old || has_row (drop i rows) name) ≡ has_row rows name → old ≡ has_row rows name
 unfolding has_row
 name_end rows i name old le inv = sym (ap (λ l. old || has_row l name) (drop_all i rows le) ∙ or_false old) ∙ inv
 
-pub need_step : (rows : List Row) (needs : List SegmentNeed) (i : ℕ) (n : SegmentNeed) → i < length needs → n ≡ get_or needs i n → has_row rows n.name ≡ true → rows_exist rows (drop i needs) ≡ rows_exist rows needs → rows_exist rows (drop (i + 1) needs) ≡ rows_exist rows needs
+pub need_step : (rows : List SegmentRow) (needs : List SegmentNeed) (i : ℕ) (n : SegmentNeed) → i < length needs → n ≡ get_or needs i n → has_row rows n.name ≡ true → rows_exist rows (drop i needs) ≡ rows_exist rows needs → rows_exist rows (drop (i + 1) needs) ≡ rows_exist rows needs
 need_step rows needs i n lt at e inv = grind (arith, common_steps)
 
-pub need_stops : (rows : List Row) (needs : List SegmentNeed) (i : ℕ) (n : SegmentNeed) (name : List ℕ) → i < length needs → n ≡ get_or needs i n → has_row rows n.name ≡ false → name ≡ n.name → rows_exist rows (drop i needs) ≡ rows_exist rows needs → rows_exist rows needs ≡ Err (NoRow name)
+pub need_stops : (rows : List SegmentRow) (needs : List SegmentNeed) (i : ℕ) (n : SegmentNeed) (name : List ℕ) → i < length needs → n ≡ get_or needs i n → has_row rows n.name ≡ false → name ≡ n.name → rows_exist rows (drop i needs) ≡ rows_exist rows needs → rows_exist rows needs ≡ Err (NoRow name)
 need_stops rows needs i n name lt at e same inv = grind (arith, common_steps)
 
 pub size_none : (needs : List SegmentNeed) (name : List ℕ) → size_of (drop (length needs) needs) name ≡ None
@@ -91,8 +91,8 @@ itself : (xs ys : List ℕ) → xs ≡ ys → bytes_eq xs ys ≡ true
 itself xs ys e = (bytes_eq-Decides xs ys).1 e
 
 -- what stands behind `__`
-pub behind_front : (name rest : List ℕ) → bytes_eq (take 2 name) (codes "__") ≡ true → rest ≡ drop 2 name → name ≡ codes "__" ++ rest
-behind_front name rest e d = sym (take-append-drop 2 name) ∙ ap (λ l. l ++ drop 2 name) (same_bytes _ _ e) ∙ ap (λ l. codes "__" ++ l) (sym d)
+pub after_front : (name rest : List ℕ) → bytes_eq (take 2 name) (codes "__") ≡ true → rest ≡ drop 2 name → name ≡ codes "__" ++ rest
+after_front name rest e d = sym (take-append-drop 2 name) ∙ ap (λ l. l ++ drop 2 name) (same_bytes _ _ e) ∙ ap (λ l. codes "__" ++ l) (sym d)
 
 -- what stands before an ending
 pub before_ending : (rest x end : List ℕ) → bytes_eq (drop (length rest - length end) rest) end ≡ true → x ≡ take (length rest - length end) rest → rest ≡ x ++ end
@@ -130,13 +130,13 @@ nowhere : {A : Type 0} (xs : List A) → position (λ x. false) xs ≡ None
 nowhere xs = ap (λ n. cond (nat_lt n (length xs)) (Some n) None) (past_all xs) ∙ ap (λ b. cond b (Some (length xs)) None) (not_less (length xs))
 
 -- a name that has no such ending
-pub named_nowhere : (es : List Entry) (name end : List ℕ) → ((n : List ℕ) → name ≢ part_name n end) → part_at es name end ≡ None
+pub named_nowhere : (es : List ConfigEntry) (name end : List ℕ) → ((n : List ℕ) → name ≢ part_name n end) → part_at es name end ≡ None
 named_nowhere es name end never =
-    let P : Entry → Bool = λ e. bytes_eq name (part_name e.name end) in
-    let Q : Entry → Bool = λ e. false in
+    let P : ConfigEntry → Bool = λ e. bytes_eq name (part_name e.name end) in
+    let Q : ConfigEntry → Bool = λ e. false in
     let same : P ≡ Q = fun_ext (λ e. to_false (P e) (λ t. never e.name (same_bytes name (part_name e.name end) t))) in
     ap (λ p. position p es) same ∙ nowhere es
 
 -- a name that has it behind a name
-pub named_there : (es : List Entry) (name n end : List ℕ) → name ≡ part_name n end → part_at es name end ≡ position (λ (e : Entry). bytes_eq n e.name) es
+pub named_there : (es : List ConfigEntry) (name n end : List ℕ) → name ≡ part_name n end → part_at es name end ≡ position (λ (e : ConfigEntry). bytes_eq n e.name) es
 named_there es name n end is = grind (arith, common_steps, fun_ext, inner_name)

@@ -3,23 +3,23 @@ use Rattle.std.proofs.lemmas.Grind.{common_steps}
 use Rattle.std.proofs.Common.{◌≡◌, ◌<◌, ℕ, suc, Bool, true, false, List, [], ◌∷◌, length, Option, Some, None, refl, sym, ap, ◌∙◌, subst, Ok, Err, arith}
 use Rattle.std.specs.Prelude.{Result, if◌then◌else◌}
 use Rattle.std.specs.List.{AllByRecursion}
-use Rattle.base65.specs.Outcome.{each, ◌>>=◌}
-use Rattle.script65.specs.declared.fault.Stop.{Stop}
+use Rattle.base65.specs.Outcome.{try_map, ◌>>=◌}
+use Rattle.script65.specs.declared.fault.FaultAt.{FaultAt}
 use Rattle.script65.specs.Faults.{stop_at}
 use Rattle.script65.specs.declared.fault.Fault.TheVariants.{Excluded}
 use Rattle.script65.specs.declared.fault.Fault.{Fault}
-use Rattle.script65.specs.declared.script.Area.{Area}
+use Rattle.script65.specs.declared.script.MemoryArea.{MemoryArea}
 use Rattle.script65.specs.declared.script.Operand.{Operand}
-use Rattle.script65.specs.declared.script.Row.{Row}
+use Rattle.script65.specs.declared.script.SegmentRow.{SegmentRow}
 use Rattle.script65.specs.declared.script.Script.{Script}
 use Rattle.script65.specs.declared.script.Term.{Term}
-use Rattle.script65.specs.Entries.{Entries, Entry, Part, parts_for}
+use Rattle.script65.specs.Entries.{Entries, ConfigEntry, ParsedTerm, parts_for}
 use Rattle.script65.specs.Scripts.{area_for, area_from, as_area_part, as_export, as_row_part, first_of_three, exclude_each_other, one_of_three, operand_for, row_at, row_from, script_from, sum_for, sums_of, term_from, term_or_fault, with_line}
 use Rattle.std.specs.Prelude.{codes}
-use Rattle.script65.specs.declared.script.AreaPart.{AreaPart}
-use Rattle.script65.specs.declared.script.RowPart.{RowPart}
-use Rattle.script65.specs.declared.script.RowPart.TheVariants as row_part
-use Rattle.script65.specs.declared.script.AreaPart.TheVariants as area_part
+use Rattle.script65.specs.declared.script.AreaAttribute.{AreaAttribute}
+use Rattle.script65.specs.declared.script.RowAttribute.{RowAttribute}
+use Rattle.script65.specs.declared.script.RowAttribute.TheVariants as row_part
+use Rattle.script65.specs.declared.script.AreaAttribute.TheVariants as area_part
 use Rattle.script65.specs.declared.script.Operand.TheVariants as operand
 use Rattle.script65.specs.Laws.{AllThere, AreThere, IsThere}
 
@@ -32,20 +32,20 @@ and_then x f y h = grind (arith, common_steps)
 pub ok_is : {E A : Type 0} (x y : A) → ◌≡◌ {A = Result A E} (Ok x) (Ok y) → x ≡ y
 ok_is x y h = cc
 
-pub each_length : {E A B : Type 0} (f : A → Result B E) (xs : List A) (ys : List B) → each f xs ≡ Ok ys → length ys ≡ length xs
+pub each_length : {E A B : Type 0} (f : A → Result B E) (xs : List A) (ys : List B) → try_map f xs ≡ Ok ys → length ys ≡ length xs
 each_length f [] ys h = let e : [] ≡ ys = cc in ap length (sym e)
 each_length f (x ∷ xs) ys h =
-    let first = and_then (f x) (λ y. each f xs >>= (λ ys. Ok (y ∷ ys))) ys h in
-    let rest = and_then (each f xs) (λ ys. Ok (first.0 ∷ ys)) ys first.2 in
+    let first = and_then (f x) (λ y. try_map f xs >>= (λ ys. Ok (y ∷ ys))) ys h in
+    let rest = and_then (try_map f xs) (λ ys. Ok (first.0 ∷ ys)) ys first.2 in
     let e : first.0 ∷ rest.0 ≡ ys = cc in
     ap length (sym e) ∙ ap suc (each_length f xs rest.0 rest.1)
 
 -- each that is made holds what the ones that it is made of make it hold
-pub each_holds : {E A B : Type 0} (f : A → Result B E) (Q : A → Type 0) (P : B → Type 0) → ((x : A) (y : B) → Q x → f x ≡ Ok y → P y) → (xs : List A) (ys : List B) → AllByRecursion Q xs → each f xs ≡ Ok ys → AllByRecursion P ys
+pub each_holds : {E A B : Type 0} (f : A → Result B E) (Q : A → Type 0) (P : B → Type 0) → ((x : A) (y : B) → Q x → f x ≡ Ok y → P y) → (xs : List A) (ys : List B) → AllByRecursion Q xs → try_map f xs ≡ Ok ys → AllByRecursion P ys
 each_holds f Q P made [] ys q h = let e : [] ≡ ys = cc in subst (AllByRecursion P) e tt
 each_holds f Q P made (x ∷ xs) ys q h =
-    let first = and_then (f x) (λ y. each f xs >>= (λ ys. Ok (y ∷ ys))) ys h in
-    let rest = and_then (each f xs) (λ ys. Ok (first.0 ∷ ys)) ys first.2 in
+    let first = and_then (f x) (λ y. try_map f xs >>= (λ ys. Ok (y ∷ ys))) ys h in
+    let rest = and_then (try_map f xs) (λ ys. Ok (first.0 ∷ ys)) ys first.2 in
     let e : first.0 ∷ rest.0 ≡ ys = cc in
     subst (AllByRecursion P) e (made x first.0 q.0 first.1, each_holds f Q P made xs rest.0 q.1 rest.1)
 
@@ -58,13 +58,13 @@ always (x ∷ xs) = (tt, always xs)
 abbrev Names : ℕ → ℕ → Option Operand → Type 0
 Names areas rows found = (o : Operand) → found ≡ Some o → IsThere areas rows o
 
-export_is : (areas rows : ℕ) (symbols : List Entry) (name : List ℕ) → Names areas rows (as_export symbols name)
+export_is : (areas rows : ℕ) (symbols : List ConfigEntry) (name : List ℕ) → Names areas rows (as_export symbols name)
 export_is areas rows symbols name = grind (arith, common_steps)
 
-area_part_is : (rows : ℕ) (areas : List Entry) (name : List ℕ) (part : AreaPart) → Names (length areas) rows (as_area_part areas name part)
+area_part_is : (rows : ℕ) (areas : List ConfigEntry) (name : List ℕ) (part : AreaAttribute) → Names (length areas) rows (as_area_part areas name part)
 area_part_is rows areas name part = grind (arith, common_steps)
 
-row_part_is : (areas : ℕ) (rows : List Entry) (name : List ℕ) (part : RowPart) → Names areas (length rows) (as_row_part rows name part)
+row_part_is : (areas : ℕ) (rows : List ConfigEntry) (name : List ℕ) (part : RowAttribute) → Names areas (length rows) (as_row_part rows name part)
 row_part_is areas rows name part = grind (arith, common_steps)
 
 three_are : (areas rows : ℕ) (a b c : Option Operand) → Names areas rows a → Names areas rows b → Names areas rows c → Names areas rows (first_of_three a b c)
@@ -85,63 +85,63 @@ operand_is es None name o h =
     (three_are (length es.areas) (length es.rows) _ _ _ (area_part_is (length es.rows) es.areas name area_part.Start) (area_part_is (length es.rows) es.areas name area_part.Size) (area_part_is (length es.rows) es.areas name area_part.Last))
     (three_are (length es.areas) (length es.rows) _ _ _ (row_part_is (length es.areas) es.rows name row_part.Load) (row_part_is (length es.areas) es.rows name row_part.Run) (row_part_is (length es.areas) es.rows name row_part.Size)) o h
 
-term_is : (es : Entries) (p : Part) (t : Term) → term_from es p ≡ Ok t → Draws es t.operand
+term_is : (es : Entries) (p : ParsedTerm) (t : Term) → term_from es p ≡ Ok t → Draws es t.operand
 term_is es p t h = by (operand_for es p.number p.name) refl h
   where
     by : (r : Result Operand Fault) → operand_for es p.number p.name ≡ r → term_or_fault p r ≡ Ok t → Draws es t.operand
     by (Ok o) e k =
         let made : Term = record { minus = p.minus; operand = o } in
-        let same : made ≡ t = ok_is {E = Stop} made t k in
+        let same : made ≡ t = ok_is {E = FaultAt} made t k in
         subst (λ (t : Term). Draws es t.operand) same (operand_is es p.number p.name o e)
     by (Err f) e k = absurd cc
 
-terms_are : (es : Entries) (a : List ℕ) (e : Entry) (ts : List Term) → sum_for es a e ≡ Ok ts → AreThere (length es.areas) (length es.rows) ts
+terms_are : (es : Entries) (a : List ℕ) (e : ConfigEntry) (ts : List Term) → sum_for es a e ≡ Ok ts → AreThere (length es.areas) (length es.rows) ts
 terms_are es a e ts h =
     let ps = parts_for a e in
     each_holds (term_from es) (λ p. Unit {0}) (λ (t : Term). Draws es t.operand) (λ p t q e. term_is es p t e) ps ts (always ps) h
 
 -- the two sums of an area, as they are given
-pub record Extent (es : Entries) (e : Entry) (x : List Term × List Term) : Type 0 where
+pub record Extent (es : Entries) (e : ConfigEntry) (x : List Term × List Term) : Type 0 where
   pub start : sum_for es (codes "start") e ≡ Ok x.0
   pub size : sum_for es (codes "size") e ≡ Ok x.1
 
-pub extent_is : (es : Entries) (e : Entry) (x : List Term × List Term) → sums_of es e ≡ Ok x → Extent es e x
+pub extent_is : (es : Entries) (e : ConfigEntry) (x : List Term × List Term) → sums_of es e ≡ Ok x → Extent es e x
 extent_is es e x h = grind (arith, common_steps)
 
 -- ---- Scripts.
 
 -- what a script is made of
 pub record Made (es : Entries) (s : Script) : Type 0 where
-  pub areas : each (area_from es) es.areas ≡ Ok s.areas
-  pub rows : each (row_from es) es.rows ≡ Ok s.rows
+  pub areas : try_map (area_from es) es.areas ≡ Ok s.areas
+  pub rows : try_map (row_from es) es.rows ≡ Ok s.rows
 
 pub made_of : (es : Entries) (s : Script) → script_from es ≡ Ok s → Made es s
 made_of es s h = grind (arith, common_steps)
 
-names_of : (es : Entries) (e : Entry) (a : Area) → area_from es e ≡ Ok a → AreThere (length es.areas) (length es.rows) a.start × AreThere (length es.areas) (length es.rows) a.size
+names_of : (es : Entries) (e : ConfigEntry) (a : MemoryArea) → area_from es e ≡ Ok a → AreThere (length es.areas) (length es.rows) a.start × AreThere (length es.areas) (length es.rows) a.size
 names_of es e a h =
     let x = and_then (sums_of es e) _ a h in
     let g = extent_is es e x.0 x.1 in
-    let made = ok_is {E = Stop} _ a x.2 in
-    let start : x.0.0 ≡ a.start = ap (λ (b : Area). b.start) made in
-    let size : x.0.1 ≡ a.size = ap (λ (b : Area). b.size) made in
+    let made = ok_is {E = FaultAt} _ a x.2 in
+    let start : x.0.0 ≡ a.start = ap (λ (b : MemoryArea). b.start) made in
+    let size : x.0.1 ≡ a.size = ap (λ (b : MemoryArea). b.size) made in
     (subst (AreThere (length es.areas) (length es.rows)) start (terms_are es (codes "start") e x.0.0 g.start), subst (AreThere (length es.areas) (length es.rows)) size (terms_are es (codes "size") e x.0.1 g.size))
 
-given_is : (es : Entries) (a : List ℕ) (other : Option ℕ) (e : Entry) (k : ℕ) → ((m : ℕ) → other ≡ Some m → m < length es.areas) → area_for es a other e ≡ Ok k → k < length es.areas
+given_is : (es : Entries) (a : List ℕ) (other : Option ℕ) (e : ConfigEntry) (k : ℕ) → ((m : ℕ) → other ≡ Some m → m < length es.areas) → area_for es a other e ≡ Ok k → k < length es.areas
 given_is es a other e k inside h = grind (arith, common_steps)
 
-areas_of : (es : Entries) (e : Entry) (r : Row) → row_from es e ≡ Ok r → (r.load < length es.areas) × (r.run < length es.areas)
+areas_of : (es : Entries) (e : ConfigEntry) (r : SegmentRow) → row_from es e ≡ Ok r → (r.load < length es.areas) × (r.run < length es.areas)
 areas_of es e r h =
     let load = and_then (area_for es (codes "load") None e) _ r h in
     let run = and_then (area_for es (codes "run") (Some load.0) e) _ r load.2 in
     let loads : load.0 < length es.areas = given_is es (codes "load") None e load.0 (λ m none. absurd cc) load.1 in
     let runs : run.0 < length es.areas = given_is es (codes "run") (Some load.0) e run.0 (λ m some. let same : load.0 ≡ m = cc in subst (λ n. n < length es.areas) same loads) run.1 in
     let made : row_at es e load.0 run.0 ≡ r = kept (row_at es e load.0 run.0) (exclude_each_other e load.0 run.0) run.2 in
-    (subst (λ n. n < length es.areas) (ap (λ (r : Row). r.load) made) loads, subst (λ n. n < length es.areas) (ap (λ (r : Row). r.run) made) runs)
+    (subst (λ n. n < length es.areas) (ap (λ (r : SegmentRow). r.load) made) loads, subst (λ n. n < length es.areas) (ap (λ (r : SegmentRow). r.run) made) runs)
   where
-    kept : (p : Row) (b : Bool) → if◌then◌else◌ {A = Result Row Stop} b (Err (stop_at Excluded e.at)) (Ok p) ≡ Ok r → p ≡ r
+    kept : (p : SegmentRow) (b : Bool) → if◌then◌else◌ {A = Result SegmentRow FaultAt} b (Err (stop_at Excluded e.at)) (Ok p) ≡ Ok r → p ≡ r
     kept p true h = absurd cc
-    kept p false h = ok_is {E = Stop} p r h
+    kept p false h = ok_is {E = FaultAt} p r h
 
 pub all_there : AllThere
 all_there bytes s h =
@@ -150,12 +150,12 @@ all_there bytes s h =
     let made = made_of es.0 s es.2 in
     let areas : length s.areas ≡ length es.0.areas = each_length (area_from es.0) es.0.areas s.areas made.areas in
     let rows : length s.rows ≡ length es.0.rows = each_length (row_from es.0) es.0.rows s.rows made.rows in
-    let N : ℕ → ℕ → Type 0 = λ m n. AllByRecursion (λ (a : Area). AreThere m n a.start × AreThere m n a.size) s.areas in
-    let R : ℕ → Type 0 = λ m. AllByRecursion (λ (r : Row). (r.load < m) × (r.run < m)) s.rows in
+    let N : ℕ → ℕ → Type 0 = λ m n. AllByRecursion (λ (a : MemoryArea). AreThere m n a.start × AreThere m n a.size) s.areas in
+    let R : ℕ → Type 0 = λ m. AllByRecursion (λ (r : SegmentRow). (r.load < m) × (r.run < m)) s.rows in
     let named : N (length es.0.areas) (length es.0.rows) = each_holds (area_from es.0) (λ e. Unit {0}) _ (λ e a q g. names_of es.0 e a g) es.0.areas s.areas (always es.0.areas) made.areas in
     let placed : R (length es.0.areas) = each_holds (row_from es.0) (λ e. Unit {0}) _ (λ e r q g. areas_of es.0 e r g) es.0.rows s.rows (always es.0.rows) made.rows in
     (subst (λ n. N (length s.areas) n) (sym rows) (subst (λ m. N m (length es.0.rows)) (sym areas) named), subst R (sym areas) placed)
   where
-    by : (q : Result Script Stop) → Ok s ≡ with_line bytes q → q ≡ Ok s
+    by : (q : Result Script FaultAt) → Ok s ≡ with_line bytes q → q ≡ Ok s
     by (Ok x) e = let same : x ≡ s = cc in ap Ok same
     by (Err f) e = absurd cc

@@ -5,36 +5,36 @@ use Rattle.std.specs.List.{list_any, take_while}
 use Rattle.std.specs.Str.{is_utf8}
 use Rattle.std.specs.Char.{is_ascii_digit, is_ascii_hexdigit}
 use Rattle.base65.specs.Outcome.{◌>>=◌}
-use Rattle.script65.specs.declared.fault.Stop.{Stop}
+use Rattle.script65.specs.declared.fault.FaultAt.{FaultAt}
 use Rattle.script65.specs.Faults.{stop_at}
 use Rattle.script65.specs.declared.fault.Fault.TheVariants.{TooLong}
-use Rattle.script65.specs.Attributes.{Block, Takes, Value}
-use Rattle.script65.specs.Entries.{Entries, Entry, Part, no_entries, sum_of_parts}
-use Rattle.script65.specs.Breaks.{Place, Move, on, done, stop, move, between_blocks, behind_block_word, between_entries, behind_name, between_attributes, behind_word, before_value, before_term, behind_term, behind_value, attribute_value, sum_end}
+use Rattle.script65.specs.Attributes.{Block, ValueKind, Value}
+use Rattle.script65.specs.Entries.{Entries, ConfigEntry, ParsedTerm, no_entries, sum_of_parts}
+use Rattle.script65.specs.SyntaxErrors.{ParseState, Move, on, done, stop, token_move, between_blocks, after_block_word, between_entries, after_name, between_attributes, after_word, before_value, before_term, after_term, after_value, attribute_value, sum_end}
 use Rattle.script65.proofs.TokenByToken.{Reads, next, ends, stops, ReadsText}
 use Rattle.script65.specs.declared.script.Script.{Script}
 use Rattle.script65.specs.declared.fault.ScriptFault.{ScriptFault}
-use Rattle.script65.specs.Laws.{OneReading}
+use Rattle.script65.specs.Laws.{ReadingIsUnique}
 use Rattle.script65.proofs.Written.{Follows, follows, reads_of}
 use Rattle.script65.specs.Scripts.{IsRead, IsScript, LengthOr, is_too_long, script_from, with_line}
-use Rattle.script65.specs.Tokens.{Lexeme, the_end, front, gap, hex_behind, mark, string_behind, token, begins_with, is_letter, is_string_byte, is_word_byte, word_behind, decimal_behind, output, none}
+use Rattle.script65.specs.Tokens.{Lexeme, the_end, front, gap, hex_after, mark, string_after, token, begins_with, is_letter, is_string_byte, is_word_byte, word_after, decimal_after, output, none}
 
 -- ---- At most one.
 
 module _ (bytes : List ℕ) where
-  pub reads_one : (es : Entries) (p : Place) (at : ℕ) (r q : Result Entries Stop) → Reads bytes es p at r → Reads bytes es p at q → r ≡ q
-  reads_one _ _ _ _ u (next es fs p q at r e h) k = reads_one fs q (token bytes at).behind r u h (subst (λ m. Follows bytes at m u) e (follows bytes es p at u k))
+  pub reads_one : (es : Entries) (p : ParseState) (at : ℕ) (r q : Result Entries FaultAt) → Reads bytes es p at r → Reads bytes es p at q → r ≡ q
+  reads_one _ _ _ _ u (next es fs p q at r e h) k = reads_one fs q (token bytes at).following r u h (subst (λ m. Follows bytes at m u) e (follows bytes es p at u k))
   reads_one _ _ _ _ u (ends es fs p at e) k = sym (subst (λ m. Follows bytes at m u) e (follows bytes es p at u k))
   reads_one _ _ _ _ u (stops es p at f place e) k = sym (subst (λ m. Follows bytes at m u) e (follows bytes es p at u k))
 
-  pub entries_one : (r q : Result Entries Stop) → ReadsText bytes r → ReadsText bytes q → r ≡ q
+  pub entries_one : (r q : Result Entries FaultAt) → ReadsText bytes r → ReadsText bytes q → r ≡ q
   entries_one r q = by (is_too_long bytes)
     where
       by : (x : Bool) → LengthOr x r (Reads bytes no_entries between_blocks 0 r) → LengthOr x q (Reads bytes no_entries between_blocks 0 q) → r ≡ q
       by true h k = h ∙ sym k
       by false h k = reads_one no_entries between_blocks 0 r q h k
 
-pub one_reading : OneReading
+pub one_reading : ReadingIsUnique
 one_reading bytes r q h k = h.2 ∙ ap (λ x. with_line bytes (x >>= script_from)) (entries_one bytes h.0 k.0 (reads_of bytes h.0 h.1) (reads_of bytes k.0 k.1)) ∙ sym k.2
 
 -- ---- At least one.
@@ -43,7 +43,7 @@ one_reading bytes r q h k = h.2 ∙ ap (λ x. with_line bytes (x >>= script_from
 pub some_bytes : (b : ℕ) (bs : List ℕ) → 0 < (front (b ∷ bs)).1
 some_bytes b bs = by (is_letter b) (is_ascii_digit b) (b == 36) (b == 34) (b == 37)
   where
-    hex : (ds : List ℕ) → 0 < (hex_behind ds).1
+    hex : (ds : List ℕ) → 0 < (hex_after ds).1
     hex [] = omega arith
     hex (d ∷ ds) = omega arith
 
@@ -55,7 +55,7 @@ some_bytes b bs = by (is_letter b) (is_ascii_digit b) (b == 36) (b == 34) (b == 
     capital true = omega arith
     capital false = omega arith
 
-    by : (x y z u v : Bool) → 0 < (if x then word_behind b (take_while is_word_byte bs) else if y then decimal_behind b (take_while is_ascii_digit bs) else if z then hex_behind (take_while is_ascii_hexdigit bs) else if u then string_behind (take_while is_string_byte bs) bs else if v then (if begins_with 79 bs then (output, 2) else (none, 1)) else (mark b, 1)).1
+    by : (x y z u v : Bool) → 0 < (if x then word_after b (take_while is_word_byte bs) else if y then decimal_after b (take_while is_ascii_digit bs) else if z then hex_after (take_while is_ascii_hexdigit bs) else if u then string_after (take_while is_string_byte bs) bs else if v then (if begins_with 79 bs then (output, 2) else (none, 1)) else (mark b, 1)).1
     by true y z u v = omega arith
     by false true z u v = omega arith
     by false false true u v = hex (take_while is_ascii_hexdigit bs)
@@ -68,29 +68,29 @@ abbrev pub Leads : Move → Type 0
 Leads (on es p) = Unit {0}
 Leads _ = ⊥
 
-no_value : (es : Entries) (b : Block) (e : Entry) (a : List ℕ) (t : Takes) (at : ℕ) → Leads (attribute_value es b e a t the_end at) → ⊥
+no_value : (es : Entries) (b : Block) (e : ConfigEntry) (a : List ℕ) (t : ValueKind) (at : ℕ) → Leads (attribute_value es b e a t the_end at) → ⊥
 no_value es b e a Rattle.script65.specs.Attributes.a_sum at h = h
 no_value es b e a _ at h = h
 
-no_sum : (es : Entries) (b : Block) (e : Entry) (a : List ℕ) (ps : List Part) (v : Option Value) (at : ℕ) → Leads (sum_end es b e a ps v the_end at) → ⊥
+no_sum : (es : Entries) (b : Block) (e : ConfigEntry) (a : List ℕ) (ps : List ParsedTerm) (v : Option Value) (at : ℕ) → Leads (sum_end es b e a ps v the_end at) → ⊥
 no_sum es b e a ps (Some v) at h = h
 no_sum es b e a ps None at h = h
 
-pub end_leads : (es : Entries) (p : Place) (at : ℕ) → Leads (move es p the_end at) → ⊥
+pub end_leads : (es : Entries) (p : ParseState) (at : ℕ) → Leads (token_move es p the_end at) → ⊥
 end_leads es between_blocks at h = h
-end_leads es (behind_block_word b) at h = h
+end_leads es (after_block_word b) at h = h
 end_leads es (between_entries b) at h = h
-end_leads es (behind_name b e) at h = h
+end_leads es (after_name b e) at h = h
 end_leads es (between_attributes b e) at h = h
-end_leads es (behind_word b e row) at h = no_value es b e row.0 row.1 at h
+end_leads es (after_word b e row) at h = no_value es b e row.0 row.1 at h
 end_leads es (before_value b e row) at h = no_value es b e row.0 row.1 at h
 end_leads es (before_term b e a ps taken) at h = h
-end_leads es (behind_term b e a ps) at h = no_sum es b e a ps (sum_of_parts ps) at h
-end_leads es (behind_value b e) at h = h
+end_leads es (after_term b e a ps) at h = no_sum es b e a ps (sum_of_parts ps) at h
+end_leads es (after_value b e) at h = h
 
 module _ (bytes : List ℕ) where
   -- a token that isn't the end is further on
-  further : (at : ℕ) → ((token bytes at).lexeme ≡ the_end) ⊎ ((at < length bytes) × (at < (token bytes at).behind))
+  further : (at : ℕ) → ((token bytes at).lexeme ≡ the_end) ⊎ ((at < length bytes) × (at < (token bytes at).following))
   unfolding token
   further at = by (drop (at + gap false (drop at bytes)) bytes) refl
     where
@@ -100,20 +100,20 @@ module _ (bytes : List ℕ) where
 
   -- a reading from each place from which so many bytes are left
   abbrev Some_from : ℕ → Type 0
-  Some_from n = (at : ℕ) (es : Entries) (p : Place) → length bytes ≤ at + n → (r : Result Entries Stop) × Reads bytes es p at r
+  Some_from n = (at : ℕ) (es : Entries) (p : ParseState) → length bytes ≤ at + n → (r : Result Entries FaultAt) × Reads bytes es p at r
 
-  some_step : (n at : ℕ) (es : Entries) (p : Place) → length bytes ≤ at + n → (at < length bytes → (k : ℕ) × Some_from k × (k + 1 ≡ n)) → (r : Result Entries Stop) × Reads bytes es p at r
-  some_step n at es p enough rest = by (move es p (token bytes at).lexeme (token bytes at).at) refl
+  some_step : (n at : ℕ) (es : Entries) (p : ParseState) → length bytes ≤ at + n → (at < length bytes → (k : ℕ) × Some_from k × (k + 1 ≡ n)) → (r : Result Entries FaultAt) × Reads bytes es p at r
+  some_step n at es p enough rest = by (token_move es p (token bytes at).lexeme (token bytes at).at) refl
     where
-      on_to : (fs : Entries) (q : Place) → move es p (token bytes at).lexeme (token bytes at).at ≡ on fs q → ((token bytes at).lexeme ≡ the_end) ⊎ ((at < length bytes) × (at < (token bytes at).behind)) → (r : Result Entries Stop) × Reads bytes es p at r
-      on_to fs q e (inl end) = absurd (end_leads es p (token bytes at).at (subst Leads (sym e ∙ ap (λ l. move es p l (token bytes at).at) end) tt))
+      on_to : (fs : Entries) (q : ParseState) → token_move es p (token bytes at).lexeme (token bytes at).at ≡ on fs q → ((token bytes at).lexeme ≡ the_end) ⊎ ((at < length bytes) × (at < (token bytes at).following)) → (r : Result Entries FaultAt) × Reads bytes es p at r
+      on_to fs q e (inl end) = absurd (end_leads es p (token bytes at).at (subst Leads (sym e ∙ ap (λ l. token_move es p l (token bytes at).at) end) tt))
       on_to fs q e (inr h) =
           let k = rest h.0 in
-          let left : length bytes ≤ (token bytes at).behind + k.0 = omega (arith, k.2) in
-          let more = k.1 (token bytes at).behind fs q left in
+          let left : length bytes ≤ (token bytes at).following + k.0 = omega (arith, k.2) in
+          let more = k.1 (token bytes at).following fs q left in
           (more.0, next es fs p q at more.0 e more.1)
 
-      by : (m : Move) → move es p (token bytes at).lexeme (token bytes at).at ≡ m → (r : Result Entries Stop) × Reads bytes es p at r
+      by : (m : Move) → token_move es p (token bytes at).lexeme (token bytes at).at ≡ m → (r : Result Entries FaultAt) × Reads bytes es p at r
       by (done fs) e = (Ok fs, ends es fs p at e)
       by (stop f place) e = (Err (stop_at f place), stops es p at f place e)
       by (on fs q) e = on_to fs q e (further at)
@@ -122,10 +122,10 @@ module _ (bytes : List ℕ) where
   reads_some zero at es p enough = some_step zero at es p enough (λ lt. absurd (omega arith))
   reads_some (suc n) at es p enough = some_step (suc n) at es p enough (λ lt. (n, reads_some n, omega arith))
 
-  pub entries_some : (r : Result Entries Stop) × ReadsText bytes r
+  pub entries_some : (r : Result Entries FaultAt) × ReadsText bytes r
   entries_some = by (is_too_long bytes)
     where
-      by : (x : Bool) → (r : Result Entries Stop) × LengthOr x r (Reads bytes no_entries between_blocks 0 r)
+      by : (x : Bool) → (r : Result Entries FaultAt) × LengthOr x r (Reads bytes no_entries between_blocks 0 r)
       by true = (Err (stop_at TooLong 0), refl)
       by false = reads_some (length bytes) 0 no_entries between_blocks (omega arith)
 
@@ -134,6 +134,6 @@ module _ (bytes : List ℕ) where
 -- they have one fault, whatever they say
 pub long_texts : (text bytes : List ℕ) (q : Result Script ScriptFault) → is_too_long text ≡ true → is_too_long bytes ≡ true → IsScript text q → IsScript bytes q
 long_texts text bytes q h k s =
-    let long : Result Entries Stop = Err (stop_at TooLong 0) in
+    let long : Result Entries FaultAt = Err (stop_at TooLong 0) in
     let same : s.0 ≡ long = subst (λ b. LengthOr b s.0 (IsRead text s.0)) h s.1 in
     (long, subst (λ b. LengthOr b long (IsRead bytes long)) (sym k) refl, s.2 ∙ ap (λ d. with_line text (d >>= script_from)) same)

@@ -5,28 +5,28 @@ use Rattle.std.specs.Prelude.{if◌then◌else◌, ⊤, ◌==◌, ◌&&◌}
 use Rattle.std.specs.List.{AllByRecursion}
 use Rattle.std.specs.Int.{div_ceil}
 use Rattle.std.proofs.lemmas.Bool.Decides.{nat_tests}
-use Rattle.base65.specs.Outcome.{◌>>=◌, Finds, Gives, Unless}
-use Rattle.script65.specs.Faults.{is_place_outside}
-use Rattle.script65.specs.declared.script.Area.{Area}
-use Rattle.script65.specs.declared.script.Begin.{Begin}
-use Rattle.script65.specs.declared.script.Begin.TheVariants as begin
-use Rattle.script65.specs.declared.script.Row.{Row}
+use Rattle.base65.specs.Outcome.{◌>>=◌, RefinesProp, Refines, Unless}
+use Rattle.script65.specs.Faults.{is_place_system_error}
+use Rattle.script65.specs.declared.script.MemoryArea.{MemoryArea}
+use Rattle.script65.specs.declared.script.RowStart.{RowStart}
+use Rattle.script65.specs.declared.script.RowStart.TheVariants as begin
+use Rattle.script65.specs.declared.script.SegmentRow.{SegmentRow}
 use Rattle.script65.specs.declared.script.Script.{Script}
-use Rattle.script65.specs.declared.placement.AreaPlace.{AreaPlace}
-use Rattle.script65.specs.declared.placement.RowPlace.{RowPlace}
+use Rattle.script65.specs.declared.placement.AreaPlacement.{AreaPlacement}
+use Rattle.script65.specs.declared.placement.RowPlacement.{RowPlacement}
 use Rattle.script65.specs.declared.placement.Placement.{Placement}
 use Rattle.script65.specs.declared.placement.PlaceFault.{PlaceFault}
 use Rattle.script65.specs.declared.placement.PlaceFault.TheVariants.{NoRow, ReadOnlyArea, StartBelow, Overflow}
 use Rattle.script65.specs.declared.placement.SegmentNeed.{SegmentNeed}
 use Rattle.script65.specs.declared.placing.site.Bounds.{Bounds}
-use Rattle.script65.specs.declared.placing.site.Spot.{Spot}
-use Rattle.script65.specs.Places.{PlacedArea, PlacedRow, address_in, ends_in, last_or, end_of_rows, unit_of, IsLeastMultiple, RunsAt, BeginsAt, StandsBy, MayRun, Stands, RowFault, RowsStand, asked, bounds_of, AreaStands, IsRow, AreasStand, HaveRows, IsElsewhere, IsPlacement, IsRowFault, FirstFault, IsPlaced, OnePlacement}
+use Rattle.script65.specs.declared.placing.site.RowState.{RowState}
+use Rattle.script65.specs.Places.{PlacedArea, PlacedRow, address_in, ends_in, last_or, end_of_rows, unit_of, IsLeastMultiple, RunsAt, BeginsAt, StandsBy, MayRun, IsPlacedAt, RowFault, RowsStand, sum_context, bounds_of, AreaStands, IsRow, AreasStand, HaveRows, IsElsewhere, IsPlacement, IsRowFault, FirstFault, PlacementResult, PlacementIsUnique}
 use Rattle.script65.specs.Places.{read_only, below, over, of_need, of_area, of_row}
-use Rattle.script65.specs.Placing.{area_place, areas_from, begin_by, begin_in, fitted, has_row, is_in, is_read_only, moved, place_of, rounded_up, row_after, row_place, rows_exist, rows_from, size_of, sized_row, unplaced}
-use Rattle.script65.specs.AreaSums.{Standing, bounds_in, come_to, difference, is_known, number_or_fault, own_place, spanned, sum_in, sum_unless, term_value, unknown}
+use Rattle.script65.specs.Placing.{area_place, areas_from, begin_by, begin_in, place_sized_row, has_row, is_in, is_read_only, state_after_row, place_of, rounded_up, row_after, row_place, rows_exist, rows_from, size_of, sized_row, unplaced_row}
+use Rattle.script65.specs.AreaSums.{SumContextView, bounds_in, come_to, difference, is_known, number_or_fault, own_place, area_bounds, sum_in, sum_unless, term_value, unknown}
 use Rattle.script65.specs.declared.script.Term.{Term}
 use Rattle.script65.proofs.SumsHeld.{Settled, Stays, come_same, none_found, operand_same}
-use Rattle.script65.proofs.Walks.{behind, whole_of, bounds_order}
+use Rattle.script65.proofs.Walks.{following, whole_of, bounds_order}
 
 -- ---- The end of rows.
 
@@ -52,10 +52,10 @@ end_next k low x xs = by (is_in k x.0)
 -- two multiples of which neither is higher than the other that is high enough
 least_same : (u low a b : ℕ) → IsLeastMultiple u low a → IsLeastMultiple u low b → a ≡ b
 least_same u low a b h g =
-    let n = h.multiple.0 in
-    let m = g.multiple.0 in
-    let e : a ≡ n * u = h.multiple.1 in
-    let f : b ≡ m * u = g.multiple.1 in
+    let n = h.alignment.0 in
+    let m = g.alignment.0 in
+    let e : a ≡ n * u = h.alignment.1 in
+    let f : b ≡ m * u = g.alignment.1 in
     let low_a : low ≤ n * u = subst (λ z. low ≤ z) e h.high in
     let low_b : low ≤ m * u = subst (λ z. low ≤ z) f g.high in
     let up : a ≤ m * u = h.least m low_b in
@@ -77,13 +77,13 @@ least_of low u some =
     let bounds = div_ceil_times low u some in
     let k = div_ceil low u in
     record {
-      multiple = (k, refl);
+      alignment = (k, refl);
       high = bounds.0;
       least = λ n le. let below : k ≤ n = not_below u n k (omega (arith, bounds.1, le)) in mul-le-mul_right u below;
     }
 
 no_unit : (low align n : ℕ) → (align ≡ 0) ⊎ (0 < align) → IsLeastMultiple (unit_of align) low (rounded_up low align)
-no_unit low align n (inl none) = subst (λ z. IsLeastMultiple (unit_of z) low (rounded_up low z)) (sym none) (record { multiple = (low, omega arith); high = omega arith; least = λ n le. omega arith })
+no_unit low align n (inl none) = subst (λ z. IsLeastMultiple (unit_of z) low (rounded_up low z)) (sym none) (record { alignment = (low, omega arith); high = omega arith; least = λ n le. omega arith })
 no_unit low align n (inr some) =
     let u : align ≡ unit_of align = grind (arith, common_steps, nat_tests) in
     let e : div_ceil low align * align ≡ rounded_up low align = grind (arith, common_steps, nat_tests) in
@@ -97,12 +97,12 @@ rounded_least low align = no_unit low align 0 (none_or align)
 
 -- ---- Where a row begins.
 
-by_begin : (b : Bounds) (g : Begin) (align low : ℕ) → RunsAt g align b low (begin_by b g align low)
+by_begin : (b : Bounds) (g : RowStart) (align low : ℕ) → RunsAt g align b low (begin_by b g align low)
 by_begin b begin.Aligned align low = rounded_least low align
 by_begin b (begin.Start n) align low = refl
 by_begin b (begin.Offset n) align low = refl
 
-by_begin_same : (b : Bounds) (g : Begin) (align low at : ℕ) → RunsAt g align b low at → begin_by b g align low ≡ at
+by_begin_same : (b : Bounds) (g : RowStart) (align low at : ℕ) → RunsAt g align b low at → begin_by b g align low ≡ at
 by_begin_same b begin.Aligned align low at h = least_same (unit_of align) low (rounded_up low align) at (rounded_least low align) h
 by_begin_same b (begin.Start n) align low at h = sym h
 by_begin_same b (begin.Offset n) align low at h = sym h
@@ -115,21 +115,21 @@ same_or a b = by (lt_or a b) (lt_or b a)
     by (inr le) (inl lt) = inr (λ e. absurd (omega arith))
     by (inr le) (inr more) = inl (omega arith)
 
-begin_running : (k : ℕ) (b : Bounds) (r : Row) (low : ℕ) → r.run ≡ k → begin_in k b r low ≡ begin_by b r.begin r.align low
+begin_running : (k : ℕ) (b : Bounds) (r : SegmentRow) (low : ℕ) → r.run ≡ k → begin_in k b r low ≡ begin_by b r.begin r.align low
 unfolding begin_in
 begin_running k b r low h = grind (arith, common_steps, nat_tests)
 
-begin_loaded : (k : ℕ) (b : Bounds) (r : Row) (low : ℕ) → r.run ≢ k → begin_in k b r low ≡ rounded_up low r.align_load
+begin_loaded : (k : ℕ) (b : Bounds) (r : SegmentRow) (low : ℕ) → r.run ≢ k → begin_in k b r low ≡ rounded_up low r.align_load
 unfolding begin_in
 begin_loaded k b r low h = grind (arith, common_steps, nat_tests)
 
-begins_there : (k : ℕ) (b : Bounds) (r : Row) (low : ℕ) → BeginsAt k b r low (begin_in k b r low)
+begins_there : (k : ℕ) (b : Bounds) (r : SegmentRow) (low : ℕ) → BeginsAt k b r low (begin_in k b r low)
 begins_there k b r low = record {
   runs = λ e. subst (RunsAt r.begin r.align b low) (sym (begin_running k b r low e)) (by_begin b r.begin r.align low);
   loads = λ n. subst (IsLeastMultiple (unit_of r.align_load) low) (sym (begin_loaded k b r low n)) (rounded_least low r.align_load);
 }
 
-begins_same : (k : ℕ) (b : Bounds) (r : Row) (low at : ℕ) → BeginsAt k b r low at → begin_in k b r low ≡ at
+begins_same : (k : ℕ) (b : Bounds) (r : SegmentRow) (low at : ℕ) → BeginsAt k b r low at → begin_in k b r low ≡ at
 begins_same k b r low at h = by (same_or r.run k)
   where
     by : (r.run ≡ k) ⊎ (r.run ≢ k) → begin_in k b r low ≡ at
@@ -139,65 +139,65 @@ begins_same k b r low at h = by (same_or r.run k)
 -- ---- A row, as the cursor places it.
 
 -- what is known of a row where the areas before a b are placed
-abbrev spot : List SegmentNeed → ℕ → PlacedRow → Spot
+abbrev spot : List SegmentNeed → ℕ → PlacedRow → RowState
 spot needs k x = record { size = size_of needs x.0.name; run = if nat_lt x.0.run k then x.1.run else 0; load = if nat_lt x.0.load k then x.1.load else 0 }
 
-moved_spot : (needs : List SegmentNeed) (k at : ℕ) (x : PlacedRow) → is_in k x.0 ≡ true → at ≡ address_in k x.0 x.1 → IsRow needs x → moved k x.0 at (spot needs k x) ≡ spot needs (k + 1) x
-unfolding moved is_in
+moved_spot : (needs : List SegmentNeed) (k at : ℕ) (x : PlacedRow) → is_in k x.0 ≡ true → at ≡ address_in k x.0 x.1 → IsRow needs x → state_after_row k x.0 at (spot needs k x) ≡ spot needs (k + 1) x
+unfolding state_after_row is_in
 moved_spot needs k at x i e one = grind (arith, common_steps, nat_tests)
 
 other_spot : (needs : List SegmentNeed) (k : ℕ) (x : PlacedRow) → is_in k x.0 ≡ false → spot needs k x ≡ spot needs (k + 1) x
 unfolding is_in
 other_spot needs k x i = grind (arith, common_steps, nat_tests)
 
-may_test : (k : ℕ) (a : Area) (r : Row) → MayRun k a r → (a.read_only && r.run == k && not (is_read_only r.access)) ≡ false
+may_test : (k : ℕ) (a : MemoryArea) (r : SegmentRow) → MayRun k a r → (a.read_only && r.run == k && not (is_read_only r.access)) ≡ false
 may_test k a r may = grind (arith, common_steps, nat_tests)
 
-sized_stands : (needs : List SegmentNeed) (k : ℕ) (a : Area) (b : Bounds) (x : PlacedRow) (s : Spot) (o : Option ℕ) (low at : ℕ) → StandsBy k b x.0 o low at → sized_row k a b x.0 s o low ≡ Ok (moved k x.0 at s, at + unwrap_or o 0)
-unfolding fitted
+sized_stands : (needs : List SegmentNeed) (k : ℕ) (a : MemoryArea) (b : Bounds) (x : PlacedRow) (s : RowState) (o : Option ℕ) (low at : ℕ) → StandsBy k b x.0 o low at → sized_row k a b x.0 s o low ≡ Ok (state_after_row k x.0 at s, at + unwrap_or o 0)
+unfolding place_sized_row
 sized_stands needs k a b x s None low at h =
-    let F : ℕ → Result (Spot × ℕ) PlaceFault = λ n. Ok (moved k x.0 n s, n) in
-    let G : ℕ → Result (Spot × ℕ) PlaceFault = λ n. Ok (moved k x.0 at s, n) in
+    let F : ℕ → Result (RowState × ℕ) PlaceFault = λ n. Ok (state_after_row k x.0 n s, n) in
+    let G : ℕ → Result (RowState × ℕ) PlaceFault = λ n. Ok (state_after_row k x.0 at s, n) in
     let more : at ≡ at + 0 = omega arith in
     ap F (sym h) ∙ ap G more
-sized_stands needs k a b x s (Some n) low at h = let e = begins_same k b x.0 low at h.begins in let le = h.behind in let within = h.within in grind (arith, common_steps, nat_tests, e)
+sized_stands needs k a b x s (Some n) low at h = let e = begins_same k b x.0 low at h.begins in let le = h.following in let within = h.within in grind (arith, common_steps, nat_tests, e)
 
-row_stands : (needs : List SegmentNeed) (k : ℕ) (a : Area) (b : Bounds) (x : PlacedRow) (low : ℕ) → is_in k x.0 ≡ true → IsRow needs x → Stands k a b x.0 (size_of needs x.0.name) low (address_in k x.0 x.1) → row_after k a b x.0 (spot needs k x) low ≡ Ok (spot needs (k + 1) x, end_at k x)
+row_stands : (needs : List SegmentNeed) (k : ℕ) (a : MemoryArea) (b : Bounds) (x : PlacedRow) (low : ℕ) → is_in k x.0 ≡ true → IsRow needs x → IsPlacedAt k a b x.0 (size_of needs x.0.name) low (address_in k x.0 x.1) → row_after k a b x.0 (spot needs k x) low ≡ Ok (spot needs (k + 1) x, end_at k x)
 unfolding row_after
 row_stands needs k a b x low i one h =
     rw (may_test k a x.0 h.may_run) (sized_stands needs k a b x (spot needs k x) (size_of needs x.0.name) low (address_in k x.0 x.1) h.stands
-    ∙ ap (λ n. Ok (moved k x.0 (address_in k x.0 x.1) (spot needs k x), address_in k x.0 x.1 + n)) (sym one.size)
+    ∙ ap (λ n. Ok (state_after_row k x.0 (address_in k x.0 x.1) (spot needs k x), address_in k x.0 x.1 + n)) (sym one.size)
     ∙ ap (λ s. Ok (s, end_at k x)) (moved_spot needs k (address_in k x.0 x.1) x i refl one))
 
-row_fails : (needs : List SegmentNeed) (k : ℕ) (a : Area) (b : Bounds) (r : Row) (s : Spot) (low : ℕ) (f : PlaceFault) → RowFault k a b r s.size low f → row_after k a b r s low ≡ Err f
-unfolding row_after fitted
+row_fails : (needs : List SegmentNeed) (k : ℕ) (a : MemoryArea) (b : Bounds) (r : SegmentRow) (s : RowState) (low : ℕ) (f : PlaceFault) → RowFault k a b r s.size low f → row_after k a b r s low ≡ Err f
+unfolding row_after place_sized_row
 row_fails needs k a b r s low f (read_only ro here other) = grind (arith, common_steps, nat_tests)
 row_fails needs k a b r s low f (below n at may size begins lt) = let e = begins_same k b r low at begins in let t = may_test k a r may in grind (arith, common_steps, nat_tests, e, t)
 row_fails needs k a b r s low f (over n at more may size begins le some ends) = let e = begins_same k b r low at begins in let t = may_test k a r may in grind (arith, common_steps, nat_tests, e, t)
 
 -- ---- The rows of an area, as the cursor places them.
 
-row_in : (k : ℕ) (a : Area) (b : Bounds) (r : Row) (rs : List Row) (s : Spot) (ss : List Spot) (low : ℕ) (t : Spot) (end : ℕ) → is_in k r ≡ true → row_after k a b r s low ≡ Ok (t, end) → rows_from k a b (r ∷ rs) (s ∷ ss) low ≡ (rows_from k a b rs ss end >>= λ y. Ok (t ∷ y.0, y.1))
+row_in : (k : ℕ) (a : MemoryArea) (b : Bounds) (r : SegmentRow) (rs : List SegmentRow) (s : RowState) (ss : List RowState) (low : ℕ) (t : RowState) (end : ℕ) → is_in k r ≡ true → row_after k a b r s low ≡ Ok (t, end) → rows_from k a b (r ∷ rs) (s ∷ ss) low ≡ (rows_from k a b rs ss end >>= λ y. Ok (t ∷ y.0, y.1))
 row_in k a b r rs s ss low t end i e = rw (i, e) refl
 
-row_out : (k : ℕ) (a : Area) (b : Bounds) (r : Row) (rs : List Row) (s : Spot) (ss : List Spot) (low : ℕ) → is_in k r ≡ false → rows_from k a b (r ∷ rs) (s ∷ ss) low ≡ (rows_from k a b rs ss low >>= λ y. Ok (s ∷ y.0, y.1))
+row_out : (k : ℕ) (a : MemoryArea) (b : Bounds) (r : SegmentRow) (rs : List SegmentRow) (s : RowState) (ss : List RowState) (low : ℕ) → is_in k r ≡ false → rows_from k a b (r ∷ rs) (s ∷ ss) low ≡ (rows_from k a b rs ss low >>= λ y. Ok (s ∷ y.0, y.1))
 row_out k a b r rs s ss low i = rw i refl
 
-row_stops : (k : ℕ) (a : Area) (b : Bounds) (r : Row) (rs : List Row) (s : Spot) (ss : List Spot) (low : ℕ) (f : PlaceFault) → is_in k r ≡ true → row_after k a b r s low ≡ Err f → rows_from k a b (r ∷ rs) (s ∷ ss) low ≡ Err f
+row_stops : (k : ℕ) (a : MemoryArea) (b : Bounds) (r : SegmentRow) (rs : List SegmentRow) (s : RowState) (ss : List RowState) (low : ℕ) (f : PlaceFault) → is_in k r ≡ true → row_after k a b r s low ≡ Err f → rows_from k a b (r ∷ rs) (s ∷ ss) low ≡ Err f
 row_stops k a b r rs s ss low f i e = rw (i, e) refl
 
-behind_cons : (s : Spot) (done : List Spot) (rest : Result (List Spot × ℕ) PlaceFault) → (behind done rest >>= λ y. Ok (s ∷ y.0, y.1)) ≡ behind (s ∷ done) rest
-behind_cons s done x = grind (arith, common_steps)
+after_cons : (s : RowState) (done : List RowState) (rest : Result (List RowState × ℕ) PlaceFault) → (following done rest >>= λ y. Ok (s ∷ y.0, y.1)) ≡ following (s ∷ done) rest
+after_cons s done x = grind (arith, common_steps)
 
-abbrev rows_of : List PlacedRow → List Row
+abbrev rows_of : List PlacedRow → List SegmentRow
 rows_of xs = map (λ (x : PlacedRow). x.0) xs
 
-abbrev places_of : List PlacedRow → List RowPlace
+abbrev places_of : List PlacedRow → List RowPlacement
 places_of xs = map (λ (x : PlacedRow). x.1) xs
 
-module _ (needs : List SegmentNeed) (k : ℕ) (a : Area) (b : Bounds) where
+module _ (needs : List SegmentNeed) (k : ℕ) (a : MemoryArea) (b : Bounds) where
   abbrev StandsIn : ℕ → PlacedRow → Type 0
-  StandsIn low x = Stands k a b x.0 (size_of needs x.0.name) low (address_in k x.0 x.1)
+  StandsIn low x = IsPlacedAt k a b x.0 (size_of needs x.0.name) low (address_in k x.0 x.1)
 
   -- each of these rows that is in the area stands behind the one before it
   abbrev Goes : ℕ → List PlacedRow → Type 0
@@ -221,7 +221,7 @@ module _ (needs : List SegmentNeed) (k : ℕ) (a : Area) (b : Bounds) where
       subst (λ n. StandsIn n x) (ap (λ w. end_from k (next k low w) before) same ∙ sym (end_next k low z before)) (stand_of (next k low y) ys g.1 before after x rest i)
 
   -- a row goes to its b, or stays where it isn't in the area
-  one_passes : (x : PlacedRow) (rs : List Row) (ss : List Spot) (low : ℕ) → IsRow needs x → (is_in k x.0 ≡ true → StandsIn low x) → rows_from k a b (x.0 ∷ rs) (spot needs k x ∷ ss) low ≡ (rows_from k a b rs ss (next k low x) >>= λ y. Ok (spot needs (k + 1) x ∷ y.0, y.1))
+  one_passes : (x : PlacedRow) (rs : List SegmentRow) (ss : List RowState) (low : ℕ) → IsRow needs x → (is_in k x.0 ≡ true → StandsIn low x) → rows_from k a b (x.0 ∷ rs) (spot needs k x ∷ ss) low ≡ (rows_from k a b rs ss (next k low x) >>= λ y. Ok (spot needs (k + 1) x ∷ y.0, y.1))
   one_passes x rs ss low one h = by (is_in k x.0) refl
     where
       by : (t : Bool) → is_in k x.0 ≡ t → rows_from k a b (x.0 ∷ rs) (spot needs k x ∷ ss) low ≡ (rows_from k a b rs ss (if t then end_at k x else low) >>= λ y. Ok (spot needs (k + 1) x ∷ y.0, y.1))
@@ -229,17 +229,17 @@ module _ (needs : List SegmentNeed) (k : ℕ) (a : Area) (b : Bounds) where
       by false i = row_out k a b x.0 rs (spot needs k x) ss low i ∙ ap (λ s. rows_from k a b rs ss low >>= λ y. Ok (s ∷ y.0, y.1)) (other_spot needs k x i)
 
   rows_pass : (xs tail : List PlacedRow) (low : ℕ) → AllByRecursion (IsRow needs) xs → Goes low xs →
-      rows_from k a b (rows_of (xs ++ tail)) (map (spot needs k) (xs ++ tail)) low ≡ behind (map (spot needs (k + 1)) xs) (rows_from k a b (rows_of tail) (map (spot needs k) tail) (end_from k low xs))
+      rows_from k a b (rows_of (xs ++ tail)) (map (spot needs k) (xs ++ tail)) low ≡ following (map (spot needs (k + 1)) xs) (rows_from k a b (rows_of tail) (map (spot needs k) tail) (end_from k low xs))
   rows_pass [] tail low each g = sym (whole_of (rows_from k a b (rows_of tail) (map (spot needs k) tail) low))
   rows_pass (x ∷ xs) tail low each g =
       one_passes x (rows_of (xs ++ tail)) (map (spot needs k) (xs ++ tail)) low each.0 g.0
       ∙ ap (λ q. q >>= λ y. Ok (spot needs (k + 1) x ∷ y.0, y.1)) (rows_pass xs tail (next k low x) each.1 g.1)
-      ∙ behind_cons (spot needs (k + 1) x) (map (spot needs (k + 1)) xs) (rows_from k a b (rows_of tail) (map (spot needs k) tail) (end_from k (next k low x) xs))
-      ∙ ap (λ n. behind (map (spot needs (k + 1)) (x ∷ xs)) (rows_from k a b (rows_of tail) (map (spot needs k) tail) n)) (sym (end_next k low x xs))
+      ∙ after_cons (spot needs (k + 1) x) (map (spot needs (k + 1)) xs) (rows_from k a b (rows_of tail) (map (spot needs k) tail) (end_from k (next k low x) xs))
+      ∙ ap (λ n. following (map (spot needs (k + 1)) (x ∷ xs)) (rows_from k a b (rows_of tail) (map (spot needs k) tail) n)) (sym (end_next k low x xs))
 
 -- ---- What sums are looked up in.
 
-abbrev full : List SegmentNeed → PlacedRow → Spot
+abbrev full : List SegmentNeed → PlacedRow → RowState
 full needs x = record { size = size_of needs x.0.name; run = x.1.run; load = x.1.load }
 
 full_spot : (needs : List SegmentNeed) (k : ℕ) (x : PlacedRow) → Stays k x.0 (full needs x) (spot needs k x)
@@ -254,10 +254,10 @@ full_places needs [] each = refl
 full_places needs (x ∷ xs) each = grind (arith, common_steps, (full_places needs xs each.1), each.0.size)
 
 -- the sums of an area by the spots of rows
-abbrev looked : ℕ → Area → List Area → List Row → List AreaPlace → List Spot → Option ℕ → Standing
+abbrev looked : ℕ → MemoryArea → List MemoryArea → List SegmentRow → List AreaPlacement → List RowState → Option ℕ → SumContextView
 looked k a areas rows placed ss start = record { k = k; own = a; areas = areas; rows = rows; area_places = placed; row_places = map row_place ss; start = start }
 
-sum_agrees : (k : ℕ) (a : Area) (areas : List Area) (rows : List Row) (placed : List AreaPlace) (ss us : List Spot) (start : Option ℕ) (ts : List Term) → Settled k rows ss us → sum_in (looked k a areas rows placed us start) ts ≡ sum_in (looked k a areas rows placed ss start) ts
+sum_agrees : (k : ℕ) (a : MemoryArea) (areas : List MemoryArea) (rows : List SegmentRow) (placed : List AreaPlacement) (ss us : List RowState) (start : Option ℕ) (ts : List Term) → Settled k rows ss us → sum_in (looked k a areas rows placed us start) ts ≡ sum_in (looked k a areas rows placed ss start) ts
 sum_agrees k a areas rows placed ss us start ts settled = by (unknown (looked k a areas rows placed ss start) ts) refl
   where
     known : Term → Bool
@@ -274,33 +274,33 @@ sum_agrees k a areas rows placed ss us start ts settled = by (unknown (looked k 
         ap (λ n. number_or_fault a.name (difference n (come_to (λ (t : Term). t.minus) (term_value places (map row_place us)) ts))) plus
         ∙ ap (λ n. number_or_fault a.name (difference (come_to (λ (t : Term). not t.minus) (term_value places (map row_place ss)) ts) n)) minus
 
-bounds_agree : (k : ℕ) (a : Area) (areas : List Area) (rows : List Row) (placed : List AreaPlace) (ss us : List Spot) → Settled k rows ss us → bounds_in (looked k a areas rows placed us None) ≡ bounds_in (looked k a areas rows placed ss None)
+bounds_agree : (k : ℕ) (a : MemoryArea) (areas : List MemoryArea) (rows : List SegmentRow) (placed : List AreaPlacement) (ss us : List RowState) → Settled k rows ss us → bounds_in (looked k a areas rows placed us None) ≡ bounds_in (looked k a areas rows placed ss None)
 bounds_agree k a areas rows placed ss us settled =
-    ap (λ q. q >>= λ start. sum_in (looked k a areas rows placed us (Some start)) a.size >>= λ size. spanned a.name start size) (sum_agrees k a areas rows placed ss us None a.start settled)
+    ap (λ q. q >>= λ start. sum_in (looked k a areas rows placed us (Some start)) a.size >>= λ size. area_bounds a.name start size) (sum_agrees k a areas rows placed ss us None a.start settled)
     ∙ by (sum_in (looked k a areas rows placed ss None) a.start)
   where
-    by : (q : Result ℕ PlaceFault) → (q >>= λ start. sum_in (looked k a areas rows placed us (Some start)) a.size >>= λ size. spanned a.name start size) ≡ (q >>= λ start. sum_in (looked k a areas rows placed ss (Some start)) a.size >>= λ size. spanned a.name start size)
-    by (Ok n) = ap (λ q. q >>= λ size. spanned a.name n size) (sum_agrees k a areas rows placed ss us (Some n) a.size settled)
+    by : (q : Result ℕ PlaceFault) → (q >>= λ start. sum_in (looked k a areas rows placed us (Some start)) a.size >>= λ size. area_bounds a.name start size) ≡ (q >>= λ start. sum_in (looked k a areas rows placed ss (Some start)) a.size >>= λ size. area_bounds a.name start size)
+    by (Ok n) = ap (λ q. q >>= λ size. area_bounds a.name n size) (sum_agrees k a areas rows placed ss us (Some n) a.size settled)
     by (Err f) = refl
 
 -- ---- The areas, as the cursor places them.
 
-abbrev areas_of : List PlacedArea → List Area
+abbrev areas_of : List PlacedArea → List MemoryArea
 areas_of xs = map (λ (x : PlacedArea). x.0) xs
 
-abbrev ranges_of : List PlacedArea → List AreaPlace
+abbrev ranges_of : List PlacedArea → List AreaPlacement
 ranges_of xs = map (λ (x : PlacedArea). x.1) xs
 
-area_step : (k : ℕ) (all : List Area) (rows : List Row) (a : Area) (rest : List Area) (placed : List AreaPlace) (ss : List Spot) (b : Bounds) (ts : List Spot) (last : ℕ) → bounds_in (looked k a all rows placed ss None) ≡ Ok b → rows_from k a b rows ss b.start ≡ Ok (ts, last) → areas_from k all rows (a ∷ rest) placed ss ≡ areas_from (k + 1) all rows rest (placed ++ area_place b last ∷ []) ts
+area_step : (k : ℕ) (all : List MemoryArea) (rows : List SegmentRow) (a : MemoryArea) (rest : List MemoryArea) (placed : List AreaPlacement) (ss : List RowState) (b : Bounds) (ts : List RowState) (last : ℕ) → bounds_in (looked k a all rows placed ss None) ≡ Ok b → rows_from k a b rows ss b.start ≡ Ok (ts, last) → areas_from k all rows (a ∷ rest) placed ss ≡ areas_from (k + 1) all rows rest (placed ++ area_place b last ∷ []) ts
 area_step k all rows a rest placed ss b ts last e f = rw (e, f) refl
 
-area_stops : (k : ℕ) (all : List Area) (rows : List Row) (a : Area) (rest : List Area) (placed : List AreaPlace) (ss : List Spot) (f : PlaceFault) → bounds_in (looked k a all rows placed ss None) ≡ Err f → areas_from k all rows (a ∷ rest) placed ss ≡ Err f
+area_stops : (k : ℕ) (all : List MemoryArea) (rows : List SegmentRow) (a : MemoryArea) (rest : List MemoryArea) (placed : List AreaPlacement) (ss : List RowState) (f : PlaceFault) → bounds_in (looked k a all rows placed ss None) ≡ Err f → areas_from k all rows (a ∷ rest) placed ss ≡ Err f
 area_stops k all rows a rest placed ss f e = rw e refl
 
-rows_stop : (k : ℕ) (all : List Area) (rows : List Row) (a : Area) (rest : List Area) (placed : List AreaPlace) (ss : List Spot) (b : Bounds) (f : PlaceFault) → bounds_in (looked k a all rows placed ss None) ≡ Ok b → rows_from k a b rows ss b.start ≡ Err f → areas_from k all rows (a ∷ rest) placed ss ≡ Err f
+rows_stop : (k : ℕ) (all : List MemoryArea) (rows : List SegmentRow) (a : MemoryArea) (rest : List MemoryArea) (placed : List AreaPlacement) (ss : List RowState) (b : Bounds) (f : PlaceFault) → bounds_in (looked k a all rows placed ss None) ≡ Ok b → rows_from k a b rows ss b.start ≡ Err f → areas_from k all rows (a ∷ rest) placed ss ≡ Err f
 rows_stop k all rows a rest placed ss b f e g = rw (e, g) refl
 
-range_is : (place : AreaPlace) (last : ℕ) → place.last ≡ last → area_place (bounds_of place) last ≡ place
+range_is : (place : AreaPlacement) (last : ℕ) → place.last ≡ last → area_place (bounds_of place) last ≡ place
 range_is place last e = grind (arith, common_steps)
 
 ranges_more : (before : List PlacedArea) (x : PlacedArea) → ranges_of (before ++ x ∷ []) ≡ ranges_of before ++ x.1 ∷ []
@@ -316,50 +316,50 @@ count_more before x = omega (arith, length-append before (x ∷ []))
 
 module _ (script : Script) (needs : List SegmentNeed) (rows : List PlacedRow) (these : rows_of rows ≡ script.rows) (each : AllByRecursion (IsRow needs) rows) where
   -- sums are looked up by the spots of rows as by where rows stand
-  bounds_there : (before : List PlacedArea) (a : Area) → bounds_in (looked (length before) a script.areas script.rows (ranges_of before) (map (spot needs (length before)) rows) None) ≡ bounds_in (asked script before rows a)
+  bounds_there : (before : List PlacedArea) (a : MemoryArea) → bounds_in (looked (length before) a script.areas script.rows (ranges_of before) (map (spot needs (length before)) rows) None) ≡ bounds_in (sum_context script before rows a)
   bounds_there before a =
       let settled : Settled (length before) script.rows (map (full needs) rows) (map (spot needs (length before)) rows) = subst (λ l. Settled (length before) l (map (full needs) rows) (map (spot needs (length before)) rows)) these (full_settled needs (length before) rows) in
-      let F : List RowPlace → Standing = λ l. record { k = length before; own = a; areas = script.areas; rows = script.rows; area_places = ranges_of before; row_places = l; start = None } in
+      let F : List RowPlacement → SumContextView = λ l. record { k = length before; own = a; areas = script.areas; rows = script.rows; area_places = ranges_of before; row_places = l; start = None } in
       bounds_agree (length before) a script.areas script.rows (ranges_of before) (map (full needs) rows) (map (spot needs (length before)) rows) settled
       ∙ ap (λ l. bounds_in (F l)) (full_places needs rows each)
 
-  rows_there : (k : ℕ) (a : Area) (b : Bounds) → RowsStand needs k a b rows → rows_from k a b script.rows (map (spot needs k) rows) b.start ≡ Ok (map (spot needs (k + 1)) rows, end_of_rows k b rows)
+  rows_there : (k : ℕ) (a : MemoryArea) (b : Bounds) → RowsStand needs k a b rows → rows_from k a b script.rows (map (spot needs k) rows) b.start ≡ Ok (map (spot needs (k + 1)) rows, end_of_rows k b rows)
   rows_there k a b h =
-      let P : List PlacedRow → Type 0 = λ l. rows_from k a b (rows_of l) (map (spot needs k) l) b.start ≡ behind (map (spot needs (k + 1)) rows) (rows_from k a b [] [] (end_of_rows k b rows)) in
+      let P : List PlacedRow → Type 0 = λ l. rows_from k a b (rows_of l) (map (spot needs k) l) b.start ≡ following (map (spot needs (k + 1)) rows) (rows_from k a b [] [] (end_of_rows k b rows)) in
       let passed = subst P (append-nil rows) (rows_pass needs k a b rows [] b.start each (goes_of needs k a b b.start rows h)) in
-      let F : List Spot → Result (List Spot × ℕ) PlaceFault = λ l. Ok (l, end_of_rows k b rows) in
+      let F : List RowState → Result (List RowState × ℕ) PlaceFault = λ l. Ok (l, end_of_rows k b rows) in
       let whole = passed ∙ ap F (append-nil (map (spot needs (k + 1)) rows)) in
       subst (λ l. rows_from k a b l (map (spot needs k) rows) b.start ≡ Ok (map (spot needs (k + 1)) rows, end_of_rows k b rows)) these whole
 
-  abbrev Left : List PlacedArea → List Area → Result Placement PlaceFault
+  abbrev Left : List PlacedArea → List MemoryArea → Result Placement PlaceFault
   Left before tail = areas_from (length before) script.areas script.rows tail (ranges_of before) (map (spot needs (length before)) rows)
 
-  one_area : (before : List PlacedArea) (x : PlacedArea) (tail : List Area) → AreaStands script needs before rows x → Left before (x.0 ∷ tail) ≡ Left (before ++ x ∷ []) tail
+  one_area : (before : List PlacedArea) (x : PlacedArea) (tail : List MemoryArea) → AreaStands script needs before rows x → Left before (x.0 ∷ tail) ≡ Left (before ++ x ∷ []) tail
   one_area before x tail h =
       let k = length before in
       let last = end_of_rows k (bounds_of x.1) rows in
       let step = area_step k script.areas script.rows x.0 tail (ranges_of before) (map (spot needs k) rows) (bounds_of x.1) (map (spot needs (k + 1)) rows) last (bounds_there before x.0 ∙ h.bounds) (rows_there k x.0 (bounds_of x.1) h.rows_stand) in
-      let F : ℕ → List AreaPlace → Result Placement PlaceFault = λ n l. areas_from n script.areas script.rows tail l (map (spot needs n) rows) in
+      let F : ℕ → List AreaPlacement → Result Placement PlaceFault = λ n l. areas_from n script.areas script.rows tail l (map (spot needs n) rows) in
       step
       ∙ ap (λ z. F (k + 1) (ranges_of before ++ z ∷ [])) (range_is x.1 last h.last)
       ∙ ap (λ l. F (k + 1) l) (sym (ranges_more before x))
       ∙ ap (λ n. F n (ranges_of (before ++ x ∷ []))) (sym (count_more before x))
 
-  areas_pass : (after before : List PlacedArea) (tail : List Area) → ((b c : List PlacedArea) (x : PlacedArea) → before ++ after ≡ b ++ x ∷ c → AreaStands script needs b rows x) → Left before (areas_of after ++ tail) ≡ Left (before ++ after) tail
+  areas_pass : (after before : List PlacedArea) (tail : List MemoryArea) → ((b c : List PlacedArea) (x : PlacedArea) → before ++ after ≡ b ++ x ∷ c → AreaStands script needs b rows x) → Left before (areas_of after ++ tail) ≡ Left (before ++ after) tail
   areas_pass [] before tail h = ap (λ l. Left l tail) (sym (append-nil before))
   areas_pass (x ∷ after) before tail h =
       one_area before x (areas_of after ++ tail) (h before after x refl)
       ∙ areas_pass after (before ++ x ∷ []) tail (λ b c y e. h b c y (sym (append_assoc before (x ∷ []) after) ∙ e))
       ∙ ap (λ l. Left l tail) (append_assoc before (x ∷ []) after)
 
-  begin_spots : map (unplaced needs) script.rows ≡ map (spot needs 0) rows
-  begin_spots = subst (λ l. map (unplaced needs) l ≡ map (spot needs 0) rows) these (by rows)
+  begin_spots : map (unplaced_row needs) script.rows ≡ map (spot needs 0) rows
+  begin_spots = subst (λ l. map (unplaced_row needs) l ≡ map (spot needs 0) rows) these (by rows)
     where
-      by : (xs : List PlacedRow) → map (unplaced needs) (rows_of xs) ≡ map (spot needs 0) xs
+      by : (xs : List PlacedRow) → map (unplaced_row needs) (rows_of xs) ≡ map (spot needs 0) xs
       by [] = refl
       by (x ∷ xs) = grind (arith, common_steps, nat_tests, (by xs))
 
-  from_begin : (areas : List PlacedArea) (tail : List Area) → ((b c : List PlacedArea) (x : PlacedArea) → areas ≡ b ++ x ∷ c → AreaStands script needs b rows x) → areas_of areas ++ tail ≡ script.areas → areas_from 0 script.areas script.rows script.areas [] (map (unplaced needs) script.rows) ≡ Left areas tail
+  from_begin : (areas : List PlacedArea) (tail : List MemoryArea) → ((b c : List PlacedArea) (x : PlacedArea) → areas ≡ b ++ x ∷ c → AreaStands script needs b rows x) → areas_of areas ++ tail ≡ script.areas → areas_from 0 script.areas script.rows script.areas [] (map (unplaced_row needs) script.rows) ≡ Left areas tail
   from_begin areas tail h all =
       ap (λ ss. areas_from 0 script.areas script.rows script.areas [] ss) begin_spots
       ∙ subst (λ l. areas_from 0 script.areas script.rows l [] (map (spot needs 0) rows) ≡ Left areas tail) all (areas_pass areas [] tail h)
@@ -374,14 +374,14 @@ one_lacks : (script : Script) (before after : List SegmentNeed) (n : SegmentNeed
 one_lacks script [] after n h no_row = rw no_row refl
 one_lacks script (m ∷ before) after n h no_row = rw h.0 (one_lacks script before after n h.1 no_row)
 
-from_needs : (script : Script) (needs : List SegmentNeed) → HaveRows script needs → place_of script needs ≡ areas_from 0 script.areas script.rows script.areas [] (map (unplaced needs) script.rows)
-from_needs script needs h = ap (λ q. q >>= λ u. areas_from 0 script.areas script.rows script.areas [] (map (unplaced needs) script.rows)) (all_have script needs h)
+from_needs : (script : Script) (needs : List SegmentNeed) → HaveRows script needs → place_of script needs ≡ areas_from 0 script.areas script.rows script.areas [] (map (unplaced_row needs) script.rows)
+from_needs script needs h = ap (λ q. q >>= λ u. areas_from 0 script.areas script.rows script.areas [] (map (unplaced_row needs) script.rows)) (all_have script needs h)
 
 -- ---- What stands so is what the cursor places.
 
 shown : (needs : List SegmentNeed) (n : ℕ) (xs : List PlacedRow) → AllByRecursion (IsRow needs) xs → AllByRecursion (IsElsewhere n) xs → map row_place (map (spot needs n) xs) ≡ places_of xs
 shown needs n [] each other = refl
-shown needs n (x ∷ xs) each other = let o = other.0 in let e = each.0.size in let one : row_place (spot needs n x) ≡ x.1 = grind (arith, common_steps, nat_tests) in ap (λ (p : RowPlace). p ∷ map row_place (map (spot needs n) xs)) one ∙ ap (λ l. x.1 ∷ l) (shown needs n xs each.1 other.1)
+shown needs n (x ∷ xs) each other = let o = other.0 in let e = each.0.size in let one : row_place (spot needs n x) ≡ x.1 = grind (arith, common_steps, nat_tests) in ap (λ (p : RowPlacement). p ∷ map row_place (map (spot needs n) xs)) one ∙ ap (λ l. x.1 ∷ l) (shown needs n xs each.1 other.1)
 
 areas_counted : (xs : List PlacedArea) → length (areas_of xs) ≡ length xs
 areas_counted [] = refl
@@ -392,7 +392,7 @@ is_placement script needs p h =
     let s = h.stand in
     let n = length h.areas in
     let count : length script.areas ≡ n = sym (ap length h.all) ∙ areas_counted h.areas in
-    let F : List AreaPlace → List RowPlace → Result Placement PlaceFault = λ ps rs. Ok (record { areas = ps; rows = rs }) in
+    let F : List AreaPlacement → List RowPlacement → Result Placement PlaceFault = λ ps rs. Ok (record { areas = ps; rows = rs }) in
     let other : AllByRecursion (IsElsewhere n) h.rows = subst (λ m. AllByRecursion (IsElsewhere m) h.rows) count h.elsewhere in
     ap (λ ps. F ps p.rows) h.area_places
     ∙ ap (λ rs. F (ranges_of h.areas) rs) (h.row_places ∙ sym (shown needs n h.rows s.each other))
@@ -403,18 +403,18 @@ all_front : (needs : List SegmentNeed) (xs ys : List PlacedRow) → AllByRecursi
 all_front needs [] ys h = tt
 all_front needs (x ∷ xs) ys h = (h.0, all_front needs xs ys h.1)
 
-rows_fail : (needs : List SegmentNeed) (k : ℕ) (a : Area) (b : Bounds) (rows : List PlacedRow) (f : PlaceFault) → AllByRecursion (IsRow needs) rows → IsRowFault needs k a b rows f → rows_from k a b (rows_of rows) (map (spot needs k) rows) b.start ≡ Err f
+rows_fail : (needs : List SegmentNeed) (k : ℕ) (a : MemoryArea) (b : Bounds) (rows : List PlacedRow) (f : PlaceFault) → AllByRecursion (IsRow needs) rows → IsRowFault needs k a b rows f → rows_from k a b (rows_of rows) (map (spot needs k) rows) b.start ≡ Err f
 rows_fail needs k a b rows f each h =
     let P : List PlacedRow → Type 0 = λ l. rows_from k a b (rows_of l) (map (spot needs k) l) b.start ≡ Err f in
     let before_each = all_front needs h.before (h.row ∷ h.after) (subst (AllByRecursion (IsRow needs)) h.split each) in
     let end = end_of_rows k b h.before in
     let stopped = row_stops k a b h.row.0 (rows_of h.after) (spot needs k h.row) (map (spot needs k) h.after) end f h.inside (row_fails needs k a b h.row.0 (spot needs k h.row) end f h.fault) in
-    subst P (sym h.split) (rows_pass needs k a b h.before (h.row ∷ h.after) b.start before_each (goes_of needs k a b b.start h.before h.stand) ∙ ap (behind (map (spot needs (k + 1)) h.before)) stopped)
+    subst P (sym h.split) (rows_pass needs k a b h.before (h.row ∷ h.after) b.start before_each (goes_of needs k a b b.start h.before h.stand) ∙ ap (following (map (spot needs (k + 1)) h.before)) stopped)
 
 is_fault : (script : Script) (needs : List SegmentNeed) (f : PlaceFault) → FirstFault script needs f → Err f ≡ place_of script needs
 is_fault script needs _ (of_need before after n e have no_row) =
     let stopped = subst (λ l. rows_exist script.rows l ≡ Err (NoRow n.name)) (sym e) (one_lacks script before after n have no_row) in
-    sym (ap (λ q. q >>= λ u. areas_from 0 script.areas script.rows script.areas [] (map (unplaced needs) script.rows)) stopped)
+    sym (ap (λ q. q >>= λ u. areas_from 0 script.areas script.rows script.areas [] (map (unplaced_row needs) script.rows)) stopped)
 is_fault script needs _ (of_area areas rows a f h e) =
     let s = h.stand in
     let k = length areas in
@@ -429,7 +429,7 @@ is_fault script needs _ (of_row areas rows a b f h e g) =
 
 -- ---- A row has its place, or a fault.
 
-may_or : (k : ℕ) (a : Area) (r : Row) → MayRun k a r ⊎ ((a.read_only ≡ true) × (r.run ≡ k) × (is_read_only r.access ≡ false))
+may_or : (k : ℕ) (a : MemoryArea) (r : SegmentRow) → MayRun k a r ⊎ ((a.read_only ≡ true) × (r.run ≡ k) × (is_read_only r.access ≡ false))
 may_or k a r = by a.read_only (is_read_only r.access) refl refl (same_or r.run k)
   where
     by : (x y : Bool) → a.read_only ≡ x → is_read_only r.access ≡ y → (r.run ≡ k) ⊎ (r.run ≢ k) → MayRun k a r ⊎ ((a.read_only ≡ true) × (r.run ≡ k) × (is_read_only r.access ≡ false))
@@ -438,10 +438,10 @@ may_or k a r = by a.read_only (is_read_only r.access) refl refl (same_or r.run k
     by true false ro e (inl same) = inr (ro, same, e)
     by true false ro e (inr other) = inl (λ t same. absurd (other same))
 
-abbrev RowComes : ℕ → Area → Bounds → Row → Option ℕ → ℕ → Type 0
-RowComes k a b r o low = ((at : ℕ) × Stands k a b r o low at × (at + unwrap_or o 0 ≤ b.end)) ⊎ ((f : PlaceFault) × RowFault k a b r o low f)
+abbrev RowComes : ℕ → MemoryArea → Bounds → SegmentRow → Option ℕ → ℕ → Type 0
+RowComes k a b r o low = ((at : ℕ) × IsPlacedAt k a b r o low at × (at + unwrap_or o 0 ≤ b.end)) ⊎ ((f : PlaceFault) × RowFault k a b r o low f)
 
-sized_comes : (k : ℕ) (a : Area) (b : Bounds) (r : Row) (o : Option ℕ) (low : ℕ) → low ≤ b.end → MayRun k a r → RowComes k a b r o low
+sized_comes : (k : ℕ) (a : MemoryArea) (b : Bounds) (r : SegmentRow) (o : Option ℕ) (low : ℕ) → low ≤ b.end → MayRun k a r → RowComes k a b r o low
 sized_comes k a b r None low room may = inl (low, record { may_run = may; stands = refl }, omega arith)
 sized_comes k a b r (Some n) low room may = by (lt_or at low) (lt_or b.end (at + n))
   where
@@ -454,9 +454,9 @@ sized_comes k a b r (Some n) low room may = by (lt_or at low) (lt_or b.end (at +
     by : (at < low) ⊎ (low ≤ at) → (b.end < at + n) ⊎ (at + n ≤ b.end) → RowComes k a b r (Some n) low
     by (inl lt) y = inr (StartBelow r.name, below n at may refl begins lt)
     by (inr le) (inl past) = inr (Overflow a.name (at + n - b.end), over n at (at + n - b.end) may refl begins le (omega arith) (omega arith))
-    by (inr le) (inr fits) = inl (at, record { may_run = may; stands = record { begins = begins; behind = le; within = fits } }, fits)
+    by (inr le) (inr fits) = inl (at, record { may_run = may; stands = record { begins = begins; following = le; within = fits } }, fits)
 
-row_comes : (k : ℕ) (a : Area) (b : Bounds) (r : Row) (o : Option ℕ) (low : ℕ) → low ≤ b.end → RowComes k a b r o low
+row_comes : (k : ℕ) (a : MemoryArea) (b : Bounds) (r : SegmentRow) (o : Option ℕ) (low : ℕ) → low ≤ b.end → RowComes k a b r o low
 row_comes k a b r o low room = by (may_or k a r)
   where
     by : MayRun k a r ⊎ ((a.read_only ≡ true) × (r.run ≡ k) × (is_read_only r.access ≡ false)) → RowComes k a b r o low
@@ -521,13 +521,13 @@ ends_fresh j k low [] (y ∷ ys) apart f = absurd f
 ends_fresh j k low (x ∷ xs) [] apart f = absurd f
 ends_fresh j k low (x ∷ xs) (y ∷ ys) apart f = end_next j low y ys ∙ ap (λ n. end_from j n ys) (next_fresh j k low x y apart f.0) ∙ ends_fresh j k (next j low x) xs ys apart f.1 ∙ sym (end_next j low x xs)
 
-goes_fresh : (needs : List SegmentNeed) (j k : ℕ) (a : Area) (b : Bounds) (low : ℕ) (xs ys : List PlacedRow) → j ≢ k → AllFresh k xs ys → Goes needs j a b low xs → Goes needs j a b low ys
+goes_fresh : (needs : List SegmentNeed) (j k : ℕ) (a : MemoryArea) (b : Bounds) (low : ℕ) (xs ys : List PlacedRow) → j ≢ k → AllFresh k xs ys → Goes needs j a b low xs → Goes needs j a b low ys
 goes_fresh needs j k a b low [] [] apart f g = tt
 goes_fresh needs j k a b low [] (y ∷ ys) apart f g = absurd f
 goes_fresh needs j k a b low (x ∷ xs) [] apart f g = absurd f
 goes_fresh needs j k a b low (x ∷ xs) (y ∷ ys) apart f g =
-    let P : Row → Type 0 = λ r. is_in j r ≡ true → Stands j a b r (size_of needs r.name) low (address_in j r y.1) in
-    let Q : ℕ → Type 0 = λ n. Stands j a b x.0 (size_of needs x.0.name) low n in
+    let P : SegmentRow → Type 0 = λ r. is_in j r ≡ true → IsPlacedAt j a b r (size_of needs r.name) low (address_in j r y.1) in
+    let Q : ℕ → Type 0 = λ n. IsPlacedAt j a b x.0 (size_of needs x.0.name) low n in
     let here : P x.0 = λ i. subst Q (sym (address_fresh j k x y apart f.0 i)) (g.0 i) in
     (subst P (sym f.0.row) here, subst (λ n. Goes needs j a b n ys) (sym (next_fresh j k low x y apart f.0)) (goes_fresh needs j k a b (next j low x) xs ys apart f.1 g.1))
 
@@ -538,7 +538,7 @@ each_fresh needs k (x ∷ xs) [] f h = absurd f
 each_fresh needs k (x ∷ xs) (y ∷ ys) f h =
     let one = f.0 in
     let old = h.0 in (
-      record { size = one.size ∙ old.size ∙ ap (λ (r : Row). unwrap_or (size_of needs r.name) 0) (sym one.row); one = λ e. let same : x.0.run ≡ x.0.load = ap (λ (r : Row). r.run) (sym one.row) ∙ e ∙ ap (λ (r : Row). r.load) one.row in one.one same (old.one same) },
+      record { size = one.size ∙ old.size ∙ ap (λ (r : SegmentRow). unwrap_or (size_of needs r.name) 0) (sym one.row); one = λ e. let same : x.0.run ≡ x.0.load = ap (λ (r : SegmentRow). r.run) (sym one.row) ∙ e ∙ ap (λ (r : SegmentRow). r.load) one.row in one.one same (old.one same) },
       each_fresh needs k xs ys f.1 h.1,
     )
 
@@ -549,8 +549,8 @@ elsewhere_fresh n k (x ∷ xs) [] lt f h = absurd f
 elsewhere_fresh n k (x ∷ xs) (y ∷ ys) lt f h =
     let one = f.0 in
     let old = h.0 in
-    let run : y.0.run ≡ x.0.run = ap (λ (r : Row). r.run) one.row in
-    let load : y.0.load ≡ x.0.load = ap (λ (r : Row). r.load) one.row in (
+    let run : y.0.run ≡ x.0.run = ap (λ (r : SegmentRow). r.run) one.row in
+    let load : y.0.load ≡ x.0.load = ap (λ (r : SegmentRow). r.load) one.row in (
       record { run = λ le. one.run (λ e. absurd (omega arith)) ∙ old.run (omega arith); load = λ le. one.load (λ e. absurd (omega arith)) ∙ old.load (omega arith) },
       elsewhere_fresh n k xs ys lt f.1 h.1,
     )
@@ -559,7 +559,7 @@ rows_fresh : (k : ℕ) (xs ys : List PlacedRow) → AllFresh k xs ys → rows_of
 rows_fresh k [] [] f = refl
 rows_fresh k [] (y ∷ ys) f = absurd f
 rows_fresh k (x ∷ xs) [] f = absurd f
-rows_fresh k (x ∷ xs) (y ∷ ys) f = ap (λ (r : Row). r ∷ rows_of ys) f.0.row ∙ ap (λ l. x.0 ∷ l) (rows_fresh k xs ys f.1)
+rows_fresh k (x ∷ xs) (y ∷ ys) f = ap (λ (r : SegmentRow). r ∷ rows_of ys) f.0.row ∙ ap (λ l. x.0 ∷ l) (rows_fresh k xs ys f.1)
 
 settled_fresh : (needs : List SegmentNeed) (j k : ℕ) (xs ys : List PlacedRow) → j ≤ k → AllFresh k xs ys → Settled j (rows_of xs) (map (full needs) xs) (map (full needs) ys)
 settled_fresh needs j k [] [] le f = tt
@@ -567,13 +567,13 @@ settled_fresh needs j k [] (y ∷ ys) le f = absurd f
 settled_fresh needs j k (x ∷ xs) [] le f = absurd f
 settled_fresh needs j k (x ∷ xs) (y ∷ ys) le f =
     let one = f.0 in (
-      record { size = ap (λ (r : Row). size_of needs r.name) one.row; run = λ lt. one.run (λ e. absurd (omega arith)); load = λ lt. one.load (λ e. absurd (omega arith)) },
+      record { size = ap (λ (r : SegmentRow). size_of needs r.name) one.row; run = λ lt. one.run (λ e. absurd (omega arith)); load = λ lt. one.load (λ e. absurd (omega arith)) },
       settled_fresh needs j k xs ys le f.1,
     )
 
 -- ---- The rows of an area have their places, or one has the first fault.
 
-record FaultFrom (needs : List SegmentNeed) (k : ℕ) (a : Area) (b : Bounds) (low : ℕ) (rows : List PlacedRow) : Type 0 where
+record FaultFrom (needs : List SegmentNeed) (k : ℕ) (a : MemoryArea) (b : Bounds) (low : ℕ) (rows : List PlacedRow) : Type 0 where
   pub f : PlaceFault
   pub before : List PlacedRow
   pub row : PlacedRow
@@ -583,12 +583,12 @@ record FaultFrom (needs : List SegmentNeed) (k : ℕ) (a : Area) (b : Bounds) (l
   pub goes : Goes needs k a b low before
   pub fault : RowFault k a b row.0 (size_of needs row.0.name) (end_from k low before) f
 
-record RowsCome (needs : List SegmentNeed) (k : ℕ) (a : Area) (b : Bounds) (low : ℕ) (xs : List PlacedRow) : Type 0 where
+record RowsCome (needs : List SegmentNeed) (k : ℕ) (a : MemoryArea) (b : Bounds) (low : ℕ) (xs : List PlacedRow) : Type 0 where
   pub rows : List PlacedRow
   pub fresh : AllFresh k xs rows
   pub so : Goes needs k a b low rows ⊎ FaultFrom needs k a b low rows
 
-module _ (needs : List SegmentNeed) (k : ℕ) (a : Area) (b : Bounds) where
+module _ (needs : List SegmentNeed) (k : ℕ) (a : MemoryArea) (b : Bounds) where
   one_more : (x y : PlacedRow) (xs : List PlacedRow) (low m : ℕ) → Fresh k x y → next k low y ≡ m → (is_in k y.0 ≡ true → StandsIn needs k a b low y) → RowsCome needs k a b m xs → RowsCome needs k a b low (x ∷ xs)
   one_more x y xs low m f e h more = record { rows = y ∷ more.rows; fresh = (f, more.fresh); so = by more.so }
     where
@@ -622,7 +622,7 @@ module _ (needs : List SegmentNeed) (k : ℕ) (a : Area) (b : Bounds) where
               let high : at + unwrap_or (size_of needs x.0.name) 0 ≤ b.end = h.2 in
               let ends : next k low y ≡ at + x.1.size = rw i (ap (λ n. n + x.1.size) there) in
               let fits : at + x.1.size ≤ b.end = omega arith in
-              one_more x y xs low (at + x.1.size) (fresh_at k x at) ends (λ j. subst (λ n. Stands k a b x.0 (size_of needs x.0.name) low n) (sym there) h.1) (again (at + x.1.size) fits)
+              one_more x y xs low (at + x.1.size) (fresh_at k x at) ends (λ j. subst (λ n. IsPlacedAt k a b x.0 (size_of needs x.0.name) low n) (sym there) h.1) (again (at + x.1.size) fits)
           placed (inr h) = record {
             rows = x ∷ xs;
             fresh = all_same k (x ∷ xs);
@@ -646,11 +646,11 @@ split_last (z ∷ areas) (w ∷ before) after x y e =
     by same (inr h) = inr (h.0, ap (λ v. v ∷ areas) same ∙ ap (λ l. w ∷ l) h.1)
 
 module _ (script : Script) (needs : List SegmentNeed) (k : ℕ) (xs ys : List PlacedRow) (fresh : AllFresh k xs ys) (these : rows_of xs ≡ script.rows) (each : AllByRecursion (IsRow needs) xs) where
-  bounds_fresh : (before : List PlacedArea) (a : Area) → length before ≤ k → bounds_in (asked script before ys a) ≡ bounds_in (asked script before xs a)
+  bounds_fresh : (before : List PlacedArea) (a : MemoryArea) → length before ≤ k → bounds_in (sum_context script before ys a) ≡ bounds_in (sum_context script before xs a)
   bounds_fresh before a le =
       let j = length before in
       let settled : Settled j script.rows (map (full needs) xs) (map (full needs) ys) = subst (λ l. Settled j l (map (full needs) xs) (map (full needs) ys)) these (settled_fresh needs j k xs ys le fresh) in
-      let F : List RowPlace → Standing = λ l. record { k = j; own = a; areas = script.areas; rows = script.rows; area_places = ranges_of before; row_places = l; start = None } in
+      let F : List RowPlacement → SumContextView = λ l. record { k = j; own = a; areas = script.areas; rows = script.rows; area_places = ranges_of before; row_places = l; start = None } in
       ap (λ l. bounds_in (F l)) (sym (full_places needs ys (each_fresh needs k xs ys fresh each)))
       ∙ bounds_agree j a script.areas script.rows (ranges_of before) (map (full needs) xs) (map (full needs) ys) settled
       ∙ ap (λ l. bounds_in (F l)) (full_places needs xs each)
@@ -684,7 +684,7 @@ stand_more script needs areas rows x h one = record { these = h.these; each = h.
     by before y (inr s) = h.areas_stand before s.0 y s.1
 
 abbrev Comes : Script → List SegmentNeed → Type 0
-Comes script needs = (r : Result Placement PlaceFault) × IsPlaced script needs r
+Comes script needs = (r : Result Placement PlaceFault) × PlacementResult script needs r
 
 module _ (script : Script) (needs : List SegmentNeed) (have : HaveRows script needs) where
   ended : (areas : List PlacedArea) (rows : List PlacedRow) → AreasStand script needs areas rows → areas_of areas ≡ script.areas → AllByRecursion (IsElsewhere (length script.areas)) rows → Comes script needs
@@ -702,7 +702,7 @@ module _ (script : Script) (needs : List SegmentNeed) (have : HaveRows script ne
     },
   )
 
-  row_faults : (areas : List PlacedArea) (rows : List PlacedRow) (a : Area) (rest : List Area) (b : Bounds) → AreasStand script needs areas rows → areas_of areas ++ a ∷ rest ≡ script.areas → bounds_in (asked script areas rows a) ≡ Ok b → FaultFrom needs (length areas) a b b.start rows → Comes script needs
+  row_faults : (areas : List PlacedArea) (rows : List PlacedRow) (a : MemoryArea) (rest : List MemoryArea) (b : Bounds) → AreasStand script needs areas rows → areas_of areas ++ a ∷ rest ≡ script.areas → bounds_in (sum_context script areas rows a) ≡ Ok b → FaultFrom needs (length areas) a b b.start rows → Comes script needs
   row_faults areas rows a rest b h all e g = (
     Err g.f,
     of_row areas rows a b g.f (record { have_rows = have; stand = h; rest = rest; next = all }) e (record {
@@ -716,24 +716,24 @@ module _ (script : Script) (needs : List SegmentNeed) (have : HaveRows script ne
     }),
   )
 
-  areas_come : (rest : List Area) (areas : List PlacedArea) (rows : List PlacedRow) → AreasStand script needs areas rows → areas_of areas ++ rest ≡ script.areas → AllByRecursion (IsElsewhere (length script.areas)) rows → Comes script needs
+  areas_come : (rest : List MemoryArea) (areas : List PlacedArea) (rows : List PlacedRow) → AreasStand script needs areas rows → areas_of areas ++ rest ≡ script.areas → AllByRecursion (IsElsewhere (length script.areas)) rows → Comes script needs
   areas_come [] areas rows h all other = ended areas rows h (sym (append-nil (areas_of areas)) ∙ all) other
-  areas_come (a ∷ rest) areas rows h all other = by (bounds_in (asked script areas rows a)) refl (λ more rs. areas_come rest more rs)
+  areas_come (a ∷ rest) areas rows h all other = by (bounds_in (sum_context script areas rows a)) refl (λ more rs. areas_come rest more rs)
     where
-      by : (q : Result Bounds PlaceFault) → bounds_in (asked script areas rows a) ≡ q → ((more : List PlacedArea) (rs : List PlacedRow) → AreasStand script needs more rs → areas_of more ++ rest ≡ script.areas → AllByRecursion (IsElsewhere (length script.areas)) rs → Comes script needs) → Comes script needs
+      by : (q : Result Bounds PlaceFault) → bounds_in (sum_context script areas rows a) ≡ q → ((more : List PlacedArea) (rs : List PlacedRow) → AreasStand script needs more rs → areas_of more ++ rest ≡ script.areas → AllByRecursion (IsElsewhere (length script.areas)) rs → Comes script needs) → Comes script needs
       by (Err f) e again = (Err f, of_area areas rows a f (record { have_rows = have; stand = h; rest = rest; next = all }) e)
       by (Ok b) e again =
           let k = length areas in
-          let order : b.start ≤ b.end = bounds_order (asked script areas rows a) b e in
+          let order : b.start ≤ b.end = bounds_order (sum_context script areas rows a) b e in
           let come = rows_come needs k a b rows b.start order h.each in
           let less : k < length script.areas = omega (arith, areas_counted areas, length-append (areas_of areas) (a ∷ rest), ap length all) in
           placed come.rows (stand_fresh script needs areas rows come.rows come.fresh h) (bounds_fresh script needs k rows come.rows come.fresh h.these h.each areas a (omega arith) ∙ e) (elsewhere_fresh (length script.areas) k rows come.rows less come.fresh other) order come.so
         where
-          placed : (ys : List PlacedRow) → AreasStand script needs areas ys → bounds_in (asked script areas ys a) ≡ Ok b → AllByRecursion (IsElsewhere (length script.areas)) ys → b.start ≤ b.end → Goes needs (length areas) a b b.start ys ⊎ FaultFrom needs (length areas) a b b.start ys → Comes script needs
+          placed : (ys : List PlacedRow) → AreasStand script needs areas ys → bounds_in (sum_context script areas ys a) ≡ Ok b → AllByRecursion (IsElsewhere (length script.areas)) ys → b.start ≤ b.end → Goes needs (length areas) a b b.start ys ⊎ FaultFrom needs (length areas) a b b.start ys → Comes script needs
           placed ys stand bounds away order (inr g) = row_faults areas ys a rest b stand all bounds g
           placed ys stand bounds away order (inl g) =
               let k = length areas in
-              let place : AreaPlace = area_place b (end_of_rows k b ys) in
+              let place : AreaPlacement = area_place b (end_of_rows k b ys) in
               let x : PlacedArea = (a, place) in
               let same : b ≡ bounds_of place = (let up : b.end ≡ b.start + (b.end - b.start) = omega arith in let F : ℕ → Bounds = λ n. record { start = b.start; end = n } in ap F up) in
               let one : AreaStands script needs areas ys x = record {
@@ -745,18 +745,18 @@ module _ (script : Script) (needs : List SegmentNeed) (have : HaveRows script ne
               again (areas ++ x ∷ []) ys (stand_more script needs areas ys x stand one) whole away
 
 -- rows before any is placed
-abbrev unmoved : List SegmentNeed → Row → PlacedRow
+abbrev unmoved : List SegmentNeed → SegmentRow → PlacedRow
 unmoved needs r = (r, record { load = 0; run = 0; size = unwrap_or (size_of needs r.name) 0 })
 
-unmoved_rows : (needs : List SegmentNeed) (rs : List Row) → rows_of (map (unmoved needs) rs) ≡ rs
+unmoved_rows : (needs : List SegmentNeed) (rs : List SegmentRow) → rows_of (map (unmoved needs) rs) ≡ rs
 unmoved_rows needs [] = refl
 unmoved_rows needs (r ∷ rs) = ap (λ l. r ∷ l) (unmoved_rows needs rs)
 
-unmoved_each : (needs : List SegmentNeed) (rs : List Row) → AllByRecursion (IsRow needs) (map (unmoved needs) rs)
+unmoved_each : (needs : List SegmentNeed) (rs : List SegmentRow) → AllByRecursion (IsRow needs) (map (unmoved needs) rs)
 unmoved_each needs [] = tt
 unmoved_each needs (r ∷ rs) = (record { size = refl; one = λ e. refl }, unmoved_each needs rs)
 
-unmoved_away : (needs : List SegmentNeed) (n : ℕ) (rs : List Row) → AllByRecursion (IsElsewhere n) (map (unmoved needs) rs)
+unmoved_away : (needs : List SegmentNeed) (n : ℕ) (rs : List SegmentRow) → AllByRecursion (IsElsewhere n) (map (unmoved needs) rs)
 unmoved_away needs n [] = tt
 unmoved_away needs n (r ∷ rs) = (record { run = λ le. refl; load = λ le. refl }, unmoved_away needs n rs)
 
@@ -793,21 +793,21 @@ comes script needs = by (have_or script needs)
     }) refl (unmoved_away needs (length script.areas) script.rows)
     by (inr g) = (Err (NoRow g.need.name), of_need g.before g.after g.need g.split g.have g.none)
 
-is_one : (script : Script) (needs : List SegmentNeed) (r : Result Placement PlaceFault) → IsPlaced script needs r → r ≡ place_of script needs
+is_one : (script : Script) (needs : List SegmentNeed) (r : Result Placement PlaceFault) → PlacementResult script needs r → r ≡ place_of script needs
 is_one script needs (Ok p) h = is_placement script needs p h
 is_one script needs (Err f) h = is_fault script needs f h
 
 -- what the cursor places stands so, and nothing else does
-pub one_placement : OnePlacement
+pub one_placement : PlacementIsUnique
 one_placement script needs =
     let c = comes script needs in
-    (subst (IsPlaced script needs) (is_one script needs c.0 c.1) c.1, λ r h. is_one script needs r h)
+    (subst (PlacementResult script needs) (is_one script needs c.0 c.1) c.1, λ r h. is_one script needs r h)
 
 -- a placement that the function of a cursor gives
-pub placed_so : (script : Script) (needs : List SegmentNeed) (r : Result Placement PlaceFault) → Gives is_place_outside (λ p. p) r (place_of script needs) → Finds is_place_outside (IsPlaced script needs) r
-placed_so script needs (Ok p) h = subst (IsPlaced script needs) h (one_placement script needs).0
-placed_so script needs (Err f) h = by (is_place_outside f) h
+pub placed_so : (script : Script) (needs : List SegmentNeed) (r : Result Placement PlaceFault) → Refines is_place_system_error (λ p. p) r (place_of script needs) → RefinesProp is_place_system_error (PlacementResult script needs) r
+placed_so script needs (Ok p) h = subst (PlacementResult script needs) h (one_placement script needs).0
+placed_so script needs (Err f) h = by (is_place_system_error f) h
   where
-    by : (t : Bool) → Unless t (place_of script needs ≡ Err f) → Unless t (IsPlaced script needs (Err f))
+    by : (t : Bool) → Unless t (place_of script needs ≡ Err f) → Unless t (PlacementResult script needs (Err f))
     by true e = tt
-    by false e = subst (IsPlaced script needs) e (one_placement script needs).0
+    by false e = subst (PlacementResult script needs) e (one_placement script needs).0

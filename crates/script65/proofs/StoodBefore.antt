@@ -4,14 +4,14 @@ use Rattle.std.specs.Prelude.{IfErr, if◌then◌else◌, nat_le, ◌&&◌, ⊤}
 use Rattle.std.specs.Option.{option_map_or}
 use Rattle.script65.specs.declared.fault.Fault.{Fault}
 use Rattle.script65.specs.declared.fault.Fault.TheVariants.{AttributeTwice, NameTwice, OutOfRange, SyntaxError}
-use Rattle.script65.specs.declared.fault.Stop.{Stop}
-use Rattle.script65.specs.Attributes.{Block, Meaning, Takes, Value, a_byte, a_file, a_sum, an_area, attributes, blocks, meanings, number_from, one_of, row_of, said}
-use Rattle.script65.specs.Breaks.{Breaks, Move, Place, here, later, on, done, stop, moves, between_blocks, behind_block_word, between_entries, behind_name, between_attributes, behind_word, before_value, before_term, behind_term, behind_value}
-use Rattle.script65.specs.Breaks as breaks
-use Rattle.script65.specs.Entries.{Entries, Entry, Given, Part, a_part, as_value, as_word, closing_fault, has_name, in_range, is_given, no_entries, opened, part_of, sum_of_parts, value_of, with_entry, with_given}
+use Rattle.script65.specs.declared.fault.FaultAt.{FaultAt}
+use Rattle.script65.specs.Attributes.{Block, KeywordValue, ValueKind, Value, a_byte, a_file, a_sum, an_area, attributes, blocks, keywords, number_from, one_of, find_keyword, value_of_word}
+use Rattle.script65.specs.SyntaxErrors.{SyntaxErrorAt, Move, ParseState, here, later, on, done, stop, moves, between_blocks, after_block_word, between_entries, after_name, between_attributes, after_word, before_value, before_term, after_term, after_value}
+use Rattle.script65.specs.SyntaxErrors as breaks
+use Rattle.script65.specs.Entries.{Entries, ConfigEntry, AttributeValue, ParsedTerm, a_part, as_value, as_word, entry_fault, has_name, in_range, is_given, no_entries, new_entry, part_of, sum_of_parts, value_of, with_entry, with_given}
 use Rattle.script65.specs.Faults.{stop_at}
 use Rattle.script65.specs.FirstFaults.{HasFault, InAttribute, InBlock, InEntry, InSum, attribute_twice, first_term, is_sign, name_twice, next_term, unknown_attribute, wrong_end, wrong_number, wrong_sum, wrong_term}
-use Rattle.script65.specs.Grammar.{AreAttributes, AreBlocks, AreEntries, AreTerms, IsAttribute, IsBlock, IsEntry, IsTerm, IsValue, Perhaps, Stands, attribute, block, entry, more, no_attribute, no_block, no_entry, one, sign}
+use Rattle.script65.specs.Grammar.{AreAttributes, AreBlocks, AreEntries, AreTerms, IsAttribute, IsBlock, IsEntry, IsTerm, IsValue, IsOptionalToken, TokenAt, attribute, block, entry, more, no_attribute, no_block, no_entry, one, sign}
 use Rattle.script65.specs.Tokens.{Lexeme, brace, colon, comma, end_brace, equals, minus, numeral, output, plus, semicolon, string, the_end, token, word}
 
 -- ---- Faults of a token that isn't what an attribute or a sum takes.
@@ -31,14 +31,14 @@ made_faults : (made : ℕ → Value) (r : Result ℕ Fault) → IfErr r IsOfValu
 made_faults made (Ok n) h = tt
 made_faults made (Err f) h = h
 
-word_faults : (o : Option Meaning) → IfErr (as_word o) IsOfValue
+word_faults : (o : Option KeywordValue) → IfErr (as_word o) IsOfValue
 word_faults (Some v) = tt
 word_faults None = inl refl
 
-value_faults : (takes : Takes) (l : Lexeme) → IfErr (value_of takes l) IsOfValue
+value_faults : (takes : ValueKind) (l : Lexeme) → IfErr (value_of takes l) IsOfValue
 value_faults (number_from low high) (numeral n) = made_faults _ (in_range low high n) (range_faults low high n)
 value_faults a_byte (numeral n) = made_faults _ (in_range 0 0xff n) (range_faults 0 0xff n)
-value_faults (one_of words) (word w) = word_faults (said w (meanings words))
+value_faults (one_of words) (word w) = word_faults (value_of_word w (keywords words))
 value_faults an_area (word w) = tt
 value_faults a_file (string s) = tt
 value_faults a_file output = tt
@@ -60,19 +60,19 @@ module _ (bytes : List ℕ) where
   blocks_more _ _ gs _ _ next (no_block es at) h = block es gs gs at next next h (no_block gs next)
   blocks_more _ _ gs _ _ next (block es fs hs at mid to first rest) h = block es fs gs at mid next first (blocks_more fs hs gs mid to next rest h)
 
-  pub entries_more : (b : Block) (es fs : Entries) (e : Entry) (at mid next : ℕ) → AreEntries bytes b es fs at mid → IsEntry bytes b fs e mid next → AreEntries bytes b es (with_entry b e fs) at next
+  pub entries_more : (b : Block) (es fs : Entries) (e : ConfigEntry) (at mid next : ℕ) → AreEntries bytes b es fs at mid → IsEntry bytes b fs e mid next → AreEntries bytes b es (with_entry b e fs) at next
   entries_more b _ _ e _ _ next (no_entry es at) h = entry es (with_entry b e es) e at next next h (no_entry (with_entry b e es) next)
   entries_more b _ _ e _ _ next (entry es fs f at mid to first rest) h = entry es (with_entry b e fs) f at mid next first (entries_more b (with_entry b f es) fs e mid to next rest h)
 
-  pub attributes_more : (b : Block) (e f : Entry) (g : Given) (at mid next : ℕ) → AreAttributes bytes b e f at mid → IsAttribute bytes b f g mid next → AreAttributes bytes b e (with_given g f) at next
+  pub attributes_more : (b : Block) (e f : ConfigEntry) (g : AttributeValue) (at mid next : ℕ) → AreAttributes bytes b e f at mid → IsAttribute bytes b f g mid next → AreAttributes bytes b e (with_given g f) at next
   attributes_more b _ _ g _ _ next (no_attribute e at) h = attribute e (with_given g e) g at next next h (no_attribute (with_given g e) next)
   attributes_more b _ _ g _ _ next (attribute e f d at mid to first rest) h = attribute e (with_given g f) d at mid next first (attributes_more b (with_given d e) f g mid to next rest h)
 
-  terms_more : (first taken : Bool) (ps : List Part) (p : Part) (at mid start next : ℕ) → AreTerms bytes first ps at mid → Stands bytes (sign taken) mid start → IsTerm bytes taken p start next → AreTerms bytes first (ps ++ p ∷ []) at next
+  terms_more : (first taken : Bool) (ps : List ParsedTerm) (p : ParsedTerm) (at mid start next : ℕ) → AreTerms bytes first ps at mid → TokenAt bytes (sign taken) mid start → IsTerm bytes taken p start next → AreTerms bytes first (ps ++ p ∷ []) at next
   terms_more _ taken _ p _ _ start next (one first q at mid t) s h = more first taken q (p ∷ []) at mid start next t s (one taken p start next h)
   terms_more _ taken _ p _ _ start next (more first second q ps at mid from to t s rest) z h = more first second q (ps ++ p ∷ []) at mid from next t s (terms_more second taken ps p from to start next rest z h)
 
-  pub sum_more : (start at next : ℕ) (ps : List Part) (taken : Bool) (p : Part) → InSum bytes start ps taken at → IsTerm bytes taken p at next → AreTerms bytes false (ps ++ p ∷ []) start next
+  pub sum_more : (start at next : ℕ) (ps : List ParsedTerm) (taken : Bool) (p : ParsedTerm) → InSum bytes start ps taken at → IsTerm bytes taken p at next → AreTerms bytes false (ps ++ p ∷ []) start next
   sum_more start _ next _ _ p first_term h = one false p start next h
   sum_more start _ next _ _ p (next_term ps taken mid at terms s) h = terms_more false taken ps p start mid at next terms s h
 
@@ -82,72 +82,72 @@ module _ (bytes : List ℕ) where
     pub begin : ℕ
     pub written : List ℕ
     pub blocks_before : AreBlocks bytes no_entries es 0 begin
-    pub stands : Stands bytes (word written) begin at
-    pub known : said written blocks ≡ Some b
+    pub stands : TokenAt bytes (word written) begin at
+    pub known : value_of_word written blocks ≡ Some b
 
-  pub record EntryName (b : Block) (es : Entries) (e : Entry) (at : ℕ) : Type 0 where
+  pub record EntryName (b : Block) (es : Entries) (e : ConfigEntry) (at : ℕ) : Type 0 where
     pub begin : ℕ
     pub inside : InBlock bytes b es begin
-    pub name : Stands bytes (word e.name) begin at
+    pub name : TokenAt bytes (word e.name) begin at
     pub place : e.at ≡ (token bytes begin).at
     pub fresh : has_name e.name b es ≡ false
-    pub new : e ≡ opened e.name e.at
+    pub new : e ≡ new_entry e.name e.at
 
-  pub record AttributeWord (b : Block) (es : Entries) (e : Entry) (row : List ℕ × Takes) (at : ℕ) : Type 0 where
+  pub record AttributeWord (b : Block) (es : Entries) (e : ConfigEntry) (row : List ℕ × ValueKind) (at : ℕ) : Type 0 where
     pub begin : ℕ
     pub written : List ℕ
     pub inside : InEntry bytes b es e begin
-    pub stands : Stands bytes (word written) begin at
-    pub known : row_of written (attributes b) ≡ Some row
+    pub stands : TokenAt bytes (word written) begin at
+    pub known : find_keyword written (attributes b) ≡ Some row
     pub once : is_given row.0 e ≡ false
 
-  pub record SumBegun (b : Block) (es : Entries) (e : Entry) (a : List ℕ) (ps : List Part) (taken : Bool) (at : ℕ) : Type 0 where
+  pub record SumBegun (b : Block) (es : Entries) (e : ConfigEntry) (a : List ℕ) (ps : List ParsedTerm) (taken : Bool) (at : ℕ) : Type 0 where
     pub start : ℕ
     pub inside : InAttribute bytes b es e (a, a_sum) start
     pub sum : InSum bytes start ps taken at
 
-  pub record TermsBehind (b : Block) (es : Entries) (e : Entry) (a : List ℕ) (ps : List Part) (at : ℕ) : Type 0 where
+  pub record TermsAfter (b : Block) (es : Entries) (e : ConfigEntry) (a : List ℕ) (ps : List ParsedTerm) (at : ℕ) : Type 0 where
     pub start : ℕ
     pub inside : InAttribute bytes b es e (a, a_sum) start
     pub terms : AreTerms bytes false ps start at
 
-  pub record ValueBehind (b : Block) (es : Entries) (e : Entry) (at : ℕ) : Type 0 where
-    pub before : Entry
-    pub given : Given
-    pub takes : Takes
+  pub record ValueAfter (b : Block) (es : Entries) (e : ConfigEntry) (at : ℕ) : Type 0 where
+    pub before : ConfigEntry
+    pub given : AttributeValue
+    pub takes : ValueKind
     pub start : ℕ
     pub inside : InAttribute bytes b es before (given.word, takes) start
     pub value : IsValue bytes takes given start at
     pub same : e ≡ with_given given before
 
-  abbrev pub Before : Entries → Place → ℕ → Type 0
+  abbrev pub Before : Entries → ParseState → ℕ → Type 0
   Before es between_blocks at = AreBlocks bytes no_entries es 0 at
-  Before es (behind_block_word b) at = BlockWord b es at
+  Before es (after_block_word b) at = BlockWord b es at
   Before es (between_entries b) at = InBlock bytes b es at
-  Before es (behind_name b e) at = EntryName b es e at
+  Before es (after_name b e) at = EntryName b es e at
   Before es (between_attributes b e) at = InEntry bytes b es e at
-  Before es (behind_word b e row) at = AttributeWord b es e row at
+  Before es (after_word b e row) at = AttributeWord b es e row at
   Before es (before_value b e row) at = InAttribute bytes b es e row at
   Before es (before_term b e a ps taken) at = SumBegun b es e a ps taken at
-  Before es (behind_term b e a ps) at = TermsBehind b es e a ps at
-  Before es (behind_value b e) at = ValueBehind b es e at
+  Before es (after_term b e a ps) at = TermsAfter b es e a ps at
+  Before es (after_value b e) at = ValueAfter b es e at
 
   -- the same behind a token; or its fault is one by what stands before it, or a syntax error
-  abbrev pub Behind : ℕ → Move → Type 0
-  Behind at (on es p) = Before es p (token bytes at).behind
-  Behind at (done es) = ⊤
-  Behind at (stop fault place) = (fault ≡ SyntaxError) ⊎ HasFault bytes (stop_at fault place)
+  abbrev pub Following : ℕ → Move → Type 0
+  Following at (on es p) = Before es p (token bytes at).following
+  Following at (done es) = ⊤
+  Following at (stop fault place) = (fault ≡ SyntaxError) ⊎ HasFault bytes (stop_at fault place)
 
-  stood : (l : Lexeme) (at : ℕ) → (token bytes at).lexeme ≡ l → Stands bytes l at (token bytes at).behind
-  stood l at e = record { lexeme = e; behind = refl }
+  stood : (l : Lexeme) (at : ℕ) → (token bytes at).lexeme ≡ l → TokenAt bytes l at (token bytes at).following
+  stood l at e = record { lexeme = e; following = refl }
 
   -- a block begins
-  pub brace_stands : (b : Block) (es : Entries) (at next : ℕ) → BlockWord b es at → Stands bytes brace at next → InBlock bytes b es next
+  pub brace_stands : (b : Block) (es : Entries) (at next : ℕ) → BlockWord b es at → TokenAt bytes brace at next → InBlock bytes b es next
   brace_stands b es at next h s = record {
     before = es;
     begin = h.begin;
     written = h.written;
-    behind_word = at;
+    after_word = at;
     start = next;
     blocks_before = h.blocks_before;
     stands = h.stands;
@@ -157,28 +157,28 @@ module _ (bytes : List ℕ) where
   }
 
   -- an entry begins
-  pub colon_stands : (b : Block) (es : Entries) (e : Entry) (at next : ℕ) → EntryName b es e at → Stands bytes colon at next → InEntry bytes b es e next
+  pub colon_stands : (b : Block) (es : Entries) (e : ConfigEntry) (at next : ℕ) → EntryName b es e at → TokenAt bytes colon at next → InEntry bytes b es e next
   colon_stands b es e at next h s = record {
     begin = h.begin;
-    behind_name = at;
+    after_name = at;
     start = next;
     inside = h.inside;
     name = h.name;
     place = h.place;
     fresh = h.fresh;
-    colon_behind = s;
+    colon_after = s;
     gives = subst (λ o. AreAttributes bytes b o e next next) h.new (no_attribute e next);
   }
 
   -- an attribute ends, with `,` or not
-  pub value_ends : (b : Block) (es : Entries) (e : Entry) (at next : ℕ) → ValueBehind b es e at → Perhaps bytes comma at next → InEntry bytes b es e next
+  pub value_ends : (b : Block) (es : Entries) (e : ConfigEntry) (at next : ℕ) → ValueAfter b es e at → IsOptionalToken bytes comma at next → InEntry bytes b es e next
   value_ends b es e at next h c =
       let word_is = h.inside in
       let entry_is = word_is.inside in
       let is : IsAttribute bytes b h.before h.given word_is.begin next = record {
         written = word_is.written;
         takes = h.takes;
-        behind_word = word_is.behind_word;
+        after_word = word_is.after_word;
         start = h.start;
         end = at;
         stands = word_is.stands;
@@ -186,42 +186,42 @@ module _ (bytes : List ℕ) where
         once = word_is.once;
         equals_sign = word_is.equals_sign;
         value = h.value;
-        comma_behind = c;
+        comma_after = c;
       } in
       let whole : InEntry bytes b es (with_given h.given h.before) next = record {
         begin = entry_is.begin;
-        behind_name = entry_is.behind_name;
+        after_name = entry_is.after_name;
         start = entry_is.start;
         inside = entry_is.inside;
         name = entry_is.name;
         place = entry_is.place;
         fresh = entry_is.fresh;
-        colon_behind = entry_is.colon_behind;
-        gives = attributes_more b (opened h.before.name h.before.at) h.before h.given entry_is.start word_is.begin next entry_is.gives is;
+        colon_after = entry_is.colon_after;
+        gives = attributes_more b (new_entry h.before.name h.before.at) h.before h.given entry_is.start word_is.begin next entry_is.gives is;
       } in
       subst (λ e. InEntry bytes b es e next) (sym h.same) whole
 
   -- an entry ends
-  pub entry_ends : (b : Block) (es : Entries) (e : Entry) (at next : ℕ) → InEntry bytes b es e at → closing_fault b e ≡ None → Stands bytes semicolon at next → InBlock bytes b (with_entry b e es) next
+  pub entry_ends : (b : Block) (es : Entries) (e : ConfigEntry) (at next : ℕ) → InEntry bytes b es e at → entry_fault b e ≡ None → TokenAt bytes semicolon at next → InBlock bytes b (with_entry b e es) next
   entry_ends b es e at next h whole s =
       let block_is = h.inside in
       let is : IsEntry bytes b es e h.begin next = record {
-        behind_name = h.behind_name;
+        after_name = h.after_name;
         start = h.start;
         end = at;
         name = h.name;
         place = h.place;
         fresh = h.fresh;
-        colon_behind = h.colon_behind;
+        colon_after = h.colon_after;
         gives = h.gives;
         whole = whole;
-        semicolon_behind = s;
+        semicolon_after = s;
       } in
       record {
         before = block_is.before;
         begin = block_is.begin;
         written = block_is.written;
-        behind_word = block_is.behind_word;
+        after_word = block_is.after_word;
         start = block_is.start;
         blocks_before = block_is.blocks_before;
         stands = block_is.stands;
@@ -231,12 +231,12 @@ module _ (bytes : List ℕ) where
       }
 
   -- a block ends
-  pub block_ends : (b : Block) (es : Entries) (at next : ℕ) → InBlock bytes b es at → Stands bytes end_brace at next → AreBlocks bytes no_entries es 0 next
+  pub block_ends : (b : Block) (es : Entries) (at next : ℕ) → InBlock bytes b es at → TokenAt bytes end_brace at next → AreBlocks bytes no_entries es 0 next
   block_ends b es at next h s =
       let is : IsBlock bytes h.before es h.begin next = record {
         written = h.written;
         block = b;
-        behind_word = h.behind_word;
+        after_word = h.after_word;
         start = h.start;
         end = at;
         stands = h.stands;
@@ -249,84 +249,84 @@ module _ (bytes : List ℕ) where
 
   -- ---- Behind each token.
 
-  word_leads : (es : Entries) (at place : ℕ) (l : Lexeme) → (token bytes at).lexeme ≡ l → AreBlocks bytes no_entries es 0 at → Behind at (breaks.block_word es l place)
-  word_leads es at place (word w) e h = by (said w blocks) refl
+  word_leads : (es : Entries) (at place : ℕ) (l : Lexeme) → (token bytes at).lexeme ≡ l → AreBlocks bytes no_entries es 0 at → Following at (breaks.block_word es l place)
+  word_leads es at place (word w) e h = by (value_of_word w blocks) refl
     where
-      by : (o : Option Block) → said w blocks ≡ o → Behind at (option_map_or (λ b. on es (behind_block_word b)) o (stop SyntaxError place))
+      by : (o : Option Block) → value_of_word w blocks ≡ o → Following at (option_map_or (λ b. on es (after_block_word b)) o (stop SyntaxError place))
       by None k = inl refl
       by (Some b) k = record { begin = at; written = w; blocks_before = h; stands = stood (word w) at e; known = k }
   word_leads es at place the_end e h = tt
   word_leads es at place _ e h = inl refl
 
-  brace_leads : (es : Entries) (b : Block) (at place : ℕ) (l : Lexeme) → (token bytes at).lexeme ≡ l → BlockWord b es at → Behind at (breaks.block_brace es b l place)
-  brace_leads es b at place brace e h = brace_stands b es at (token bytes at).behind h (stood brace at e)
+  brace_leads : (es : Entries) (b : Block) (at place : ℕ) (l : Lexeme) → (token bytes at).lexeme ≡ l → BlockWord b es at → Following at (breaks.block_brace es b l place)
+  brace_leads es b at place brace e h = brace_stands b es at (token bytes at).following h (stood brace at e)
   brace_leads es b at place _ e h = inl refl
 
-  name_leads : (es : Entries) (b : Block) (at : ℕ) (l : Lexeme) → (token bytes at).lexeme ≡ l → InBlock bytes b es at → Behind at (breaks.entry_name es b l (token bytes at).at)
+  name_leads : (es : Entries) (b : Block) (at : ℕ) (l : Lexeme) → (token bytes at).lexeme ≡ l → InBlock bytes b es at → Following at (breaks.entry_name es b l (token bytes at).at)
   name_leads es b at (word w) e h = by (has_name w b es) refl
     where
-      by : (x : Bool) → has_name w b es ≡ x → Behind at (if x then stop NameTwice (token bytes at).at else on es (behind_name b (opened w (token bytes at).at)))
+      by : (x : Bool) → has_name w b es ≡ x → Following at (if x then stop NameTwice (token bytes at).at else on es (after_name b (new_entry w (token bytes at).at)))
       by true k = inr (name_twice b es w at h e k)
       by false k = record { begin = at; inside = h; name = stood (word w) at e; place = refl; fresh = k; new = refl }
-  name_leads es b at end_brace e h = block_ends b es at (token bytes at).behind h (stood end_brace at e)
+  name_leads es b at end_brace e h = block_ends b es at (token bytes at).following h (stood end_brace at e)
   name_leads es b at _ e h = inl refl
 
-  colon_leads : (es : Entries) (b : Block) (f : Entry) (at place : ℕ) (l : Lexeme) → (token bytes at).lexeme ≡ l → EntryName b es f at → Behind at (breaks.entry_colon es b f l place)
-  colon_leads es b f at place colon e h = colon_stands b es f at (token bytes at).behind h (stood colon at e)
+  colon_leads : (es : Entries) (b : Block) (f : ConfigEntry) (at place : ℕ) (l : Lexeme) → (token bytes at).lexeme ≡ l → EntryName b es f at → Following at (breaks.entry_colon es b f l place)
+  colon_leads es b f at place colon e h = colon_stands b es f at (token bytes at).following h (stood colon at e)
   colon_leads es b f at place _ e h = inl refl
 
-  attribute_leads : (es : Entries) (b : Block) (f : Entry) (at : ℕ) (l : Lexeme) → (token bytes at).lexeme ≡ l → InEntry bytes b es f at → Behind at (breaks.attribute_or_end es b f l (token bytes at).at)
-  attribute_leads es b f at (word w) e h = by (row_of w (attributes b)) refl
+  attribute_leads : (es : Entries) (b : Block) (f : ConfigEntry) (at : ℕ) (l : Lexeme) → (token bytes at).lexeme ≡ l → InEntry bytes b es f at → Following at (breaks.attribute_or_end es b f l (token bytes at).at)
+  attribute_leads es b f at (word w) e h = by (find_keyword w (attributes b)) refl
     where
-      once : (row : List ℕ × Takes) → row_of w (attributes b) ≡ Some row → (x : Bool) → is_given row.0 f ≡ x → Behind at (if x then stop AttributeTwice (token bytes at).at else on es (behind_word b f row))
+      once : (row : List ℕ × ValueKind) → find_keyword w (attributes b) ≡ Some row → (x : Bool) → is_given row.0 f ≡ x → Following at (if x then stop AttributeTwice (token bytes at).at else on es (after_word b f row))
       once row k true x = inr (attribute_twice b es f w row at h e k x)
       once row k false x = record { begin = at; written = w; inside = h; stands = stood (word w) at e; known = k; once = x }
 
-      by : (o : Option (List ℕ × Takes)) → row_of w (attributes b) ≡ o → Behind at (breaks.known_attribute es b f o (token bytes at).at)
+      by : (o : Option (List ℕ × ValueKind)) → find_keyword w (attributes b) ≡ o → Following at (breaks.known_attribute es b f o (token bytes at).at)
       by None k = inr (unknown_attribute b es f w at h e k)
       by (Some row) k = once row k (is_given row.0 f) refl
-  attribute_leads es b f at semicolon e h = by (closing_fault b f) refl
+  attribute_leads es b f at semicolon e h = by (entry_fault b f) refl
     where
-      by : (o : Option Fault) → closing_fault b f ≡ o → Behind at (breaks.entry_end es b f o (token bytes at).at)
+      by : (o : Option Fault) → entry_fault b f ≡ o → Following at (breaks.entry_end es b f o (token bytes at).at)
       by (Some fault) k = inr (wrong_end b es f fault at h e k)
-      by None k = entry_ends b es f at (token bytes at).behind h k (stood semicolon at e)
+      by None k = entry_ends b es f at (token bytes at).following h k (stood semicolon at e)
   attribute_leads es b f at _ e h = inl refl
 
-  comma_leads : (es : Entries) (b : Block) (f : Entry) (at : ℕ) (l : Lexeme) → (token bytes at).lexeme ≡ l → ValueBehind b es f at → Behind at (breaks.comma_or_next es b f l (token bytes at).at)
-  comma_leads es b f at comma e h = value_ends b es f at (token bytes at).behind h (inl (stood comma at e))
+  comma_leads : (es : Entries) (b : Block) (f : ConfigEntry) (at : ℕ) (l : Lexeme) → (token bytes at).lexeme ≡ l → ValueAfter b es f at → Following at (breaks.comma_or_next es b f l (token bytes at).at)
+  comma_leads es b f at comma e h = value_ends b es f at (token bytes at).following h (inl (stood comma at e))
   comma_leads es b f at l e h = attribute_leads es b f at l e (value_ends b es f at at h (inr refl))
 
   -- a value that is no sum
-  give_leads : (es : Entries) (b : Block) (f : Entry) (row : List ℕ × Takes) (at : ℕ) (r : Result Value Fault) → value_of row.1 (token bytes at).lexeme ≡ r → ((v : Value) → r ≡ Ok v → IsValue bytes row.1 (record { word = row.0; value = v; parts = [] }) at (token bytes at).behind) → InAttribute bytes b es f row at → IfErr r IsOfValue → Behind at (breaks.give es b f row.0 (token bytes at).at r)
+  give_leads : (es : Entries) (b : Block) (f : ConfigEntry) (row : List ℕ × ValueKind) (at : ℕ) (r : Result Value Fault) → value_of row.1 (token bytes at).lexeme ≡ r → ((v : Value) → r ≡ Ok v → IsValue bytes row.1 (record { word = row.0; value = v; parts = [] }) at (token bytes at).following) → InAttribute bytes b es f row at → IfErr r IsOfValue → Following at (breaks.attribute_move es b f row.0 (token bytes at).at r)
   give_leads es b f row at (Ok v) k is h own = record { before = f; given = record { word = row.0; value = v; parts = [] }; takes = row.1; start = at; inside = h; value = is v refl; same = refl }
   give_leads es b f row at (Err fault) k is h (inl syntax) = inl syntax
   give_leads es b f row at (Err fault) k is h (inr range) =
       inr (subst (λ f. HasFault bytes (stop_at f (token bytes at).at)) (sym range) (wrong_number b es f row at h (subst (λ (f : Fault). value_of row.1 (token bytes at).lexeme ≡ Err f) range k)))
 
   -- a term, which ends a sum or not
-  term_leads : (es : Entries) (b : Block) (f : Entry) (a : List ℕ) (ps : List Part) (taken : Bool) (at : ℕ) → SumBegun b es f a ps taken at → Behind at (breaks.add_part es b f a ps (token bytes at).at (part_of taken (token bytes at).at (token bytes at).lexeme))
+  term_leads : (es : Entries) (b : Block) (f : ConfigEntry) (a : List ℕ) (ps : List ParsedTerm) (taken : Bool) (at : ℕ) → SumBegun b es f a ps taken at → Following at (breaks.add_part es b f a ps (token bytes at).at (part_of taken (token bytes at).at (token bytes at).lexeme))
   term_leads es b f a ps taken at h = by (part_of taken (token bytes at).at (token bytes at).lexeme) refl (part_faults taken (token bytes at).at (token bytes at).lexeme)
     where
-      by : (r : Result Part Fault) → part_of taken (token bytes at).at (token bytes at).lexeme ≡ r → IfErr r IsOfValue → Behind at (breaks.add_part es b f a ps (token bytes at).at r)
-      by (Ok p) k own = record { start = h.start; inside = h.inside; terms = sum_more h.start at (token bytes at).behind ps taken p h.sum (record { lexeme = (token bytes at).lexeme; stands = stood (token bytes at).lexeme at refl; part = k }) }
+      by : (r : Result ParsedTerm Fault) → part_of taken (token bytes at).at (token bytes at).lexeme ≡ r → IfErr r IsOfValue → Following at (breaks.add_part es b f a ps (token bytes at).at r)
+      by (Ok p) k own = record { start = h.start; inside = h.inside; terms = sum_more h.start at (token bytes at).following ps taken p h.sum (record { lexeme = (token bytes at).lexeme; stands = stood (token bytes at).lexeme at refl; part = k }) }
       by (Err fault) k (inl syntax) = inl syntax
       by (Err fault) k (inr range) = inr (subst (λ f. HasFault bytes (stop_at f (token bytes at).at)) (sym range) (wrong_term b es f a ps taken h.start at h.inside h.sum (subst (λ (f : Fault). part_of taken (token bytes at).at (token bytes at).lexeme ≡ Err f) range k)))
 
-  sum_leads : (es : Entries) (b : Block) (f : Entry) (a : List ℕ) (ps : List Part) (at : ℕ) (l : Lexeme) (o : Option Value) → sum_of_parts ps ≡ o → is_sign l ≡ false → (token bytes at).lexeme ≡ l → TermsBehind b es f a ps at → Behind at (breaks.sum_end es b f a ps o l (token bytes at).at)
+  sum_leads : (es : Entries) (b : Block) (f : ConfigEntry) (a : List ℕ) (ps : List ParsedTerm) (at : ℕ) (l : Lexeme) (o : Option Value) → sum_of_parts ps ≡ o → is_sign l ≡ false → (token bytes at).lexeme ≡ l → TermsAfter b es f a ps at → Following at (breaks.sum_end es b f a ps o l (token bytes at).at)
   sum_leads es b f a ps at l None k s e h = inr (wrong_sum b es f a ps h.start at h.inside h.terms (ap is_sign e ∙ s) k)
   sum_leads es b f a ps at l (Some v) k s e h =
       comma_leads es b (with_given (record { word = a; value = v; parts = ps }) f) at l e
       (record { before = f; given = record { word = a; value = v; parts = ps }; takes = a_sum; start = h.start; inside = h.inside; value = (h.terms, k); same = refl })
 
-  sign_leads : (es : Entries) (b : Block) (f : Entry) (a : List ℕ) (ps : List Part) (at : ℕ) (l : Lexeme) → (token bytes at).lexeme ≡ l → TermsBehind b es f a ps at → Behind at (breaks.sign_or_end es b f a ps l (token bytes at).at)
-  sign_leads es b f a ps at plus e h = record { start = h.start; inside = h.inside; sum = next_term ps false at (token bytes at).behind h.terms (stood plus at e) }
-  sign_leads es b f a ps at minus e h = record { start = h.start; inside = h.inside; sum = next_term ps true at (token bytes at).behind h.terms (stood minus at e) }
+  sign_leads : (es : Entries) (b : Block) (f : ConfigEntry) (a : List ℕ) (ps : List ParsedTerm) (at : ℕ) (l : Lexeme) → (token bytes at).lexeme ≡ l → TermsAfter b es f a ps at → Following at (breaks.sign_or_end es b f a ps l (token bytes at).at)
+  sign_leads es b f a ps at plus e h = record { start = h.start; inside = h.inside; sum = next_term ps false at (token bytes at).following h.terms (stood plus at e) }
+  sign_leads es b f a ps at minus e h = record { start = h.start; inside = h.inside; sum = next_term ps true at (token bytes at).following h.terms (stood minus at e) }
   sign_leads es b f a ps at l e h = sum_leads es b f a ps at l (sum_of_parts ps) refl refl e h
 
-  plain_value : (es : Entries) (b : Block) (f : Entry) (a : List ℕ) (takes : Takes) (at : ℕ) (v : Value) → value_of takes (token bytes at).lexeme ≡ Ok v → (l : Lexeme) × Stands bytes l at (token bytes at).behind × (value_of takes l ≡ Ok v) × (◌≡◌ {A = List Part} [] [])
+  plain_value : (es : Entries) (b : Block) (f : ConfigEntry) (a : List ℕ) (takes : ValueKind) (at : ℕ) (v : Value) → value_of takes (token bytes at).lexeme ≡ Ok v → (l : Lexeme) × TokenAt bytes l at (token bytes at).following × (value_of takes l ≡ Ok v) × (◌≡◌ {A = List ParsedTerm} [] [])
   plain_value es b f a takes at v k = ((token bytes at).lexeme, stood (token bytes at).lexeme at refl, k, refl)
 
-  value_leads : (es : Entries) (b : Block) (f : Entry) (a : List ℕ) (takes : Takes) (at : ℕ) → InAttribute bytes b es f (a, takes) at → Behind at (breaks.attribute_value es b f a takes (token bytes at).lexeme (token bytes at).at)
+  value_leads : (es : Entries) (b : Block) (f : ConfigEntry) (a : List ℕ) (takes : ValueKind) (at : ℕ) → InAttribute bytes b es f (a, takes) at → Following at (breaks.attribute_value es b f a takes (token bytes at).lexeme (token bytes at).at)
   value_leads es b f a a_sum at h = term_leads es b f a [] false at (record { start = at; inside = h; sum = first_term })
   value_leads es b f a (number_from low high) at h = give_leads es b f (a, number_from low high) at (value_of (number_from low high) (token bytes at).lexeme) refl (λ v k. plain_value es b f a (number_from low high) at v k) h (value_faults (number_from low high) (token bytes at).lexeme)
   value_leads es b f a a_byte at h = give_leads es b f (a, a_byte) at (value_of a_byte (token bytes at).lexeme) refl (λ v k. plain_value es b f a a_byte at v k) h (value_faults a_byte (token bytes at).lexeme)
@@ -334,29 +334,29 @@ module _ (bytes : List ℕ) where
   value_leads es b f a an_area at h = give_leads es b f (a, an_area) at (value_of an_area (token bytes at).lexeme) refl (λ v k. plain_value es b f a an_area at v k) h (value_faults an_area (token bytes at).lexeme)
   value_leads es b f a a_file at h = give_leads es b f (a, a_file) at (value_of a_file (token bytes at).lexeme) refl (λ v k. plain_value es b f a a_file at v k) h (value_faults a_file (token bytes at).lexeme)
 
-  equals_leads : (es : Entries) (b : Block) (f : Entry) (row : List ℕ × Takes) (at : ℕ) (l : Lexeme) → (token bytes at).lexeme ≡ l → AttributeWord b es f row at → Behind at (breaks.equals_or_value es b f row l (token bytes at).at)
-  equals_leads es b f row at equals e h = record { begin = h.begin; written = h.written; behind_word = at; inside = h.inside; stands = h.stands; known = h.known; once = h.once; equals_sign = inl (stood equals at e) }
+  equals_leads : (es : Entries) (b : Block) (f : ConfigEntry) (row : List ℕ × ValueKind) (at : ℕ) (l : Lexeme) → (token bytes at).lexeme ≡ l → AttributeWord b es f row at → Following at (breaks.equals_or_value es b f row l (token bytes at).at)
+  equals_leads es b f row at equals e h = record { begin = h.begin; written = h.written; after_word = at; inside = h.inside; stands = h.stands; known = h.known; once = h.once; equals_sign = inl (stood equals at e) }
   equals_leads es b f row at l e h =
-      subst (λ l. Behind at (breaks.attribute_value es b f row.0 row.1 l (token bytes at).at)) e
-      (value_leads es b f row.0 row.1 at (record { begin = h.begin; written = h.written; behind_word = at; inside = h.inside; stands = h.stands; known = h.known; once = h.once; equals_sign = inr refl }))
+      subst (λ l. Following at (breaks.attribute_value es b f row.0 row.1 l (token bytes at).at)) e
+      (value_leads es b f row.0 row.1 at (record { begin = h.begin; written = h.written; after_word = at; inside = h.inside; stands = h.stands; known = h.known; once = h.once; equals_sign = inr refl }))
 
-  pub moved : (es : Entries) (p : Place) (at : ℕ) → Before es p at → Behind at (moves bytes es p at)
+  pub moved : (es : Entries) (p : ParseState) (at : ℕ) → Before es p at → Following at (moves bytes es p at)
   moved es between_blocks at h = word_leads es at (token bytes at).at (token bytes at).lexeme refl h
-  moved es (behind_block_word b) at h = brace_leads es b at (token bytes at).at (token bytes at).lexeme refl h
+  moved es (after_block_word b) at h = brace_leads es b at (token bytes at).at (token bytes at).lexeme refl h
   moved es (between_entries b) at h = name_leads es b at (token bytes at).lexeme refl h
-  moved es (behind_name b e) at h = colon_leads es b e at (token bytes at).at (token bytes at).lexeme refl h
+  moved es (after_name b e) at h = colon_leads es b e at (token bytes at).at (token bytes at).lexeme refl h
   moved es (between_attributes b e) at h = attribute_leads es b e at (token bytes at).lexeme refl h
-  moved es (behind_word b e row) at h = equals_leads es b e row at (token bytes at).lexeme refl h
+  moved es (after_word b e row) at h = equals_leads es b e row at (token bytes at).lexeme refl h
   moved es (before_value b e row) at h = value_leads es b e row.0 row.1 at h
   moved es (before_term b e a ps taken) at h = term_leads es b e a ps taken at h
-  moved es (behind_term b e a ps) at h = sign_leads es b e a ps at (token bytes at).lexeme refl h
-  moved es (behind_value b e) at h = comma_leads es b e at (token bytes at).lexeme refl h
+  moved es (after_term b e a ps) at h = sign_leads es b e a ps at (token bytes at).lexeme refl h
+  moved es (after_value b e) at h = comma_leads es b e at (token bytes at).lexeme refl h
 
   -- ---- The first fault.
 
-  fault_from : (es : Entries) (p : Place) (at : ℕ) (f : Stop) → Before es p at → Breaks bytes es p at f → (f.fault ≡ SyntaxError) ⊎ HasFault bytes f
-  fault_from _ _ _ _ before (later es fs p q at f e rest) = fault_from fs q (token bytes at).behind f (subst (Behind at) e (moved es p at before)) rest
-  fault_from _ _ _ _ before (here es p at fault place e) = subst (Behind at) e (moved es p at before)
+  fault_from : (es : Entries) (p : ParseState) (at : ℕ) (f : FaultAt) → Before es p at → SyntaxErrorAt bytes es p at f → (f.fault ≡ SyntaxError) ⊎ HasFault bytes f
+  fault_from _ _ _ _ before (later es fs p q at f e rest) = fault_from fs q (token bytes at).following f (subst (Following at) e (moved es p at before)) rest
+  fault_from _ _ _ _ before (here es p at fault place e) = subst (Following at) e (moved es p at before)
 
-  pub fault_of : (f : Stop) → Breaks bytes no_entries between_blocks 0 f → (f.fault ≡ SyntaxError) ⊎ HasFault bytes f
+  pub fault_of : (f : FaultAt) → SyntaxErrorAt bytes no_entries between_blocks 0 f → (f.fault ≡ SyntaxError) ⊎ HasFault bytes f
   fault_of f h = fault_from no_entries between_blocks 0 f (no_block no_entries 0) h

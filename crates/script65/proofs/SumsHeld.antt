@@ -4,70 +4,70 @@ use Rattle.std.proofs.Common.{◌≡◌, ◌<◌, ◌≤◌, ℕ, zero, suc, Boo
 use Rattle.std.specs.Prelude.{Result, if◌then◌else◌, ⊤}
 use Rattle.std.specs.Option.{option_map_or}
 use Rattle.base65.specs.Outcome.{◌>>=◌}
-use Rattle.script65.specs.declared.script.Area.{Area}
-use Rattle.script65.specs.declared.script.Row.{Row}
-use Rattle.script65.specs.declared.script.RowPart.{RowPart}
-use Rattle.script65.specs.Placing.{is_in, moved, row_after, row_place, rows_from, area_place, standing}
-use Rattle.script65.specs.AreaSums.{row_known, row_value, Standing, area_known, area_value, is_known, operand_known, operand_value, own_place, places_there, sum_in, with_start, come_to, difference}
+use Rattle.script65.specs.declared.script.MemoryArea.{MemoryArea}
+use Rattle.script65.specs.declared.script.SegmentRow.{SegmentRow}
+use Rattle.script65.specs.declared.script.RowAttribute.{RowAttribute}
+use Rattle.script65.specs.Placing.{is_in, state_after_row, row_after, row_place, rows_from, area_place, standing}
+use Rattle.script65.specs.AreaSums.{row_known, row_value, SumContextView, area_known, area_value, is_known, operand_known, operand_value, own_place, places_there, sum_in, with_start, come_to, difference}
 use Rattle.script65.specs.declared.placement.PlaceFault.{PlaceFault}
 use Rattle.script65.specs.declared.placing.site.Bounds.{Bounds}
-use Rattle.script65.specs.declared.placing.site.Spot.{Spot}
+use Rattle.script65.specs.declared.placing.site.RowState.{RowState}
 use Rattle.script65.proofs.Apart.{Placed, row_placed}
 use Rattle.script65.proofs.Walks.{bind_ok, Holds, Kept, Made, all_hold, get_before, get_last, summed_of}
 use Rattle.std.specs.List.{list_all}
 use Rattle.std.proofs.lemmas.List.{append-nil}
 use Rattle.std.proofs.lemmas.Option.{slice_get_within}
-use Rattle.script65.specs.declared.script.AreaPart.{AreaPart}
-use Rattle.script65.specs.declared.script.AreaPart.TheVariants as area
+use Rattle.script65.specs.declared.script.AreaAttribute.{AreaAttribute}
+use Rattle.script65.specs.declared.script.AreaAttribute.TheVariants as area
 use Rattle.script65.specs.declared.script.Operand.{Operand}
 use Rattle.script65.specs.declared.script.Operand.TheVariants as operand
 use Rattle.script65.specs.declared.script.Script.{Script}
 use Rattle.script65.specs.declared.script.Term.{Term}
 use Rattle.script65.specs.PlacingLaws.{HasSum, SumsHold}
-use Rattle.script65.specs.declared.placement.AreaPlace.{AreaPlace}
-use Rattle.script65.specs.declared.placement.RowPlace.{RowPlace}
+use Rattle.script65.specs.declared.placement.AreaPlacement.{AreaPlacement}
+use Rattle.script65.specs.declared.placement.RowPlacement.{RowPlacement}
 
 -- ---- Where rows stand in the areas before a place stays as it is.
 
 -- a row whose areas stand before a place, with its spot before and after
-pub record Stays (k : ℕ) (r : Row) (s t : Spot) : Type 0 where
+pub record Stays (k : ℕ) (r : SegmentRow) (s t : RowState) : Type 0 where
   pub size : t.size ≡ s.size
   pub run : r.run < k → t.run ≡ s.run
   pub load : r.load < k → t.load ≡ s.load
 
-abbrev pub Settled : ℕ → List Row → List Spot → List Spot → Type 0
+abbrev pub Settled : ℕ → List SegmentRow → List RowState → List RowState → Type 0
 Settled k (r ∷ rs) (s ∷ ss) (t ∷ ts) = Stays k r s t × Settled k rs ss ts
 Settled k (r ∷ rs) (s ∷ ss) [] = ⊥
 Settled k (r ∷ rs) [] (t ∷ ts) = ⊥
 Settled k (r ∷ rs) [] [] = ⊤
 Settled k [] ss ts = ⊤
 
-stays_same : (k : ℕ) (r : Row) (s : Spot) → Stays k r s s
+stays_same : (k : ℕ) (r : SegmentRow) (s : RowState) → Stays k r s s
 stays_same k r s = record { size = refl; run = λ lt. refl; load = λ lt. refl }
 
-moved_stays : (j k at : ℕ) (r : Row) (s t : Spot) → j ≤ k → t ≡ moved k r at s → Stays j r s t
-unfolding moved
+moved_stays : (j k at : ℕ) (r : SegmentRow) (s t : RowState) → j ≤ k → t ≡ state_after_row k r at s → Stays j r s t
+unfolding state_after_row
 moved_stays j k at r s t le e = grind (arith, common_steps)
 
 abbrev Reached : Type 0
-Reached = List Spot × ℕ
+Reached = List RowState × ℕ
 
-abbrev front : Spot → Result Reached PlaceFault → Result Reached PlaceFault
+abbrev front : RowState → Result Reached PlaceFault → Result Reached PlaceFault
 front s rest = rest >>= λ y. Ok (s ∷ y.0, y.1)
 
 same_pair : (x y : Reached) → ◌≡◌ {A = Result Reached PlaceFault} (Ok x) (Ok y) → x ≡ y
 same_pair x y h = cc
 
 -- the rows of an area are placed: those that stand before another that isn't behind it stay
-pub rows_settled : (j k : ℕ) (a : Area) (b : Bounds) (rs : List Row) (ss ts : List Spot) (cursor last : ℕ) → j ≤ k → rows_from k a b rs ss cursor ≡ Ok (ts, last) → Settled j rs ss ts
+pub rows_settled : (j k : ℕ) (a : MemoryArea) (b : Bounds) (rs : List SegmentRow) (ss ts : List RowState) (cursor last : ℕ) → j ≤ k → rows_from k a b rs ss cursor ≡ Ok (ts, last) → Settled j rs ss ts
 rows_settled j k a b [] ss ts cursor last le h = tt
 rows_settled j k a b (r ∷ rs) [] ts cursor last le h = grind (arith, common_steps, same_pair)
 rows_settled j k a b (r ∷ rs) (s ∷ ss) ts cursor last le h = by (is_in k r) h (λ c us l e. rows_settled j k a b rs ss us c l le e)
   where
-    by : (t : Bool) → (if t then (row_after k a b r s cursor >>= λ x. front x.0 (rows_from k a b rs ss x.1)) else front s (rows_from k a b rs ss cursor)) ≡ Ok (ts, last) → ((c : ℕ) (us : List Spot) (l : ℕ) → rows_from k a b rs ss c ≡ Ok (us, l) → Settled j rs ss us) → Settled j (r ∷ rs) (s ∷ ss) ts
+    by : (t : Bool) → (if t then (row_after k a b r s cursor >>= λ x. front x.0 (rows_from k a b rs ss x.1)) else front s (rows_from k a b rs ss cursor)) ≡ Ok (ts, last) → ((c : ℕ) (us : List RowState) (l : ℕ) → rows_from k a b rs ss c ≡ Ok (us, l) → Settled j rs ss us) → Settled j (r ∷ rs) (s ∷ ss) ts
     by true h again =
         let f = bind_ok (row_after k a b r s cursor) (λ x. front x.0 (rows_from k a b rs ss x.1)) (ts, last) h in
-        let x : Spot × ℕ = f.0 in
+        let x : RowState × ℕ = f.0 in
         let g = bind_ok (rows_from k a b rs ss x.1) (λ y. Ok (x.0 ∷ y.0, y.1)) (ts, last) f.2 in
         let y : Reached = g.0 in
         let p : Placed k b r s cursor x = row_placed k a b r s cursor x f.1 in
@@ -79,11 +79,11 @@ rows_settled j k a b (r ∷ rs) (s ∷ ss) ts cursor last le h = by (is_in k r) 
         let e = same_pair (s ∷ y.0, y.1) (ts, last) g.2 in
         subst (Settled j (r ∷ rs) (s ∷ ss)) (ap (λ z. z.0) e) (stays_same j r s, again cursor y.0 y.1 g.1)
 
-part_stays : (k : ℕ) (part : RowPart) (r : Row) (s t : Spot) → Stays k r s t → row_known k part r ≡ true → row_value part (row_place t) ≡ row_value part (row_place s)
+part_stays : (k : ℕ) (part : RowAttribute) (r : SegmentRow) (s t : RowState) → Stays k r s t → row_known k part r ≡ true → row_value part (row_place t) ≡ row_value part (row_place s)
 part_stays k x r s t h known = grind (arith, common_steps)
 
 -- what is known of a row stays what it is
-pub value_stays : (k : ℕ) (part : RowPart) (rs : List Row) (ss ts : List Spot) (i : ℕ) → Settled k rs ss ts → option_map_or (row_known k part) (slice_get rs i) false ≡ true → option_map_or (row_value part) (slice_get (map row_place ts) i) 0 ≡ option_map_or (row_value part) (slice_get (map row_place ss) i) 0
+pub value_stays : (k : ℕ) (part : RowAttribute) (rs : List SegmentRow) (ss ts : List RowState) (i : ℕ) → Settled k rs ss ts → option_map_or (row_known k part) (slice_get rs i) false ≡ true → option_map_or (row_value part) (slice_get (map row_place ts) i) 0 ≡ option_map_or (row_value part) (slice_get (map row_place ss) i) 0
 value_stays k part [] ss ts i h known = absurd cc
 value_stays k part (r ∷ rs) [] [] i h known = refl
 value_stays k part (r ∷ rs) [] (t ∷ ts) i h known = absurd h
@@ -101,12 +101,12 @@ none_found known [] h = refl
 none_found known (t ∷ ts) h = grind (arith, common_steps, (none_found known ts))
 
 -- all terms are known, and they come to this
-record Found (s : Standing) (ts : List Term) (n : ℕ) : Type 0 where
+record Found (s : SumContextView) (ts : List Term) (n : ℕ) : Type 0 where
   pub known : list_all (is_known s.k (is_some s.start) s.rows) ts ≡ true
   pub sum : HasSum (places_there s) s.row_places ts n
   pub less : n < 2 ^ 32
 
-found_of : (s : Standing) (ts : List Term) (n : ℕ) → sum_in s ts ≡ Ok n → Found s ts n
+found_of : (s : SumContextView) (ts : List Term) (n : ℕ) → sum_in s ts ≡ Ok n → Found s ts n
 found_of s ts n h = grind (arith, common_steps, the_difference, none_found)
 
 -- ---- Terms that are known stay what they are.
@@ -118,24 +118,24 @@ module _ (known : Term → Bool) (v w : Term → ℕ) (same : (t : Term) → kno
   come_same is (t ∷ ts) h = grind (arith, common_steps, (come_same is ts))
 
 -- places of areas that agree on those before a place, and on the start of that one
-pub record Agree (k : ℕ) (begun : Bool) (ps qs : List AreaPlace) : Type 0 where
+pub record Agree (k : ℕ) (begun : Bool) (ps qs : List AreaPlacement) : Type 0 where
   pub before : (j : ℕ) → j < k → slice_get qs j ≡ slice_get ps j
   pub own : begun ≡ true → option_map_or (area_value area.Start) (slice_get qs k) 0 ≡ option_map_or (area_value area.Start) (slice_get ps k) 0
 
-area_same : (k : ℕ) (begun : Bool) (ps qs : List AreaPlace) (part : AreaPart) (j : ℕ) → Agree k begun ps qs → area_known k begun part j ≡ true → option_map_or (area_value part) (slice_get qs j) 0 ≡ option_map_or (area_value part) (slice_get ps j) 0
+area_same : (k : ℕ) (begun : Bool) (ps qs : List AreaPlacement) (part : AreaAttribute) (j : ℕ) → Agree k begun ps qs → area_known k begun part j ≡ true → option_map_or (area_value part) (slice_get qs j) 0 ≡ option_map_or (area_value part) (slice_get ps j) 0
 area_same k begun ps qs x j h known = grind (arith, common_steps)
 
-pub operand_same : (k : ℕ) (begun : Bool) (rows : List Row) (ps qs : List AreaPlace) (ss ts : List Spot) (o : Operand) → Agree k begun ps qs → Settled k rows ss ts → operand_known k begun rows o ≡ true → operand_value qs (map row_place ts) o ≡ operand_value ps (map row_place ss) o
+pub operand_same : (k : ℕ) (begun : Bool) (rows : List SegmentRow) (ps qs : List AreaPlacement) (ss ts : List RowState) (o : Operand) → Agree k begun ps qs → Settled k rows ss ts → operand_known k begun rows o ≡ true → operand_value qs (map row_place ts) o ≡ operand_value ps (map row_place ss) o
 operand_same k begun rows ps qs ss ts (operand.Number n) a s known = refl
 operand_same k begun rows ps qs ss ts (operand.Area j part) a s known = area_same k begun ps qs part j a known
 operand_same k begun rows ps qs ss ts (operand.Row i part) a s known = value_stays k part rows ss ts i s known
 
-sum_same : (k : ℕ) (begun : Bool) (rows : List Row) (ps qs : List AreaPlace) (ss us : List Spot) (ts : List Term) (n : ℕ) → Agree k begun ps qs → Settled k rows ss us → list_all (is_known k begun rows) ts ≡ true → HasSum ps (map row_place ss) ts n → HasSum qs (map row_place us) ts n
+sum_same : (k : ℕ) (begun : Bool) (rows : List SegmentRow) (ps qs : List AreaPlacement) (ss us : List RowState) (ts : List Term) (n : ℕ) → Agree k begun ps qs → Settled k rows ss us → list_all (is_known k begun rows) ts ≡ true → HasSum ps (map row_place ss) ts n → HasSum qs (map row_place us) ts n
 sum_same k begun rows ps qs ss us ts n a s known h = grind (arith, common_steps, operand_same, come_same)
 
 -- ---- Area by area.
 
-record SumsSo (k : ℕ) (rows : List Row) (placed : List AreaPlace) (ss : List Spot) (a : Area) (place : AreaPlace) : Type 0 where
+record SumsSo (k : ℕ) (rows : List SegmentRow) (placed : List AreaPlacement) (ss : List RowState) (a : MemoryArea) (place : AreaPlacement) : Type 0 where
   pub start : HasSum placed (map row_place ss) a.start place.start
   pub size : HasSum placed (map row_place ss) a.size place.size
   pub start_known : list_all (is_known k false rows) a.start ≡ true
@@ -144,23 +144,23 @@ record SumsSo (k : ℕ) (rows : List Row) (placed : List AreaPlace) (ss : List S
   pub size_less : place.size < 2 ^ 32
   pub inside : place.start + place.size ≤ 2 ^ 32
 
-abbrev SumsIn : Script → ℕ → List AreaPlace → List Spot → Type 0
-SumsIn script j placed ss = (a : Area) (place : AreaPlace) → slice_get script.areas j ≡ Some a → slice_get placed j ≡ Some place → SumsSo j script.rows placed ss a place
+abbrev SumsIn : Script → ℕ → List AreaPlacement → List RowState → Type 0
+SumsIn script j placed ss = (a : MemoryArea) (place : AreaPlacement) → slice_get script.areas j ≡ Some a → slice_get placed j ≡ Some place → SumsSo j script.rows placed ss a place
 
 -- one place more agrees with those before it
-longer_agrees : (k : ℕ) (begun : Bool) (placed : List AreaPlace) (x : AreaPlace) → k < length placed → Agree k begun placed (placed ++ x ∷ [])
+longer_agrees : (k : ℕ) (begun : Bool) (placed : List AreaPlacement) (x : AreaPlacement) → k < length placed → Agree k begun placed (placed ++ x ∷ [])
 longer_agrees k begun placed x lt = grind (arith, common_steps, get_before)
 
-first_agrees : (k : ℕ) (placed : List AreaPlace) (x : AreaPlace) → length placed ≡ k → Agree k false (placed ++ own_place None) (placed ++ x ∷ [])
+first_agrees : (k : ℕ) (placed : List AreaPlacement) (x : AreaPlacement) → length placed ≡ k → Agree k false (placed ++ own_place None) (placed ++ x ∷ [])
 first_agrees k placed x count = grind (arith, common_steps, get_before, append-nil)
 
-own_agrees : (k : ℕ) (placed : List AreaPlace) (x : AreaPlace) (start : ℕ) → length placed ≡ k → x.start ≡ start → Agree k true (placed ++ own_place (Some start)) (placed ++ x ∷ [])
+own_agrees : (k : ℕ) (placed : List AreaPlacement) (x : AreaPlacement) (start : ℕ) → length placed ≡ k → x.start ≡ start → Agree k true (placed ++ own_place (Some start)) (placed ++ x ∷ [])
 own_agrees k placed x start count same = grind (arith, common_steps, get_before, get_last)
 
 sums_made : (script : Script) → Made script (SumsIn script)
 sums_made script k a placed ss ts b last at count made e c place there here =
-    let same_area : a ≡ c = (let w : ◌≡◌ {A = Option Area} (Some a) (Some c) = sym at ∙ there in cc) in
-    let same_place : area_place b last ≡ place = (let w : ◌≡◌ {A = Option AreaPlace} (Some (area_place b last)) (Some place) = sym (get_last placed k (area_place b last) count) ∙ here in cc) in
+    let same_area : a ≡ c = (let w : ◌≡◌ {A = Option MemoryArea} (Some a) (Some c) = sym at ∙ there in cc) in
+    let same_place : area_place b last ≡ place = (let w : ◌≡◌ {A = Option AreaPlacement} (Some (area_place b last)) (Some place) = sym (get_last placed k (area_place b last) count) ∙ here in cc) in
     let g = summed_of (standing k script.areas script.rows a placed ss) b made in
     let starts : b.start ≡ g.start = g.spans.starts in
     let ends : b.end ≡ g.start + g.size = g.spans.ends in
@@ -169,7 +169,7 @@ sums_made script k a placed ss ts b last at count made e c place there here =
     let settled = rows_settled k k a b script.rows ss ts b.start last (omega arith) e in
     let first = found_of (standing k script.areas script.rows a placed ss) a.start g.start g.starts in
     let second = found_of (with_start (standing k script.areas script.rows a placed ss) g.start) a.size g.size g.sizes in
-    let places : List AreaPlace = placed ++ area_place b last ∷ [] in
+    let places : List AreaPlacement = placed ++ area_place b last ∷ [] in
     let start : HasSum places (map row_place ts) a.start g.start = sum_same k false script.rows (placed ++ own_place None) places ss ts a.start g.start (first_agrees k placed (area_place b last) count) settled first.known first.sum in
     let size : HasSum places (map row_place ts) a.size g.size = sum_same k true script.rows (placed ++ own_place (Some g.start)) places ss ts a.size g.size (own_agrees k placed (area_place b last) g.start count starts) settled second.known second.sum in
     let so : SumsSo k script.rows places ts a (area_place b last) = record {
@@ -202,8 +202,8 @@ pub sums_hold : SumsHold
 sums_hold script needs p h k a place at here =
     let g : Holds (SumsIn script) (length script.areas) p = all_hold script needs p (SumsIn script) (sums_made script) (sums_kept script) h in
     let so = g.each k (slice_get_within script.areas k a at) a place at here in
-    let P : List RowPlace → Type 0 = λ rs. HasSum p.areas rs a.start place.start in
-    let Q : List RowPlace → Type 0 = λ rs. HasSum p.areas rs a.size place.size in
+    let P : List RowPlacement → Type 0 = λ rs. HasSum p.areas rs a.start place.start in
+    let Q : List RowPlacement → Type 0 = λ rs. HasSum p.areas rs a.size place.size in
     record {
       start = subst P (sym g.rows) so.start;
       size = subst Q (sym g.rows) so.size;

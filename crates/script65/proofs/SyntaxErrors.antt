@@ -2,10 +2,10 @@
 use Rattle.std.proofs.Common.{arith, ◌≡◌, ◌≤◌, ◌<◌, ◌⊎◌, inl, inr, ℕ, List, [], ◌∷◌, ◌++◌, length, take, Option, Some, None, Result, Ok, Err, refl, sym, ap, ◌∙◌, subst}
 use Rattle.script65.specs.declared.fault.Fault.{Fault}
 use Rattle.script65.specs.declared.fault.Fault.TheVariants.{OutOfRange, SyntaxError}
-use Rattle.script65.specs.declared.fault.Stop.{Stop}
-use Rattle.script65.specs.Breaks.{Breaks, Move, Place, here, later, on, stop, move, moves, between_blocks, behind_block_word, between_entries, behind_name, between_attributes, behind_word, before_value, before_term, behind_term, behind_value, attribute_value, sum_end}
-use Rattle.script65.specs.Attributes.{Block, Takes, Value, a_sum}
-use Rattle.script65.specs.Entries.{Entries, Entry, Part, no_entries, sum_of_parts}
+use Rattle.script65.specs.declared.fault.FaultAt.{FaultAt}
+use Rattle.script65.specs.SyntaxErrors.{SyntaxErrorAt, Move, ParseState, here, later, on, stop, token_move, moves, between_blocks, after_block_word, between_entries, after_name, between_attributes, after_word, before_value, before_term, after_term, after_value, attribute_value, sum_end}
+use Rattle.script65.specs.Attributes.{Block, ValueKind, Value, a_sum}
+use Rattle.script65.specs.Entries.{Entries, ConfigEntry, ParsedTerm, no_entries, sum_of_parts}
 use Rattle.script65.specs.Faults.{stop_at}
 use Rattle.script65.specs.FirstFaults.{FirstFaults, GoesToWrongEnd, HasFault, IsFirst, IsInGrammar, IsLeast, IsWrong, SameTokensUpTo, no_token, numbered, same_token, syntax_error, wrong_end}
 use Rattle.script65.specs.Grammar.{no_block}
@@ -16,33 +16,33 @@ use Rattle.script65.proofs.FaultsRead.{fault_own, fault_reads}
 use Rattle.script65.proofs.KeptTokens.{Cut, IsSolid, cut, cut_rest, token_kept, token_within}
 use Rattle.script65.proofs.NoContinuation.{IsAt, move_at}
 use Rattle.script65.proofs.OneReading.{Leads, end_leads, reads_one, reads_some}
-use Rattle.script65.proofs.StoodBefore.{Before, Behind, fault_of, moved}
+use Rattle.script65.proofs.StoodBefore.{Before, Following, fault_of, moved}
 use Rattle.script65.proofs.TokenByToken.{Reads, next, stops}
 use Rattle.script65.proofs.Written.{is_read, read_of, written_reads}
 
 -- ---- The end and a byte without a token lead nowhere.
 
-no_value : (es : Entries) (b : Block) (e : Entry) (a : List ℕ) (t : Takes) (at : ℕ) → Leads (attribute_value es b e a t none at) → ⊥
+no_value : (es : Entries) (b : Block) (e : ConfigEntry) (a : List ℕ) (t : ValueKind) (at : ℕ) → Leads (attribute_value es b e a t none at) → ⊥
 no_value es b e a a_sum at h = h
 no_value es b e a _ at h = h
 
-no_sum : (es : Entries) (b : Block) (e : Entry) (a : List ℕ) (ps : List Part) (v : Option Value) (at : ℕ) → Leads (sum_end es b e a ps v none at) → ⊥
+no_sum : (es : Entries) (b : Block) (e : ConfigEntry) (a : List ℕ) (ps : List ParsedTerm) (v : Option Value) (at : ℕ) → Leads (sum_end es b e a ps v none at) → ⊥
 no_sum es b e a ps (Some v) at h = h
 no_sum es b e a ps None at h = h
 
-none_leads : (es : Entries) (p : Place) (at : ℕ) → Leads (move es p none at) → ⊥
+none_leads : (es : Entries) (p : ParseState) (at : ℕ) → Leads (token_move es p none at) → ⊥
 none_leads es between_blocks at h = h
-none_leads es (behind_block_word b) at h = h
+none_leads es (after_block_word b) at h = h
 none_leads es (between_entries b) at h = h
-none_leads es (behind_name b e) at h = h
+none_leads es (after_name b e) at h = h
 none_leads es (between_attributes b e) at h = h
-none_leads es (behind_word b e row) at h = no_value es b e row.0 row.1 at h
+none_leads es (after_word b e row) at h = no_value es b e row.0 row.1 at h
 none_leads es (before_value b e row) at h = no_value es b e row.0 row.1 at h
 none_leads es (before_term b e a ps taken) at h = h
-none_leads es (behind_term b e a ps) at h = no_sum es b e a ps (sum_of_parts ps) at h
-none_leads es (behind_value b e) at h = h
+none_leads es (after_term b e a ps) at h = no_sum es b e a ps (sum_of_parts ps) at h
+none_leads es (after_value b e) at h = h
 
-solid : (es : Entries) (p : Place) (l : Lexeme) (at : ℕ) → Leads (move es p l at) → IsSolid l
+solid : (es : Entries) (p : ParseState) (l : Lexeme) (at : ℕ) → Leads (token_move es p l at) → IsSolid l
 solid es p the_end at h = end_leads es p at h
 solid es p none at h = none_leads es p at h
 solid es p _ at h = tt
@@ -50,31 +50,31 @@ solid es p _ at h = tt
 -- ---- Texts with the same tokens.
 
 module _ (bytes : List ℕ) where
-  first_token : (other : List ℕ) (at to : ℕ) → at < to → SameTokensUpTo bytes other at to → (token other at ≡ token bytes at) × SameTokensUpTo bytes other (token bytes at).behind to
+  first_token : (other : List ℕ) (at to : ℕ) → at < to → SameTokensUpTo bytes other at to → (token other at ≡ token bytes at) × SameTokensUpTo bytes other (token bytes at).following to
   first_token other _ _ lt (no_token at) = absurd (omega arith)
   first_token other _ _ lt (same_token at to e rest) = (e, rest)
 
   itself : (other : List ℕ) (at to : ℕ) → SameTokensUpTo bytes other at to → SameTokensUpTo bytes bytes at to
   itself other _ _ (no_token at) = no_token at
-  itself other _ _ (same_token at to e rest) = same_token at to refl (itself other (token bytes at).behind to rest)
+  itself other _ _ (same_token at to e rest) = same_token at to refl (itself other (token bytes at).following to rest)
 
   -- where tokens lead that may stand where they stand, up to one that may not
-  record Reached (es : Entries) (p : Place) (at : ℕ) (f : Stop) : Type 0 where
+  record Reached (es : Entries) (p : ParseState) (at : ℕ) (f : FaultAt) : Type 0 where
     pub fs : Entries
-    pub q : Place
+    pub q : ParseState
     pub place : ℕ
     pub from : at ≤ place
     pub within : place ≤ length bytes
     pub is : moves bytes fs q place ≡ stop f.fault f.at
     pub kept : (other : List ℕ) → Cut place bytes other → SameTokensUpTo bytes other at place
     pub before : (other : List ℕ) → SameTokensUpTo bytes other at place → Before other es p at → Before other fs q place
-    pub reads : (other : List ℕ) (r : Result Entries Stop) → SameTokensUpTo bytes other at place → Reads other fs q place r → Reads other es p at r
+    pub reads : (other : List ℕ) (r : Result Entries FaultAt) → SameTokensUpTo bytes other at place → Reads other fs q place r → Reads other es p at r
 
-  reached : (es : Entries) (p : Place) (at : ℕ) (f : Stop) → at ≤ length bytes → Breaks bytes es p at f → Reached es p at f
+  reached : (es : Entries) (p : ParseState) (at : ℕ) (f : FaultAt) → at ≤ length bytes → SyntaxErrorAt bytes es p at f → Reached es p at f
   reached _ _ _ _ le (later es fs p q at f e rest) =
       let solid_there : IsSolid (token bytes at).lexeme = solid es p (token bytes at).lexeme (token bytes at).at (subst Leads (sym e) tt) in
       let ends = token_within bytes at le solid_there in
-      let r = reached fs q (token bytes at).behind f ends.0 rest in
+      let r = reached fs q (token bytes at).following f ends.0 rest in
       let lt : at < r.place = omega (arith, ends.1, r.from) in
       record {
         fs = r.fs;
@@ -86,11 +86,11 @@ module _ (bytes : List ℕ) where
         kept = λ other c. same_token at r.place (token_kept bytes other at r.place c r.from solid_there) (r.kept other c);
         before = λ other s b.
             let t = first_token other at r.place lt s in
-            let there : Before other fs q (token other at).behind = subst (Behind other at) (ap (λ (x : Token). move es p x.lexeme x.at) t.0 ∙ e) (moved other es p at b) in
-            r.before other t.1 (subst (Before other fs q) (ap (λ (x : Token). x.behind) t.0) there);
+            let there : Before other fs q (token other at).following = subst (Following other at) (ap (λ (x : Token). token_move es p x.lexeme x.at) t.0 ∙ e) (moved other es p at b) in
+            r.before other t.1 (subst (Before other fs q) (ap (λ (x : Token). x.following) t.0) there);
         reads = λ other u s k.
             let t = first_token other at r.place lt s in
-            next es fs p q at u (ap (λ (x : Token). move es p x.lexeme x.at) t.0 ∙ e) (subst (λ n. Reads other fs q n u) (sym (ap (λ (x : Token). x.behind) t.0)) (r.reads other u t.1 k));
+            next es fs p q at u (ap (λ (x : Token). token_move es p x.lexeme x.at) t.0 ∙ e) (subst (λ n. Reads other fs q n u) (sym (ap (λ (x : Token). x.following) t.0)) (r.reads other u t.1 k));
       }
   reached _ _ _ _ le (here es p at fault place e) = record {
     fs = es;
@@ -106,7 +106,7 @@ module _ (bytes : List ℕ) where
 
   -- ---- The least token.
 
-  module _ (f : Stop) (h : Breaks bytes no_entries between_blocks 0 f) where
+  module _ (f : FaultAt) (h : SyntaxErrorAt bytes no_entries between_blocks 0 f) where
     there : Reached no_entries between_blocks 0 f
     there = reached no_entries between_blocks 0 f (omega arith) h
 
@@ -115,17 +115,17 @@ module _ (bytes : List ℕ) where
     no_text syntax text s t g = by g
       where
         stopped : Reads text no_entries between_blocks 0 (Err f)
-        stopped = there.reads text (Err f) s (stops there.fs there.q there.place f.fault f.at (ap (λ (x : Token). move there.fs there.q x.lexeme x.at) t ∙ there.is))
+        stopped = there.reads text (Err f) s (stops there.fs there.q there.place f.fault f.at (ap (λ (x : Token). token_move there.fs there.q x.lexeme x.at) t ∙ there.is))
 
-        other_fault : (g : Stop) → HasFault text g → ⊥
+        other_fault : (g : FaultAt) → HasFault text g → ⊥
         other_fault g k =
-            let both : ◌≡◌ {A = Result Entries Stop} (Err g) (Err f) = reads_one text no_entries between_blocks 0 (Err g) (Err f) (fault_reads text g k) stopped in
+            let both : ◌≡◌ {A = Result Entries FaultAt} (Err g) (Err f) = reads_one text no_entries between_blocks 0 (Err g) (Err f) (fault_reads text g k) stopped in
             let same : g ≡ f = cc in
-            fault_own text g k (ap (λ (s : Stop). s.fault) same ∙ syntax)
+            fault_own text g k (ap (λ (s : FaultAt). s.fault) same ∙ syntax)
 
         by : IsInGrammar text ⊎ GoesToWrongEnd text there.place → ⊥
         by (inl w) =
-            let both : ◌≡◌ {A = Result Entries Stop} (Ok w.0) (Err f) = reads_one text no_entries between_blocks 0 (Ok w.0) (Err f) (written_reads text w.0 w.1) stopped in
+            let both : ◌≡◌ {A = Result Entries FaultAt} (Ok w.0) (Err f) = reads_one text no_entries between_blocks 0 (Ok w.0) (Err f) (written_reads text w.0 w.1) stopped in
             cc
         by (inr w) = other_fault (stop_at w.fault (token text w.at).at) (wrong_end w.block w.entries w.entry w.fault w.at w.inside w.ends w.wrong)
 
@@ -147,13 +147,13 @@ module _ (bytes : List ℕ) where
         by (inl e) = sym e
         by (inr e) = let never : SyntaxError ≡ OutOfRange = sym syntax ∙ e in absurd cc
 
-    no_fault : f.fault ≡ SyntaxError → (g : Stop) → HasFault bytes g → ⊥
+    no_fault : f.fault ≡ SyntaxError → (g : FaultAt) → HasFault bytes g → ⊥
     no_fault syntax g k =
-        let both : ◌≡◌ {A = Result Entries Stop} (Err g) (Err f) = reads_one bytes no_entries between_blocks 0 (Err g) (Err f) (fault_reads bytes g k) (read_of bytes (Err f) h) in
+        let both : ◌≡◌ {A = Result Entries FaultAt} (Err g) (Err f) = reads_one bytes no_entries between_blocks 0 (Err g) (Err f) (fault_reads bytes g k) (read_of bytes (Err f) h) in
         let same : g ≡ f = cc in
-        fault_own bytes g k (ap (λ (s : Stop). s.fault) same ∙ syntax)
+        fault_own bytes g k (ap (λ (s : FaultAt). s.fault) same ∙ syntax)
 
-  first_of : (f : Stop) → IsRead bytes (Err f) → IsFirst bytes f
+  first_of : (f : FaultAt) → IsRead bytes (Err f) → IsFirst bytes f
   first_of f h = by (fault_of bytes f h)
     where
       by : (f.fault ≡ SyntaxError) ⊎ HasFault bytes f → IsFirst bytes f
@@ -169,13 +169,13 @@ module _ (bytes : List ℕ) where
   goes_less text p q le (inr w) = inr (record { block = w.1.block; entries = w.1.entries; entry = w.1.entry; fault = w.1.fault; at = w.1.at; inside = w.1.inside; further = omega (arith, w.1.further); ends = w.1.ends; wrong = w.1.wrong; whole = w.1.whole })
 
   -- of two places to which tokens lead one is behind the other, or they are the same
-  behind_token : (at : ℕ) → at ≤ (token bytes at).behind
+  after_token : (at : ℕ) → at ≤ (token bytes at).following
   unfolding token
-  behind_token at = omega arith
+  after_token at = omega arith
 
   along : (x : List ℕ) (at to : ℕ) → SameTokensUpTo bytes x at to → at ≤ to
   along x _ _ (no_token at) = omega arith
-  along x _ _ (same_token at to e rest) = omega (arith, behind_token at, along x (token bytes at).behind to rest)
+  along x _ _ (same_token at to e rest) = omega (arith, after_token at, along x (token bytes at).following to rest)
 
   -- a text has the tokens up to a place and the one there
   record Passes (x : List ℕ) (at place : ℕ) : Type 0 where
@@ -186,35 +186,35 @@ module _ (bytes : List ℕ) where
   in_order x y _ _ _ (no_token at) (no_token _) = inl refl
   in_order x y _ _ _ (no_token at) (same_token _ q e rest) = inr (inl (record { same = no_token at; there = e }, along y at q (same_token at q e rest)))
   in_order x y _ _ _ (same_token at p e rest) (no_token _) = inr (inr (record { same = no_token at; there = e }, along x at p (same_token at p e rest)))
-  in_order x y _ _ _ (same_token at p e rest) (same_token _ q d more) = by (in_order x y (token bytes at).behind p q rest more)
+  in_order x y _ _ _ (same_token at p e rest) (same_token _ q d more) = by (in_order x y (token bytes at).following p q rest more)
     where
-      by : (p ≡ q) ⊎ ((Passes y (token bytes at).behind p × (p ≤ q)) ⊎ (Passes x (token bytes at).behind q × (q ≤ p))) → (p ≡ q) ⊎ ((Passes y at p × (p ≤ q)) ⊎ (Passes x at q × (q ≤ p)))
+      by : (p ≡ q) ⊎ ((Passes y (token bytes at).following p × (p ≤ q)) ⊎ (Passes x (token bytes at).following q × (q ≤ p))) → (p ≡ q) ⊎ ((Passes y at p × (p ≤ q)) ⊎ (Passes x at q × (q ≤ p)))
       by (inl same) = inl same
       by (inr (inl h)) = inr (inl (record { same = same_token at p d h.0.same; there = h.0.there }, h.1))
       by (inr (inr h)) = inr (inr (record { same = same_token at q e h.0.same; there = h.0.there }, h.1))
 
-  read_least : (place : ℕ) → ((f : Stop) → HasFault bytes f → ⊥) → IsLeast bytes place → IsRead bytes (Err (stop_at SyntaxError (token bytes place).at))
+  read_least : (place : ℕ) → ((f : FaultAt) → HasFault bytes f → ⊥) → IsLeast bytes place → IsRead bytes (Err (stop_at SyntaxError (token bytes place).at))
   read_least place no_fault_there l = by some.0 some.1
     where
-      some : (r : Result Entries Stop) × Reads bytes no_entries between_blocks 0 r
+      some : (r : Result Entries FaultAt) × Reads bytes no_entries between_blocks 0 r
       some = reads_some bytes (length bytes) 0 no_entries between_blocks (omega arith)
 
-      same_place : (f : Stop) (h : IsRead bytes (Err f)) (syntax : f.fault ≡ SyntaxError) → (place ≡ (there f h).place) ⊎ ((Passes (least f h syntax).other 0 place × (place ≤ (there f h).place)) ⊎ (Passes l.other 0 (there f h).place × ((there f h).place ≤ place))) → IsRead bytes (Err (stop_at SyntaxError (token bytes place).at))
+      same_place : (f : FaultAt) (h : IsRead bytes (Err f)) (syntax : f.fault ≡ SyntaxError) → (place ≡ (there f h).place) ⊎ ((Passes (least f h syntax).other 0 place × (place ≤ (there f h).place)) ⊎ (Passes l.other 0 (there f h).place × ((there f h).place ≤ place))) → IsRead bytes (Err (stop_at SyntaxError (token bytes place).at))
       same_place f h syntax (inl same) =
           let is : f ≡ stop_at SyntaxError (token bytes place).at = ap (λ (c : Fault). stop_at c f.at) syntax ∙ ap (λ n. stop_at SyntaxError n) (sym (found_there f h syntax)) ∙ ap (λ n. stop_at SyntaxError (token bytes n).at) (sym same) in
-          subst (λ (f : Stop). IsRead bytes (Err f)) is h
+          subst (λ (f : FaultAt). IsRead bytes (Err f)) is h
       same_place f h syntax (inr (inl k)) = absurd (l.ends (least f h syntax).other k.0.same k.0.there (goes_less (least f h syntax).other place (there f h).place k.1 (least f h syntax).goes_on))
       same_place f h syntax (inr (inr k)) = absurd ((least f h syntax).ends l.other k.0.same k.0.there (goes_less l.other (there f h).place place k.1 l.goes_on))
 
-      by_fault : (f : Stop) → IsRead bytes (Err f) → (f.fault ≡ SyntaxError) ⊎ HasFault bytes f → IsRead bytes (Err (stop_at SyntaxError (token bytes place).at))
+      by_fault : (f : FaultAt) → IsRead bytes (Err f) → (f.fault ≡ SyntaxError) ⊎ HasFault bytes f → IsRead bytes (Err (stop_at SyntaxError (token bytes place).at))
       by_fault f h (inr k) = absurd (no_fault_there f k)
       by_fault f h (inl syntax) = same_place f h syntax (in_order l.other (least f h syntax).other 0 place (there f h).place l.same (least f h syntax).same)
 
-      by : (r : Result Entries Stop) → Reads bytes no_entries between_blocks 0 r → IsRead bytes (Err (stop_at SyntaxError (token bytes place).at))
+      by : (r : Result Entries FaultAt) → Reads bytes no_entries between_blocks 0 r → IsRead bytes (Err (stop_at SyntaxError (token bytes place).at))
       by (Ok es) k = absurd (l.ends bytes (itself l.other 0 place l.same) refl (inl (es, is_read bytes (Ok es) k)))
       by (Err f) k = by_fault f (is_read bytes (Err f) k) (fault_of bytes f (is_read bytes (Err f) k))
 
-  read_first : (f : Stop) → IsFirst bytes f → IsRead bytes (Err f)
+  read_first : (f : FaultAt) → IsFirst bytes f → IsRead bytes (Err f)
   read_first _ (numbered f h) = is_read bytes (Err f) (fault_reads bytes f h)
   read_first _ (syntax_error place no_fault_there l) = read_least place no_fault_there l
 

@@ -5,8 +5,8 @@ use Rattle.std.specs.List.{AllByRecursion, list_any, position_or_len}
 use Rattle.std.specs.Map.{lookup}
 use Rattle.std.specs.Str.{bytes_eq}
 use Rattle.indexmap.specs.IndexMap.{insert_entry}
-use Rattle.script65.specs.declared.reading.entries.Entry.{Entry}
-use Rattle.script65.specs.Inner.Tables.{AreNamed}
+use Rattle.script65.specs.declared.reading.entries.ConfigEntry.{ConfigEntry}
+use Rattle.script65.specs.Internal.Tables.{KeysMatchNames}
 
 module _ {X Y Z : Type 0} (f : X → Y) (g : X → Z) (p : Y → Bool) (q : Z → Bool) where
   lengths : (xs : List X) → length (map f xs) ≡ length (map g xs)
@@ -38,19 +38,19 @@ module _ {K V Z : Type 0} (eq : K → K → Bool) (g : K × V → Z) (q : V → 
 
 -- under its own name each entry is found by that
 module _ {K : Type 0} (key : K → List ℕ) (name : List ℕ) where
-  pub by_names : (es : List (K × Entry)) → AreNamed (map (λ e. (key e.0, e.1)) es) → AllByRecursion (λ (e : K × Entry). bytes_eq name (key e.0) ≡ bytes_eq name e.1.name) es
+  pub by_names : (es : List (K × ConfigEntry)) → KeysMatchNames (map (λ e. (key e.0, e.1)) es) → AllByRecursion (λ (e : K × ConfigEntry). bytes_eq name (key e.0) ≡ bytes_eq name e.1.name) es
   by_names [] h = tt
   by_names (e ∷ es) h = (ap (bytes_eq name) h.0, by_names es h.1)
 
-pub named_too : (es : List (List ℕ × Entry)) (e : List ℕ × Entry) → AreNamed es → e.0 ≡ e.1.name → AreNamed (es ++ e ∷ [])
+pub named_too : (es : List (List ℕ × ConfigEntry)) (e : List ℕ × ConfigEntry) → KeysMatchNames es → e.0 ≡ e.1.name → KeysMatchNames (es ++ e ∷ [])
 named_too [] e h own = (own, tt)
 named_too (f ∷ es) e h own = (h.0, named_too es e h.1 own)
 
 module _ {K : Type 0} (key : K → List ℕ) (eq : K → K → Bool) (is : (k l : K) → eq k l ≡ bytes_eq (key k) (key l)) where
   -- an entry of a new name goes last
-  pub pushed : (es : List (K × Entry)) (k : K) (v : Entry) (old : List Entry) → map (λ e. e.1) es ≡ old → key k ≡ v.name → AreNamed (map (λ e. (key e.0, e.1)) es) → list_any (λ (e : Entry). bytes_eq v.name e.name) old ≡ false → {Z : Type 0} (g : K × Entry → Z) → map g (insert_entry eq es k v) ≡ map g es ++ g (k, v) ∷ []
-  pushed es k v old seen own named new g = map-insert_entry eq g (λ (e : Entry). bytes_eq v.name e.name) k v es (same es named) (rw seen new)
+  pub pushed : (es : List (K × ConfigEntry)) (k : K) (v : ConfigEntry) (old : List ConfigEntry) → map (λ e. e.1) es ≡ old → key k ≡ v.name → KeysMatchNames (map (λ e. (key e.0, e.1)) es) → list_any (λ (e : ConfigEntry). bytes_eq v.name e.name) old ≡ false → {Z : Type 0} (g : K × ConfigEntry → Z) → map g (insert_entry eq es k v) ≡ map g es ++ g (k, v) ∷ []
+  pushed es k v old seen own named new g = map-insert_entry eq g (λ (e : ConfigEntry). bytes_eq v.name e.name) k v es (same es named) (rw seen new)
     where
-      same : (es : List (K × Entry)) → AreNamed (map (λ e. (key e.0, e.1)) es) → AllByRecursion (λ (e : K × Entry). eq k e.0 ≡ bytes_eq v.name e.1.name) es
+      same : (es : List (K × ConfigEntry)) → KeysMatchNames (map (λ e. (key e.0, e.1)) es) → AllByRecursion (λ (e : K × ConfigEntry). eq k e.0 ≡ bytes_eq v.name e.1.name) es
       same [] h = tt
       same (e ∷ es) h = (is k e.0 ∙ ap (λ n. bytes_eq n (key e.0)) own ∙ ap (bytes_eq v.name) h.0, same es h.1)

@@ -4,21 +4,21 @@ use Rattle.std.proofs.Common.{◌≡◌, ◌≤◌, ℕ, ◌+◌, ◌^◌, Bool,
 use Rattle.std.specs.Prelude.{Result, if◌then◌else◌, ◌||◌}
 use Rattle.std.specs.List.{AllByRecursion, list_any}
 use Rattle.std.proofs.lemmas.Bool.Decides.{nat_tests}
-use Rattle.base65.specs.Outcome.{◌>>=◌, each}
-use Rattle.script65.specs.declared.fault.Stop.{Stop}
-use Rattle.script65.specs.AreaSums.{come_to, difference, Standing, bounds_in, is_known, number_or_fault, operand_known, places_there, spanned, sum_by, sum_in, sum_of, sum_unless, term_value, with_start}
-use Rattle.script65.specs.declared.script.Area.{Area}
+use Rattle.base65.specs.Outcome.{◌>>=◌, try_map}
+use Rattle.script65.specs.declared.fault.FaultAt.{FaultAt}
+use Rattle.script65.specs.AreaSums.{come_to, difference, SumContextView, bounds_in, is_known, number_or_fault, operand_known, places_there, area_bounds, sum_by, sum_in, sum_of, sum_unless, term_value, with_start}
+use Rattle.script65.specs.declared.script.MemoryArea.{MemoryArea}
 use Rattle.script65.specs.declared.script.Operand.TheVariants as operand
-use Rattle.script65.specs.declared.script.Row.{Row}
+use Rattle.script65.specs.declared.script.SegmentRow.{SegmentRow}
 use Rattle.script65.specs.declared.script.Term.{Term}
 use Rattle.script65.specs.PlacingLaws.{AreFixed, AreNumbers, IsFixed, OnlyNumbers, fixed_from, HasNoNames, NoNamesFixed}
 use Rattle.script65.specs.Placing.{area_place, areas_from, rows_from, standing}
-use Rattle.script65.specs.declared.placement.AreaPlace.{AreaPlace}
+use Rattle.script65.specs.declared.placement.AreaPlacement.{AreaPlacement}
 use Rattle.script65.specs.declared.placement.PlaceFault.{PlaceFault}
 use Rattle.script65.specs.declared.placement.PlaceFault.TheVariants.{AreaOutOfRange}
-use Rattle.script65.specs.declared.placement.RowPlace.{RowPlace}
+use Rattle.script65.specs.declared.placement.RowPlacement.{RowPlacement}
 use Rattle.script65.specs.declared.placing.site.Bounds.{Bounds}
-use Rattle.script65.specs.declared.placing.site.Spot.{Spot}
+use Rattle.script65.specs.declared.placing.site.RowState.{RowState}
 use Rattle.std.specs.Option.{option_map, option_map_or, option_and_then}
 use Rattle.std.specs.Prelude.{⊤}
 use Rattle.std.proofs.Common.{cond}
@@ -26,13 +26,13 @@ use Rattle.script65.specs.declared.fault.Fault.{Fault}
 use Rattle.script65.specs.declared.fault.Fault.TheVariants.{AttributeTwice, NameTwice, SyntaxError}
 use Rattle.std.specs.Prelude.{codes}
 use Rattle.std.specs.Str.{bytes_eq, str_eq_ignore_ascii_case}
-use Rattle.script65.specs.Attributes.{Block, memory, segments, symbols, Takes, a_sum, a_byte, number_from, one_of, an_area, a_file, Value, number, unknown_sum, attributes, blocks, row_of, said}
-use Rattle.script65.specs.Entries.{Entries, Entry, Given, Part, area_closing, as_number, closing_fault, given_for, is_given, no_entries, number_for, of_kind, part_of, parts_for, sum_of_parts, value_for, value_of, with_given}
-use Rattle.script65.specs.Breaks.{Place, Move, on, done, stop, between_blocks, behind_block_word, between_entries, behind_name, between_attributes, behind_word, before_value, before_term, behind_term, behind_value}
+use Rattle.script65.specs.Attributes.{Block, memory, segments, symbols, ValueKind, a_sum, a_byte, number_from, one_of, an_area, a_file, Value, number, unknown_sum, attributes, blocks, find_keyword, value_of_word}
+use Rattle.script65.specs.Entries.{Entries, ConfigEntry, AttributeValue, ParsedTerm, area_closing, as_number, entry_fault, given_for, is_given, no_entries, number_for, of_kind, part_of, parts_for, sum_of_parts, value_for, value_of, with_given}
+use Rattle.script65.specs.SyntaxErrors.{ParseState, Move, on, done, stop, between_blocks, after_block_word, between_entries, after_name, between_attributes, after_word, before_value, before_term, after_term, after_value}
 use Rattle.script65.proofs.TokenByToken.{Reads, next, ends, stops, ReadsText}
 use Rattle.script65.proofs.Written.{reads_of}
 use Rattle.script65.specs.Entries as entries
-use Rattle.script65.specs.Breaks as breaks
+use Rattle.script65.specs.SyntaxErrors as breaks
 use Rattle.script65.specs.Scripts.{LengthOr, area_from, is_too_long, sum_for, sums_of, term_from}
 use Rattle.script65.specs.Tokens.{Lexeme, token, word, semicolon, comma, colon, equals, plus, minus, brace, end_brace, the_end}
 use Rattle.script65.proofs.Named.{and_then, each_holds, extent_is, made_of, ok_is}
@@ -43,20 +43,20 @@ abbrev AllNumbers : List Term → Type 0
 AllNumbers ts = AllByRecursion (λ (t : Term). (m : ℕ) × (t.operand ≡ operand.Number m)) ts
 
 -- numbers come to the same wherever areas and rows are placed
-come_fixed : (is : Term → Bool) (ps qs : List AreaPlace) (rs us : List RowPlace) (ts : List Term) → AllNumbers ts → come_to is (term_value ps rs) ts ≡ come_to is (term_value qs us) ts
+come_fixed : (is : Term → Bool) (ps qs : List AreaPlacement) (rs us : List RowPlacement) (ts : List Term) → AllNumbers ts → come_to is (term_value ps rs) ts ≡ come_to is (term_value qs us) ts
 come_fixed is ps qs rs us [] h = refl
 come_fixed is ps qs rs us (t ∷ ts) h = grind (arith, common_steps, (come_fixed is ps qs rs us ts h.1))
 
-sum_fixed : (ps : List AreaPlace) (rs : List RowPlace) (ts : List Term) (n : ℕ) → AreNumbers ts n → sum_by ps rs ts ≡ Some n
+sum_fixed : (ps : List AreaPlacement) (rs : List RowPlacement) (ts : List Term) (n : ℕ) → AreNumbers ts n → sum_by ps rs ts ≡ Some n
 sum_fixed ps rs ts n h = grind (arith, common_steps, come_fixed)
 
-none_unknown : (k : ℕ) (begun : Bool) (rows : List Row) (ts : List Term) → AllNumbers ts → find (λ t. not (is_known k begun rows t)) ts ≡ None
+none_unknown : (k : ℕ) (begun : Bool) (rows : List SegmentRow) (ts : List Term) → AllNumbers ts → find (λ t. not (is_known k begun rows t)) ts ≡ None
 none_unknown k begun rows [] h = refl
 none_unknown k begun rows (t ∷ ts) h =
     ap (λ o. if not (operand_known k begun rows o) then Some t else find (λ t. not (is_known k begun rows t)) ts) h.0.1
     ∙ none_unknown k begun rows ts h.1
 
-in_fixed : (s : Standing) (ts : List Term) (n : ℕ) → AreNumbers ts n → sum_in s ts ≡ Ok n
+in_fixed : (s : SumContextView) (ts : List Term) (n : ℕ) → AreNumbers ts n → sum_in s ts ≡ Ok n
 in_fixed s ts n h =
     ap (sum_unless s ts) (none_unknown s.k (is_some s.start) s.rows ts h.numbers)
     ∙ ap (number_or_fault s.own.name) (sum_fixed (places_there s) s.row_places ts n h)
@@ -64,17 +64,17 @@ in_fixed s ts n h =
 pub not_over : (x : ℕ) → x ≤ 2 ^ 32 → nat_lt (2 ^ 32) x ≡ false
 not_over x h = grind (arith, nat_tests)
 
-bounds_fixed : (s : Standing) (b : Bounds) → IsFixed s.own b → bounds_in s ≡ Ok b
+bounds_fixed : (s : SumContextView) (b : Bounds) → IsFixed s.own b → bounds_in s ≡ Ok b
 bounds_fixed s b h =
     let ends : b.end ≡ b.start + h.size = h.ends in
     let small : b.start + h.size ≤ 2 ^ 32 = omega (arith, h.inside) in
     let made : Bounds = record { start = b.start; end = b.start + h.size } in
-    ap (λ r. r >>= λ start. sum_in (with_start s start) s.own.size >>= λ size. spanned s.own.name start size) (in_fixed s s.own.start b.start h.starts)
-    ∙ ap (λ r. r >>= λ size. spanned s.own.name b.start size) (in_fixed (with_start s b.start) s.own.size h.size h.spans)
+    ap (λ r. r >>= λ start. sum_in (with_start s start) s.own.size >>= λ size. area_bounds s.own.name start size) (in_fixed s s.own.start b.start h.starts)
+    ∙ ap (λ r. r >>= λ size. area_bounds s.own.name b.start size) (in_fixed (with_start s b.start) s.own.size h.size h.spans)
     ∙ ap (λ t. if t then Err (AreaOutOfRange s.own.name) else Ok made) (not_over (b.start + h.size) small)
     ∙ ap (λ n. let c : Bounds = record { start = b.start; end = n } in let r : Result Bounds PlaceFault = Ok c in r) (sym ends)
 
-areas_fixed : (all : List Area) (rows : List Row) (areas : List Area) (bs : List Bounds) (k : ℕ) (placed : List AreaPlace) (ss : List Spot) → AreFixed areas bs → areas_from k all rows areas placed ss ≡ fixed_from k rows areas bs placed ss
+areas_fixed : (all : List MemoryArea) (rows : List SegmentRow) (areas : List MemoryArea) (bs : List Bounds) (k : ℕ) (placed : List AreaPlacement) (ss : List RowState) → AreFixed areas bs → areas_from k all rows areas placed ss ≡ fixed_from k rows areas bs placed ss
 areas_fixed all rows [] [] k placed ss h = refl
 areas_fixed all rows [] (b ∷ bs) k placed ss h = absurd h
 areas_fixed all rows (a ∷ rest) [] k placed ss h = absurd h
@@ -82,7 +82,7 @@ areas_fixed all rows (a ∷ rest) (b ∷ bs) k placed ss h =
     ap (λ r. r >>= λ b. rows_from k a b rows ss b.start >>= λ x. areas_from (k + 1) all rows rest (placed ++ area_place b x.1 ∷ []) x.0) (bounds_fixed (standing k all rows a placed ss) b h.0)
     ∙ by (rows_from k a b rows ss b.start) (λ x. areas_fixed all rows rest bs (k + 1) (placed ++ area_place b x.1 ∷ []) x.0 h.1)
   where
-    by : (r : Result (List Spot × ℕ) PlaceFault) → ((x : List Spot × ℕ) → areas_from (k + 1) all rows rest (placed ++ area_place b x.1 ∷ []) x.0 ≡ fixed_from (k + 1) rows rest bs (placed ++ area_place b x.1 ∷ []) x.0) → (r >>= λ x. areas_from (k + 1) all rows rest (placed ++ area_place b x.1 ∷ []) x.0) ≡ (r >>= λ x. fixed_from (k + 1) rows rest bs (placed ++ area_place b x.1 ∷ []) x.0)
+    by : (r : Result (List RowState × ℕ) PlaceFault) → ((x : List RowState × ℕ) → areas_from (k + 1) all rows rest (placed ++ area_place b x.1 ∷ []) x.0 ≡ fixed_from (k + 1) rows rest bs (placed ++ area_place b x.1 ∷ []) x.0) → (r >>= λ x. areas_from (k + 1) all rows rest (placed ++ area_place b x.1 ∷ []) x.0) ≡ (r >>= λ x. fixed_from (k + 1) rows rest bs (placed ++ area_place b x.1 ∷ []) x.0)
     by (Ok x) again = again x
     by (Err e) again = refl
 
@@ -91,9 +91,9 @@ only_numbers script needs bounds h = grind (arith, common_steps, areas_fixed)
 
 -- ---- What is kept while a script is read.
 
-put_behind : {A : Type 0} (P : A → Type 0) (xs : List A) (x : A) → AllByRecursion P xs → P x → AllByRecursion P (xs ++ x ∷ [])
-put_behind P [] x h p = (p, tt)
-put_behind P (y ∷ ys) x h p = (h.0, put_behind P ys x h.1 p)
+put_after : {A : Type 0} (P : A → Type 0) (xs : List A) (x : A) → AllByRecursion P xs → P x → AllByRecursion P (xs ++ x ∷ [])
+put_after P [] x h p = (p, tt)
+put_after P (y ∷ ys) x h p = (h.0, put_after P ys x h.1 p)
 
 pub find_all : {A : Type 0} (P : A → Type 0) (p : A → Bool) (xs : List A) (x : A) → AllByRecursion P xs → find p xs ≡ Some x → P x
 find_all P p [] x h e = absurd cc
@@ -107,14 +107,14 @@ abbrev takes_sum : List ℕ → Bool
 takes_sum a = bytes_eq (codes "start") a || bytes_eq (codes "size") a
 
 -- the value of a sum is that of its terms
-abbrev pub IsSummed : Given → Type 0
+abbrev pub IsSummed : AttributeValue → Type 0
 IsSummed g = (takes_sum g.word ≡ true) → sum_of_parts g.parts ≡ Some g.value
 
-abbrev pub AreSummed : List Given → Type 0
+abbrev pub AreSummed : List AttributeValue → Type 0
 AreSummed given = AllByRecursion IsSummed given
 
 -- an area whose sums have their values, and which ends at the last address or before it
-pub record IsGood (e : Entry) : Type 0 where
+pub record IsGood (e : ConfigEntry) : Type 0 where
   pub summed : AreSummed e.given
   pub ends : area_closing e ≡ None
 
@@ -126,20 +126,20 @@ abbrev InMemory : Block → Type 0 → Type 0
 InMemory memory P = P
 InMemory _ P = ⊤
 
-abbrev TakesSum : List ℕ × Takes → Type 0
+abbrev TakesSum : List ℕ × ValueKind → Type 0
 TakesSum row = takes_sum row.0 ≡ true → row.1 ≡ a_sum
 
-abbrev Keeps : Place → Type 0
+abbrev Keeps : ParseState → Type 0
 Keeps between_blocks = ⊤
-Keeps (behind_block_word b) = ⊤
+Keeps (after_block_word b) = ⊤
 Keeps (between_entries b) = ⊤
-Keeps (behind_name b e) = InMemory b (AreSummed e.given)
+Keeps (after_name b e) = InMemory b (AreSummed e.given)
 Keeps (between_attributes b e) = InMemory b (AreSummed e.given)
-Keeps (behind_word b e row) = InMemory b (AreSummed e.given) × InMemory b (TakesSum row)
+Keeps (after_word b e row) = InMemory b (AreSummed e.given) × InMemory b (TakesSum row)
 Keeps (before_value b e row) = InMemory b (AreSummed e.given) × InMemory b (TakesSum row)
 Keeps (before_term b e a ps taken) = InMemory b (AreSummed e.given)
-Keeps (behind_term b e a ps) = InMemory b (AreSummed e.given)
-Keeps (behind_value b e) = InMemory b (AreSummed e.given)
+Keeps (after_term b e a ps) = InMemory b (AreSummed e.given)
+Keeps (after_value b e) = InMemory b (AreSummed e.given)
 
 -- what a token does keeps it
 abbrev Holds : Move → Type 0
@@ -150,15 +150,15 @@ Holds (stop f at) = ⊤
 memory_rows : AllByRecursion TakesSum (attributes memory)
 memory_rows = (λ h. refl, (λ h. refl, (λ h. absurd cc, (λ h. absurd cc, (λ h. absurd cc, (λ h. absurd cc, (λ h. absurd cc, tt)))))))
 
-row_takes : (b : Block) (w : List ℕ) (row : List ℕ × Takes) → row_of w (attributes b) ≡ Some row → InMemory b (TakesSum row)
-row_takes memory w row h = find_all TakesSum (λ (row : List ℕ × Takes). str_eq_ignore_ascii_case w row.0) (attributes memory) row memory_rows h
+row_takes : (b : Block) (w : List ℕ) (row : List ℕ × ValueKind) → find_keyword w (attributes b) ≡ Some row → InMemory b (TakesSum row)
+row_takes memory w row h = find_all TakesSum (λ (row : List ℕ × ValueKind). str_eq_ignore_ascii_case w row.0) (attributes memory) row memory_rows h
 row_takes segments w row h = tt
 row_takes symbols w row h = tt
 
 block_holds : (es : Entries) (l : Lexeme) (at : ℕ) → AreGood es → Holds (breaks.block_word es l at)
-block_holds es (word w) at good = by (said w blocks)
+block_holds es (word w) at good = by (value_of_word w blocks)
   where
-    by : (o : Option Block) → Holds (option_map_or (λ b. on es (behind_block_word b)) o (stop SyntaxError at))
+    by : (o : Option Block) → Holds (option_map_or (λ b. on es (after_block_word b)) o (stop SyntaxError at))
     by (Some b) = (good, tt)
     by None = tt
 block_holds es the_end at good = good
@@ -174,55 +174,55 @@ none_given segments = tt
 none_given symbols = tt
 
 name_holds : (es : Entries) (b : Block) (l : Lexeme) (at : ℕ) → AreGood es → Holds (breaks.entry_name es b l at)
-name_holds es b (word w) at good = by (list_any (λ (e : Entry). bytes_eq w e.name) (of_kind b es))
+name_holds es b (word w) at good = by (list_any (λ (e : ConfigEntry). bytes_eq w e.name) (of_kind b es))
   where
-    by : (x : Bool) → Holds (if x then stop NameTwice at else on es (behind_name b (record { name = w; at = at; given = [] })))
+    by : (x : Bool) → Holds (if x then stop NameTwice at else on es (after_name b (record { name = w; at = at; given = [] })))
     by true = tt
     by false = (good, none_given b)
 name_holds es b end_brace at good = (good, tt)
 name_holds es b _ at good = tt
 
-colon_holds : (es : Entries) (b : Block) (e : Entry) (l : Lexeme) (at : ℕ) → AreGood es → InMemory b (AreSummed e.given) → Holds (breaks.entry_colon es b e l at)
+colon_holds : (es : Entries) (b : Block) (e : ConfigEntry) (l : Lexeme) (at : ℕ) → AreGood es → InMemory b (AreSummed e.given) → Holds (breaks.entry_colon es b e l at)
 colon_holds es b e colon at good kept = (good, kept)
 colon_holds es b e _ at good kept = tt
 
-closed : (es : Entries) (b : Block) (e : Entry) → AreGood es → InMemory b (AreSummed e.given) → closing_fault b e ≡ None → AreGood (entries.with_entry b e es)
-closed es memory e good kept h = put_behind IsGood es.areas e good (record { summed = kept; ends = h })
+closed : (es : Entries) (b : Block) (e : ConfigEntry) → AreGood es → InMemory b (AreSummed e.given) → entry_fault b e ≡ None → AreGood (entries.with_entry b e es)
+closed es memory e good kept h = put_after IsGood es.areas e good (record { summed = kept; ends = h })
 closed es segments e good kept h = good
 closed es symbols e good kept h = good
 
-attribute_holds : (es : Entries) (b : Block) (e : Entry) (l : Lexeme) (at : ℕ) → AreGood es → InMemory b (AreSummed e.given) → Holds (breaks.attribute_or_end es b e l at)
-attribute_holds es b e (word w) at good kept = by (row_of w (attributes b)) refl
+attribute_holds : (es : Entries) (b : Block) (e : ConfigEntry) (l : Lexeme) (at : ℕ) → AreGood es → InMemory b (AreSummed e.given) → Holds (breaks.attribute_or_end es b e l at)
+attribute_holds es b e (word w) at good kept = by (find_keyword w (attributes b)) refl
   where
-    once : (row : List ℕ × Takes) (x : Bool) → InMemory b (TakesSum row) → Holds (if x then stop AttributeTwice at else on es (behind_word b e row))
+    once : (row : List ℕ × ValueKind) (x : Bool) → InMemory b (TakesSum row) → Holds (if x then stop AttributeTwice at else on es (after_word b e row))
     once row true takes = tt
     once row false takes = (good, (kept, takes))
 
-    by : (o : Option (List ℕ × Takes)) → row_of w (attributes b) ≡ o → Holds (breaks.known_attribute es b e o at)
+    by : (o : Option (List ℕ × ValueKind)) → find_keyword w (attributes b) ≡ o → Holds (breaks.known_attribute es b e o at)
     by (Some row) h = once row (is_given row.0 e) (row_takes b w row h)
     by None h = tt
-attribute_holds es b e semicolon at good kept = by (closing_fault b e) refl
+attribute_holds es b e semicolon at good kept = by (entry_fault b e) refl
   where
-    by : (o : Option Fault) → closing_fault b e ≡ o → Holds (breaks.entry_end es b e o at)
+    by : (o : Option Fault) → entry_fault b e ≡ o → Holds (breaks.entry_end es b e o at)
     by (Some f) h = tt
     by None h = (closed es b e good kept h, tt)
 attribute_holds es b e _ at good kept = tt
 
-comma_holds : (es : Entries) (b : Block) (e : Entry) (l : Lexeme) (at : ℕ) → AreGood es → InMemory b (AreSummed e.given) → Holds (breaks.comma_or_next es b e l at)
+comma_holds : (es : Entries) (b : Block) (e : ConfigEntry) (l : Lexeme) (at : ℕ) → AreGood es → InMemory b (AreSummed e.given) → Holds (breaks.comma_or_next es b e l at)
 comma_holds es b e comma at good kept = (good, kept)
 comma_holds es b e l at good kept = attribute_holds es b e l at good kept
 
-with_more : (b : Block) (e : Entry) (g : Given) → InMemory b (AreSummed e.given) → InMemory b (IsSummed g) → InMemory b (AreSummed (with_given g e).given)
-with_more memory e g kept h = put_behind IsSummed e.given g kept h
+with_more : (b : Block) (e : ConfigEntry) (g : AttributeValue) → InMemory b (AreSummed e.given) → InMemory b (IsSummed g) → InMemory b (AreSummed (with_given g e).given)
+with_more memory e g kept h = put_after IsSummed e.given g kept h
 with_more segments e g kept h = tt
 with_more symbols e g kept h = tt
 
-part_holds : (es : Entries) (b : Block) (e : Entry) (a : List ℕ) (ps : List Part) (at : ℕ) (r : Result Part Fault) → AreGood es → InMemory b (AreSummed e.given) → Holds (breaks.add_part es b e a ps at r)
+part_holds : (es : Entries) (b : Block) (e : ConfigEntry) (a : List ℕ) (ps : List ParsedTerm) (at : ℕ) (r : Result ParsedTerm Fault) → AreGood es → InMemory b (AreSummed e.given) → Holds (breaks.add_part es b e a ps at r)
 part_holds es b e a ps at (Ok p) good kept = (good, kept)
 part_holds es b e a ps at (Err f) good kept = tt
 
 -- a value that is no sum
-give_holds : (es : Entries) (b : Block) (e : Entry) (a : List ℕ) (at : ℕ) (r : Result Value Fault) → AreGood es → InMemory b (AreSummed e.given) → InMemory b (takes_sum a ≡ true → ⊥) → Holds (breaks.give es b e a at r)
+give_holds : (es : Entries) (b : Block) (e : ConfigEntry) (a : List ℕ) (at : ℕ) (r : Result Value Fault) → AreGood es → InMemory b (AreSummed e.given) → InMemory b (takes_sum a ≡ true → ⊥) → Holds (breaks.attribute_move es b e a at r)
 give_holds es b e a at (Ok v) good kept other = (good, with_more b e (record { word = a; value = v; parts = [] }) kept (never b other))
   where
     never : (b : Block) → InMemory b (takes_sum a ≡ true → ⊥) → InMemory b (IsSummed (record { word = a; value = v; parts = [] }))
@@ -231,12 +231,12 @@ give_holds es b e a at (Ok v) good kept other = (good, with_more b e (record { w
     never symbols other = tt
 give_holds es b e a at (Err f) good kept other = tt
 
-no_sum : (b : Block) (a : List ℕ) (takes : Takes) → (takes ≡ a_sum → ⊥) → InMemory b (TakesSum (a, takes)) → InMemory b (takes_sum a ≡ true → ⊥)
+no_sum : (b : Block) (a : List ℕ) (takes : ValueKind) → (takes ≡ a_sum → ⊥) → InMemory b (TakesSum (a, takes)) → InMemory b (takes_sum a ≡ true → ⊥)
 no_sum memory a takes other h = λ t. other (h t)
 no_sum segments a takes other h = tt
 no_sum symbols a takes other h = tt
 
-value_holds : (es : Entries) (b : Block) (e : Entry) (a : List ℕ) (takes : Takes) (l : Lexeme) (at : ℕ) → AreGood es → InMemory b (AreSummed e.given) → InMemory b (TakesSum (a, takes)) → Holds (breaks.attribute_value es b e a takes l at)
+value_holds : (es : Entries) (b : Block) (e : ConfigEntry) (a : List ℕ) (takes : ValueKind) (l : Lexeme) (at : ℕ) → AreGood es → InMemory b (AreSummed e.given) → InMemory b (TakesSum (a, takes)) → Holds (breaks.attribute_value es b e a takes l at)
 value_holds es b e a a_sum l at good kept row = part_holds es b e a [] at (part_of false at l) good kept
 value_holds es b e a (number_from low high) l at good kept row = give_holds es b e a at (value_of (number_from low high) l) good kept (no_sum b a (number_from low high) (λ h. cc) row)
 value_holds es b e a a_byte l at good kept row = give_holds es b e a at (value_of a_byte l) good kept (no_sum b a a_byte (λ h. cc) row)
@@ -244,11 +244,11 @@ value_holds es b e a (one_of words) l at good kept row = give_holds es b e a at 
 value_holds es b e a an_area l at good kept row = give_holds es b e a at (value_of an_area l) good kept (no_sum b a an_area (λ h. cc) row)
 value_holds es b e a a_file l at good kept row = give_holds es b e a at (value_of a_file l) good kept (no_sum b a a_file (λ h. cc) row)
 
-equals_holds : (es : Entries) (b : Block) (e : Entry) (row : List ℕ × Takes) (l : Lexeme) (at : ℕ) → AreGood es → InMemory b (AreSummed e.given) → InMemory b (TakesSum row) → Holds (breaks.equals_or_value es b e row l at)
+equals_holds : (es : Entries) (b : Block) (e : ConfigEntry) (row : List ℕ × ValueKind) (l : Lexeme) (at : ℕ) → AreGood es → InMemory b (AreSummed e.given) → InMemory b (TakesSum row) → Holds (breaks.equals_or_value es b e row l at)
 equals_holds es b e row equals at good kept takes = (good, (kept, takes))
 equals_holds es b e row l at good kept takes = value_holds es b e row.0 row.1 l at good kept takes
 
-end_holds : (es : Entries) (b : Block) (e : Entry) (a : List ℕ) (ps : List Part) (o : Option Value) (l : Lexeme) (at : ℕ) → AreGood es → InMemory b (AreSummed e.given) → sum_of_parts ps ≡ o → Holds (breaks.sum_end es b e a ps o l at)
+end_holds : (es : Entries) (b : Block) (e : ConfigEntry) (a : List ℕ) (ps : List ParsedTerm) (o : Option Value) (l : Lexeme) (at : ℕ) → AreGood es → InMemory b (AreSummed e.given) → sum_of_parts ps ≡ o → Holds (breaks.sum_end es b e a ps o l at)
 end_holds es b e a ps (Some v) l at good kept h = comma_holds es b (with_given (record { word = a; value = v; parts = ps }) e) l at good (with_more b e (record { word = a; value = v; parts = ps }) kept (summed b))
   where
     summed : (b : Block) → InMemory b (IsSummed (record { word = a; value = v; parts = ps }))
@@ -257,27 +257,27 @@ end_holds es b e a ps (Some v) l at good kept h = comma_holds es b (with_given (
     summed symbols = tt
 end_holds es b e a ps None l at good kept h = tt
 
-sign_holds : (es : Entries) (b : Block) (e : Entry) (a : List ℕ) (ps : List Part) (l : Lexeme) (at : ℕ) → AreGood es → InMemory b (AreSummed e.given) → Holds (breaks.sign_or_end es b e a ps l at)
+sign_holds : (es : Entries) (b : Block) (e : ConfigEntry) (a : List ℕ) (ps : List ParsedTerm) (l : Lexeme) (at : ℕ) → AreGood es → InMemory b (AreSummed e.given) → Holds (breaks.sign_or_end es b e a ps l at)
 sign_holds es b e a ps plus at good kept = (good, kept)
 sign_holds es b e a ps minus at good kept = (good, kept)
 sign_holds es b e a ps l at good kept = end_holds es b e a ps (sum_of_parts ps) l at good kept refl
 
-move_holds : (es : Entries) (p : Place) (l : Lexeme) (at : ℕ) → AreGood es → Keeps p → Holds (breaks.move es p l at)
+move_holds : (es : Entries) (p : ParseState) (l : Lexeme) (at : ℕ) → AreGood es → Keeps p → Holds (breaks.token_move es p l at)
 move_holds es between_blocks l at good kept = block_holds es l at good
-move_holds es (behind_block_word b) l at good kept = brace_holds es b l at good
+move_holds es (after_block_word b) l at good kept = brace_holds es b l at good
 move_holds es (between_entries b) l at good kept = name_holds es b l at good
-move_holds es (behind_name b e) l at good kept = colon_holds es b e l at good kept
+move_holds es (after_name b e) l at good kept = colon_holds es b e l at good kept
 move_holds es (between_attributes b e) l at good kept = attribute_holds es b e l at good kept
-move_holds es (behind_word b e row) l at good kept = equals_holds es b e row l at good kept.0 kept.1
+move_holds es (after_word b e row) l at good kept = equals_holds es b e row l at good kept.0 kept.1
 move_holds es (before_value b e row) l at good kept = value_holds es b e row.0 row.1 l at good kept.0 kept.1
 move_holds es (before_term b e a ps taken) l at good kept = part_holds es b e a ps at (part_of taken at l) good kept
-move_holds es (behind_term b e a ps) l at good kept = sign_holds es b e a ps l at good kept
-move_holds es (behind_value b e) l at good kept = comma_holds es b e l at good kept
+move_holds es (after_term b e a ps) l at good kept = sign_holds es b e a ps l at good kept
+move_holds es (after_value b e) l at good kept = comma_holds es b e l at good kept
 
-reads_good : (bytes : List ℕ) (es : Entries) (p : Place) (at : ℕ) (r : Result Entries Stop) → Reads bytes es p at r → AreGood es → Keeps p → (fs : Entries) → r ≡ Ok fs → AreGood fs
+reads_good : (bytes : List ℕ) (es : Entries) (p : ParseState) (at : ℕ) (r : Result Entries FaultAt) → Reads bytes es p at r → AreGood es → Keeps p → (fs : Entries) → r ≡ Ok fs → AreGood fs
 reads_good bytes _ _ _ _ (next es fs p q at r e k) good kept gs h =
     let held = subst Holds e (move_holds es p (token bytes at).lexeme (token bytes at).at good kept) in
-    reads_good bytes fs q (token bytes at).behind r k held.0 held.1 gs h
+    reads_good bytes fs q (token bytes at).following r k held.0 held.1 gs h
 reads_good bytes _ _ _ _ (ends es fs p at e) good kept gs h = subst AreGood (ok_is fs gs h) (subst Holds e (move_holds es p (token bytes at).lexeme (token bytes at).at good kept))
 reads_good bytes _ _ _ _ (stops es p at f place e) good kept gs h = absurd cc
 
@@ -290,29 +290,29 @@ entries_good bytes es = by (is_too_long bytes)
 
 -- ---- Sums of numbers.
 
-abbrev NoNames : List Part → Type 0
-NoNames ps = AllByRecursion (λ (p : Part). is_some p.number ≡ true) ps
+abbrev NoNames : List ParsedTerm → Type 0
+NoNames ps = AllByRecursion (λ (p : ParsedTerm). is_some p.number ≡ true) ps
 
 -- the terms of parts without names are their numbers
-record SameSums (ps : List Part) (ts : List Term) : Type 0 where
+record SameSums (ps : List ParsedTerm) (ts : List Term) : Type 0 where
   pub numbers : AllByRecursion (λ (t : Term). (m : ℕ) × (t.operand ≡ operand.Number m)) ts
-  pub added : come_to (λ (t : Term). not t.minus) (term_value [] []) ts ≡ come_to (λ (p : Part). not p.minus) (λ (p : Part). unwrap_or p.number 0) ps
-  pub taken : come_to (λ (t : Term). t.minus) (term_value [] []) ts ≡ come_to (λ (p : Part). p.minus) (λ (p : Part). unwrap_or p.number 0) ps
+  pub added : come_to (λ (t : Term). not t.minus) (term_value [] []) ts ≡ come_to (λ (p : ParsedTerm). not p.minus) (λ (p : ParsedTerm). unwrap_or p.number 0) ps
+  pub taken : come_to (λ (t : Term). t.minus) (term_value [] []) ts ≡ come_to (λ (p : ParsedTerm). p.minus) (λ (p : ParsedTerm). unwrap_or p.number 0) ps
 
-same_sums : (es : Entries) (ps : List Part) (ts : List Term) → NoNames ps → each (term_from es) ps ≡ Ok ts → SameSums ps ts
-same_sums es [] ts n h = subst (SameSums []) (ok_is {E = Stop} [] ts h) (record { numbers = tt; added = refl; taken = refl })
+same_sums : (es : Entries) (ps : List ParsedTerm) (ts : List Term) → NoNames ps → try_map (term_from es) ps ≡ Ok ts → SameSums ps ts
+same_sums es [] ts n h = subst (SameSums []) (ok_is {E = FaultAt} [] ts h) (record { numbers = tt; added = refl; taken = refl })
 same_sums es (p ∷ ps) ts n h = by p.number refl (λ us k. same_sums es ps us n.1 k)
   where
-    by : (o : Option ℕ) → p.number ≡ o → ((us : List Term) → each (term_from es) ps ≡ Ok us → SameSums ps us) → SameSums (p ∷ ps) ts
+    by : (o : Option ℕ) → p.number ≡ o → ((us : List Term) → try_map (term_from es) ps ≡ Ok us → SameSums ps us) → SameSums (p ∷ ps) ts
     by None e again = let never : false ≡ true = ap is_some (sym e) ∙ n.0 in absurd cc
     by (Some m) e again =
         let t : Term = record { minus = p.minus; operand = operand.Number m } in
         let first : term_from es p ≡ Ok t = rw e refl in
-        let x = and_then (term_from es p) (λ y. each (term_from es) ps >>= (λ ys. Ok (y ∷ ys))) ts h in
-        let same : t ≡ x.0 = ok_is {E = Stop} t x.0 (sym first ∙ x.1) in
-        let rest = and_then (each (term_from es) ps) (λ ys. Ok (x.0 ∷ ys)) ts x.2 in
+        let x = and_then (term_from es p) (λ y. try_map (term_from es) ps >>= (λ ys. Ok (y ∷ ys))) ts h in
+        let same : t ≡ x.0 = ok_is {E = FaultAt} t x.0 (sym first ∙ x.1) in
+        let rest = and_then (try_map (term_from es) ps) (λ ys. Ok (x.0 ∷ ys)) ts x.2 in
         let more = again rest.0 rest.1 in
-        let all : t ∷ rest.0 ≡ ts = ap (λ t. t ∷ rest.0) same ∙ ok_is {E = Stop} (x.0 ∷ rest.0) ts rest.2 in
+        let all : t ∷ rest.0 ≡ ts = ap (λ t. t ∷ rest.0) same ∙ ok_is {E = FaultAt} (x.0 ∷ rest.0) ts rest.2 in
         let number : m ≡ unwrap_or p.number 0 = ap (λ o. unwrap_or o 0) (sym e) in
         let good : SameSums (p ∷ ps) (t ∷ rest.0) = record {
           numbers = ((m, refl), more.numbers);
@@ -321,36 +321,36 @@ same_sums es (p ∷ ps) ts n h = by p.number refl (λ us k. same_sums es ps us n
         } in
         subst (SameSums (p ∷ ps)) all good
 
-no_name : (ps : List Part) → NoNames ps → list_any (λ (p : Part). not (is_some p.number)) ps ≡ false
+no_name : (ps : List ParsedTerm) → NoNames ps → list_any (λ (p : ParsedTerm). not (is_some p.number)) ps ≡ false
 no_name [] n = refl
-no_name (p ∷ ps) n = ap (λ b. not b || list_any (λ (p : Part). not (is_some p.number)) ps) n.0 ∙ no_name ps n.1
+no_name (p ∷ ps) n = ap (λ b. not b || list_any (λ (p : ParsedTerm). not (is_some p.number)) ps) n.0 ∙ no_name ps n.1
 
 -- what an attribute's sum comes to, where it has no name
-record IsNumber (es : Entries) (a : List ℕ) (e : Entry) (ts : List Term) : Type 0 where
+record IsNumber (es : Entries) (a : List ℕ) (e : ConfigEntry) (ts : List Term) : Type 0 where
   pub number : ℕ
   pub given_is : number_for a e ≡ Some number
   pub terms : AreNumbers ts number
 
-find_good : (a : List ℕ) (given : List Given) → AreSummed given → is_some (find (λ (g : Given). bytes_eq a g.word) given) ≡ true → (g : Given) × (find (λ (g : Given). bytes_eq a g.word) given ≡ Some g) × IsSummed g × (bytes_eq a g.word ≡ true)
+find_good : (a : List ℕ) (given : List AttributeValue) → AreSummed given → is_some (find (λ (g : AttributeValue). bytes_eq a g.word) given) ≡ true → (g : AttributeValue) × (find (λ (g : AttributeValue). bytes_eq a g.word) given ≡ Some g) × IsSummed g × (bytes_eq a g.word ≡ true)
 find_good a [] s h = absurd cc
 find_good a (g ∷ gs) s h = by (bytes_eq a g.word) refl h (find_good a gs s.1)
   where
-    by : (b : Bool) → bytes_eq a g.word ≡ b → is_some (cond b (Some g) (find (λ (g : Given). bytes_eq a g.word) gs)) ≡ true → (is_some (find (λ (g : Given). bytes_eq a g.word) gs) ≡ true → (x : Given) × (find (λ (g : Given). bytes_eq a g.word) gs ≡ Some x) × IsSummed x × (bytes_eq a x.word ≡ true)) → (x : Given) × (cond b (Some g) (find (λ (g : Given). bytes_eq a g.word) gs) ≡ Some x) × IsSummed x × (bytes_eq a x.word ≡ true)
+    by : (b : Bool) → bytes_eq a g.word ≡ b → is_some (cond b (Some g) (find (λ (g : AttributeValue). bytes_eq a g.word) gs)) ≡ true → (is_some (find (λ (g : AttributeValue). bytes_eq a g.word) gs) ≡ true → (x : AttributeValue) × (find (λ (g : AttributeValue). bytes_eq a g.word) gs ≡ Some x) × IsSummed x × (bytes_eq a x.word ≡ true)) → (x : AttributeValue) × (cond b (Some g) (find (λ (g : AttributeValue). bytes_eq a g.word) gs) ≡ Some x) × IsSummed x × (bytes_eq a x.word ≡ true)
     by true e h again = (g, refl, s.0, e)
     by false e h again = again h
 
-number_of : (es : Entries) (a : List ℕ) (e : Entry) (ts : List Term) → ((g : Given) → bytes_eq a g.word ≡ true → takes_sum g.word ≡ true) → AreSummed e.given → is_given a e ≡ true → NoNames (parts_for a e) → sum_for es a e ≡ Ok ts → IsNumber es a e ts
+number_of : (es : Entries) (a : List ℕ) (e : ConfigEntry) (ts : List Term) → ((g : AttributeValue) → bytes_eq a g.word ≡ true → takes_sum g.word ≡ true) → AreSummed e.given → is_given a e ≡ true → NoNames (parts_for a e) → sum_for es a e ≡ Ok ts → IsNumber es a e ts
 number_of es a e ts takes summed has_a none h =
     let g = find_good a e.given summed has_a in
-    let parts : parts_for a e ≡ g.0.parts = ap (λ o. option_map_or (λ (g : Given). g.parts) o []) g.1 in
-    let had : value_for a e ≡ Some g.0.value = ap (option_map (λ (g : Given). g.value)) g.1 in
+    let parts : parts_for a e ≡ g.0.parts = ap (λ o. option_map_or (λ (g : AttributeValue). g.parts) o []) g.1 in
+    let had : value_for a e ≡ Some g.0.value = ap (option_map (λ (g : AttributeValue). g.value)) g.1 in
     let sum : sum_of_parts g.0.parts ≡ Some g.0.value = g.2 (takes g.0 g.3) in
     let unnamed : NoNames g.0.parts = subst NoNames parts none in
-    let whole : option_map number (sum_of (λ (p : Part). p.minus) (λ (p : Part). unwrap_or p.number 0) g.0.parts) ≡ Some g.0.value = ap (λ b. if b then Some unknown_sum else option_map number (sum_of (λ (p : Part). p.minus) (λ (p : Part). unwrap_or p.number 0) g.0.parts)) (sym (no_name g.0.parts unnamed)) ∙ sum in
-    let same = same_sums es g.0.parts ts unnamed (ap (each (term_from es)) (sym parts) ∙ h) in
-    by g.0.parts g.0.value had (sum_of (λ (p : Part). p.minus) (λ (p : Part). unwrap_or p.number 0) g.0.parts) refl whole same
+    let whole : option_map number (sum_of (λ (p : ParsedTerm). p.minus) (λ (p : ParsedTerm). unwrap_or p.number 0) g.0.parts) ≡ Some g.0.value = ap (λ b. if b then Some unknown_sum else option_map number (sum_of (λ (p : ParsedTerm). p.minus) (λ (p : ParsedTerm). unwrap_or p.number 0) g.0.parts)) (sym (no_name g.0.parts unnamed)) ∙ sum in
+    let same = same_sums es g.0.parts ts unnamed (ap (try_map (term_from es)) (sym parts) ∙ h) in
+    by g.0.parts g.0.value had (sum_of (λ (p : ParsedTerm). p.minus) (λ (p : ParsedTerm). unwrap_or p.number 0) g.0.parts) refl whole same
   where
-    by : (ps : List Part) (v : Value) → value_for a e ≡ Some v → (o : Option ℕ) → sum_of (λ (p : Part). p.minus) (λ (p : Part). unwrap_or p.number 0) ps ≡ o → option_map number o ≡ Some v → SameSums ps ts → IsNumber es a e ts
+    by : (ps : List ParsedTerm) (v : Value) → value_for a e ≡ Some v → (o : Option ℕ) → sum_of (λ (p : ParsedTerm). p.minus) (λ (p : ParsedTerm). unwrap_or p.number 0) ps ≡ o → option_map number o ≡ Some v → SameSums ps ts → IsNumber es a e ts
     by ps v f (Some n) g k same =
         let is : number n ≡ v = cc in
         record {
@@ -358,15 +358,15 @@ number_of es a e ts takes summed has_a none h =
           given_is = ap (option_and_then as_number) f ∙ ap (λ v. as_number v) (sym is);
           terms = record {
             numbers = same.numbers;
-            sum = ap (λ m. difference m (come_to (λ (t : Term). t.minus) (term_value [] []) ts)) same.added ∙ ap (difference (come_to (λ (p : Part). not p.minus) (λ (p : Part). unwrap_or p.number 0) ps)) same.taken ∙ g;
+            sum = ap (λ m. difference m (come_to (λ (t : Term). t.minus) (term_value [] []) ts)) same.added ∙ ap (difference (come_to (λ (p : ParsedTerm). not p.minus) (λ (p : ParsedTerm). unwrap_or p.number 0) ps)) same.taken ∙ g;
           };
         }
     by ps v f None g k same = absurd cc
 
-starts_in : (g : Given) → bytes_eq (codes "start") g.word ≡ true → takes_sum g.word ≡ true
+starts_in : (g : AttributeValue) → bytes_eq (codes "start") g.word ≡ true → takes_sum g.word ≡ true
 starts_in g h = ap (λ b. b || bytes_eq (codes "size") g.word) h
 
-sizes_in : (g : Given) → bytes_eq (codes "size") g.word ≡ true → takes_sum g.word ≡ true
+sizes_in : (g : AttributeValue) → bytes_eq (codes "size") g.word ≡ true → takes_sum g.word ≡ true
 sizes_in g h = by (bytes_eq (codes "start") g.word)
   where
     by : (b : Bool) → (b || bytes_eq (codes "size") g.word) ≡ true
@@ -376,19 +376,19 @@ sizes_in g h = by (bytes_eq (codes "start") g.word)
 -- ---- Areas.
 
 -- what an area has at its `;`
-record Ends (e : Entry) : Type 0 where
+record Ends (e : ConfigEntry) : Type 0 where
   pub start : is_given (codes "start") e ≡ true
   pub size : is_given (codes "size") e ≡ true
   pub inside : unwrap_or (number_for (codes "start") e) 0 + unwrap_or (number_for (codes "size") e) 0 ≤ 2 ^ 32
 
-ends_of : (e : Entry) → area_closing e ≡ None → Ends e
+ends_of : (e : ConfigEntry) → area_closing e ≡ None → Ends e
 ends_of e h = grind (arith, common_steps)
 
-fixed_of : (es : Entries) (e : Entry) (a : Area) → IsGood e × HasNoNames e → area_from es e ≡ Ok a → (b : Bounds) × IsFixed a b
+fixed_of : (es : Entries) (e : ConfigEntry) (a : MemoryArea) → IsGood e × HasNoNames e → area_from es e ≡ Ok a → (b : Bounds) × IsFixed a b
 fixed_of es e a q h =
     let x = and_then (sums_of es e) _ a h in
     let g = extent_is es e x.0 x.1 in
-    let made = ok_is {E = Stop} _ a x.2 in
+    let made = ok_is {E = FaultAt} _ a x.2 in
     let ends = ends_of e q.0.ends in
     let start = number_of es (codes "start") e x.0.0 starts_in q.0.summed ends.start q.1.0 g.start in
     let size = number_of es (codes "size") e x.0.1 sizes_in q.0.summed ends.size q.1.1 g.size in
@@ -398,11 +398,11 @@ fixed_of es e a q h =
     let b : Bounds = record { start = start.number; end = start.number + size.number } in
     (b, subst (λ a. IsFixed a b) made (record { size = size.number; starts = start.terms; spans = size.terms; ends = refl; inside = inside }))
 
-all_fixed : (areas : List Area) → AllByRecursion (λ a. (b : Bounds) × IsFixed a b) areas → (bounds : List Bounds) × AreFixed areas bounds
+all_fixed : (areas : List MemoryArea) → AllByRecursion (λ a. (b : Bounds) × IsFixed a b) areas → (bounds : List Bounds) × AreFixed areas bounds
 all_fixed [] h = ([], tt)
 all_fixed (a ∷ as') h = let rest = all_fixed as' h.1 in (h.0.0 ∷ rest.0, (h.0.1, rest.1))
 
-both : (es : List Entry) → AllByRecursion IsGood es → AllByRecursion HasNoNames es → AllByRecursion (λ e. IsGood e × HasNoNames e) es
+both : (es : List ConfigEntry) → AllByRecursion IsGood es → AllByRecursion HasNoNames es → AllByRecursion (λ e. IsGood e × HasNoNames e) es
 both [] g n = tt
 both (e ∷ es) g n = ((g.0, n.0), both es g.1 n.1)
 

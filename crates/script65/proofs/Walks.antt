@@ -5,15 +5,15 @@ use Rattle.std.proofs.lemmas.Option.{slice_get-get_or}
 use Rattle.std.specs.Prelude.{Result, if◌then◌else◌}
 use Rattle.script65.specs.declared.placement.PlaceFault.{PlaceFault}
 use Rattle.script65.specs.declared.placing.site.Bounds.{Bounds}
-use Rattle.script65.specs.declared.placing.site.Spot.{Spot}
-use Rattle.script65.specs.declared.script.Area.{Area}
-use Rattle.script65.specs.declared.script.Row.{Row}
+use Rattle.script65.specs.declared.placing.site.RowState.{RowState}
+use Rattle.script65.specs.declared.script.MemoryArea.{MemoryArea}
+use Rattle.script65.specs.declared.script.SegmentRow.{SegmentRow}
 use Rattle.base65.specs.Outcome.{Unless, ◌>>=◌}
-use Rattle.script65.specs.Placing.{is_in, places_in, row_after, rows_from, spots_after, area_place, areas_from, place_of, row_place, rows_exist, standing, unplaced}
+use Rattle.script65.specs.Placing.{is_in, places_in, row_after, rows_from, spots_after, area_place, areas_from, place_of, row_place, rows_exist, standing, unplaced_row}
 use Rattle.script65.proofs.Eaches.{drop_at, unless_map}
 use Rattle.script65.specs.declared.script.Script.{Script}
-use Rattle.script65.specs.AreaSums.{Standing, bounds_in, spanned, sum_in, with_start}
-use Rattle.script65.specs.declared.placement.AreaPlace.{AreaPlace}
+use Rattle.script65.specs.AreaSums.{SumContextView, bounds_in, area_bounds, sum_in, with_start}
+use Rattle.script65.specs.declared.placement.AreaPlacement.{AreaPlacement}
 use Rattle.script65.specs.declared.placement.Placement.{Placement}
 use Rattle.script65.specs.declared.placement.SegmentNeed.{SegmentNeed}
 
@@ -65,47 +65,47 @@ module _ {A : Type 0} where
   take_drop (x ∷ xs) (suc p) = ap (λ l. x ∷ l) (take_drop xs p)
 
 -- the rows at the front and then what becomes of the rest
-abbrev pub behind : List Spot → Result (List Spot × ℕ) PlaceFault → Result (List Spot × ℕ) PlaceFault
-behind done rest = rest >>= λ y. Ok (done ++ y.0, y.1)
+abbrev pub following : List RowState → Result (List RowState × ℕ) PlaceFault → Result (List RowState × ℕ) PlaceFault
+following done rest = rest >>= λ y. Ok (done ++ y.0, y.1)
 
-pub whole_of : (rest : Result (List Spot × ℕ) PlaceFault) → behind [] rest ≡ rest
+pub whole_of : (rest : Result (List RowState × ℕ) PlaceFault) → following [] rest ≡ rest
 whole_of x = grind (arith, common_steps)
 
-behind_one : (done : List Spot) (s : Spot) (rest : Result (List Spot × ℕ) PlaceFault) → behind done (rest >>= λ y. Ok (s ∷ y.0, y.1)) ≡ behind (done ++ s ∷ []) rest
-behind_one done s x = grind (arith, common_steps)
+after_one : (done : List RowState) (s : RowState) (rest : Result (List RowState × ℕ) PlaceFault) → following done (rest >>= λ y. Ok (s ∷ y.0, y.1)) ≡ following (done ++ s ∷ []) rest
+after_one done s x = grind (arith, common_steps)
 
-module _ (k : ℕ) (a : Area) (b : Bounds) (rows : List Row) (whole : Result (List Spot × ℕ) PlaceFault) where
+module _ (k : ℕ) (a : MemoryArea) (b : Bounds) (rows : List SegmentRow) (whole : Result (List RowState × ℕ) PlaceFault) where
   -- from a place on the rows and their spots are left, and the rest of the members are theirs
-  pub record Walk (spots : List Spot) (cursor : ℕ) (members : List ℕ) : Type 0 where
+  pub record Walk (spots : List RowState) (cursor : ℕ) (members : List ℕ) : Type 0 where
     pub place : ℕ
-    pub rs : List Row
-    pub ss : List Spot
+    pub rs : List SegmentRow
+    pub ss : List RowState
     pub rows_there : drop place rows ≡ rs
     pub spots_there : drop place spots ≡ ss
     pub count : length ss ≡ length rs
     pub rest : members ≡ places_in k place rs
-    pub same : behind (take place spots) (rows_from k a b rs ss cursor) ≡ whole
+    pub same : following (take place spots) (rows_from k a b rs ss cursor) ≡ whole
 
   -- the row at a place is the next of the area
-  pub record Next (spots : List Spot) (cursor : ℕ) (m : ℕ) (members : List ℕ) : Type 0 where
-    pub r : Row
-    pub s : Spot
-    pub rs : List Row
-    pub ss : List Spot
+  pub record Next (spots : List RowState) (cursor : ℕ) (m : ℕ) (members : List ℕ) : Type 0 where
+    pub r : SegmentRow
+    pub s : RowState
+    pub rs : List SegmentRow
+    pub ss : List RowState
     pub rows_there : drop m rows ≡ r ∷ rs
     pub spots_there : drop m spots ≡ s ∷ ss
     pub count : length ss ≡ length rs
     pub inside : is_in k r ≡ true
     pub rest : members ≡ places_in k (m + 1) rs
-    pub same : behind (take m spots) (row_after k a b r s cursor >>= λ x. rows_from k a b rs ss x.1 >>= λ y. Ok (x.0 ∷ y.0, y.1)) ≡ whole
+    pub same : following (take m spots) (row_after k a b r s cursor >>= λ x. rows_from k a b rs ss x.1 >>= λ y. Ok (x.0 ∷ y.0, y.1)) ≡ whole
 
-  next_of : (spots : List Spot) (cursor m : ℕ) (members : List ℕ) (rs : List Row) (ss : List Spot) (p : ℕ) → drop p rows ≡ rs → drop p spots ≡ ss → length ss ≡ length rs → m ∷ members ≡ places_in k p rs → behind (take p spots) (rows_from k a b rs ss cursor) ≡ whole → Next spots cursor m members
+  next_of : (spots : List RowState) (cursor m : ℕ) (members : List ℕ) (rs : List SegmentRow) (ss : List RowState) (p : ℕ) → drop p rows ≡ rs → drop p spots ≡ ss → length ss ≡ length rs → m ∷ members ≡ places_in k p rs → following (take p spots) (rows_from k a b rs ss cursor) ≡ whole → Next spots cursor m members
   next_of spots cursor m members [] ss p rt st n e g = absurd cc
   next_of spots cursor m members (r ∷ rs) [] p rt st n e g = absurd (omega arith)
   next_of spots cursor m members (r ∷ rs) (s ∷ ss) p rt st n e g = by (is_in k r) refl
       (λ f h. next_of spots cursor m members rs ss (p + 1) (rw add-one (drop_suc rows p r rs rt)) (rw add-one (drop_suc spots p s ss st)) (omega arith) f h)
     where
-      by : (t : Bool) → is_in k r ≡ t → (m ∷ members ≡ places_in k (p + 1) rs → behind (take (p + 1) spots) (rows_from k a b rs ss cursor) ≡ whole → Next spots cursor m members) → Next spots cursor m members
+      by : (t : Bool) → is_in k r ≡ t → (m ∷ members ≡ places_in k (p + 1) rs → following (take (p + 1) spots) (rows_from k a b rs ss cursor) ≡ whole → Next spots cursor m members) → Next spots cursor m members
       by true i again =
           let f : m ∷ members ≡ p ∷ places_in k (p + 1) rs = e ∙ ap (λ t. if t then p ∷ places_in k (p + 1) rs else places_in k (p + 1) rs) i in
           let here : p ≡ m = cc in
@@ -122,23 +122,23 @@ module _ (k : ℕ) (a : Area) (b : Bounds) (rows : List Row) (whole : Result (Li
             count = omega arith;
             inside = i;
             rest = members_rest ∙ ap (λ q. places_in k (q + 1) rs) here;
-            same = sym (ap (λ q. behind (take q spots) (row_after k a b r s cursor >>= λ x. rows_from k a b rs ss x.1 >>= λ y. Ok (x.0 ∷ y.0, y.1))) here)
-                ∙ sym (ap (λ t. behind (take p spots) (if t then (row_after k a b r s cursor >>= λ x. rows_from k a b rs ss x.1 >>= λ y. Ok (x.0 ∷ y.0, y.1)) else (rows_from k a b rs ss cursor >>= λ y. Ok (s ∷ y.0, y.1)))) i)
+            same = sym (ap (λ q. following (take q spots) (row_after k a b r s cursor >>= λ x. rows_from k a b rs ss x.1 >>= λ y. Ok (x.0 ∷ y.0, y.1))) here)
+                ∙ sym (ap (λ t. following (take p spots) (if t then (row_after k a b r s cursor >>= λ x. rows_from k a b rs ss x.1 >>= λ y. Ok (x.0 ∷ y.0, y.1)) else (rows_from k a b rs ss cursor >>= λ y. Ok (s ∷ y.0, y.1)))) i)
                 ∙ g;
           }
       by false i again =
           let f : m ∷ members ≡ places_in k (p + 1) rs = e ∙ ap (λ t. if t then p ∷ places_in k (p + 1) rs else places_in k (p + 1) rs) i in
           again f
-          (ap (λ l. behind l (rows_from k a b rs ss cursor)) (rw add-one (take_more spots p s ss st))
-          ∙ sym (behind_one (take p spots) s (rows_from k a b rs ss cursor))
-          ∙ sym (ap (λ t. behind (take p spots) (if t then (row_after k a b r s cursor >>= λ x. rows_from k a b rs ss x.1 >>= λ y. Ok (x.0 ∷ y.0, y.1)) else (rows_from k a b rs ss cursor >>= λ y. Ok (s ∷ y.0, y.1)))) i)
+          (ap (λ l. following l (rows_from k a b rs ss cursor)) (rw add-one (take_more spots p s ss st))
+          ∙ sym (after_one (take p spots) s (rows_from k a b rs ss cursor))
+          ∙ sym (ap (λ t. following (take p spots) (if t then (row_after k a b r s cursor >>= λ x. rows_from k a b rs ss x.1 >>= λ y. Ok (x.0 ∷ y.0, y.1)) else (rows_from k a b rs ss cursor >>= λ y. Ok (s ∷ y.0, y.1)))) i)
           ∙ g)
 
-  pub next_member : (spots : List Spot) (cursor m : ℕ) (members : List ℕ) → Walk spots cursor (m ∷ members) → Next spots cursor m members
+  pub next_member : (spots : List RowState) (cursor m : ℕ) (members : List ℕ) → Walk spots cursor (m ∷ members) → Next spots cursor m members
   next_member spots cursor m members w = next_of spots cursor m members w.rs w.ss w.place w.rows_there w.spots_there w.count w.rest w.same
 
   -- the row is placed
-  pub walk_on : (spots : List Spot) (cursor m : ℕ) (members : List ℕ) (n : Next spots cursor m members) (x : Spot × ℕ) → row_after k a b n.r n.s cursor ≡ Ok x → Walk (slice_set spots m x.0) x.1 members
+  pub walk_on : (spots : List RowState) (cursor m : ℕ) (members : List ℕ) (n : Next spots cursor m members) (x : RowState × ℕ) → row_after k a b n.r n.s cursor ≡ Ok x → Walk (slice_set spots m x.0) x.1 members
   walk_on spots cursor m members n x e = record {
     place = m + 1;
     rs = n.rs;
@@ -147,23 +147,23 @@ module _ (k : ℕ) (a : Area) (b : Bounds) (rows : List Row) (whole : Result (Li
     spots_there = rw add-one (drop_set spots m n.s x.0 n.ss n.spots_there);
     count = n.count;
     rest = n.rest;
-    same = ap (λ l. behind l (rows_from k a b n.rs n.ss x.1)) (rw add-one (take_set spots m n.s x.0 n.ss n.spots_there))
-        ∙ sym (behind_one (take m spots) x.0 (rows_from k a b n.rs n.ss x.1))
-        ∙ sym (ap (λ t. behind (take m spots) (t >>= λ x. rows_from k a b n.rs n.ss x.1 >>= λ y. Ok (x.0 ∷ y.0, y.1))) e)
+    same = ap (λ l. following l (rows_from k a b n.rs n.ss x.1)) (rw add-one (take_set spots m n.s x.0 n.ss n.spots_there))
+        ∙ sym (after_one (take m spots) x.0 (rows_from k a b n.rs n.ss x.1))
+        ∙ sym (ap (λ t. following (take m spots) (t >>= λ x. rows_from k a b n.rs n.ss x.1 >>= λ y. Ok (x.0 ∷ y.0, y.1))) e)
         ∙ n.same;
   }
 
-  pub walk_stops : (spots : List Spot) (cursor m : ℕ) (members : List ℕ) (n : Next spots cursor m members) (e : PlaceFault) → row_after k a b n.r n.s cursor ≡ Err e → whole ≡ Err e
-  walk_stops spots cursor m members n e h = sym n.same ∙ ap (λ t. behind (take m spots) (t >>= λ x. rows_from k a b n.rs n.ss x.1 >>= λ y. Ok (x.0 ∷ y.0, y.1))) h
+  pub walk_stops : (spots : List RowState) (cursor m : ℕ) (members : List ℕ) (n : Next spots cursor m members) (e : PlaceFault) → row_after k a b n.r n.s cursor ≡ Err e → whole ≡ Err e
+  walk_stops spots cursor m members n e h = sym n.same ∙ ap (λ t. following (take m spots) (t >>= λ x. rows_from k a b n.rs n.ss x.1 >>= λ y. Ok (x.0 ∷ y.0, y.1))) h
 
-  abbrev in_front : Spot → Result (List Spot × ℕ) PlaceFault → Result (List Spot × ℕ) PlaceFault
+  abbrev in_front : RowState → Result (List RowState × ℕ) PlaceFault → Result (List RowState × ℕ) PlaceFault
   in_front s rest = rest >>= λ y. Ok (s ∷ y.0, y.1)
 
   -- a row that is in the area or not, and those behind it
-  abbrev taken_or : Row → Spot → List Row → List Spot → ℕ → Bool → Result (List Spot × ℕ) PlaceFault
+  abbrev taken_or : SegmentRow → RowState → List SegmentRow → List RowState → ℕ → Bool → Result (List RowState × ℕ) PlaceFault
   taken_or r s rs ss cursor t = if t then (row_after k a b r s cursor >>= λ x. rows_from k a b rs ss x.1 >>= λ y. Ok (x.0 ∷ y.0, y.1)) else in_front s (rows_from k a b rs ss cursor)
 
-  none_left : (cursor p : ℕ) (rs : List Row) (ss : List Spot) → length ss ≡ length rs → [] ≡ places_in k p rs → rows_from k a b rs ss cursor ≡ Ok (ss, cursor)
+  none_left : (cursor p : ℕ) (rs : List SegmentRow) (ss : List RowState) → length ss ≡ length rs → [] ≡ places_in k p rs → rows_from k a b rs ss cursor ≡ Ok (ss, cursor)
   none_left cursor p [] ss n e = refl
   none_left cursor p (r ∷ rs) [] n e = absurd (omega arith)
   none_left cursor p (r ∷ rs) (s ∷ ss) n e = by (is_in k r) refl (λ f. none_left cursor (p + 1) rs ss (omega arith) f)
@@ -175,42 +175,42 @@ module _ (k : ℕ) (a : Area) (b : Bounds) (rows : List Row) (whole : Result (Li
           ap (taken_or r s rs ss cursor) i
           ∙ ap (in_front s) (again f)
 
-  pub walk_ends : (spots : List Spot) (cursor : ℕ) → Walk spots cursor [] → whole ≡ Ok (spots, cursor)
+  pub walk_ends : (spots : List RowState) (cursor : ℕ) → Walk spots cursor [] → whole ≡ Ok (spots, cursor)
   walk_ends spots cursor w = grind (arith, common_steps, none_left, take_drop)
 
   -- what placing one row gives
-  abbrev pub Steps : List Spot → ℕ → ℕ → Result (List Spot × ℕ) PlaceFault → Type 0
-  Steps spots cursor m given = (r : Row) → (s : Spot) → slice_get rows m ≡ Some r → slice_get spots m ≡ Some s → spots_after k a b r s cursor m spots ≡ given
+  abbrev pub Steps : List RowState → ℕ → ℕ → Result (List RowState × ℕ) PlaceFault → Type 0
+  Steps spots cursor m given = (r : SegmentRow) → (s : RowState) → slice_get rows m ≡ Some r → slice_get spots m ≡ Some s → spots_after k a b r s cursor m spots ≡ given
 
-  abbrev set_in : List Spot → ℕ → Result (Spot × ℕ) PlaceFault → Result (List Spot × ℕ) PlaceFault
+  abbrev set_in : List RowState → ℕ → Result (RowState × ℕ) PlaceFault → Result (List RowState × ℕ) PlaceFault
   set_in ss m n = n >>= λ x. Ok (slice_set ss m x.0, x.1)
 
-  got : (n : Result (Spot × ℕ) PlaceFault) (ss : List Spot) (m : ℕ) (spots : List Spot) (cursor : ℕ) → set_in ss m n ≡ Ok (spots, cursor) → (x : Spot × ℕ) × (n ≡ Ok x) × (slice_set ss m x.0 ≡ spots) × (x.1 ≡ cursor)
+  got : (n : Result (RowState × ℕ) PlaceFault) (ss : List RowState) (m : ℕ) (spots : List RowState) (cursor : ℕ) → set_in ss m n ≡ Ok (spots, cursor) → (x : RowState × ℕ) × (n ≡ Ok x) × (slice_set ss m x.0 ≡ spots) × (x.1 ≡ cursor)
   got x ss m spots cursor h = grind (arith, common_steps)
 
-  pub walk_step : (spots after : List Spot) (cursor end m : ℕ) (members : List ℕ) → Walk spots cursor (m ∷ members) → Steps spots cursor m (Ok (after, end)) → Walk after end members
+  pub walk_step : (spots after : List RowState) (cursor end m : ℕ) (members : List ℕ) → Walk spots cursor (m ∷ members) → Steps spots cursor m (Ok (after, end)) → Walk after end members
   walk_step spots after cursor end m members w h =
       let n = next_member spots cursor m members w in
       let g = got (row_after k a b n.r n.s cursor) spots m after end (h n.r n.s (there rows m n.r n.rs n.rows_there) (there spots m n.s n.ss n.spots_there)) in
-      let P : List Spot → Type 0 = λ l. Walk l end members in
+      let P : List RowState → Type 0 = λ l. Walk l end members in
       let Q : ℕ → Type 0 = λ c. Walk (slice_set spots m g.0.0) c members in
       subst P g.2 (subst Q g.3 (walk_on spots cursor m members n g.0 g.1))
 
-  lost : (n : Result (Spot × ℕ) PlaceFault) (ss : List Spot) (m : ℕ) (e : PlaceFault) → set_in ss m n ≡ Err e → n ≡ Err e
+  lost : (n : Result (RowState × ℕ) PlaceFault) (ss : List RowState) (m : ℕ) (e : PlaceFault) → set_in ss m n ≡ Err e → n ≡ Err e
   lost x ss m e h = grind (arith, common_steps)
 
   -- a refusal of the row is one of the area, unless it came from outside
-  pub walk_refuses : (spots : List Spot) (cursor m : ℕ) (members : List ℕ) (e : PlaceFault) (outside : Bool) → Walk spots cursor (m ∷ members) → ((r : Row) → (s : Spot) → slice_get rows m ≡ Some r → slice_get spots m ≡ Some s → Unless outside (spots_after k a b r s cursor m spots ≡ Err e)) → Unless outside (whole ≡ Err e)
+  pub walk_refuses : (spots : List RowState) (cursor m : ℕ) (members : List ℕ) (e : PlaceFault) (outside : Bool) → Walk spots cursor (m ∷ members) → ((r : SegmentRow) → (s : RowState) → slice_get rows m ≡ Some r → slice_get spots m ≡ Some s → Unless outside (spots_after k a b r s cursor m spots ≡ Err e)) → Unless outside (whole ≡ Err e)
   walk_refuses spots cursor m members e outside w h =
       let n = next_member spots cursor m members w in
       unless_map (spots_after k a b n.r n.s cursor m spots ≡ Err e) (whole ≡ Err e) outside
       (λ f. walk_stops spots cursor m members n e (lost (row_after k a b n.r n.s cursor) spots m e f))
       (h n.r n.s (there rows m n.r n.rs n.rows_there) (there spots m n.s n.ss n.spots_there))
 
-  pub row_within : (spots : List Spot) (cursor m : ℕ) (members : List ℕ) → Walk spots cursor (m ∷ members) → m < length rows
+  pub row_within : (spots : List RowState) (cursor m : ℕ) (members : List ℕ) → Walk spots cursor (m ∷ members) → m < length rows
   row_within spots cursor m members w = let n = next_member spots cursor m members w in within rows m n.r n.rs n.rows_there
 
-  pub spot_within : (spots : List Spot) (cursor m : ℕ) (members : List ℕ) → Walk spots cursor (m ∷ members) → m < length spots
+  pub spot_within : (spots : List RowState) (cursor m : ℕ) (members : List ℕ) → Walk spots cursor (m ∷ members) → m < length spots
   spot_within spots cursor m members w = let n = next_member spots cursor m members w in within spots m n.s n.ss n.spots_there
 
 -- the rest of some numbers begins with the one at its place
@@ -230,21 +230,21 @@ pub record Spans (start size : ℕ) (b : Bounds) : Type 0 where
   pub ends : b.end ≡ start + size
   pub inside : b.end ≤ 2 ^ 32
 
-pub spans_of : (name : List ℕ) (start size : ℕ) (b : Bounds) → spanned name start size ≡ Ok b → Spans start size b
+pub spans_of : (name : List ℕ) (start size : ℕ) (b : Bounds) → area_bounds name start size ≡ Ok b → Spans start size b
 spans_of name start size b h = grind (arith, common_steps)
 
 -- the sums of an area with these bounds
-pub record Summed (s : Standing) (b : Bounds) : Type 0 where
+pub record Summed (s : SumContextView) (b : Bounds) : Type 0 where
   pub start : ℕ
   pub size : ℕ
   pub starts : sum_in s s.own.start ≡ Ok start
   pub sizes : sum_in (with_start s start) s.own.size ≡ Ok size
   pub spans : Spans start size b
 
-pub summed_of : (s : Standing) (b : Bounds) → bounds_in s ≡ Ok b → Summed s b
+pub summed_of : (s : SumContextView) (b : Bounds) → bounds_in s ≡ Ok b → Summed s b
 summed_of s b h = grind (arith, common_steps, bind_ok, spans_of)
 
-pub bounds_order : (s : Standing) (b : Bounds) → bounds_in s ≡ Ok b → b.start ≤ b.end
+pub bounds_order : (s : SumContextView) (b : Bounds) → bounds_in s ≡ Ok b → b.start ≤ b.end
 bounds_order s b h = grind (arith, common_steps)
 
 -- ---- Lists with one more item.
@@ -271,46 +271,46 @@ last_or_before j k lt = grind (arith, common_steps)
 
 -- what is said of the area at a place, by the places of areas so far and the spots of rows
 abbrev pub Saying : Type 1
-Saying = ℕ → List AreaPlace → List Spot → Type 0
+Saying = ℕ → List AreaPlacement → List RowState → Type 0
 
 -- it is so when that area is placed
 abbrev pub Made : Script → Saying → Type 0
 Made script Q =
-    (k : ℕ) (a : Area) (placed : List AreaPlace) (ss ts : List Spot) (b : Bounds) (last : ℕ) → slice_get script.areas k ≡ Some a → length placed ≡ k →
+    (k : ℕ) (a : MemoryArea) (placed : List AreaPlacement) (ss ts : List RowState) (b : Bounds) (last : ℕ) → slice_get script.areas k ≡ Some a → length placed ≡ k →
     bounds_in (standing k script.areas script.rows a placed ss) ≡ Ok b → rows_from k a b script.rows ss b.start ≡ Ok (ts, last) → Q k (placed ++ area_place b last ∷ []) ts
 
 -- and stays so when a later one is
 abbrev pub Kept : Script → Saying → Type 0
 Kept script Q =
-    (j k : ℕ) (a : Area) (placed : List AreaPlace) (ss ts : List Spot) (b : Bounds) (last : ℕ) → j < k → length placed ≡ k →
+    (j k : ℕ) (a : MemoryArea) (placed : List AreaPlacement) (ss ts : List RowState) (b : Bounds) (last : ℕ) → j < k → length placed ≡ k →
     bounds_in (standing k script.areas script.rows a placed ss) ≡ Ok b → rows_from k a b script.rows ss b.start ≡ Ok (ts, last) → Q j placed ss → Q j (placed ++ area_place b last ∷ []) ts
 
 -- the spots at which rows stand at the end
-pub record Holds (Q : ℕ → List AreaPlace → List Spot → Type 0) (areas : ℕ) (p : Placement) : Type 0 where
-  pub spots : List Spot
+pub record Holds (Q : ℕ → List AreaPlacement → List RowState → Type 0) (areas : ℕ) (p : Placement) : Type 0 where
+  pub spots : List RowState
   pub rows : p.rows ≡ map row_place spots
   pub each : (j : ℕ) → j < areas → Q j p.areas spots
 
-module _ (script : Script) (Q : ℕ → List AreaPlace → List Spot → Type 0) (made : Made script Q) (kept : Kept script Q) where
-  areas_hold : (rest : List Area) (k : ℕ) (placed : List AreaPlace) (ss : List Spot) (p : Placement) → drop k script.areas ≡ rest → length placed ≡ k → areas_from k script.areas script.rows rest placed ss ≡ Ok p → ((j : ℕ) → j < k → Q j placed ss) → Holds Q (k + length rest) p
+module _ (script : Script) (Q : ℕ → List AreaPlacement → List RowState → Type 0) (made : Made script Q) (kept : Kept script Q) where
+  areas_hold : (rest : List MemoryArea) (k : ℕ) (placed : List AreaPlacement) (ss : List RowState) (p : Placement) → drop k script.areas ≡ rest → length placed ≡ k → areas_from k script.areas script.rows rest placed ss ≡ Ok p → ((j : ℕ) → j < k → Q j placed ss) → Holds Q (k + length rest) p
   areas_hold [] k placed ss p left count h before = grind (arith, common_steps)
   areas_hold (a ∷ rest) k placed ss p left count h before =
       let f = bind_ok (bounds_in (standing k script.areas script.rows a placed ss)) (λ b. rows_from k a b script.rows ss b.start >>= λ x. areas_from (k + 1) script.areas script.rows rest (placed ++ area_place b x.1 ∷ []) x.0) p h in
       let b : Bounds = f.0 in
       let g = bind_ok (rows_from k a b script.rows ss b.start) (λ x. areas_from (k + 1) script.areas script.rows rest (placed ++ area_place b x.1 ∷ []) x.0) p f.2 in
-      let x : List Spot × ℕ = g.0 in
+      let x : List RowState × ℕ = g.0 in
       let more : Holds Q ((k + 1) + length rest) p = areas_hold rest (k + 1) (placed ++ area_place b x.1 ∷ []) x.0 p (rw add-one (drop_suc script.areas k a rest left)) (one_longer placed k (area_place b x.1) count) g.2
       (λ i small. by i b x f.1 g.1 (last_or_before i k small)) in
       record { spots = more.spots; rows = more.rows; each = λ j lt. more.each j (omega arith) }
     where
-      by : (i : ℕ) (b : Bounds) (x : List Spot × ℕ) → bounds_in (standing k script.areas script.rows a placed ss) ≡ Ok b → rows_from k a b script.rows ss b.start ≡ Ok x → (i ≡ k) ⊎ (i < k) → Q i (placed ++ area_place b x.1 ∷ []) x.0
+      by : (i : ℕ) (b : Bounds) (x : List RowState × ℕ) → bounds_in (standing k script.areas script.rows a placed ss) ≡ Ok b → rows_from k a b script.rows ss b.start ≡ Ok x → (i ≡ k) ⊎ (i < k) → Q i (placed ++ area_place b x.1 ∷ []) x.0
       by i b x d e (inl same) = subst (λ j. Q j (placed ++ area_place b x.1 ∷ []) x.0) (sym same) (made k a placed ss x.0 b x.1 (there script.areas k a rest left) count d e)
       by i b x d e (inr less) = kept i k a placed ss x.0 b x.1 less count d e (before i less)
 
-pub placed_of : (script : Script) (needs : List SegmentNeed) (p : Placement) → place_of script needs ≡ Ok p → areas_from 0 script.areas script.rows script.areas [] (map (unplaced needs) script.rows) ≡ Ok p
-placed_of script needs p h = (bind_ok (rows_exist script.rows needs) (λ _. areas_from 0 script.areas script.rows script.areas [] (map (unplaced needs) script.rows)) p h).2
+pub placed_of : (script : Script) (needs : List SegmentNeed) (p : Placement) → place_of script needs ≡ Ok p → areas_from 0 script.areas script.rows script.areas [] (map (unplaced_row needs) script.rows) ≡ Ok p
+placed_of script needs p h = (bind_ok (rows_exist script.rows needs) (λ _. areas_from 0 script.areas script.rows script.areas [] (map (unplaced_row needs) script.rows)) p h).2
 
-pub all_hold : (script : Script) (needs : List SegmentNeed) (p : Placement) (Q : ℕ → List AreaPlace → List Spot → Type 0) → Made script Q → Kept script Q → place_of script needs ≡ Ok p → Holds Q (length script.areas) p
+pub all_hold : (script : Script) (needs : List SegmentNeed) (p : Placement) (Q : ℕ → List AreaPlacement → List RowState → Type 0) → Made script Q → Kept script Q → place_of script needs ≡ Ok p → Holds Q (length script.areas) p
 all_hold script needs p Q made kept h =
-    let g : Holds Q (0 + length script.areas) p = areas_hold script Q made kept script.areas 0 [] (map (unplaced needs) script.rows) p refl refl (placed_of script needs p h) (λ j never. absurd (omega arith)) in
+    let g : Holds Q (0 + length script.areas) p = areas_hold script Q made kept script.areas 0 [] (map (unplaced_row needs) script.rows) p refl refl (placed_of script needs p h) (λ j never. absurd (omega arith)) in
     record { spots = g.spots; rows = g.rows; each = λ j lt. g.each j (omega arith) }

@@ -2,51 +2,51 @@
 use Rattle.std.specs.Prelude.{ℕ, true, false, List, [], ◌∷◌, codes, find, Option}
 use Rattle.std.specs.Option.{option_map}
 use Rattle.std.specs.Str.{str_eq_ignore_ascii_case}
-use Rattle.script65.specs.declared.script.Access.TheVariants.{ReadOnly, ReadWrite, Bss, ZeroPage}
+use Rattle.script65.specs.declared.script.SegmentType.TheVariants.{ReadOnly, ReadWrite, Bss, ZeroPage}
 pub use Rattle.script65.specs.declared.reading.words.Block.{Block}
 pub use Rattle.script65.specs.declared.reading.words.Block.TheVariants.{Memory as memory, Segments as segments, Symbols as symbols}
 -- what the type of a symbol says
-pub use Rattle.script65.specs.declared.reading.words.Role.{Role}
-pub use Rattle.script65.specs.declared.reading.words.Role.TheVariants.{Export as exported, Weak as weak, Import as imported}
+pub use Rattle.script65.specs.declared.reading.words.SymbolType.{SymbolType}
+pub use Rattle.script65.specs.declared.reading.words.SymbolType.TheVariants.{Export as exported, Weak as weak, Import as imported}
 -- what a word says
-pub use Rattle.script65.specs.declared.reading.words.Meaning.{Meaning}
-pub use Rattle.script65.specs.declared.reading.words.Meaning.TheVariants.{Flag as flag, Access as access, Role as role, Width as width}
+pub use Rattle.script65.specs.declared.reading.words.KeywordValue.{KeywordValue}
+pub use Rattle.script65.specs.declared.reading.words.KeywordValue.TheVariants.{Flag as flag, Access as access, Role as role, Width as width}
 -- What is given for an attribute. A sum without names is its number, and one with a name is known
 -- only where areas are placed.
 pub use Rattle.script65.specs.declared.reading.entries.Value.{Value}
 pub use Rattle.script65.specs.declared.reading.entries.Value.TheVariants.{Number as number, Byte as byte, Sum as unknown_sum, Said as meant, Area as area, File as file, Output as output_file}
 -- what an attribute takes: a number from one to another, a byte, a sum, one of some words, the name
 -- of an area, a file
-pub use Rattle.script65.specs.declared.reading.words.Takes.{Takes}
-pub use Rattle.script65.specs.declared.reading.words.Takes.TheVariants.{Number as number_from, Byte as a_byte, Sum as a_sum, OneOf as one_of, Area as an_area, File as a_file}
-pub use Rattle.script65.specs.declared.reading.words.Words.{Words}
-pub use Rattle.script65.specs.declared.reading.words.Words.TheVariants.{Flag as yes_or_no, AreaAccess as area_access, RowAccess as row_access, Role as symbol_role, Width as address_width}
+pub use Rattle.script65.specs.declared.reading.words.ValueKind.{ValueKind}
+pub use Rattle.script65.specs.declared.reading.words.ValueKind.TheVariants.{Number as number_from, Byte as a_byte, Sum as a_sum, OneOf as one_of, Area as an_area, File as a_file}
+pub use Rattle.script65.specs.declared.reading.words.KeywordSet.{KeywordSet}
+pub use Rattle.script65.specs.declared.reading.words.KeywordSet.TheVariants.{Flag as yes_or_no, AreaAccess as area_access, RowAccess as row_access, Role as symbol_role, Width as address_width}
 
 -- words are read in any case
-abbrev pub row_of : {A : Type 0} → List ℕ → List (List ℕ × A) → Option (List ℕ × A)
-row_of {A} text rows = find (λ (row : List ℕ × A). str_eq_ignore_ascii_case text row.0) rows
+abbrev pub find_keyword : {A : Type 0} → List ℕ → List (List ℕ × A) → Option (List ℕ × A)
+find_keyword {A} text rows = find (λ (row : List ℕ × A). str_eq_ignore_ascii_case text row.0) rows
 
 -- what a word says, of these
-abbrev pub said : {A : Type 0} → List ℕ → List (List ℕ × A) → Option A
-said {A} text rows = option_map (λ (row : List ℕ × A). row.1) (row_of text rows)
+abbrev pub value_of_word : {A : Type 0} → List ℕ → List (List ℕ × A) → Option A
+value_of_word {A} text rows = option_map (λ (row : List ℕ × A). row.1) (find_keyword text rows)
 
 abbrev pub blocks : List (List ℕ × Block)
 blocks = (codes "memory", memory) ∷ (codes "segments", segments) ∷ (codes "symbols", symbols) ∷ []
 
 -- what words say: `yes` or `no`; what may be in an area or in a segment; what a script does with a
 -- symbol; how wide an address is, which has no effect
-abbrev pub meanings : Words → List (List ℕ × Meaning)
-meanings yes_or_no = (codes "yes", flag true) ∷ (codes "no", flag false) ∷ []
-meanings area_access = (codes "ro", access ReadOnly) ∷ (codes "rw", access ReadWrite) ∷ []
-meanings row_access =
+abbrev pub keywords : KeywordSet → List (List ℕ × KeywordValue)
+keywords yes_or_no = (codes "yes", flag true) ∷ (codes "no", flag false) ∷ []
+keywords area_access = (codes "ro", access ReadOnly) ∷ (codes "rw", access ReadWrite) ∷ []
+keywords row_access =
     (codes "ro", access ReadOnly)
     ∷ (codes "rw", access ReadWrite)
     ∷ (codes "bss", access Bss)
     ∷ (codes "zp", access ZeroPage)
     ∷ []
-meanings symbol_role =
+keywords symbol_role =
     (codes "export", role exported) ∷ (codes "weak", role weak) ∷ (codes "import", role imported) ∷ []
-meanings address_width =
+keywords address_width =
     (codes "zp", width)
     ∷ (codes "zeropage", width)
     ∷ (codes "abs", width)
@@ -54,7 +54,7 @@ meanings address_width =
     ∷ []
 
 -- the attributes of a block, and what they take
-abbrev pub attributes : Block → List (List ℕ × Takes)
+abbrev pub attributes : Block → List (List ℕ × ValueKind)
 attributes memory =
     (codes "start", a_sum)
     ∷ (codes "size", a_sum)

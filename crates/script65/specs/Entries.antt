@@ -6,69 +6,69 @@ use Rattle.std.specs.Str.{bytes_eq}
 use Rattle.script65.specs.declared.fault.Fault.{Fault}
 use Rattle.script65.specs.declared.fault.Fault.TheVariants.{SyntaxError, AttributeMissing, OutOfRange, Excluded}
 use Rattle.script65.specs.AreaSums.{sum_of}
-use Rattle.script65.specs.Attributes.{Block, memory, segments, symbols, Role, imported, Meaning, meanings, Value, number, byte, unknown_sum, meant, role, area, file, output_file, Takes, number_from, a_byte, one_of, an_area, a_file, said}
+use Rattle.script65.specs.Attributes.{Block, memory, segments, symbols, SymbolType, imported, KeywordValue, keywords, Value, number, byte, unknown_sum, meant, role, area, file, output_file, ValueKind, number_from, a_byte, one_of, an_area, a_file, value_of_word}
 use Rattle.script65.specs.Tokens.{Lexeme, word, numeral, string, output}
 -- ---- Entries.
 
 -- a term of a sum: a number, or else a name, and its place; and whether a `-` stands before it
-pub use Rattle.script65.specs.declared.reading.entries.Part.{Part}
+pub use Rattle.script65.specs.declared.reading.entries.ParsedTerm.{ParsedTerm}
 -- an attribute, what is given for it, and of a sum its terms
-pub use Rattle.script65.specs.declared.reading.entries.Given.{Given}
+pub use Rattle.script65.specs.declared.reading.entries.AttributeValue.{AttributeValue}
 -- an entry: its name, the place of that, and its attributes
-pub use Rattle.script65.specs.declared.reading.entries.Entry.{Entry}
+pub use Rattle.script65.specs.declared.reading.entries.ConfigEntry.{ConfigEntry}
 -- the entries of all blocks, by the kind of block
 pub use Rattle.script65.specs.declared.reading.entries.Entries.{Entries}
 
 abbrev pub no_entries : Entries
 no_entries = record { areas = []; rows = []; symbols = [] }
 
-abbrev pub of_kind : Block → Entries → List Entry
+abbrev pub of_kind : Block → Entries → List ConfigEntry
 of_kind memory es = es.areas
 of_kind segments es = es.rows
 of_kind symbols es = es.symbols
 
-abbrev pub with_entry : Block → Entry → Entries → Entries
+abbrev pub with_entry : Block → ConfigEntry → Entries → Entries
 with_entry memory e es = record es { areas = es.areas ++ e ∷ [] }
 with_entry segments e es = record es { rows = es.rows ++ e ∷ [] }
 with_entry symbols e es = record es { symbols = es.symbols ++ e ∷ [] }
 
-abbrev pub with_given : Given → Entry → Entry
+abbrev pub with_given : AttributeValue → ConfigEntry → ConfigEntry
 with_given g e = record e { given = e.given ++ g ∷ [] }
 
 -- an entry of this name, at this place, that gives nothing yet
-abbrev pub opened : List ℕ → ℕ → Entry
-opened name at = record { name = name; at = at; given = [] }
+abbrev pub new_entry : List ℕ → ℕ → ConfigEntry
+new_entry name at = record { name = name; at = at; given = [] }
 
 -- a name is given once in blocks of a kind
 abbrev pub has_name : List ℕ → Block → Entries → Bool
-has_name name b es = list_any (λ (e : Entry). bytes_eq name e.name) (of_kind b es)
+has_name name b es = list_any (λ (e : ConfigEntry). bytes_eq name e.name) (of_kind b es)
 
 -- what an entry gives for an attribute
-abbrev pub given_for : List ℕ → Entry → Option Given
-given_for a e = find (λ (g : Given). bytes_eq a g.word) e.given
+abbrev pub given_for : List ℕ → ConfigEntry → Option AttributeValue
+given_for a e = find (λ (g : AttributeValue). bytes_eq a g.word) e.given
 
-abbrev pub is_given : List ℕ → Entry → Bool
+abbrev pub is_given : List ℕ → ConfigEntry → Bool
 is_given a e = is_some (given_for a e)
 
 -- the terms of its sum, if it is one
-abbrev pub parts_for : List ℕ → Entry → List Part
-parts_for a e = option_map_or (λ (g : Given). g.parts) (given_for a e) []
+abbrev pub parts_for : List ℕ → ConfigEntry → List ParsedTerm
+parts_for a e = option_map_or (λ (g : AttributeValue). g.parts) (given_for a e) []
 
-abbrev pub value_for : List ℕ → Entry → Option Value
-value_for a e = option_map (λ (g : Given). g.value) (given_for a e)
+abbrev pub value_for : List ℕ → ConfigEntry → Option Value
+value_for a e = option_map (λ (g : AttributeValue). g.value) (given_for a e)
 
 abbrev pub as_number : Value → Option ℕ
 as_number (number n) = Some n
 as_number _ = None
 
-abbrev pub number_for : List ℕ → Entry → Option ℕ
+abbrev pub number_for : List ℕ → ConfigEntry → Option ℕ
 number_for a e = option_and_then as_number (value_for a e)
 
-abbrev pub as_role : Value → Option Role
+abbrev pub as_role : Value → Option SymbolType
 as_role (meant (role r)) = Some r
 as_role _ = None
 
-abbrev pub role_for : Entry → Option Role
+abbrev pub role_for : ConfigEntry → Option SymbolType
 role_for e = option_and_then as_role (value_for (codes "type") e)
 
 -- ---- Values.
@@ -82,39 +82,39 @@ abbrev pub as_value : (ℕ → Value) → Result ℕ Fault → Result Value Faul
 as_value made (Ok n) = Ok (made n)
 as_value made (Err f) = Err f
 
-abbrev pub as_word : Option Meaning → Result Value Fault
+abbrev pub as_word : Option KeywordValue → Result Value Fault
 as_word (Some m) = Ok (meant m)
 as_word None = Err SyntaxError
 
 -- what a token is to an attribute that takes this and no sum
-abbrev pub value_of : Takes → Lexeme → Result Value Fault
+abbrev pub value_of : ValueKind → Lexeme → Result Value Fault
 value_of (number_from low high) (numeral n) = as_value number (in_range low high n)
 value_of a_byte (numeral n) = as_value byte (in_range 0 0xff n)
-value_of (one_of words) (word w) = as_word (said w (meanings words))
+value_of (one_of words) (word w) = as_word (value_of_word w (keywords words))
 value_of an_area (word w) = Ok (area w)
 value_of a_file (string s) = Ok (file s)
 value_of a_file output = Ok output_file
 value_of _ _ = Err SyntaxError
 
-abbrev pub a_part : Bool → ℕ → Result ℕ Fault → Result Part Fault
+abbrev pub a_part : Bool → ℕ → Result ℕ Fault → Result ParsedTerm Fault
 a_part taken at (Ok n) = Ok (record { minus = taken; number = Some n; name = []; at = at })
 a_part taken at (Err f) = Err f
 
 -- a token as a term of a sum
-abbrev pub part_of : Bool → ℕ → Lexeme → Result Part Fault
+abbrev pub part_of : Bool → ℕ → Lexeme → Result ParsedTerm Fault
 part_of taken at (numeral n) = a_part taken at (in_range 0 0xffffffff n)
 part_of taken at (word w) = Ok (record { minus = taken; number = None; name = w; at = at })
 part_of taken at _ = Err SyntaxError
 
 -- What a sum comes to: the number of its terms, if that is 0 or more and below 2 ^ 32. It is unknown
 -- where a term is a name.
-abbrev pub sum_of_parts : List Part → Option Value
+abbrev pub sum_of_parts : List ParsedTerm → Option Value
 sum_of_parts ps =
-    if list_any (λ (p : Part). not (is_some p.number)) ps then Some unknown_sum
-    else option_map number (sum_of (λ (p : Part). p.minus) (λ (p : Part). unwrap_or p.number 0) ps)
+    if list_any (λ (p : ParsedTerm). not (is_some p.number)) ps then Some unknown_sum
+    else option_map number (sum_of (λ (p : ParsedTerm). p.minus) (λ (p : ParsedTerm). unwrap_or p.number 0) ps)
 
 -- where the last term of a sum stands
-abbrev pub last_part : List Part → ℕ
+abbrev pub last_part : List ParsedTerm → ℕ
 last_part [] = 0
 last_part (p ∷ []) = p.at
 last_part (p ∷ q ∷ ps) = last_part (q ∷ ps)
@@ -122,7 +122,7 @@ last_part (p ∷ q ∷ ps) = last_part (q ∷ ps)
 -- ---- Entries at their `;`.
 
 -- an area has a start and a size, together at most 2 ^ 32 (a sum with a name counts as 0 here)
-abbrev pub area_closing : Entry → Option Fault
+abbrev pub area_closing : ConfigEntry → Option Fault
 area_closing e =
     if not (is_given (codes "start") e && is_given (codes "size") e) then Some AttributeMissing
     else if nat_lt (2 ^ 32)
@@ -130,16 +130,16 @@ area_closing e =
     then Some OutOfRange
     else None
 
-abbrev pub row_closing : Entry → Option Fault
+abbrev pub row_closing : ConfigEntry → Option Fault
 row_closing e = if is_given (codes "load") e then None else Some AttributeMissing
 
 -- an export and a weak symbol have a value, an import has none
-abbrev pub symbol_closing : Option Role → Bool → Option Fault
+abbrev pub symbol_closing : Option SymbolType → Bool → Option Fault
 symbol_closing None valued = Some AttributeMissing
 symbol_closing (Some imported) valued = if valued then Some Excluded else None
 symbol_closing (Some _) valued = if valued then None else Some AttributeMissing
 
-abbrev pub closing_fault : Block → Entry → Option Fault
-closing_fault memory e = area_closing e
-closing_fault segments e = row_closing e
-closing_fault symbols e = symbol_closing (role_for e) (is_given (codes "value") e)
+abbrev pub entry_fault : Block → ConfigEntry → Option Fault
+entry_fault memory e = area_closing e
+entry_fault segments e = row_closing e
+entry_fault symbols e = symbol_closing (role_for e) (is_given (codes "value") e)

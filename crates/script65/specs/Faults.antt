@@ -2,7 +2,7 @@
 use Rattle.std.specs.Prelude.{Bool, ℕ, true, false, if◌then◌else◌, List, ◌++◌, codes, encode_utf8_all}
 use Rattle.script65.specs.declared.fault.Fault.{Fault}
 use Rattle.script65.specs.declared.fault.Fault.TheVariants.{OutOfMemory, SyntaxError, UnknownAttribute, AttributeTwice, AttributeMissing, NameTwice, NoSuchArea, OutOfRange, Excluded, TooLong, NoSuchName, AmbiguousName}
-use Rattle.script65.specs.declared.fault.Stop.{Stop}
+use Rattle.script65.specs.declared.fault.FaultAt.{FaultAt}
 use Rattle.script65.specs.declared.fault.ScriptFault.{ScriptFault}
 use Rattle.std.specs.Fmt.{decimal}
 use Rattle.script65.specs.declared.placement.PlaceFault.{PlaceFault}
@@ -40,14 +40,14 @@ is_memory_fault OutOfMemory = true
 is_memory_fault _ = false
 
 -- a fault at a place of the text
-abbrev pub stop_at : Fault → ℕ → Stop
+abbrev pub stop_at : Fault → ℕ → FaultAt
 stop_at fault at = record { fault = fault; at = at }
 
-abbrev pub is_outside : Stop → Bool
-is_outside e = is_memory_fault e.fault
+abbrev pub is_system_error : FaultAt → Bool
+is_system_error e = is_memory_fault e.fault
 
-abbrev pub is_script_outside : ScriptFault → Bool
-is_script_outside e = is_memory_fault e.fault
+abbrev pub is_script_system_error : ScriptFault → Bool
+is_script_system_error e = is_memory_fault e.fault
 
 -- ---- The faults of placement: their texts, and which of them come from memory.
 
@@ -62,6 +62,6 @@ place_fault_text (place.Overflow name n) =
 place_fault_text (place.NotPlaced name) = codes "name not yet placed: " ++ encode_utf8_all name
 place_fault_text (place.AreaOutOfRange name) = codes "area value out of range: " ++ encode_utf8_all name
 
-abbrev pub is_place_outside : PlaceFault → Bool
-is_place_outside place.OutOfMemory = true
-is_place_outside _ = false
+abbrev pub is_place_system_error : PlaceFault → Bool
+is_place_system_error place.OutOfMemory = true
+is_place_system_error _ = false

@@ -2,11 +2,11 @@
 use Rattle.std.specs.Prelude.{◌≡◌, ◌≢◌, ◌≤◌, ◌⊎◌, ℕ, Bool, true, false, List, [], codes, Some, None, Err}
 use Rattle.script65.specs.declared.fault.Fault.{Fault}
 use Rattle.script65.specs.declared.fault.Fault.TheVariants.{AttributeMissing, AttributeTwice, NameTwice, OutOfRange, SyntaxError, UnknownAttribute}
-use Rattle.script65.specs.declared.fault.Stop.{Stop}
-use Rattle.script65.specs.Attributes.{Block, Takes, a_sum, attributes, blocks, imported, row_of, said, symbols}
-use Rattle.script65.specs.Entries.{Entries, Entry, Part, closing_fault, has_name, is_given, last_part, no_entries, opened, part_of, role_for, sum_of_parts, value_of}
+use Rattle.script65.specs.declared.fault.FaultAt.{FaultAt}
+use Rattle.script65.specs.Attributes.{Block, ValueKind, a_sum, attributes, blocks, imported, find_keyword, value_of_word, symbols}
+use Rattle.script65.specs.Entries.{Entries, ConfigEntry, ParsedTerm, entry_fault, has_name, is_given, last_part, no_entries, new_entry, part_of, role_for, sum_of_parts, value_of}
 use Rattle.script65.specs.Faults.{stop_at}
-use Rattle.script65.specs.Grammar.{AreAttributes, AreBlocks, AreEntries, AreTerms, IsWritten, Perhaps, Stands, sign}
+use Rattle.script65.specs.Grammar.{AreAttributes, AreBlocks, AreEntries, AreTerms, IsWritten, IsOptionalToken, TokenAt, sign}
 use Rattle.script65.specs.Scripts.{IsRead}
 use Rattle.script65.specs.Tokens.{Lexeme, brace, colon, equals, minus, plus, semicolon, token, word}
 
@@ -17,41 +17,41 @@ pub record InBlock (bytes : List ℕ) (b : Block) (es : Entries) (at : ℕ) : Ty
   pub before : Entries
   pub begin : ℕ
   pub written : List ℕ
-  pub behind_word : ℕ
+  pub after_word : ℕ
   pub start : ℕ
   pub blocks_before : AreBlocks bytes no_entries before 0 begin
-  pub stands : Stands bytes (word written) begin behind_word
-  pub known : said written blocks ≡ Some b
-  pub opens : Stands bytes brace behind_word start
+  pub stands : TokenAt bytes (word written) begin after_word
+  pub known : value_of_word written blocks ≡ Some b
+  pub opens : TokenAt bytes brace after_word start
   pub entries_before : AreEntries bytes b before es start at
 
 -- within an entry: its name, which is new, `:` and whole attributes; this is the entry so far
-pub record InEntry (bytes : List ℕ) (b : Block) (es : Entries) (e : Entry) (at : ℕ) : Type 0 where
+pub record InEntry (bytes : List ℕ) (b : Block) (es : Entries) (e : ConfigEntry) (at : ℕ) : Type 0 where
   pub begin : ℕ
-  pub behind_name : ℕ
+  pub after_name : ℕ
   pub start : ℕ
   pub inside : InBlock bytes b es begin
-  pub name : Stands bytes (word e.name) begin behind_name
+  pub name : TokenAt bytes (word e.name) begin after_name
   pub place : e.at ≡ (token bytes begin).at
   pub fresh : has_name e.name b es ≡ false
-  pub colon_behind : Stands bytes colon behind_name start
-  pub gives : AreAttributes bytes b (opened e.name e.at) e start at
+  pub colon_after : TokenAt bytes colon after_name start
+  pub gives : AreAttributes bytes b (new_entry e.name e.at) e start at
 
 -- within an attribute: its word, which the block has and the entry so far doesn't give, and `=` or not
-pub record InAttribute (bytes : List ℕ) (b : Block) (es : Entries) (e : Entry) (row : List ℕ × Takes) (at : ℕ) : Type 0 where
+pub record InAttribute (bytes : List ℕ) (b : Block) (es : Entries) (e : ConfigEntry) (row : List ℕ × ValueKind) (at : ℕ) : Type 0 where
   pub begin : ℕ
   pub written : List ℕ
-  pub behind_word : ℕ
+  pub after_word : ℕ
   pub inside : InEntry bytes b es e begin
-  pub stands : Stands bytes (word written) begin behind_word
-  pub known : row_of written (attributes b) ≡ Some row
+  pub stands : TokenAt bytes (word written) begin after_word
+  pub known : find_keyword written (attributes b) ≡ Some row
   pub once : is_given row.0 e ≡ false
-  pub equals_sign : Perhaps bytes equals behind_word at
+  pub equals_sign : IsOptionalToken bytes equals after_word at
 
 -- within a sum: nothing, or terms and the sign of the next one
-pub data InSum (bytes : List ℕ) (start : ℕ) : List Part → Bool → ℕ → Type 0 where
+pub data InSum (bytes : List ℕ) (start : ℕ) : List ParsedTerm → Bool → ℕ → Type 0 where
   first_term : InSum bytes start [] false start
-  next_term : (ps : List Part) (taken : Bool) (mid at : ℕ) → AreTerms bytes false ps start mid → Stands bytes (sign taken) mid at → InSum bytes start ps taken at
+  next_term : (ps : List ParsedTerm) (taken : Bool) (mid at : ℕ) → AreTerms bytes false ps start mid → TokenAt bytes (sign taken) mid at → InSum bytes start ps taken at
 
 abbrev pub is_sign : Lexeme → Bool
 is_sign plus = true
@@ -64,19 +64,19 @@ is_sign _ = false
 -- one of an attribute that the entry gives; the `;` of an entry that lacks an attribute, or whose attributes exclude each other or
 -- come to too much; a number that the attribute doesn't take, or no term of a sum may be. Or a sum ends, without names, that is
 -- out of range: the fault is at its last term.
-pub data HasFault (bytes : List ℕ) : Stop → Type 0 where
+pub data HasFault (bytes : List ℕ) : FaultAt → Type 0 where
   name_twice : (b : Block) (es : Entries) (w : List ℕ) (at : ℕ) → InBlock bytes b es at → (token bytes at).lexeme ≡ word w → has_name w b es ≡ true → HasFault bytes (stop_at NameTwice (token bytes at).at)
-  unknown_attribute : (b : Block) (es : Entries) (e : Entry) (w : List ℕ) (at : ℕ) → InEntry bytes b es e at → (token bytes at).lexeme ≡ word w → row_of w (attributes b) ≡ None → HasFault bytes (stop_at UnknownAttribute (token bytes at).at)
-  attribute_twice : (b : Block) (es : Entries) (e : Entry) (w : List ℕ) (row : List ℕ × Takes) (at : ℕ) → InEntry bytes b es e at → (token bytes at).lexeme ≡ word w → row_of w (attributes b) ≡ Some row → is_given row.0 e ≡ true → HasFault bytes (stop_at AttributeTwice (token bytes at).at)
-  wrong_end : (b : Block) (es : Entries) (e : Entry) (fault : Fault) (at : ℕ) → InEntry bytes b es e at → (token bytes at).lexeme ≡ semicolon → closing_fault b e ≡ Some fault → HasFault bytes (stop_at fault (token bytes at).at)
-  wrong_number : (b : Block) (es : Entries) (e : Entry) (row : List ℕ × Takes) (at : ℕ) → InAttribute bytes b es e row at → value_of row.1 (token bytes at).lexeme ≡ Err OutOfRange → HasFault bytes (stop_at OutOfRange (token bytes at).at)
-  wrong_term : (b : Block) (es : Entries) (e : Entry) (a : List ℕ) (ps : List Part) (taken : Bool) (start at : ℕ) → InAttribute bytes b es e (a, a_sum) start → InSum bytes start ps taken at → part_of taken (token bytes at).at (token bytes at).lexeme ≡ Err OutOfRange → HasFault bytes (stop_at OutOfRange (token bytes at).at)
-  wrong_sum : (b : Block) (es : Entries) (e : Entry) (a : List ℕ) (ps : List Part) (start at : ℕ) → InAttribute bytes b es e (a, a_sum) start → AreTerms bytes false ps start at → is_sign (token bytes at).lexeme ≡ false → sum_of_parts ps ≡ None → HasFault bytes (stop_at OutOfRange (last_part ps))
+  unknown_attribute : (b : Block) (es : Entries) (e : ConfigEntry) (w : List ℕ) (at : ℕ) → InEntry bytes b es e at → (token bytes at).lexeme ≡ word w → find_keyword w (attributes b) ≡ None → HasFault bytes (stop_at UnknownAttribute (token bytes at).at)
+  attribute_twice : (b : Block) (es : Entries) (e : ConfigEntry) (w : List ℕ) (row : List ℕ × ValueKind) (at : ℕ) → InEntry bytes b es e at → (token bytes at).lexeme ≡ word w → find_keyword w (attributes b) ≡ Some row → is_given row.0 e ≡ true → HasFault bytes (stop_at AttributeTwice (token bytes at).at)
+  wrong_end : (b : Block) (es : Entries) (e : ConfigEntry) (fault : Fault) (at : ℕ) → InEntry bytes b es e at → (token bytes at).lexeme ≡ semicolon → entry_fault b e ≡ Some fault → HasFault bytes (stop_at fault (token bytes at).at)
+  wrong_number : (b : Block) (es : Entries) (e : ConfigEntry) (row : List ℕ × ValueKind) (at : ℕ) → InAttribute bytes b es e row at → value_of row.1 (token bytes at).lexeme ≡ Err OutOfRange → HasFault bytes (stop_at OutOfRange (token bytes at).at)
+  wrong_term : (b : Block) (es : Entries) (e : ConfigEntry) (a : List ℕ) (ps : List ParsedTerm) (taken : Bool) (start at : ℕ) → InAttribute bytes b es e (a, a_sum) start → InSum bytes start ps taken at → part_of taken (token bytes at).at (token bytes at).lexeme ≡ Err OutOfRange → HasFault bytes (stop_at OutOfRange (token bytes at).at)
+  wrong_sum : (b : Block) (es : Entries) (e : ConfigEntry) (a : List ℕ) (ps : List ParsedTerm) (start at : ℕ) → InAttribute bytes b es e (a, a_sum) start → AreTerms bytes false ps start at → is_sign (token bytes at).lexeme ≡ false → sum_of_parts ps ≡ None → HasFault bytes (stop_at OutOfRange (last_part ps))
 
 -- a first fault that is no syntax error is one of these, and each of these is the first fault
 abbrev pub NumberedFaults : Type 0
 NumberedFaults =
-    (bytes : List ℕ) (f : Stop) →
+    (bytes : List ℕ) (f : FaultAt) →
     (IsRead bytes (Err f) → (f.fault ≡ SyntaxError) ⊎ HasFault bytes f)
     × (HasFault bytes f → IsRead bytes (Err f))
 
@@ -85,7 +85,7 @@ NumberedFaults =
 -- two texts have the same tokens, at the same places, from one place up to another
 pub data SameTokensUpTo (bytes other : List ℕ) : ℕ → ℕ → Type 0 where
   no_token : (at : ℕ) → SameTokensUpTo bytes other at at
-  same_token : (at to : ℕ) → token other at ≡ token bytes at → SameTokensUpTo bytes other (token bytes at).behind to → SameTokensUpTo bytes other at to
+  same_token : (at to : ℕ) → token other at ≡ token bytes at → SameTokensUpTo bytes other (token bytes at).following to → SameTokensUpTo bytes other at to
 
 -- a text is in the grammar
 abbrev pub IsInGrammar : List ℕ → Type 0
@@ -96,20 +96,20 @@ IsInGrammar text = (es : Entries) × IsWritten text es
 pub record GoesToWrongEnd (text : List ℕ) (place : ℕ) : Type 0 where
   pub block : Block
   pub entries : Entries
-  pub entry : Entry
+  pub entry : ConfigEntry
   pub fault : Fault
   pub at : ℕ
   pub inside : InEntry text block entries entry at
   pub further : place ≤ at
   pub ends : (token text at).lexeme ≡ semicolon
-  pub wrong : closing_fault block entry ≡ Some fault
+  pub wrong : entry_fault block entry ≡ Some fault
   pub whole : fault ≢ AttributeMissing
 
 -- Before a place stand attributes that no others would mend: they exclude each other or come to too much; or the word `value` of
 -- an import.
 pub data IsWrong (bytes : List ℕ) (place : ℕ) : Type 0 where
-  wrong_entry : (b : Block) (es : Entries) (e : Entry) (fault : Fault) (at : ℕ) → InEntry bytes b es e at → at ≤ place → closing_fault b e ≡ Some fault → fault ≢ AttributeMissing → IsWrong bytes place
-  value_of_import : (es : Entries) (e : Entry) (row : List ℕ × Takes) (at : ℕ) → InAttribute bytes symbols es e row at → at ≤ place → row.0 ≡ codes "value" → role_for e ≡ Some imported → IsWrong bytes place
+  wrong_entry : (b : Block) (es : Entries) (e : ConfigEntry) (fault : Fault) (at : ℕ) → InEntry bytes b es e at → at ≤ place → entry_fault b e ≡ Some fault → fault ≢ AttributeMissing → IsWrong bytes place
+  value_of_import : (es : Entries) (e : ConfigEntry) (row : List ℕ × ValueKind) (at : ℕ) → InAttribute bytes symbols es e row at → at ≤ place → row.0 ≡ codes "value" → role_for e ≡ Some imported → IsWrong bytes place
 
 -- The least token with which no text goes on. Some text with the same tokens before it is in the grammar; or, where these are
 -- wrong already, goes on up to the `;`. None with the same tokens before it and with it does either.
@@ -121,12 +121,12 @@ pub record IsLeast (bytes : List ℕ) (place : ℕ) : Type 0 where
 
 -- A first fault: one of a token by what stands before it; or else, where no token has one, a syntax error at the least token with
 -- which no text goes on.
-pub data IsFirst (bytes : List ℕ) : Stop → Type 0 where
-  numbered : (f : Stop) → HasFault bytes f → IsFirst bytes f
-  syntax_error : (place : ℕ) → ((f : Stop) → HasFault bytes f → ⊥) → IsLeast bytes place → IsFirst bytes (stop_at SyntaxError (token bytes place).at)
+pub data IsFirst (bytes : List ℕ) : FaultAt → Type 0 where
+  numbered : (f : FaultAt) → HasFault bytes f → IsFirst bytes f
+  syntax_error : (place : ℕ) → ((f : FaultAt) → HasFault bytes f → ⊥) → IsLeast bytes place → IsFirst bytes (stop_at SyntaxError (token bytes place).at)
 
 -- these are the first faults that are read
 abbrev pub FirstFaults : Type 0
 FirstFaults =
-    (bytes : List ℕ) (f : Stop) →
+    (bytes : List ℕ) (f : FaultAt) →
     (IsRead bytes (Err f) → IsFirst bytes f) × (IsFirst bytes f → IsRead bytes (Err f))

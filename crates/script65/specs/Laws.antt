@@ -1,45 +1,45 @@
 -- What holds of every script.
 use Rattle.std.specs.Prelude.{◌≡◌, ◌<◌, ◌≤◌, ◌⊎◌, ℕ, List, Result, Ok, Err, length, ⊤}
 use Rattle.std.specs.List.{AllByRecursion}
-use Rattle.base65.specs.Own.{IsOwn}
+use Rattle.base65.specs.SystemErrors.{IsNoSystemError}
 use Rattle.script65.specs.declared.fault.ScriptFault.{ScriptFault}
-use Rattle.script65.specs.declared.script.Area.{Area}
+use Rattle.script65.specs.declared.script.MemoryArea.{MemoryArea}
 use Rattle.script65.specs.declared.script.Operand.{Operand}
 use Rattle.script65.specs.declared.script.Operand.TheVariants as operand
-use Rattle.script65.specs.declared.script.Row.{Row}
+use Rattle.script65.specs.declared.script.SegmentRow.{SegmentRow}
 use Rattle.script65.specs.declared.script.Script.{Script}
 use Rattle.script65.specs.declared.script.Term.{Term}
-use Rattle.script65.specs.Faults.{is_script_outside}
+use Rattle.script65.specs.Faults.{is_script_system_error}
 use Rattle.script65.specs.declared.fault.Fault.TheVariants.{OutOfRange}
-use Rattle.script65.specs.declared.fault.Stop.{Stop}
+use Rattle.script65.specs.declared.fault.FaultAt.{FaultAt}
 use Rattle.script65.specs.Entries.{Entries}
 use Rattle.script65.specs.Grammar.{IsWritten}
 use Rattle.script65.specs.Scripts.{IsRead, IsScript}
 use Rattle.script65.specs.Tokens.{IsFront, front, token}
 
 -- a text is one script or has one first fault, at most
-abbrev pub OneReading : Type 0
-OneReading = (bytes : List ℕ) (r q : Result Script ScriptFault) → IsScript bytes r → IsScript bytes q → r ≡ q
+abbrev pub ReadingIsUnique : Type 0
+ReadingIsUnique = (bytes : List ℕ) (r q : Result Script ScriptFault) → IsScript bytes r → IsScript bytes q → r ≡ q
 
 -- and one at least, which is no want of memory
-abbrev pub SomeReadingLaw : Type 0
-SomeReadingLaw =
+abbrev pub ReadingExists : Type 0
+ReadingExists =
     (bytes : List ℕ) →
-    (r : Result Script ScriptFault) × IsScript bytes r × IsOwn is_script_outside r
+    (r : Result Script ScriptFault) × IsScript bytes r × IsNoSystemError is_script_system_error r
 
 -- texts with the same tokens up to a place
 abbrev pub SameTokens : List ℕ → List ℕ → ℕ → Type 0
 SameTokens bytes other place = (k : ℕ) → k ≤ place → token other k ≡ token bytes k
 
 -- the fault stands at the token of this place; or a number is out of range, as a sum is behind its last term
-abbrev pub IsFoundAt : List ℕ → Stop → ℕ → Type 0
+abbrev pub IsFoundAt : List ℕ → FaultAt → ℕ → Type 0
 IsFoundAt bytes f place = (f.at ≡ (token bytes place).at) ⊎ (f.fault ≡ OutOfRange)
 
 -- A first fault is one of the text up to a token: no text with the same tokens up to there is written by the grammar, whatever
 -- follows.
 abbrev pub NoContinuation : Type 0
 NoContinuation =
-    (bytes : List ℕ) (f : Stop) → IsRead bytes (Err f) →
+    (bytes : List ℕ) (f : FaultAt) → IsRead bytes (Err f) →
     (place : ℕ) × IsFoundAt bytes f place
     × ((other : List ℕ) (es : Entries) → SameTokens bytes other place → IsWritten other es → ⊥)
 
@@ -59,11 +59,11 @@ abbrev pub AreThere : ℕ → ℕ → List Term → Type 0
 AreThere areas rows ts = AllByRecursion (λ (t : Term). IsThere areas rows t.operand) ts
 
 -- an area's sums name areas and rows of the script
-abbrev pub HasNames : Script → Area → Type 0
+abbrev pub HasNames : Script → MemoryArea → Type 0
 HasNames s a = AreThere (length s.areas) (length s.rows) a.start × AreThere (length s.areas) (length s.rows) a.size
 
 -- a row loads and runs in areas of the script
-abbrev pub HasAreas : Script → Row → Type 0
+abbrev pub HasAreas : Script → SegmentRow → Type 0
 HasAreas s r = (r.load < length s.areas) × (r.run < length s.areas)
 
 -- so it is in each script that is read

@@ -1,11 +1,11 @@
 pub mod AreaSums
 pub mod Attributes
-pub mod Breaks
+pub mod SyntaxErrors
 pub mod Entries
 pub mod Faults
 pub mod FirstFaults
 pub mod Grammar
-pub mod Inner
+pub mod Internal
 pub mod Laws
 pub mod Places
 pub mod Placing

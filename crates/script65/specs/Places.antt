@@ -1,32 +1,32 @@
 -- Where the areas and rows of a script stand, said of each by those before it.
 use Rattle.std.specs.Prelude.{◌≡◌, ◌≢◌, ◌≤◌, ◌<◌, ℕ, ◌+◌, ◌*◌, ◌==◌, true, false, if◌then◌else◌, List, [], ◌∷◌, ◌++◌, map, length, Option, Some, None, unwrap_or, Result, Ok, Err}
 use Rattle.std.specs.List.{AllByRecursion}
-use Rattle.script65.specs.declared.script.Area.{Area}
-use Rattle.script65.specs.declared.script.Begin.{Begin}
-use Rattle.script65.specs.declared.script.Begin.TheVariants as begin
-use Rattle.script65.specs.declared.script.Row.{Row}
+use Rattle.script65.specs.declared.script.MemoryArea.{MemoryArea}
+use Rattle.script65.specs.declared.script.RowStart.{RowStart}
+use Rattle.script65.specs.declared.script.RowStart.TheVariants as begin
+use Rattle.script65.specs.declared.script.SegmentRow.{SegmentRow}
 use Rattle.script65.specs.declared.script.Script.{Script}
-use Rattle.script65.specs.declared.placement.AreaPlace.{AreaPlace}
-use Rattle.script65.specs.declared.placement.RowPlace.{RowPlace}
+use Rattle.script65.specs.declared.placement.AreaPlacement.{AreaPlacement}
+use Rattle.script65.specs.declared.placement.RowPlacement.{RowPlacement}
 use Rattle.script65.specs.declared.placement.Placement.{Placement}
 use Rattle.script65.specs.declared.placement.PlaceFault.{PlaceFault}
 use Rattle.script65.specs.declared.placement.PlaceFault.TheVariants.{NoRow, ReadOnlyArea, StartBelow, Overflow}
 use Rattle.script65.specs.declared.placement.SegmentNeed.{SegmentNeed}
 use Rattle.script65.specs.declared.placing.site.Bounds.{Bounds}
-use Rattle.script65.specs.AreaSums.{Standing, bounds_in}
+use Rattle.script65.specs.AreaSums.{SumContextView, bounds_in}
 use Rattle.script65.specs.Placing.{has_row, is_in, is_read_only, place_of, size_of}
 
 -- an area and where it is, a row and where it stands
 abbrev pub PlacedArea : Type 0
-PlacedArea = Area × AreaPlace
+PlacedArea = MemoryArea × AreaPlacement
 
 abbrev pub PlacedRow : Type 0
-PlacedRow = Row × RowPlace
+PlacedRow = SegmentRow × RowPlacement
 
 -- ---- The end of the rows before a row.
 
 -- the address of a row in the area at a place of the script: where it runs, if it runs there, and else where it is loaded
-abbrev pub address_in : ℕ → Row → RowPlace → ℕ
+abbrev pub address_in : ℕ → SegmentRow → RowPlacement → ℕ
 address_in k r p = if r.run == k then p.run else p.load
 
 -- the ends of those of these rows that are in the area
@@ -52,45 +52,45 @@ unit_of align = if align == 0 then 1 else align
 -- The least multiple that isn't below an address: it is a multiple, it isn't below the address, and no other multiple that
 -- isn't below the address is below it.
 pub record IsLeastMultiple (unit low at : ℕ) : Type 0 where
-  pub multiple : (n : ℕ) × (at ≡ n * unit)
+  pub alignment : (n : ℕ) × (at ≡ n * unit)
   pub high : low ≤ at
   pub least : (n : ℕ) → low ≤ n * unit → at ≤ n * unit
 
 -- at its `start`, or at the area's start plus its `offset`, or at the least multiple of its `align` that isn't below the end
-abbrev pub RunsAt : Begin → ℕ → Bounds → ℕ → ℕ → Type 0
+abbrev pub RunsAt : RowStart → ℕ → Bounds → ℕ → ℕ → Type 0
 RunsAt (begin.Start n) align b low at = at ≡ n
 RunsAt (begin.Offset n) align b low at = at ≡ b.start + n
 RunsAt begin.Aligned align b low at = IsLeastMultiple (unit_of align) low at
 
 -- where a row begins that is behind others which end there: in its run area so, and in a load area that differs at the least
 -- multiple of its `align_load` that isn't below the end
-pub record BeginsAt (k : ℕ) (b : Bounds) (r : Row) (low at : ℕ) : Type 0 where
+pub record BeginsAt (k : ℕ) (b : Bounds) (r : SegmentRow) (low at : ℕ) : Type 0 where
   pub runs : r.run ≡ k → RunsAt r.begin r.align b low at
   pub loads : r.run ≢ k → IsLeastMultiple (unit_of r.align_load) low at
 
 -- a row of a size begins so, not below the end of those before it, and ends in the area
-pub record Fits (k : ℕ) (b : Bounds) (r : Row) (size low at : ℕ) : Type 0 where
+pub record FitsArea (k : ℕ) (b : Bounds) (r : SegmentRow) (size low at : ℕ) : Type 0 where
   pub begins : BeginsAt k b r low at
-  pub behind : low ≤ at
+  pub following : low ≤ at
   pub within : at + size ≤ b.end
 
 -- what a row that a module has does; any other stands at the end of those before it as that is
-abbrev pub StandsBy : ℕ → Bounds → Row → Option ℕ → ℕ → ℕ → Type 0
-StandsBy k b r (Some size) low at = Fits k b r size low at
+abbrev pub StandsBy : ℕ → Bounds → SegmentRow → Option ℕ → ℕ → ℕ → Type 0
+StandsBy k b r (Some size) low at = FitsArea k b r size low at
 StandsBy k b r None low at = at ≡ low
 
 -- in a read-only area only rows run that are read-only
-abbrev pub MayRun : ℕ → Area → Row → Type 0
+abbrev pub MayRun : ℕ → MemoryArea → SegmentRow → Type 0
 MayRun k a r = a.read_only ≡ true → r.run ≡ k → is_read_only r.access ≡ true
 
 -- a row of an area, of a size if a module has it, at an address behind others which end at `low`
-pub record Stands (k : ℕ) (a : Area) (b : Bounds) (r : Row) (size : Option ℕ) (low at : ℕ) : Type 0 where
+pub record IsPlacedAt (k : ℕ) (a : MemoryArea) (b : Bounds) (r : SegmentRow) (size : Option ℕ) (low at : ℕ) : Type 0 where
   pub may_run : MayRun k a r
   pub stands : StandsBy k b r size low at
 
 -- Why a row can't stand there: it would run in an area that is read-only and isn't so itself; or else it would begin below the
 -- end of those before it; or else it would end behind the area, by so many bytes.
-pub data RowFault (k : ℕ) (a : Area) (b : Bounds) (r : Row) (size : Option ℕ) (low : ℕ) : PlaceFault → Type 0 where
+pub data RowFault (k : ℕ) (a : MemoryArea) (b : Bounds) (r : SegmentRow) (size : Option ℕ) (low : ℕ) : PlaceFault → Type 0 where
   read_only : a.read_only ≡ true → r.run ≡ k → is_read_only r.access ≡ false → RowFault k a b r size low (ReadOnlyArea r.name)
   below : (n at : ℕ) → MayRun k a r → size ≡ Some n → BeginsAt k b r low at → at < low → RowFault k a b r size low (StartBelow r.name)
   over : (n at more : ℕ) → MayRun k a r → size ≡ Some n → BeginsAt k b r low at → low ≤ at → 0 < more → at + n ≡ b.end + more → RowFault k a b r size low (Overflow a.name more)
@@ -98,14 +98,14 @@ pub data RowFault (k : ℕ) (a : Area) (b : Bounds) (r : Row) (size : Option ℕ
 -- ---- Areas and their rows.
 
 -- each of these rows that is in the area stands behind those before it
-abbrev pub RowsStand : List SegmentNeed → ℕ → Area → Bounds → List PlacedRow → Type 0
+abbrev pub RowsStand : List SegmentNeed → ℕ → MemoryArea → Bounds → List PlacedRow → Type 0
 RowsStand needs k a b rows =
     (before after : List PlacedRow) (x : PlacedRow) → rows ≡ before ++ x ∷ after → is_in k x.0 ≡ true →
-    Stands k a b x.0 (size_of needs x.0.name) (end_of_rows k b before) (address_in k x.0 x.1)
+    IsPlacedAt k a b x.0 (size_of needs x.0.name) (end_of_rows k b before) (address_in k x.0 x.1)
 
 -- where the sums of an area are asked for: behind these areas, and where these rows stand
-abbrev pub asked : Script → List PlacedArea → List PlacedRow → Area → Standing
-asked script before rows a = record {
+abbrev pub sum_context : Script → List PlacedArea → List PlacedRow → MemoryArea → SumContextView
+sum_context script before rows a = record {
   k = length before;
   own = a;
   areas = script.areas;
@@ -115,12 +115,12 @@ asked script before rows a = record {
   start = None;
 }
 
-abbrev pub bounds_of : AreaPlace → Bounds
+abbrev pub bounds_of : AreaPlacement → Bounds
 bounds_of place = record { start = place.start; end = place.start + place.size }
 
 -- An area behind others is where its sums say; its rows stand in it, one behind the other; its last address is their end.
 pub record AreaStands (script : Script) (needs : List SegmentNeed) (before : List PlacedArea) (rows : List PlacedRow) (x : PlacedArea) : Type 0 where
-  pub bounds : bounds_in (asked script before rows x.0) ≡ Ok (bounds_of x.1)
+  pub bounds : bounds_in (sum_context script before rows x.0) ≡ Ok (bounds_of x.1)
   pub rows_stand : RowsStand needs (length before) x.0 (bounds_of x.1) rows
   pub last : x.1.last ≡ end_of_rows (length before) (bounds_of x.1) rows
 
@@ -157,14 +157,14 @@ pub record IsPlacement (script : Script) (needs : List SegmentNeed) (p : Placeme
   pub row_places : p.rows ≡ map (λ (x : PlacedRow). x.1) rows
 
 -- each segment that is needed has a row, these areas stand, and this one is the next of the script
-pub record IsNext (script : Script) (needs : List SegmentNeed) (areas : List PlacedArea) (rows : List PlacedRow) (a : Area) : Type 0 where
+pub record IsNextArea (script : Script) (needs : List SegmentNeed) (areas : List PlacedArea) (rows : List PlacedRow) (a : MemoryArea) : Type 0 where
   pub have_rows : HaveRows script needs
   pub stand : AreasStand script needs areas rows
-  pub rest : List Area
+  pub rest : List MemoryArea
   pub next : map (λ (x : PlacedArea). x.0) areas ++ a ∷ rest ≡ script.areas
 
 -- a row of the next area has this fault where those before it stand in that area
-pub record IsRowFault (needs : List SegmentNeed) (k : ℕ) (a : Area) (b : Bounds) (rows : List PlacedRow) (f : PlaceFault) : Type 0 where
+pub record IsRowFault (needs : List SegmentNeed) (k : ℕ) (a : MemoryArea) (b : Bounds) (rows : List PlacedRow) (f : PlaceFault) : Type 0 where
   pub before : List PlacedRow
   pub row : PlacedRow
   pub after : List PlacedRow
@@ -177,18 +177,18 @@ pub record IsRowFault (needs : List SegmentNeed) (k : ℕ) (a : Area) (b : Bound
 -- where the rows before it stand, that of a row in it.
 pub data FirstFault (script : Script) (needs : List SegmentNeed) : PlaceFault → Type 0 where
   of_need : (before after : List SegmentNeed) (n : SegmentNeed) → needs ≡ before ++ n ∷ after → HaveRows script before → has_row script.rows n.name ≡ false → FirstFault script needs (NoRow n.name)
-  of_area : (areas : List PlacedArea) (rows : List PlacedRow) (a : Area) (f : PlaceFault) → IsNext script needs areas rows a → bounds_in (asked script areas rows a) ≡ Err f → FirstFault script needs f
-  of_row : (areas : List PlacedArea) (rows : List PlacedRow) (a : Area) (b : Bounds) (f : PlaceFault) → IsNext script needs areas rows a → bounds_in (asked script areas rows a) ≡ Ok b → IsRowFault needs (length areas) a b rows f → FirstFault script needs f
+  of_area : (areas : List PlacedArea) (rows : List PlacedRow) (a : MemoryArea) (f : PlaceFault) → IsNextArea script needs areas rows a → bounds_in (sum_context script areas rows a) ≡ Err f → FirstFault script needs f
+  of_row : (areas : List PlacedArea) (rows : List PlacedRow) (a : MemoryArea) (b : Bounds) (f : PlaceFault) → IsNextArea script needs areas rows a → bounds_in (sum_context script areas rows a) ≡ Ok b → IsRowFault needs (length areas) a b rows f → FirstFault script needs f
 
 -- where the areas and rows of a script stand, or the first fault
-abbrev pub IsPlaced : Script → List SegmentNeed → Result Placement PlaceFault → Type 0
-IsPlaced script needs (Ok p) = IsPlacement script needs p
-IsPlaced script needs (Err f) = FirstFault script needs f
+abbrev pub PlacementResult : Script → List SegmentNeed → Result Placement PlaceFault → Type 0
+PlacementResult script needs (Ok p) = IsPlacement script needs p
+PlacementResult script needs (Err f) = FirstFault script needs f
 
 -- ---- What holds of every placement.
 
 -- a script has one placement for these needs, or else one first fault
-abbrev pub OnePlacement : Type 0
-OnePlacement =
-    (script : Script) (needs : List SegmentNeed) → IsPlaced script needs (place_of script needs)
-    × ((r : Result Placement PlaceFault) → IsPlaced script needs r → r ≡ place_of script needs)
+abbrev pub PlacementIsUnique : Type 0
+PlacementIsUnique =
+    (script : Script) (needs : List SegmentNeed) → PlacementResult script needs (place_of script needs)
+    × ((r : Result Placement PlaceFault) → PlacementResult script needs r → r ≡ place_of script needs)

@@ -1,35 +1,35 @@
 -- Where the rows of a script are placed.
 use Rattle.std.specs.Prelude.{Bool, true, false, ℕ, ◌+◌, ◌-◌, ◌*◌, ◌==◌, ◌&&◌, ◌||◌, not, nat_lt, if◌then◌else◌, List, [], ◌∷◌, ◌++◌, map, find, slice_set, Option, Some, None, unwrap_or, Result, Ok, Err}
-use Rattle.script65.specs.declared.script.Access.{Access}
-use Rattle.script65.specs.declared.script.Access.TheVariants.{ReadOnly, ReadWrite, Bss, ZeroPage}
+use Rattle.script65.specs.declared.script.SegmentType.{SegmentType}
+use Rattle.script65.specs.declared.script.SegmentType.TheVariants.{ReadOnly, ReadWrite, Bss, ZeroPage}
 use Rattle.std.specs.Int.{div_ceil}
 use Rattle.std.specs.List.{list_any}
 use Rattle.std.specs.Option.{option_map}
 use Rattle.std.specs.Str.{bytes_eq}
-use Rattle.script65.specs.declared.script.Area.{Area}
-use Rattle.script65.specs.declared.script.Begin.{Begin}
-use Rattle.script65.specs.declared.script.Begin.TheVariants as begin
-use Rattle.script65.specs.declared.script.Row.{Row}
+use Rattle.script65.specs.declared.script.MemoryArea.{MemoryArea}
+use Rattle.script65.specs.declared.script.RowStart.{RowStart}
+use Rattle.script65.specs.declared.script.RowStart.TheVariants as begin
+use Rattle.script65.specs.declared.script.SegmentRow.{SegmentRow}
 use Rattle.script65.specs.declared.script.Script.{Script}
-use Rattle.script65.specs.declared.placement.AreaPlace.{AreaPlace}
-use Rattle.script65.specs.declared.placement.RowPlace.{RowPlace}
+use Rattle.script65.specs.declared.placement.AreaPlacement.{AreaPlacement}
+use Rattle.script65.specs.declared.placement.RowPlacement.{RowPlacement}
 use Rattle.script65.specs.declared.placement.Placement.{Placement}
 use Rattle.script65.specs.declared.placement.PlaceFault.{PlaceFault}
 use Rattle.script65.specs.declared.placement.PlaceFault.TheVariants.{NoRow, ReadOnlyArea, StartBelow, Overflow}
 use Rattle.script65.specs.declared.placement.SegmentNeed.{SegmentNeed}
 use Rattle.script65.specs.declared.placing.site.Bounds.{Bounds}
-use Rattle.script65.specs.declared.placing.site.Spot.{Spot}
+use Rattle.script65.specs.declared.placing.site.RowState.{RowState}
 use Rattle.base65.specs.Outcome.{◌>>=◌}
-use Rattle.script65.specs.AreaSums.{Standing, bounds_in}
+use Rattle.script65.specs.AreaSums.{SumContextView, bounds_in}
 
 -- ---- What a segment may hold.
 
-abbrev pub is_read_only : Access → Bool
+abbrev pub is_read_only : SegmentType → Bool
 is_read_only ReadOnly = true
 is_read_only _ = false
 
 -- whether its bytes are in a file
-abbrev pub is_written : Access → Bool
+abbrev pub is_written : SegmentType → Bool
 is_written ReadOnly = true
 is_written ReadWrite = true
 is_written Bss = false
@@ -43,66 +43,66 @@ is_written ZeroPage = false
 unfoldable pub size_of : List SegmentNeed → List ℕ → Option ℕ
 size_of needs name = option_map (λ n. n.size) (find (λ n. bytes_eq n.name name) needs)
 
-unfoldable pub has_row : List Row → List ℕ → Bool
+unfoldable pub has_row : List SegmentRow → List ℕ → Bool
 has_row rows name = list_any (λ r. bytes_eq r.name name) rows
 
 -- each need has a row, or else the first that has none
-abbrev pub rows_exist : List Row → List SegmentNeed → Result (Unit {0}) PlaceFault
+abbrev pub rows_exist : List SegmentRow → List SegmentNeed → Result (Unit {0}) PlaceFault
 rows_exist rows [] = Ok tt
 rows_exist rows (n ∷ ns) = if has_row rows n.name then rows_exist rows ns else Err (NoRow n.name)
 
 -- rows
 
 -- whether a row runs or loads in the area at a place of the script
-unfoldable pub is_in : ℕ → Row → Bool
+unfoldable pub is_in : ℕ → SegmentRow → Bool
 is_in k r = r.run == k || r.load == k
 
 -- the least multiple of an alignment that isn't below an address
 abbrev pub rounded_up : ℕ → ℕ → ℕ
 rounded_up at align = if align == 0 then at else div_ceil at align * align
 
-abbrev pub begin_by : Bounds → Begin → ℕ → ℕ → ℕ
+abbrev pub begin_by : Bounds → RowStart → ℕ → ℕ → ℕ
 begin_by b begin.Aligned align cursor = rounded_up cursor align
 begin_by b (begin.Start n) align cursor = n
 begin_by b (begin.Offset n) align cursor = b.start + n
 
 -- where a row begins: a load area that isn't its run area only aligns it
-unfoldable pub begin_in : ℕ → Bounds → Row → ℕ → ℕ
+unfoldable pub begin_in : ℕ → Bounds → SegmentRow → ℕ → ℕ
 begin_in k b r cursor = if r.run == k then begin_by b r.begin r.align cursor else rounded_up cursor r.align_load
 
 -- a row that is placed in an area
-unfoldable pub moved : ℕ → Row → ℕ → Spot → Spot
-moved k r at s = record { size = s.size; run = if r.run == k then at else s.run; load = if r.load == k then at else s.load }
+unfoldable pub state_after_row : ℕ → SegmentRow → ℕ → RowState → RowState
+state_after_row k r at s = record { size = s.size; run = if r.run == k then at else s.run; load = if r.load == k then at else s.load }
 
 -- a row of a size behind the cursor
-unfoldable pub fitted : ℕ → Area → Bounds → Row → Spot → ℕ → ℕ → ℕ → Result (Spot × ℕ) PlaceFault
-fitted k a b r s size at cursor =
+unfoldable pub place_sized_row : ℕ → MemoryArea → Bounds → SegmentRow → RowState → ℕ → ℕ → ℕ → Result (RowState × ℕ) PlaceFault
+place_sized_row k a b r s size at cursor =
     if nat_lt at cursor then Err (StartBelow r.name)
     else if nat_lt b.end (at + size) then Err (Overflow a.name (at + size - b.end))
-    else Ok (moved k r at s, at + size)
+    else Ok (state_after_row k r at s, at + size)
 
 -- a row that no module has stands at the cursor
-abbrev pub sized_row : ℕ → Area → Bounds → Row → Spot → Option ℕ → ℕ → Result (Spot × ℕ) PlaceFault
-sized_row k a b r s None cursor = Ok (moved k r cursor s, cursor)
-sized_row k a b r s (Some size) cursor = fitted k a b r s size (begin_in k b r cursor) cursor
+abbrev pub sized_row : ℕ → MemoryArea → Bounds → SegmentRow → RowState → Option ℕ → ℕ → Result (RowState × ℕ) PlaceFault
+sized_row k a b r s None cursor = Ok (state_after_row k r cursor s, cursor)
+sized_row k a b r s (Some size) cursor = place_sized_row k a b r s size (begin_in k b r cursor) cursor
 
 -- a row of the area behind the cursor, and the cursor behind it, or its first fault
-unfoldable pub row_after : ℕ → Area → Bounds → Row → Spot → ℕ → Result (Spot × ℕ) PlaceFault
+unfoldable pub row_after : ℕ → MemoryArea → Bounds → SegmentRow → RowState → ℕ → Result (RowState × ℕ) PlaceFault
 row_after k a b r s cursor =
     if a.read_only && r.run == k && not (is_read_only r.access) then Err (ReadOnlyArea r.name)
     else sized_row k a b r s s.size cursor
 
 -- the same in a list of spots, of which it changes the row's
-abbrev pub spots_after : ℕ → Area → Bounds → Row → Spot → ℕ → ℕ → List Spot → Result (List Spot × ℕ) PlaceFault
+abbrev pub spots_after : ℕ → MemoryArea → Bounds → SegmentRow → RowState → ℕ → ℕ → List RowState → Result (List RowState × ℕ) PlaceFault
 spots_after k a b r s cursor i ss = row_after k a b r s cursor >>= λ x. Ok (slice_set ss i x.0, x.1)
 
 -- the places of the rows of an area, from a place on
-abbrev pub places_in : ℕ → ℕ → List Row → List ℕ
+abbrev pub places_in : ℕ → ℕ → List SegmentRow → List ℕ
 places_in k i [] = []
 places_in k i (r ∷ rs) = if is_in k r then i ∷ places_in k (i + 1) rs else places_in k (i + 1) rs
 
 -- the rows of an area, each behind the cursor that the one before leaves
-abbrev pub rows_from : ℕ → Area → Bounds → List Row → List Spot → ℕ → Result (List Spot × ℕ) PlaceFault
+abbrev pub rows_from : ℕ → MemoryArea → Bounds → List SegmentRow → List RowState → ℕ → Result (List RowState × ℕ) PlaceFault
 rows_from k a b [] ss cursor = Ok (ss, cursor)
 rows_from k a b (r ∷ rs) [] cursor = Ok ([], cursor)
 rows_from k a b (r ∷ rs) (s ∷ ss) cursor =
@@ -112,14 +112,14 @@ rows_from k a b (r ∷ rs) (s ∷ ss) cursor =
 
 -- placements
 
-abbrev pub area_place : Bounds → ℕ → AreaPlace
+abbrev pub area_place : Bounds → ℕ → AreaPlacement
 area_place b last = record { start = b.start; size = b.end - b.start; last = last }
 
-abbrev pub row_place : Spot → RowPlace
+abbrev pub row_place : RowState → RowPlacement
 row_place s = record { load = s.load; run = s.run; size = unwrap_or s.size 0 }
 
 -- what the sums of the area at a place are looked up in: these places of the areas before it, and these spots
-abbrev pub standing : ℕ → List Area → List Row → Area → List AreaPlace → List Spot → Standing
+abbrev pub standing : ℕ → List MemoryArea → List SegmentRow → MemoryArea → List AreaPlacement → List RowState → SumContextView
 standing k areas rows a placed ss = record {
   k = k;
   own = a;
@@ -131,7 +131,7 @@ standing k areas rows a placed ss = record {
 }
 
 -- the areas from a place on, one by one: first where each begins and ends, and then its rows
-abbrev pub areas_from : ℕ → List Area → List Row → List Area → List AreaPlace → List Spot → Result Placement PlaceFault
+abbrev pub areas_from : ℕ → List MemoryArea → List SegmentRow → List MemoryArea → List AreaPlacement → List RowState → Result Placement PlaceFault
 areas_from k areas rows [] placed ss = Ok (record { areas = placed; rows = map row_place ss })
 areas_from k areas rows (a ∷ rest) placed ss =
     bounds_in (standing k areas rows a placed ss)
@@ -139,11 +139,11 @@ areas_from k areas rows (a ∷ rest) placed ss =
     >>= λ x. areas_from (k + 1) areas rows rest (placed ++ area_place b x.1 ∷ []) x.0
 
 -- a row before anything is placed
-abbrev pub unplaced : List SegmentNeed → Row → Spot
-unplaced needs r = record { size = size_of needs r.name; run = 0; load = 0 }
+abbrev pub unplaced_row : List SegmentNeed → SegmentRow → RowState
+unplaced_row needs r = record { size = size_of needs r.name; run = 0; load = 0 }
 
 -- where the areas and the rows of a script are placed, or the first fault
 abbrev pub place_of : Script → List SegmentNeed → Result Placement PlaceFault
 place_of script needs =
     rows_exist script.rows needs
-    >>= λ _. areas_from 0 script.areas script.rows script.areas [] (map (unplaced needs) script.rows)
+    >>= λ _. areas_from 0 script.areas script.rows script.areas [] (map (unplaced_row needs) script.rows)

@@ -2,44 +2,44 @@
 use Rattle.std.specs.Prelude.{◌≡◌, ◌≤◌, ◌<◌, ℕ, ◌+◌, ◌^◌, true, false, not, is_some, codes, List, [], ◌∷◌, ◌++◌, map, Some, Result, Ok, length, slice_get, ⊤}
 use Rattle.std.specs.List.{AllByRecursion, list_all}
 use Rattle.base65.specs.Outcome.{◌>>=◌}
-use Rattle.base65.specs.Own.{IsOwn}
-use Rattle.script65.specs.Entries.{Entries, Entry, Part, parts_for}
+use Rattle.base65.specs.SystemErrors.{IsNoSystemError}
+use Rattle.script65.specs.Entries.{Entries, ConfigEntry, ParsedTerm, parts_for}
 use Rattle.script65.specs.Scripts.{HasEntries, script_from}
 use Rattle.script65.specs.AreaSums.{come_to, is_known, sum_by, term_value}
-use Rattle.script65.specs.Faults.{is_place_outside}
-use Rattle.script65.specs.declared.script.Area.{Area}
+use Rattle.script65.specs.Faults.{is_place_system_error}
+use Rattle.script65.specs.declared.script.MemoryArea.{MemoryArea}
 use Rattle.script65.specs.declared.script.Operand.TheVariants as operand
-use Rattle.script65.specs.declared.script.Row.{Row}
+use Rattle.script65.specs.declared.script.SegmentRow.{SegmentRow}
 use Rattle.script65.specs.declared.script.Script.{Script}
 use Rattle.script65.specs.declared.script.Term.{Term}
-use Rattle.script65.specs.declared.placement.AreaPlace.{AreaPlace}
+use Rattle.script65.specs.declared.placement.AreaPlacement.{AreaPlacement}
 use Rattle.script65.specs.declared.placement.PlaceFault.{PlaceFault}
 use Rattle.script65.specs.declared.placement.Placement.{Placement}
-use Rattle.script65.specs.declared.placement.RowPlace.{RowPlace}
+use Rattle.script65.specs.declared.placement.RowPlacement.{RowPlacement}
 use Rattle.script65.specs.declared.placement.SegmentNeed.{SegmentNeed}
 use Rattle.script65.specs.declared.placing.site.Bounds.{Bounds}
-use Rattle.script65.specs.declared.placing.site.Spot.{Spot}
-use Rattle.script65.specs.Places.{IsPlaced, address_in}
-use Rattle.script65.specs.Placing.{area_place, has_row, is_in, place_of, row_place, rows_exist, rows_from, size_of, unplaced}
+use Rattle.script65.specs.declared.placing.site.RowState.{RowState}
+use Rattle.script65.specs.Places.{PlacementResult, address_in}
+use Rattle.script65.specs.Placing.{area_place, has_row, is_in, place_of, row_place, rows_exist, rows_from, size_of, unplaced_row}
 
 -- ---- There is one.
 
 -- a script has a placement for any needs, or else a first fault, which isn't want of memory
-abbrev pub SomePlacement : Type 0
-SomePlacement = (script : Script) (needs : List SegmentNeed) → (r : Result Placement PlaceFault) × IsPlaced script needs r × IsOwn is_place_outside r
+abbrev pub PlacementExists : Type 0
+PlacementExists = (script : Script) (needs : List SegmentNeed) → (r : Result Placement PlaceFault) × PlacementResult script needs r × IsNoSystemError is_place_system_error r
 
 -- ---- Rows in their areas.
 
 -- of two rows of an area the later begins where the earlier ends, or behind it
-abbrev pub IsBehind : ℕ → Row → RowPlace → Row → RowPlace → Type 0
-IsBehind k r p later q = is_in k r ≡ true → is_in k later ≡ true → address_in k r p + p.size ≤ address_in k later q
+abbrev pub ComesAfter : ℕ → SegmentRow → RowPlacement → SegmentRow → RowPlacement → Type 0
+ComesAfter k r p later q = is_in k r ≡ true → is_in k later ≡ true → address_in k r p + p.size ≤ address_in k later q
 
-abbrev pub AreBehind : ℕ → Row → RowPlace → List Row → List RowPlace → Type 0
-AreBehind k r p (later ∷ rs) (q ∷ qs) = IsBehind k r p later q × AreBehind k r p rs qs
-AreBehind k r p _ _ = ⊤
+abbrev pub AreAfter : ℕ → SegmentRow → RowPlacement → List SegmentRow → List RowPlacement → Type 0
+AreAfter k r p (later ∷ rs) (q ∷ qs) = ComesAfter k r p later q × AreAfter k r p rs qs
+AreAfter k r p _ _ = ⊤
 
-abbrev pub AreApart : ℕ → List Row → List RowPlace → Type 0
-AreApart k (r ∷ rs) (p ∷ ps) = AreBehind k r p rs ps × AreApart k rs ps
+abbrev pub AreApart : ℕ → List SegmentRow → List RowPlacement → Type 0
+AreApart k (r ∷ rs) (p ∷ ps) = AreAfter k r p rs ps × AreApart k rs ps
 AreApart k _ _ = ⊤
 
 -- no two rows of an area overlap
@@ -49,10 +49,10 @@ NoOverlap =
     (k : ℕ) → k < length script.areas → AreApart k script.rows p.rows
 
 -- a row of an area lies between its first address and the one behind its last
-abbrev pub IsWithin : ℕ → AreaPlace → Row → RowPlace → Type 0
+abbrev pub IsWithin : ℕ → AreaPlacement → SegmentRow → RowPlacement → Type 0
 IsWithin k place r p = is_in k r ≡ true → (place.start ≤ address_in k r p) × (address_in k r p + p.size ≤ place.start + place.size)
 
-abbrev pub AreWithin : ℕ → AreaPlace → List Row → List RowPlace → Type 0
+abbrev pub AreWithin : ℕ → AreaPlacement → List SegmentRow → List RowPlacement → Type 0
 AreWithin k place (r ∷ rs) (p ∷ ps) = IsWithin k place r p × AreWithin k place rs ps
 AreWithin k place _ _ = ⊤
 
@@ -60,19 +60,19 @@ AreWithin k place _ _ = ⊤
 abbrev pub AllWithin : Type 0
 AllWithin =
     (script : Script) (needs : List SegmentNeed) (p : Placement) → place_of script needs ≡ Ok p →
-    (k : ℕ) (place : AreaPlace) → slice_get p.areas k ≡ Some place → AreWithin k place script.rows p.rows
+    (k : ℕ) (place : AreaPlacement) → slice_get p.areas k ≡ Some place → AreWithin k place script.rows p.rows
 
 -- ---- Areas by their sums.
 
 -- a number and what is taken are together what is added, the terms read off these places
-abbrev pub HasSum : List AreaPlace → List RowPlace → List Term → ℕ → Type 0
+abbrev pub HasSum : List AreaPlacement → List RowPlacement → List Term → ℕ → Type 0
 HasSum areas rows ts n =
     come_to (λ (t : Term). t.minus) (term_value areas rows) ts + n ≡ come_to (λ (t : Term). not t.minus) (term_value areas rows) ts
 
 -- The area at a place of the script begins where its sum says and spans so many bytes as its sum says, both read off the
 -- placement itself. Their names are known there: of areas that stand before, and rows in these, and the sizes of all rows; in
 -- its size its own start, too. Both are below 2 ^ 32, and the area ends at the last address or before it.
-pub record HoldsSums (k : ℕ) (rows : List Row) (p : Placement) (a : Area) (place : AreaPlace) : Type 0 where
+pub record HoldsSums (k : ℕ) (rows : List SegmentRow) (p : Placement) (a : MemoryArea) (place : AreaPlacement) : Type 0 where
   pub start : HasSum p.areas p.rows a.start place.start
   pub size : HasSum p.areas p.rows a.size place.size
   pub start_known : list_all (is_known k false rows) a.start ≡ true
@@ -85,7 +85,7 @@ pub record HoldsSums (k : ℕ) (rows : List Row) (p : Placement) (a : Area) (pla
 abbrev pub SumsHold : Type 0
 SumsHold =
     (script : Script) (needs : List SegmentNeed) (p : Placement) → place_of script needs ≡ Ok p →
-    (k : ℕ) (a : Area) (place : AreaPlace) → slice_get script.areas k ≡ Some a → slice_get p.areas k ≡ Some place →
+    (k : ℕ) (a : MemoryArea) (place : AreaPlacement) → slice_get script.areas k ≡ Some a → slice_get p.areas k ≡ Some place →
     HoldsSums k script.rows p a place
 
 -- ---- Areas by numbers alone.
@@ -96,20 +96,20 @@ pub record AreNumbers (ts : List Term) (n : ℕ) : Type 0 where
   pub sum : sum_by [] [] ts ≡ Some n
 
 -- an area whose sums are numbers, with these bounds
-pub record IsFixed (a : Area) (b : Bounds) : Type 0 where
+pub record IsFixed (a : MemoryArea) (b : Bounds) : Type 0 where
   pub size : ℕ
   pub starts : AreNumbers a.start b.start
   pub spans : AreNumbers a.size size
   pub ends : b.end ≡ b.start + size
   pub inside : b.end ≤ 2 ^ 32
 
-abbrev pub AreFixed : List Area → List Bounds → Type 0
+abbrev pub AreFixed : List MemoryArea → List Bounds → Type 0
 AreFixed [] [] = ⊤
 AreFixed (a ∷ as') (b ∷ bs) = IsFixed a b × AreFixed as' bs
 AreFixed _ _ = ⊥
 
 -- the rows of areas with such bounds, area by area
-abbrev pub fixed_from : ℕ → List Row → List Area → List Bounds → List AreaPlace → List Spot → Result Placement PlaceFault
+abbrev pub fixed_from : ℕ → List SegmentRow → List MemoryArea → List Bounds → List AreaPlacement → List RowState → Result Placement PlaceFault
 fixed_from k rows (a ∷ rest) (b ∷ bs) placed ss =
     rows_from k a b rows ss b.start
     >>= λ x. fixed_from (k + 1) rows rest bs (placed ++ area_place b x.1 ∷ []) x.0
@@ -119,13 +119,13 @@ fixed_from k rows _ _ placed ss = Ok (record { areas = placed; rows = map row_pl
 abbrev pub OnlyNumbers : Type 0
 OnlyNumbers =
     (script : Script) (needs : List SegmentNeed) (bounds : List Bounds) → AreFixed script.areas bounds →
-    place_of script needs ≡ (rows_exist script.rows needs >>= λ u. fixed_from 0 script.rows script.areas bounds [] (map (unplaced needs) script.rows))
+    place_of script needs ≡ (rows_exist script.rows needs >>= λ u. fixed_from 0 script.rows script.areas bounds [] (map (unplaced_row needs) script.rows))
 
 -- an area of a text has no name in its sums
-abbrev pub HasNoNames : Entry → Type 0
+abbrev pub HasNoNames : ConfigEntry → Type 0
 HasNoNames e =
-    AllByRecursion (λ (p : Part). is_some p.number ≡ true) (parts_for (codes "start") e)
-    × AllByRecursion (λ (p : Part). is_some p.number ≡ true) (parts_for (codes "size") e)
+    AllByRecursion (λ (p : ParsedTerm). is_some p.number ≡ true) (parts_for (codes "start") e)
+    × AllByRecursion (λ (p : ParsedTerm). is_some p.number ≡ true) (parts_for (codes "size") e)
 
 -- a script in whose text no sum has a name has such areas: sums were looked at as they were read
 abbrev pub NoNamesFixed : Type 0

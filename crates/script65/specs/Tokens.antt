@@ -8,7 +8,7 @@ use Rattle.base65.specs.Digit.{digits}
 -- A token: an identifier; a number, by its value if that is below 2 ^ 32; a string, by its text;
 -- `%O`; or a mark. The end of a text, and a byte with which no token begins, count as tokens, too.
 pub use Rattle.script65.specs.declared.reading.tokens.Lexeme.{Lexeme}
-pub use Rattle.script65.specs.declared.reading.tokens.Lexeme.TheVariants.{Word as word, Number as numeral, Text as string, Output as output, Colon as colon, Semicolon as semicolon, Comma as comma, Equals as equals, Plus as plus, Minus as minus, Open as brace, Close as end_brace, End as the_end, Bad as none}
+pub use Rattle.script65.specs.declared.reading.tokens.Lexeme.TheVariants.{Word as word, Number as numeral, StringLiteral as string, Output as output, Colon as colon, Semicolon as semicolon, Comma as comma, Equals as equals, Plus as plus, Minus as minus, Open as brace, Close as end_brace, End as the_end, Bad as none}
 -- a token, the place of its first byte, and the place behind its last
 pub use Rattle.script65.specs.declared.reading.tokens.Token.{Token}
 
@@ -45,16 +45,16 @@ begins_with b [] = false
 begins_with b (c ∷ cs) = c == b
 
 -- a text between two `"`, the first of which stands before these bytes: UTF-8 without `%`
-abbrev pub string_behind : List ℕ → List ℕ → Lexeme × ℕ
-string_behind text bs =
+abbrev pub string_after : List ℕ → List ℕ → Lexeme × ℕ
+string_after text bs =
     if begins_with 34 (drop (length text) bs) && is_utf8 text && not (list_any (λ b. b == 37) text)
     then (string text, 2 + length text)
     else (none, 1)
 
 -- hex digits behind a `$`
-abbrev pub hex_behind : List ℕ → Lexeme × ℕ
-hex_behind [] = (none, 1)
-hex_behind (d ∷ ds) = (numeral (digits 16 (d ∷ ds)), 1 + length (d ∷ ds))
+abbrev pub hex_after : List ℕ → Lexeme × ℕ
+hex_after [] = (none, 1)
+hex_after (d ∷ ds) = (numeral (digits 16 (d ∷ ds)), 1 + length (d ∷ ds))
 
 abbrev pub marks : List (ℕ × Lexeme)
 marks =
@@ -65,21 +65,21 @@ abbrev pub mark : ℕ → Lexeme
 mark b = option_map_or (λ (m : ℕ × Lexeme). m.1) (find (λ (m : ℕ × Lexeme). b == m.0) marks) none
 
 -- a letter or `_`, and as many letters, `_` and digits as follow
-abbrev pub word_behind : ℕ → List ℕ → Lexeme × ℕ
-word_behind b bs = (word (b ∷ bs), 1 + length bs)
+abbrev pub word_after : ℕ → List ℕ → Lexeme × ℕ
+word_after b bs = (word (b ∷ bs), 1 + length bs)
 
 -- as many decimal digits as there are
-abbrev pub decimal_behind : ℕ → List ℕ → Lexeme × ℕ
-decimal_behind b bs = (numeral (digits 10 (b ∷ bs)), 1 + length bs)
+abbrev pub decimal_after : ℕ → List ℕ → Lexeme × ℕ
+decimal_after b bs = (numeral (digits 10 (b ∷ bs)), 1 + length bs)
 
 -- the token at the front of a text, and of how many bytes it is: as many as can be
 abbrev pub front : List ℕ → Lexeme × ℕ
 front [] = (the_end, 0)
 front (b ∷ bs) =
-    if is_letter b then word_behind b (take_while is_word_byte bs)
-    else if is_ascii_digit b then decimal_behind b (take_while is_ascii_digit bs)
-    else if b == 36 then hex_behind (take_while is_ascii_hexdigit bs)
-    else if b == 34 then string_behind (take_while is_string_byte bs) bs
+    if is_letter b then word_after b (take_while is_word_byte bs)
+    else if is_ascii_digit b then decimal_after b (take_while is_ascii_digit bs)
+    else if b == 36 then hex_after (take_while is_ascii_hexdigit bs)
+    else if b == 34 then string_after (take_while is_string_byte bs) bs
     else if b == 37 then (if begins_with 79 bs then (output, 2) else (none, 1))
     else (mark b, 1)
 
@@ -87,7 +87,7 @@ abbrev pub token_from : List ℕ → ℕ → Token
 token_from bytes at = record {
   lexeme = (front (drop at bytes)).0;
   at = at;
-  behind = at + (front (drop at bytes)).1;
+  following = at + (front (drop at bytes)).1;
 }
 
 -- the token at a place or the next behind it
@@ -95,28 +95,28 @@ unfoldable pub token : List ℕ → ℕ → Token
 token bytes place = token_from bytes (place + gap false (drop place bytes))
 
 -- the bytes of a token
-abbrev pub written : List ℕ → Token → List ℕ
-written bytes t = take (t.behind - t.at) (drop t.at bytes)
+abbrev pub token_bytes : List ℕ → Token → List ℕ
+token_bytes bytes t = take (t.following - t.at) (drop t.at bytes)
 
 -- ---- Texts that are tokens.
 
 -- each token as it is written
-pub data Spells : List ℕ → Lexeme → Type 0 where
-  spells_word : (b : ℕ) (bs : List ℕ) → is_letter b ≡ true → list_all is_word_byte bs ≡ true → Spells (b ∷ bs) (word (b ∷ bs))
-  spells_decimal : (b : ℕ) (bs : List ℕ) → list_all is_ascii_digit (b ∷ bs) ≡ true → Spells (b ∷ bs) (numeral (digits 10 (b ∷ bs)))
-  spells_hex : (b : ℕ) (bs : List ℕ) → list_all is_ascii_hexdigit (b ∷ bs) ≡ true → Spells (36 ∷ b ∷ bs) (numeral (digits 16 (b ∷ bs)))
-  spells_string : (text : List ℕ) → list_all is_string_byte text ≡ true → is_utf8 text ≡ true → list_any (λ b. b == 37) text ≡ false → Spells (34 ∷ (text ++ 34 ∷ [])) (string text)
-  spells_output : Spells (codes "%O") output
-  spells_mark : (b : ℕ) (l : Lexeme) → find (λ (m : ℕ × Lexeme). b == m.0) marks ≡ Some (b, l) → Spells (b ∷ []) l
+pub data SpellsToken : List ℕ → Lexeme → Type 0 where
+  spells_word : (b : ℕ) (bs : List ℕ) → is_letter b ≡ true → list_all is_word_byte bs ≡ true → SpellsToken (b ∷ bs) (word (b ∷ bs))
+  spells_decimal : (b : ℕ) (bs : List ℕ) → list_all is_ascii_digit (b ∷ bs) ≡ true → SpellsToken (b ∷ bs) (numeral (digits 10 (b ∷ bs)))
+  spells_hex : (b : ℕ) (bs : List ℕ) → list_all is_ascii_hexdigit (b ∷ bs) ≡ true → SpellsToken (36 ∷ b ∷ bs) (numeral (digits 16 (b ∷ bs)))
+  spells_string : (text : List ℕ) → list_all is_string_byte text ≡ true → is_utf8 text ≡ true → list_any (λ b. b == 37) text ≡ false → SpellsToken (34 ∷ (text ++ 34 ∷ [])) (string text)
+  spells_output : SpellsToken (codes "%O") output
+  spells_mark : (b : ℕ) (l : Lexeme) → find (λ (m : ℕ × Lexeme). b == m.0) marks ≡ Some (b, l) → SpellsToken (b ∷ []) l
 
 -- of the texts at the front that are tokens this is the longest
 pub record IsLongest (here : List ℕ) (l : Lexeme) (n : ℕ) : Type 0 where
   pub within : n ≤ length here
-  pub spells : Spells (take n here) l
-  pub longest : (m : ℕ) (k : Lexeme) → m ≤ length here → Spells (take m here) k → m ≤ n
+  pub spells : SpellsToken (take n here) l
+  pub longest : (m : ℕ) (k : Lexeme) → m ≤ length here → SpellsToken (take m here) k → m ≤ n
 
 -- the end, or no token at the front, or the longest one
 abbrev pub IsFront : List ℕ → Lexeme → ℕ → Type 0
 IsFront here the_end n = here ≡ []
-IsFront here none n = (m : ℕ) (k : Lexeme) → m ≤ length here → Spells (take m here) k → ⊥
+IsFront here none n = (m : ℕ) (k : Lexeme) → m ≤ length here → SpellsToken (take m here) k → ⊥
 IsFront here l n = IsLongest here l n

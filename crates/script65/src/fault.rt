@@ -3,7 +3,7 @@
 ghost use Rattle.std.specs.Prelude.{◌≡◌, Some};
 ghost use Rattle.script65.specs.declared.fault.Fault.TheVariants.{OutOfMemory};
 
-use base65::Sequence;
+use base65::ListVec;
 use std::alloc::{AllocError, AllocFailed};
 use std::error::Error;
 use std::fmt;
@@ -65,7 +65,7 @@ impl fmt::Display for Fault {
 pub struct ScriptFault {
     pub fault: Fault,
     pub line: usize,
-    pub name: Sequence<u8>,
+    pub name: ListVec<u8>,
 }
 
 impl fmt::Display for ScriptFault {
@@ -76,7 +76,7 @@ impl fmt::Display for ScriptFault {
     fn fmt<W: fmt::Write>(&self, f: &mut fmt::Formatter<W>) -> fmt::Result {
         let fault = self.fault;
         if fault.names() {
-            let name = Shown(self.name.as_slice());
+            let name = ByteDisplay(self.name.as_slice());
             write!(f, "{fault}: {name}")
         } else {
             write!(f, "{fault}")
@@ -88,9 +88,9 @@ impl Error for ScriptFault {}
 
 /// A name as it is printed: each byte is the character of its code.
 #[derive(Clone, Copy)]
-pub struct Shown<'a>(pub &'a [u8]);
+pub struct ByteDisplay<'a>(pub &'a [u8]);
 
-impl fmt::Display for Shown<'_> {
+impl fmt::Display for ByteDisplay<'_> {
     ghost use Rattle.std.specs.Prelude.{encode_utf8_all};
 
     ghost output = { λ x. Some (encode_utf8_all x.0.now) };
@@ -105,38 +105,38 @@ impl fmt::Display for Shown<'_> {
 
 /// A fault, and where the token begins at which it is found.
 #[derive(Clone, Copy)]
-pub struct Stop {
+pub struct FaultAt {
     pub fault: Fault,
     pub at: usize,
 }
 
-impl Stop {
+impl FaultAt {
     ghost use Rattle.std.specs.Prelude.{◌≡◌};
     ghost use Rattle.script65.specs.Faults.{stop_at};
 
     pub fn new(fault: Fault, at: usize) -> Self
         ensures { result ≡ stop_at fault at }
     {
-        Stop { fault, at }
+        FaultAt { fault, at }
     }
 }
 
-impl From<AllocError> for Stop {
+impl From<AllocError> for FaultAt {
     ghost from_gives = { λ _ e. e.fault ≡ OutOfMemory };
 
-    fn from(_e: AllocError) -> Stop {
-        Stop {
+    fn from(_e: AllocError) -> FaultAt {
+        FaultAt {
             fault: Fault::OutOfMemory,
             at: 0,
         }
     }
 }
 
-impl<T: Drop> From<AllocFailed<T>> for Stop {
+impl<T: Drop> From<AllocFailed<T>> for FaultAt {
     ghost from_gives = { λ _ e. e.fault ≡ OutOfMemory };
 
-    fn from(_e: AllocFailed<T>) -> Stop {
-        Stop {
+    fn from(_e: AllocFailed<T>) -> FaultAt {
+        FaultAt {
             fault: Fault::OutOfMemory,
             at: 0,
         }

@@ -1,18 +1,18 @@
 //! What holds of every script and of every placement by one.
 
 ghost use Rattle.script65.specs.FirstFaults.{FirstFaults, NumberedFaults};
-ghost use Rattle.script65.specs.Laws.{AllThere, LongestTokens, NoContinuation, OneReading, SomeReadingLaw};
-ghost use Rattle.script65.specs.Places.{OnePlacement};
-ghost use Rattle.script65.specs.PlacingLaws.{AllPlaced, AllWithin, NoNamesFixed, NoOverlap, OnlyNumbers, RowsThere, SameNeeds, SomePlacement, SumsHold};
+ghost use Rattle.script65.specs.Laws.{AllThere, LongestTokens, NoContinuation, ReadingIsUnique, ReadingExists};
+ghost use Rattle.script65.specs.Places.{PlacementIsUnique};
+ghost use Rattle.script65.specs.PlacingLaws.{AllPlaced, AllWithin, NoNamesFixed, NoOverlap, OnlyNumbers, RowsThere, SameNeeds, PlacementExists, SumsHold};
 
 /// A text is one script or has one first fault, at most.
-pub fn one_reading()
-    ensures { OneReading }
+pub fn reading_is_unique()
+    ensures { ReadingIsUnique }
 {}
 
 /// And it is one at least: no text lacks a script and a fault of its own.
-pub fn some_reading()
-    ensures { SomeReadingLaw }
+pub fn reading_exists()
+    ensures { ReadingExists }
 {}
 
 /// Behind the tokens up to a first fault no text goes on as a script.
@@ -43,13 +43,13 @@ pub fn all_there()
 {}
 
 /// A script has a placement for any needs, or else a first fault of its own.
-pub fn some_placement()
-    ensures { SomePlacement }
+pub fn placement_exists()
+    ensures { PlacementExists }
 {}
 
 /// A script has one placement for its needs, or else one first fault: that which the function of a cursor gives.
-pub fn one_placement()
-    ensures { OnePlacement }
+pub fn placement_is_unique()
+    ensures { PlacementIsUnique }
 {}
 
 /// No two rows of an area overlap.

@@ -10,11 +10,11 @@ mod reading;
 mod script;
 mod sums;
 
-pub use fault::{Fault, ScriptFault, Shown};
-pub use placement::{AreaPlace, PlaceFault, Placement, RowPlace, SegmentNeed};
+pub use fault::{ByteDisplay, Fault, ScriptFault};
+pub use placement::{AreaPlacement, PlaceFault, Placement, RowPlacement, SegmentNeed};
 pub use placing::place;
 pub use reading::read_script;
 pub use script::{
-    Access, Area, AreaFile, AreaPart, Begin, Operand, Row, RowPart, Script, Symbol, SymbolKind,
-    Term,
+    AreaAttribute, AreaOutput, MemoryArea, Operand, RowAttribute, RowStart, Script, SegmentRow,
+    SegmentType, Symbol, SymbolKind, Term,
 };

@@ -3,8 +3,8 @@
 ghost use Rattle.std.specs.Prelude.{◌≡◌, Some};
 ghost use Rattle.script65.specs.declared.placement.PlaceFault.TheVariants.{OutOfMemory};
 
-use crate::fault::Shown;
-use base65::Sequence;
+use crate::fault::ByteDisplay;
+use base65::ListVec;
 use std::alloc::{AllocError, AllocFailed};
 use std::error::Error;
 use std::fmt;
@@ -13,14 +13,14 @@ use std::fmt;
 /// the largest alignment of a section, which says nothing of where the segment begins.
 #[derive(Drop)]
 pub struct SegmentNeed {
-    pub name: Sequence<u8>,
+    pub name: ListVec<u8>,
     pub size: u64,
     pub align: u32,
 }
 
 /// Where an area begins, how many bytes it spans, and the first address behind what is placed in it.
 #[derive(Clone, Copy, Debug, PartialEq, Eq)]
-pub struct AreaPlace {
+pub struct AreaPlacement {
     pub start: u64,
     pub size: u64,
     pub last: u64,
@@ -28,7 +28,7 @@ pub struct AreaPlace {
 
 /// Where a row's segment is loaded and where it runs, and its size in bytes.
 #[derive(Clone, Copy, Debug, PartialEq, Eq)]
-pub struct RowPlace {
+pub struct RowPlacement {
     pub load: u64,
     pub run: u64,
     pub size: u64,
@@ -37,8 +37,8 @@ pub struct RowPlace {
 /// The places of a script's areas and rows, in the script's order.
 #[derive(Drop)]
 pub struct Placement {
-    pub areas: Sequence<AreaPlace>,
-    pub rows: Sequence<RowPlace>,
+    pub areas: ListVec<AreaPlacement>,
+    pub rows: ListVec<RowPlacement>,
 }
 
 /// Why segments can't be placed, and the name of what it concerns.
@@ -46,17 +46,17 @@ pub struct Placement {
 pub enum PlaceFault {
     OutOfMemory,
     /// A segment that no row has.
-    NoRow(Sequence<u8>),
+    NoRow(ListVec<u8>),
     /// A row that isn't read-only runs in a read-only area.
-    ReadOnlyArea(Sequence<u8>),
+    ReadOnlyArea(ListVec<u8>),
     /// A row that would begin below what is placed before it.
-    StartBelow(Sequence<u8>),
+    StartBelow(ListVec<u8>),
     /// An area, and how many bytes behind its end a row would end.
-    Overflow(Sequence<u8>, u128),
+    Overflow(ListVec<u8>, u128),
     /// A name in an area's sum that stands for what isn't known yet.
-    NotPlaced(Sequence<u8>),
+    NotPlaced(ListVec<u8>),
     /// An area whose start or size is no number below 2 ^ 32, or which ends behind the last address.
-    AreaOutOfRange(Sequence<u8>),
+    AreaOutOfRange(ListVec<u8>),
 }
 
 impl fmt::Display for PlaceFault {
@@ -68,27 +68,27 @@ impl fmt::Display for PlaceFault {
         match self {
             PlaceFault::OutOfMemory => f.write_str("out of memory"),
             PlaceFault::NoRow(name) => {
-                let name = Shown(name.as_slice());
+                let name = ByteDisplay(name.as_slice());
                 write!(f, "segment has no row: {name}")
             }
             PlaceFault::ReadOnlyArea(name) => {
-                let name = Shown(name.as_slice());
+                let name = ByteDisplay(name.as_slice());
                 write!(f, "read-only area: {name}")
             }
             PlaceFault::StartBelow(name) => {
-                let name = Shown(name.as_slice());
+                let name = ByteDisplay(name.as_slice());
                 write!(f, "start below what is placed: {name}")
             }
             PlaceFault::Overflow(name, bytes) => {
-                let name = Shown(name.as_slice());
+                let name = ByteDisplay(name.as_slice());
                 write!(f, "overflow of {name} by {bytes} bytes")
             }
             PlaceFault::NotPlaced(name) => {
-                let name = Shown(name.as_slice());
+                let name = ByteDisplay(name.as_slice());
                 write!(f, "name not yet placed: {name}")
             }
             PlaceFault::AreaOutOfRange(name) => {
-                let name = Shown(name.as_slice());
+                let name = ByteDisplay(name.as_slice());
                 write!(f, "area value out of range: {name}")
             }
         }

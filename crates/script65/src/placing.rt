@@ -1,8 +1,8 @@
 //! Places the rows of a script.
 
-ghost use Rattle.base65.specs.Outcome.{Finds, Gives};
-ghost use Rattle.script65.specs.Faults.{is_place_outside};
-ghost use Rattle.script65.specs.Places.{IsPlaced};
+ghost use Rattle.base65.specs.Outcome.{RefinesProp, Refines};
+ghost use Rattle.script65.specs.Faults.{is_place_system_error};
+ghost use Rattle.script65.specs.Places.{PlacementResult};
 ghost use Rattle.script65.specs.Placing.{place_of};
 
 use crate::placement::{PlaceFault, Placement, SegmentNeed};
@@ -16,8 +16,8 @@ mod sums;
 
 /// Where the rows of a script are placed, or the first fault. Of two needs of one name the first counts.
 pub fn place(alloc: Global, script: &Script, needs: &[SegmentNeed]) -> Result<Placement, PlaceFault>
-    ensures stands { Finds is_place_outside (IsPlaced script.now needs.now) result }
-    ensures value { Gives is_place_outside (λ p. p) result (place_of script.now needs.now) }
+    ensures stands { RefinesProp is_place_system_error (PlacementResult script.now needs.now) result }
+    ensures value { Refines is_place_system_error (λ p. p) result (place_of script.now needs.now) }
 {
     let rows = script.rows.as_slice();
     check_rows(alloc, rows, needs)?;

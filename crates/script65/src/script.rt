@@ -2,26 +2,26 @@
 
 ghost use Rattle.std.specs.Prelude.{◌≡◌};
 
-use base65::Sequence;
+use base65::ListVec;
 
 /// A linker script: its areas, rows and symbols, each in the script's order.
 #[derive(Drop)]
 pub struct Script {
-    pub areas: Sequence<Area>,
-    pub rows: Sequence<Row>,
-    pub symbols: Sequence<Symbol>,
+    pub areas: ListVec<MemoryArea>,
+    pub rows: ListVec<SegmentRow>,
+    pub symbols: ListVec<Symbol>,
 }
 
 /// An area of memory, which spans so many bytes from its first address on.
 #[derive(Drop)]
-pub struct Area {
-    pub name: Sequence<u8>,
+pub struct MemoryArea {
+    pub name: ListVec<u8>,
     /// The terms of the sum that is its first address.
-    pub start: Sequence<Term>,
+    pub start: ListVec<Term>,
     /// The terms of the sum that is the number of its bytes.
-    pub size: Sequence<Term>,
+    pub size: ListVec<Term>,
     pub read_only: bool,
-    pub file: AreaFile,
+    pub file: AreaOutput,
     /// Whether the file is as long as the area.
     pub fill: bool,
     /// The byte of gaps.
@@ -43,13 +43,13 @@ pub struct Term {
 #[derive(Clone, Copy, Debug)]
 pub enum Operand {
     Number(u32),
-    Area(usize, AreaPart),
-    Row(usize, RowPart),
+    Area(usize, AreaAttribute),
+    Row(usize, RowAttribute),
 }
 
 /// What a name says of an area.
 #[derive(Clone, Copy, Debug)]
-pub enum AreaPart {
+pub enum AreaAttribute {
     /// Its first address.
     Start,
     /// How many bytes it spans.
@@ -58,7 +58,7 @@ pub enum AreaPart {
     Last,
 }
 
-impl AreaPart {
+impl AreaAttribute {
     ghost use Rattle.script65.specs.AreaSums.{area_ending};
 
     /// What stands behind the area's name, in the name for this part of it.
@@ -66,16 +66,16 @@ impl AreaPart {
         ensures { result.now ≡ area_ending self }
     {
         match self {
-            AreaPart::Start => b"_START__",
-            AreaPart::Size => b"_SIZE__",
-            AreaPart::Last => b"_LAST__",
+            AreaAttribute::Start => b"_START__",
+            AreaAttribute::Size => b"_SIZE__",
+            AreaAttribute::Last => b"_LAST__",
         }
     }
 }
 
 /// What a name says of a row.
 #[derive(Clone, Copy, Debug)]
-pub enum RowPart {
+pub enum RowAttribute {
     /// Where its segment is loaded.
     Load,
     /// Where its segment runs.
@@ -84,7 +84,7 @@ pub enum RowPart {
     Size,
 }
 
-impl RowPart {
+impl RowAttribute {
     ghost use Rattle.script65.specs.AreaSums.{row_ending};
 
     /// What stands behind the row's name, in the name for this part of it.
@@ -92,51 +92,51 @@ impl RowPart {
         ensures { result.now ≡ row_ending self }
     {
         match self {
-            RowPart::Load => b"_LOAD__",
-            RowPart::Run => b"_RUN__",
-            RowPart::Size => b"_SIZE__",
+            RowAttribute::Load => b"_LOAD__",
+            RowAttribute::Run => b"_RUN__",
+            RowAttribute::Size => b"_SIZE__",
         }
     }
 }
 
 /// The file in which an area's bytes are written.
 #[derive(Drop)]
-pub enum AreaFile {
+pub enum AreaOutput {
     /// The linker's output.
     Output,
     /// A file of this name, which may be empty: then nothing is written.
-    Named(Sequence<u8>),
+    Named(ListVec<u8>),
 }
 
 /// What a row's segment may hold.
 #[derive(Clone, Copy, Debug, PartialEq, Eq)]
-pub enum Access {
+pub enum SegmentType {
     ReadOnly,
     ReadWrite,
     Bss,
     ZeroPage,
 }
 
-impl Access {
+impl SegmentType {
     ghost use Rattle.script65.specs.Placing.{is_read_only, is_written};
 
     pub fn is_read_only(self) -> bool
         ensures { result ≡ is_read_only self }
     {
-        matches!(self, Access::ReadOnly)
+        matches!(self, SegmentType::ReadOnly)
     }
 
     /// Whether the segment's bytes are in a file.
     pub fn is_written(self) -> bool
         ensures { result ≡ is_written self }
     {
-        matches!(self, Access::ReadOnly | Access::ReadWrite)
+        matches!(self, SegmentType::ReadOnly | SegmentType::ReadWrite)
     }
 }
 
 /// Where a row begins in the area in which it runs.
 #[derive(Clone, Copy, Debug, PartialEq, Eq)]
-pub enum Begin {
+pub enum RowStart {
     /// Behind what is placed before, at a multiple of the row's alignment.
     Aligned,
     /// At an address.
@@ -147,16 +147,16 @@ pub enum Begin {
 
 /// A segment's row. An area is named by its place in the script's areas.
 #[derive(Drop)]
-pub struct Row {
-    pub name: Sequence<u8>,
+pub struct SegmentRow {
+    pub name: ListVec<u8>,
     pub load: usize,
     pub run: usize,
-    pub access: Access,
+    pub access: SegmentType,
     /// The alignment in the area in which the row runs.
     pub align: u32,
     /// The alignment in a load area that differs.
     pub align_load: u32,
-    pub begin: Begin,
+    pub begin: RowStart,
     /// The byte between sections and of fills.
     pub fill_value: u8,
     /// Whether names for the segment's addresses and size are defined.
@@ -168,7 +168,7 @@ pub struct Row {
 /// A symbol of a script.
 #[derive(Drop)]
 pub struct Symbol {
-    pub name: Sequence<u8>,
+    pub name: ListVec<u8>,
     pub kind: SymbolKind,
 }
 

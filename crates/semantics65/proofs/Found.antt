@@ -6,11 +6,11 @@ use Rattle.std.proofs.lemmas.Grind.{common_steps}
 use Rattle.std.proofs.lemmas.List.{append-nil}
 use Rattle.std.proofs.lemmas.List.Elements.{filter_map-append}
 use Rattle.base65.specs.Outcome.{◌>>=◌}
-use Rattle.syntax65.specs.declared.place.Place.{Place}
+use Rattle.syntax65.specs.declared.source_location.SourceLocation.{SourceLocation}
 use Rattle.object65.specs.declared.object.Export.{Export}
 use Rattle.object65.specs.declared.object.Origin.{Origin}
 use Rattle.semantics65.specs.Contents.{Content, Declaration, Exported, ForcedImport, Asserted, exported_name, exported_names}
-use Rattle.semantics65.specs.Module.{Finished, Made, Piece, PlacedFault, Slot, coming, followed_by, made_of, resolved}
+use Rattle.semantics65.specs.Module.{Resolution, PieceResult, Piece, LocatedFault, Slot, slot_result, result_then, made_of, resolution_of}
 use Rattle.semantics65.specs.Numbering.{all_said, export_of}
 use Rattle.semantics65.specs.Symbols.{Symbols}
 use Rattle.semantics65.specs.declared.laid.Context.{Context}
@@ -18,32 +18,32 @@ use Rattle.semantics65.specs.declared.laid.Context.{Context}
 -- ---- What was found behind what was found.
 
 -- these contents, and what was said
-abbrev pub found_all : List Content → List ℕ → Finished
+abbrev pub found_all : List Content → List ℕ → Resolution
 found_all cs said = record { found = Ok cs; warned = said }
 
-abbrev pub after_found : Result (List Content) PlacedFault → List ℕ → Finished → Finished
+abbrev pub after_found : Result (List Content) LocatedFault → List ℕ → Resolution → Resolution
 after_found (Ok cs) said b = record { found = b.found >>= (λ ds. Ok (cs ++ ds)); warned = said ++ b.warned }
 after_found (Err e) said b = record { found = Err e; warned = said }
 
 -- the one and then the other
-abbrev pub after : Finished → Finished → Finished
+abbrev pub after : Resolution → Resolution → Resolution
 after a b = after_found a.found a.warned b
 
-prepended : (r : Result (List Content) PlacedFault) → (r >>= (λ ds. Ok ([] ++ ds))) ≡ r
+prepended : (r : Result (List Content) LocatedFault) → (r >>= (λ ds. Ok ([] ++ ds))) ≡ r
 prepended (Ok ds) = refl
 prepended (Err e) = refl
 
-pub nothing_after : (b : Finished) → after (found_all [] []) b ≡ b
+pub nothing_after : (b : Resolution) → after (found_all [] []) b ≡ b
 nothing_after b = ap (λ r. record { found = r; warned = b.warned }) (prepended b.found)
 
 -- a slot more comes to a content
-pub resolved_more : (y : Symbols) (names : List (List ℕ)) (cs : List Content) (said : List ℕ) (x : Slot) (xs : List Slot) (m : Made) → coming y names x ≡ Ok m →
-    after (found_all cs said) (resolved y names (x ∷ xs)) ≡ after (found_all (cs ++ m.content ∷ []) (said ++ m.warning)) (resolved y (names ++ exported_names m.content.said) xs)
+pub resolved_more : (y : Symbols) (names : List (List ℕ)) (cs : List Content) (said : List ℕ) (x : Slot) (xs : List Slot) (m : PieceResult) → slot_result y names x ≡ Ok m →
+    after (found_all cs said) (resolution_of y names (x ∷ xs)) ≡ after (found_all (cs ++ m.content ∷ []) (said ++ m.warning)) (resolution_of y (names ++ exported_names m.content.said) xs)
 resolved_more y names cs said x xs m made = grind (arith, common_steps, append_assoc)
 
 -- the first that has a fault ends it
-pub resolved_stops : (y : Symbols) (names : List (List ℕ)) (cs : List Content) (said : List ℕ) (x : Slot) (xs : List Slot) (e : PlacedFault) → coming y names x ≡ Err e →
-    after (found_all cs said) (resolved y names (x ∷ xs)) ≡ record { found = Err e; warned = said }
+pub resolved_stops : (y : Symbols) (names : List (List ℕ)) (cs : List Content) (said : List ℕ) (x : Slot) (xs : List Slot) (e : LocatedFault) → slot_result y names x ≡ Err e →
+    after (found_all cs said) (resolution_of y names (x ∷ xs)) ≡ record { found = Err e; warned = said }
 resolved_stops y names cs said x xs e made = grind (arith, common_steps, append-nil)
 
 -- ---- Names.
@@ -52,7 +52,7 @@ pub names_append : (ss ts : List Declaration) → exported_names (ss ++ ts) ≡ 
 names_append ss ts = filter_map-append exported_name ss ts
 
 -- the names of an object's exports are those that were said
-pub exports_named : (at : Place → Origin) (s i : List ℕ) (ss : List Declaration) → map (λ (e : Export). e.name) (filter_map (export_of at s i) ss) ≡ exported_names ss
+pub exports_named : (at : SourceLocation → Origin) (s i : List ℕ) (ss : List Declaration) → map (λ (e : Export). e.name) (filter_map (export_of at s i) ss) ≡ exported_names ss
 exports_named at s i [] = refl
 exports_named at s i (Exported n place f ∷ ss) = ap (λ ns. n ∷ ns) (exports_named at s i ss)
 exports_named at s i (ForcedImport n ∷ ss) = exports_named at s i ss
@@ -64,26 +64,26 @@ exports_named at s i (Asserted act place words f ∷ ss) = exports_named at s i 
 abbrev pub AreFound : Symbols → List (List ℕ) → List Slot → List Content → Type 0
 AreFound y names [] [] = ⊤
 AreFound y names (x ∷ xs) (c ∷ cs) =
-    (warning : List ℕ) × (coming y names x ≡ Ok (record { content = c; warning = warning }))
+    (warning : List ℕ) × (slot_result y names x ≡ Ok (record { content = c; warning = warning }))
     × AreFound y (names ++ exported_names c.said) xs cs
 AreFound y names _ _ = ⊥
 
 -- contents behind the first
-behind_first : (y : Symbols) (names : List (List ℕ)) (x : Slot) (xs : List Slot) (m : Made) → coming y names x ≡ Ok m → (r : Result (List Content) PlacedFault) →
+after_first : (y : Symbols) (names : List (List ℕ)) (x : Slot) (xs : List Slot) (m : PieceResult) → slot_result y names x ≡ Ok m → (r : Result (List Content) LocatedFault) →
     ((ds : List Content) → r ≡ Ok ds → AreFound y (names ++ exported_names m.content.said) xs ds) → (cs : List Content) → (r >>= (λ ds. Ok (m.content ∷ ds))) ≡ Ok cs → AreFound y names (x ∷ xs) cs
-behind_first y names x xs m made (Err e) rest cs h = absurd cc
-behind_first y names x xs m made (Ok ds) rest cs h = (let same : (m.content ∷ ds) ≡ cs = cc in subst (AreFound y names (x ∷ xs)) same (m.warning, made, rest ds refl))
+after_first y names x xs m made (Err e) rest cs h = absurd cc
+after_first y names x xs m made (Ok ds) rest cs h = (let same : (m.content ∷ ds) ≡ cs = cc in subst (AreFound y names (x ∷ xs)) same (m.warning, made, rest ds refl))
 
-with_first : (y : Symbols) (names : List (List ℕ)) (x : Slot) (xs : List Slot) (cs : List Content) (r : Result Made PlacedFault) → coming y names x ≡ r →
-    ((m : Made) (ds : List Content) → (resolved y (names ++ exported_names m.content.said) xs).found ≡ Ok ds → AreFound y (names ++ exported_names m.content.said) xs ds) →
-    (followed_by r (λ m. resolved y (names ++ exported_names m.content.said) xs)).found ≡ Ok cs → AreFound y names (x ∷ xs) cs
+with_first : (y : Symbols) (names : List (List ℕ)) (x : Slot) (xs : List Slot) (cs : List Content) (r : Result PieceResult LocatedFault) → slot_result y names x ≡ r →
+    ((m : PieceResult) (ds : List Content) → (resolution_of y (names ++ exported_names m.content.said) xs).found ≡ Ok ds → AreFound y (names ++ exported_names m.content.said) xs ds) →
+    (result_then r (λ m. resolution_of y (names ++ exported_names m.content.said) xs)).found ≡ Ok cs → AreFound y names (x ∷ xs) cs
 with_first y names x xs cs (Err e) made rest h = absurd cc
-with_first y names x xs cs (Ok m) made rest h = behind_first y names x xs m made (resolved y (names ++ exported_names m.content.said) xs).found (rest m) cs h
+with_first y names x xs cs (Ok m) made rest h = after_first y names x xs m made (resolution_of y (names ++ exported_names m.content.said) xs).found (rest m) cs h
 
-pub found_each : (y : Symbols) (names : List (List ℕ)) (xs : List Slot) (cs : List Content) → (resolved y names xs).found ≡ Ok cs → AreFound y names xs cs
+pub found_each : (y : Symbols) (names : List (List ℕ)) (xs : List Slot) (cs : List Content) → (resolution_of y names xs).found ≡ Ok cs → AreFound y names xs cs
 found_each y names [] [] h = tt
 found_each y names [] (c ∷ cs) h = absurd cc
-found_each y names (x ∷ xs) cs h = with_first y names x xs cs (coming y names x) refl (λ m ds k. found_each y (names ++ exported_names m.content.said) xs ds k) h
+found_each y names (x ∷ xs) cs h = with_first y names x xs cs (slot_result y names x) refl (λ m ds k. found_each y (names ++ exported_names m.content.said) xs ds k) h
 
 -- contents of slots one behind the other
 pub record Split (y : Symbols) (names : List (List ℕ)) (xs ys : List Slot) (cs : List Content) : Type 0 where
@@ -91,10 +91,10 @@ pub record Split (y : Symbols) (names : List (List ℕ)) (xs ys : List Slot) (cs
   pub last : List Content
   pub all : first ++ last ≡ cs
   pub before : AreFound y names xs first
-  pub behind : AreFound y (names ++ exported_names (all_said first)) ys last
+  pub following : AreFound y (names ++ exported_names (all_said first)) ys last
 
 pub found_split : (y : Symbols) (names : List (List ℕ)) (xs ys : List Slot) (cs : List Content) → AreFound y names (xs ++ ys) cs → Split y names xs ys cs
-found_split y names [] ys cs h = record { first = []; last = cs; all = refl; before = tt; behind = subst (λ ns. AreFound y ns ys cs) (sym (append-nil names)) h }
+found_split y names [] ys cs h = record { first = []; last = cs; all = refl; before = tt; following = subst (λ ns. AreFound y ns ys cs) (sym (append-nil names)) h }
 found_split y names (x ∷ xs) ys [] h = absurd h
 found_split y names (x ∷ xs) ys (c ∷ cs) (w, made, h) =
     let rest = found_split y (names ++ exported_names c.said) xs ys cs h in
@@ -103,12 +103,12 @@ found_split y names (x ∷ xs) ys (c ∷ cs) (w, made, h) =
       last = rest.last;
       all = ap (λ ds. c ∷ ds) rest.all;
       before = (w, made, rest.before);
-      behind = subst (λ ns. AreFound y ns ys rest.last) (append_assoc names (exported_names c.said) (exported_names (all_said rest.first)) ∙ ap (λ ns. names ++ ns) (sym (names_append c.said (all_said rest.first)))) rest.behind;
+      following = subst (λ ns. AreFound y ns ys rest.last) (append_assoc names (exported_names c.said) (exported_names (all_said rest.first)) ∙ ap (λ ns. names ++ ns) (sym (names_append c.said (all_said rest.first)))) rest.following;
     }
 
 -- what is so of whatever such slots come to
 pub found_all_so : (y : Symbols) (P : Slot → Type 0) (Q : Content → Type 0) →
-    ((names : List (List ℕ)) (x : Slot) (m : Made) → P x → coming y names x ≡ Ok m → Q m.content) →
+    ((names : List (List ℕ)) (x : Slot) (m : PieceResult) → P x → slot_result y names x ≡ Ok m → Q m.content) →
     (names : List (List ℕ)) (xs : List Slot) (cs : List Content) → AllByRecursion P xs → AreFound y names xs cs → AllByRecursion Q cs
 found_all_so y P Q so names [] [] all h = tt
 found_all_so y P Q so names [] (c ∷ cs) all h = absurd h
@@ -117,8 +117,8 @@ found_all_so y P Q so names (x ∷ xs) (c ∷ cs) (p, all) (w, made, h) = (so na
 
 -- ---- A piece asks for no section.
 
-abbrev pub asks_none : Made → Type 0
+abbrev pub asks_none : PieceResult → Type 0
 asks_none m = m.content.asks ≡ false
 
-pub made_asks : (y : Symbols) (place : Place) (s : Context) (p : Piece) → IfOk (made_of y place s p) asks_none
+pub made_asks : (y : Symbols) (place : SourceLocation) (s : Context) (p : Piece) → IfOk (made_of y place s p) asks_none
 made_asks y place s x1 = grind (arith, common_steps)

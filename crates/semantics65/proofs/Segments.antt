@@ -12,20 +12,20 @@ use Rattle.semantics65.specs.declared.contents.Segment.{Segment}
 use Rattle.semantics65.specs.Layout.{first_size, grown_at, named_segments, new_segment, or_last, place_of, segment_at}
 use Rattle.ast65.proofs.Lists.{bytes_swap}
 
-pub grown_length : (gs : List Segment) (i count multiple : ℕ) → length (grown_at gs i count multiple) ≡ length gs
-grown_length [] i count multiple = refl
-grown_length (g ∷ gs) zero count multiple = refl
-grown_length (g ∷ gs) (suc i) count multiple = ap suc (grown_length gs i count multiple)
+pub grown_length : (gs : List Segment) (i count alignment : ℕ) → length (grown_at gs i count alignment) ≡ length gs
+grown_length [] i count alignment = refl
+grown_length (g ∷ gs) zero count alignment = refl
+grown_length (g ∷ gs) (suc i) count alignment = ap suc (grown_length gs i count alignment)
 
-pub grown_end : (gs : List Segment) (i count multiple : ℕ) → i < length gs → (segment_at (grown_at gs i count multiple) i).end ≡ (segment_at gs i).end + count
-grown_end [] i count multiple lt = absurd (omega arith)
-grown_end (g ∷ gs) zero count multiple lt = refl
-grown_end (g ∷ gs) (suc i) count multiple lt = grown_end gs i count multiple (omega arith)
+pub grown_end : (gs : List Segment) (i count alignment : ℕ) → i < length gs → (segment_at (grown_at gs i count alignment) i).end ≡ (segment_at gs i).end + count
+grown_end [] i count alignment lt = absurd (omega arith)
+grown_end (g ∷ gs) zero count alignment lt = refl
+grown_end (g ∷ gs) (suc i) count alignment lt = grown_end gs i count alignment (omega arith)
 
-pub grown_names : (gs : List Segment) (i count multiple : ℕ) → map (λ (g : Segment). g.name) (grown_at gs i count multiple) ≡ map (λ (g : Segment). g.name) gs
-grown_names [] i count multiple = refl
-grown_names (g ∷ gs) zero count multiple = refl
-grown_names (g ∷ gs) (suc i) count multiple = ap (λ ns. g.name ∷ ns) (grown_names gs i count multiple)
+pub grown_names : (gs : List Segment) (i count alignment : ℕ) → map (λ (g : Segment). g.name) (grown_at gs i count alignment) ≡ map (λ (g : Segment). g.name) gs
+grown_names [] i count alignment = refl
+grown_names (g ∷ gs) zero count alignment = refl
+grown_names (g ∷ gs) (suc i) count alignment = ap (λ ns. g.name ∷ ns) (grown_names gs i count alignment)
 
 pub all_more : {A : Type 0} (P : A → Type 0) (xs : List A) (x : A) → AllByRecursion P xs → P x → AllByRecursion P (xs ++ x ∷ [])
 all_more P [] x h p = (p, tt)
@@ -48,12 +48,12 @@ found_below gs n j e = let lt = place_below (λ (g : Segment). bytes_eq g.name n
 
 -- ---- A segment that grows.
 
-pub grown_other : (gs : List Segment) (i h count multiple : ℕ) → nat_eq i h ≡ false → segment_at (grown_at gs i count multiple) h ≡ segment_at gs h
-grown_other [] i h count multiple apart = refl
-grown_other (g ∷ gs) zero zero count multiple apart = absurd cc
-grown_other (g ∷ gs) zero (suc h) count multiple apart = refl
-grown_other (g ∷ gs) (suc i) zero count multiple apart = refl
-grown_other (g ∷ gs) (suc i) (suc h) count multiple apart = grown_other gs i h count multiple (grind (arith, nat_tests))
+pub grown_other : (gs : List Segment) (i h count alignment : ℕ) → nat_eq i h ≡ false → segment_at (grown_at gs i count alignment) h ≡ segment_at gs h
+grown_other [] i h count alignment apart = refl
+grown_other (g ∷ gs) zero zero count alignment apart = absurd cc
+grown_other (g ∷ gs) zero (suc h) count alignment apart = refl
+grown_other (g ∷ gs) (suc i) zero count alignment apart = refl
+grown_other (g ∷ gs) (suc i) (suc h) count alignment apart = grown_other gs i h count alignment (grind (arith, nat_tests))
 
 -- the segment in which a statement stands has so many bytes more, and the others stay as they were
 pub record Grows (gs hs : List Segment) (current count : ℕ) : Type 0 where
@@ -62,12 +62,12 @@ pub record Grows (gs hs : List Segment) (current count : ℕ) : Type 0 where
   pub here : (segment_at hs current).end ≡ (segment_at gs current).end + count
   pub others : (g : ℕ) → nat_eq current g ≡ false → (segment_at hs g).end ≡ (segment_at gs g).end
 
-pub grows : (gs : List Segment) (current count multiple : ℕ) → current < length gs → Grows gs (grown_at gs current count multiple) current count
-grows gs current count multiple lt = record {
-  names = grown_names gs current count multiple;
-  size = grown_length gs current count multiple;
-  here = grown_end gs current count multiple lt;
-  others = λ g e. ap (λ (h : Segment). h.end) (grown_other gs current g count multiple e);
+pub grows : (gs : List Segment) (current count alignment : ℕ) → current < length gs → Grows gs (grown_at gs current count alignment) current count
+grows gs current count alignment lt = record {
+  names = grown_names gs current count alignment;
+  size = grown_length gs current count alignment;
+  here = grown_end gs current count alignment lt;
+  others = λ g e. ap (λ (h : Segment). h.end) (grown_other gs current g count alignment e);
 }
 
 pub grows_none : (gs : List Segment) (current : ℕ) → Grows gs gs current 0
@@ -87,11 +87,11 @@ not_among n gs e = from 0 gs (sym (position_from-zero (λ (g : Segment). bytes_e
         by true same k more = absurd cc
         by false apart k more = ap (λ b. b || is_among (map (λ (m : Segment). m.name) hs) n) (bytes_swap n g.name ∙ apart) ∙ more k
 
-pub end_behind : (gs : List Segment) (n : List ℕ) (own : AddressSize) (g : ℕ) → (segment_at (gs ++ new_segment n own ∷ []) g).end ≡ (segment_at gs g).end
-end_behind [] n own zero = refl
-end_behind [] n own (suc g) = refl
-end_behind (x ∷ gs) n own zero = refl
-end_behind (x ∷ gs) n own (suc g) = end_behind gs n own g
+pub end_after : (gs : List Segment) (n : List ℕ) (own : AddressSize) (g : ℕ) → (segment_at (gs ++ new_segment n own ∷ []) g).end ≡ (segment_at gs g).end
+end_after [] n own zero = refl
+end_after [] n own (suc g) = refl
+end_after (x ∷ gs) n own zero = refl
+end_after (x ∷ gs) n own (suc g) = end_after gs n own g
 
 pub one_longer : (gs : List Segment) (g : Segment) → length (gs ++ g ∷ []) ≡ length gs + 1
 one_longer gs g = length-append gs (g ∷ [])

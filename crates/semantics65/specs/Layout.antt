@@ -2,11 +2,11 @@
 use Rattle.std.specs.Prelude.{ℕ, zero, suc, ◌+◌, max, Bool, true, false, List, [], ◌∷◌, ◌++◌, length, Option, Some, None, codes, if◌then◌else◌, ◌-◌, ◌==◌, ℤ, pos, nat_le, nat_lt, not, ◌&&◌, Result, Ok, Err, slice_get}
 use Rattle.std.specs.List.{position, list_any}
 use Rattle.std.specs.Str.{bytes_eq}
-use Rattle.semantics65.specs.Types.{AddressSize, Segment, Statement, Place, Context, AsmFault, NotUnderstood, NoSuchForm, DefinedTwice, SectionTooLarge, NoSuchScope, ScopeTwice, BadAlignment, PopWithoutPush, BadOperand, BadPart, SizeChanged, BadScope, FileNotFound, Item, Operand, Absent, Accumulator, Immediate, Address, Indirect, IndirectX, IndirectY, Value, Text}
+use Rattle.semantics65.specs.Types.{AddressSize, Segment, Statement, SourceLocation, Context, AsmFault, NotUnderstood, NoSuchForm, DefinedTwice, SectionTooLarge, NoSuchScope, ScopeTwice, BadAlignment, PopWithoutPush, BadOperand, BadPart, SizeChanged, BadScope, FileNotFound, Item, Operand, Absent, Accumulator, Immediate, Address, Indirect, IndirectX, IndirectY, Value, StringLiteral}
 use Rattle.syntax65.specs.declared.lexing.tokens.AddressSize.TheVariants as size
 use Rattle.ast65.specs.declared.language.Statement.TheVariants as statement
-use Rattle.semantics65.specs.Symbols.{Laid, opens_region, is_unnamed, Symbols, symbols_of, Scope, Key, named, cheap_in, unnamed_at, defined, key_defined, enclosing, scope_in, scope_from, scopes_of, shown}
-use Rattle.semantics65.specs.Norms.{constant_in, counted, length_of, settled_of, size_of, is_byte, mode_of, optional_value}
+use Rattle.semantics65.specs.Symbols.{LaidOutStatement, opens_region, is_unnamed, Symbols, symbols_of, Scope, Key, named, cheap_in, unnamed_at, definition_index, key_defined, enclosing, scope_in, scope_from, scopes_of, display_name}
+use Rattle.semantics65.specs.Norms.{constant_in, byte_count, length_of, settled_of, size_of, is_byte, mode_of, optional_value}
 use Rattle.syntax65.specs.Trees.{Tree, name, unary, binary}
 use Rattle.object65.specs.Objects.{section_limit}
 
@@ -58,17 +58,17 @@ or_last gs (Some i) = i
 or_last gs None = length gs
 
 -- a segment with more bytes at its end, aligned to a multiple
-abbrev pub grown : ℕ → ℕ → Segment → Segment
-grown count multiple g = record { name = g.name; size = g.size; end = g.end + count; align = max g.align multiple }
+abbrev pub segment_after : ℕ → ℕ → Segment → Segment
+segment_after count alignment g = record { name = g.name; size = g.size; end = g.end + count; align = max g.align alignment }
 
 abbrev pub grown_at : List Segment → ℕ → ℕ → ℕ → List Segment
-grown_at [] i count multiple = []
-grown_at (g ∷ gs) zero count multiple = grown count multiple g ∷ gs
-grown_at (g ∷ gs) (suc i) count multiple = g ∷ grown_at gs i count multiple
+grown_at [] i count alignment = []
+grown_at (g ∷ gs) zero count alignment = segment_after count alignment g ∷ gs
+grown_at (g ∷ gs) (suc i) count alignment = g ∷ grown_at gs i count alignment
 
-abbrev pub segments_behind : List Segment → ℕ → ℕ → ℕ → Statement → List Segment
-segments_behind gs current count multiple (statement.Segment n own) = named_segments gs n own (place_of gs n)
-segments_behind gs current count multiple _ = grown_at gs current count multiple
+abbrev pub segments_after : List Segment → ℕ → ℕ → ℕ → Statement → List Segment
+segments_after gs current count alignment (statement.Segment n own) = named_segments gs n own (place_of gs n)
+segments_after gs current count alignment _ = grown_at gs current count alignment
 
 abbrev pub last_kept : ℕ → List ℕ → ℕ
 last_kept current [] = current
@@ -78,15 +78,15 @@ abbrev pub rest_kept : List ℕ → List ℕ
 rest_kept [] = []
 rest_kept (k ∷ kept) = kept
 
-abbrev pub current_behind : Cursor → Statement → ℕ
-current_behind w (statement.Segment n own) = or_last w.segments (place_of w.segments n)
-current_behind w statement.PopSegment = last_kept w.current w.kept
-current_behind w _ = w.current
+abbrev pub current_after : Cursor → Statement → ℕ
+current_after w (statement.Segment n own) = or_last w.segments (place_of w.segments n)
+current_after w statement.PopSegment = last_kept w.current w.kept
+current_after w _ = w.current
 
-abbrev pub kept_behind : Cursor → Statement → List ℕ
-kept_behind w statement.PushSegment = w.current ∷ w.kept
-kept_behind w statement.PopSegment = rest_kept w.kept
-kept_behind w _ = w.kept
+abbrev pub kept_after : Cursor → Statement → List ℕ
+kept_after w statement.PushSegment = w.current ∷ w.kept
+kept_after w statement.PopSegment = rest_kept w.kept
+kept_after w _ = w.kept
 
 -- ---- One statement.
 
@@ -102,8 +102,8 @@ size_stated y s own (statement.Constant n e) = size_of y s own e
 size_stated y s own _ = own
 
 -- a statement behind those of a symbol table
-abbrev pub laid : Symbols → Cursor → Place → Statement → Laid
-laid y w place x = record {
+abbrev pub laid_out_statement : Symbols → Cursor → SourceLocation → Statement → LaidOutStatement
+laid_out_statement y w place x = record {
   stated = x;
   place = place;
   context = context_of w;
@@ -123,33 +123,33 @@ closes_scope statement.CloseProc = true
 closes_scope _ = false
 
 -- the scope that is open behind a statement
-abbrev pub scope_behind : Symbols → Cursor → Statement → ℕ
-scope_behind y w x = if opens_scope x then suc w.opened else if closes_scope x then enclosing y.scopes w.scope else w.scope
+abbrev pub scope_after : Symbols → Cursor → Statement → ℕ
+scope_after y w x = if opens_scope x then suc w.opened else if closes_scope x then enclosing y.scopes w.scope else w.scope
 
 -- the multiple to which a statement aligns its section
 abbrev pub multiple_of : Symbols → Context → Statement → ℕ
-multiple_of y s (statement.Align n v) = counted (constant_in y s n)
+multiple_of y s (statement.Align n v) = byte_count (constant_in y s n)
 multiple_of y s _ = 1
 
-abbrev pub cursor_behind : Symbols → Cursor → Statement → Cursor
-cursor_behind y w x = record {
-  scope = scope_behind y w x;
+abbrev pub cursor_after : Symbols → Cursor → Statement → Cursor
+cursor_after y w x = record {
+  scope = scope_after y w x;
   opened = if opens_scope x then w.opened + 1 else w.opened;
   region = if opens_region x then w.region + 1 else w.region;
   unnamed = if is_unnamed x then w.unnamed + 1 else w.unnamed;
-  segments = segments_behind w.segments w.current (length_of y (context_of w) (own_size w) x) (multiple_of y (context_of w) x) x;
-  current = current_behind w x;
-  kept = kept_behind w x;
+  segments = segments_after w.segments w.current (length_of y (context_of w) (own_size w) x) (multiple_of y (context_of w) x) x;
+  current = current_after w x;
+  kept = kept_after w x;
 }
 
 -- ---- All statements, each with its place.
 
 pub record Layout : Type 0 where
-  pub laid : List Laid
+  pub laid : List LaidOutStatement
   pub cursor : Cursor
 
-abbrev pub layout_behind : Layout → Place → Statement → Layout
-layout_behind y place x = record { laid = y.laid ++ laid (symbols_of y.laid) y.cursor place x ∷ []; cursor = cursor_behind (symbols_of y.laid) y.cursor x }
+abbrev pub layout_after : Layout → SourceLocation → Statement → Layout
+layout_after y place x = record { laid = y.laid ++ laid_out_statement (symbols_of y.laid) y.cursor place x ∷ []; cursor = cursor_after (symbols_of y.laid) y.cursor x }
 
 abbrev pub nothing_laid : Layout
 nothing_laid = record { laid = []; cursor = start }
@@ -207,7 +207,7 @@ operand_trees (IndirectY e) = e ∷ []
 abbrev pub item_trees : List Item → List Tree
 item_trees [] = []
 item_trees (Value e ∷ items) = e ∷ item_trees items
-item_trees (Text bytes ∷ items) = item_trees items
+item_trees (StringLiteral bytes ∷ items) = item_trees items
 
 abbrev pub optional_tree : Option Tree → List Tree
 optional_tree None = []
@@ -220,7 +220,7 @@ trees_of (statement.Instruction m operand) = operand_trees operand
 trees_of (statement.Values width items) = item_trees items
 trees_of (statement.Reserve n v) = n ∷ optional_tree v
 trees_of (statement.Align n v) = n ∷ optional_tree v
-trees_of (statement.FilePart bytes start len) = optional_tree start ++ optional_tree len
+trees_of (statement.Incbin bytes start len) = optional_tree start ++ optional_tree len
 trees_of (statement.Assert e action words) = e ∷ []
 trees_of _ = []
 
@@ -231,7 +231,7 @@ or_then None other = other
 -- the first name with `::` whose scope wasn't opened before
 abbrev pub lost_scope : List Scope → ℕ → Tree → Option AsmFault
 lost_scope cs scope (name false (n ∷ [])) = None
-lost_scope cs scope (name global parts) = unless_there (scope_from cs scope global (scopes_of parts)) (NoSuchScope (shown global parts))
+lost_scope cs scope (name global parts) = unless_there (scope_from cs scope global (scopes_of parts)) (NoSuchScope (display_name global parts))
 lost_scope cs scope (unary op e) = lost_scope cs scope e
 lost_scope cs scope (binary op e f) = or_then (lost_scope cs scope e) (lost_scope cs scope f)
 lost_scope cs scope _ = None
@@ -253,8 +253,8 @@ opened_twice cs scope None = None
 opened_twice cs scope (Some n) = where_there (scope_in cs scope n) (ScopeTwice n)
 
 abbrev pub defined_twice : Symbols → Option Key → Option AsmFault
-defined_twice y (Some (named scope n)) = where_there (defined y (named scope n)) (DefinedTwice n)
-defined_twice y (Some (cheap_in region n)) = where_there (defined y (cheap_in region n)) (DefinedTwice n)
+defined_twice y (Some (named scope n)) = where_there (definition_index y (named scope n)) (DefinedTwice n)
+defined_twice y (Some (cheap_in region n)) = where_there (definition_index y (cheap_in region n)) (DefinedTwice n)
 defined_twice y (Some (unnamed_at k)) = None
 defined_twice y None = None
 
@@ -280,7 +280,7 @@ is_there (Some x) = true
 abbrev pub operand_fault : Symbols → Context → Statement → Option AsmFault
 operand_fault y s (statement.Reserve n v) = when (not (is_count (constant_in y s n) && is_byte_value (optional_value y s v (pos 0)))) BadOperand
 operand_fault y s (statement.Align n v) = when (not (is_there (constant_in y s n) && is_byte_value (optional_value y s v (pos 0)))) BadOperand
-operand_fault y s (statement.FilePart bytes start len) = when (not (is_there (optional_value y s start (pos 0)) && is_there (optional_value y s len (pos 0)))) BadOperand
+operand_fault y s (statement.Incbin bytes start len) = when (not (is_there (optional_value y s start (pos 0)) && is_there (optional_value y s len (pos 0)))) BadOperand
 operand_fault y s _ = None
 
 abbrev pub multiple_fault : Option ℤ → Option AsmFault
@@ -297,7 +297,7 @@ abbrev pub file_limit : ℕ
 file_limit = 16777216
 
 abbrev pub missing_file : Statement → Option AsmFault
-missing_file (statement.FilePart bytes start len) = unless_there bytes FileNotFound
+missing_file (statement.Incbin bytes start len) = unless_there bytes FileNotFound
 missing_file _ = None
 
 -- a part of a file of so many bytes
@@ -310,7 +310,7 @@ left_from count (Some (pos start)) = pos (count - start)
 left_from count _ = pos 0
 
 abbrev pub part_fault : Symbols → Context → Statement → Option AsmFault
-part_fault y s (statement.FilePart (Some bytes) start len) =
+part_fault y s (statement.Incbin (Some bytes) start len) =
     let from : Option ℤ = optional_value y s start (pos 0) in
     when (not (nat_le (length bytes) file_limit && is_part (length bytes) from (optional_value y s len (left_from (length bytes) from)))) BadPart
 part_fault y s _ = None

@@ -4,10 +4,10 @@ use Rattle.std.specs.List.{flat_map, list_any}
 use Rattle.std.specs.Str.{bytes_eq}
 use Rattle.base65.specs.Outcome.{◌>>=◌}
 use Rattle.object65.specs.Form.{Form, lit}
-use Rattle.semantics65.specs.Types.{Action, Object, AsmFault, Place, Statement, Mnemonic, Width, NotDefined, Item, Operand, Constant, Instruction, Values, Reserve, Align, FilePart, Import, Export, Global, ForceImport, Assert, Value, Text, Settled, InMode, Context}
+use Rattle.semantics65.specs.Types.{Action, Object, AsmFault, SourceLocation, Statement, Mnemonic, Width, NotDefined, Item, Operand, Constant, Instruction, Values, Reserve, Align, Incbin, Import, Export, Global, ForceImport, Assert, Value, StringLiteral, EncodingChoice, InMode, Context}
 use Rattle.object65.specs.declared.object.Action.TheVariants as action
-use Rattle.semantics65.specs.Contents.{Content, Part, Known, Declaration, ForcedImport, asking, put, telling, decided, export_said, exported_names, file_bytes, import_fault, opcode_part, operand_form, operand_tree, room_part, stored}
-use Rattle.semantics65.specs.Symbols.{Laid, Symbols, asks_section, symbols_of, defined, named}
+use Rattle.semantics65.specs.Contents.{Content, Part, Known, Declaration, ForcedImport, section_request, section_part, declaration_content, decided_assertion, export_said, exported_names, file_bytes, import_fault, opcode_part, operand_form, operand_tree, room_part, value_part}
+use Rattle.semantics65.specs.Symbols.{LaidOutStatement, Symbols, needs_section, symbols_of, definition_index, named}
 use Rattle.ast65.specs.declared.language.Statement.TheVariants as statement
 use Rattle.semantics65.specs.Layout.{Layout}
 use Rattle.semantics65.specs.Norms.{norm_of, width_of}
@@ -18,19 +18,19 @@ use Rattle.syntax65.specs.Trees.{Tree}
 -- ---- Faults with their places.
 
 -- its line is 0 where none was read
-pub record PlacedFault : Type 0 where
-  pub place : Place
+pub record LocatedFault : Type 0 where
+  pub place : SourceLocation
   pub fault : AsmFault
 
 -- a fault is found at a place
-abbrev pub at_place : {A : Type 0} → Place → Result A AsmFault → Result A PlacedFault
+abbrev pub at_place : {A : Type 0} → SourceLocation → Result A AsmFault → Result A LocatedFault
 at_place place (Ok x) = Ok x
 at_place place (Err e) = Err (record { place = place; fault = e })
 
 -- ---- What is said.
 
 -- `file:line: Warning: text`
-abbrev pub warning_at : Place → List ℕ → List ℕ
+abbrev pub warning_at : SourceLocation → List ℕ → List ℕ
 warning_at place words =
     place.file ++ codes ":" ++ decimal place.line ++ codes ": Warning: " ++ words ++ codes "\n"
 
@@ -38,21 +38,21 @@ abbrev pub out_of : Statement → List ℕ
 out_of (statement.Out words) = words ++ codes "\n"
 out_of _ = []
 
-abbrev pub warning_of : Place → Statement → List ℕ
+abbrev pub warning_of : SourceLocation → Statement → List ℕ
 warning_of place (statement.Warning words) = warning_at place words
 warning_of place _ = []
 
 -- an assertion that is decided by the assembler and isn't so
-abbrev pub failed : Place → Action → List ℕ → Result Form AsmFault → List ℕ
-failed place action.Warning words (Ok (lit (pos zero))) = warning_at place words
-failed place act words r = []
+abbrev pub failed_assertion_text : SourceLocation → Action → List ℕ → Result Form AsmFault → List ℕ
+failed_assertion_text place action.Warning words (Ok (lit (pos zero))) = warning_at place words
+failed_assertion_text place act words r = []
 
 -- what statements print while they are read
-abbrev pub printed : List Laid → List ℕ
-printed ls = flat_map (λ l. out_of l.stated) ls
+abbrev pub stdout_text : List LaidOutStatement → List ℕ
+stdout_text ls = flat_map (λ l. out_of l.stated) ls
 
-abbrev pub warned : List Laid → List ℕ
-warned ls = flat_map (λ l. warning_of l.place l.stated) ls
+abbrev pub warning_text : List LaidOutStatement → List ℕ
+warning_text ls = flat_map (λ l. warning_of l.place l.stated) ls
 
 -- ---- Pieces.
 
@@ -77,24 +77,24 @@ pub data Piece : Type 0 where
 
 abbrev pub item_piece : Width → Item → Piece
 item_piece width (Value e) = valued (datum width) e
-item_piece width (Text bytes) = given (Known bytes)
+item_piece width (StringLiteral bytes) = given (Known bytes)
 
 abbrev pub operand_pieces : Option Width → Option Tree → List Piece
 operand_pieces (Some width) (Some e) = valued (operand width) e ∷ []
 operand_pieces width e = []
 
-abbrev pub instruction_pieces : Mnemonic → Operand → Settled → List Piece
+abbrev pub instruction_pieces : Mnemonic → Operand → EncodingChoice → List Piece
 instruction_pieces m o (InMode mode) =
     given (opcode_part (opcode_of m mode)) ∷ operand_pieces (width_of mode) (operand_tree o)
 instruction_pieces m o _ = []
 
 -- the pieces of a statement of so many bytes, of which this is settled
-abbrev pub pieces_of : ℕ → Settled → Statement → List Piece
+abbrev pub pieces_of : ℕ → EncodingChoice → Statement → List Piece
 pieces_of count s (Instruction m o) = instruction_pieces m o s
 pieces_of count s (Values width items) = map (item_piece width) items
 pieces_of count s (Reserve n v) = given (room_part count s) ∷ []
 pieces_of count s (Align n v) = given (room_part count s) ∷ []
-pieces_of count s (FilePart bytes start len) = given (Known (file_bytes count bytes s)) ∷ []
+pieces_of count s (Incbin bytes start len) = given (Known (file_bytes count bytes s)) ∷ []
 pieces_of count s (Constant n e) = valued equated e ∷ []
 pieces_of count s (Import own names) = map imported names
 pieces_of count s (Export names) = map (exported true) names
@@ -106,18 +106,18 @@ pieces_of count s _ = []
 -- ---- What a piece comes to.
 
 -- a content, and the warning of an assertion that isn't so
-pub record Made : Type 0 where
+pub record PieceResult : Type 0 where
   pub content : Content
   pub warning : List ℕ
 
-abbrev pub quietly : Content → Made
+abbrev pub quietly : Content → PieceResult
 quietly c = record { content = c; warning = [] }
 
-abbrev pub as_part : ℕ → Part → Result Made AsmFault
-as_part g p = Ok (quietly (put g p))
+abbrev pub as_part : ℕ → Part → Result PieceResult AsmFault
+as_part g p = Ok (quietly (section_part g p))
 
-abbrev pub as_said : List Declaration → Result Made AsmFault
-as_said ss = Ok (quietly (telling ss))
+abbrev pub as_said : List Declaration → Result PieceResult AsmFault
+as_said ss = Ok (quietly (declaration_content ss))
 
 -- what an export says that isn't defined
 abbrev pub absent_of : (must : Bool) → List ℕ → Result (List Declaration) AsmFault
@@ -125,45 +125,45 @@ absent_of true n = Err (NotDefined n)
 absent_of false n = Ok []
 
 -- what a form comes to, of an expression that stands here
-abbrev pub used : Place → Context → Purpose → Form → Result Made AsmFault
-used place s (datum width) f = stored width place f >>= as_part s.segment
-used place s (operand width) f =
-    operand_form width s f >>= stored width place >>= as_part s.segment
-used place s equated f = as_said []
-used place s (asserted act words) f =
-    decided act place words f
-    >>= (λ ss. Ok (record { content = telling ss; warning = failed place act words (Ok f) }))
+abbrev pub value_result : SourceLocation → Context → Purpose → Form → Result PieceResult AsmFault
+value_result place s (datum width) f = value_part width place f >>= as_part s.segment
+value_result place s (operand width) f =
+    operand_form width s f >>= value_part width place >>= as_part s.segment
+value_result place s equated f = as_said []
+value_result place s (asserted act words) f =
+    decided_assertion act place words f
+    >>= (λ ss. Ok (record { content = declaration_content ss; warning = failed_assertion_text place act words (Ok f) }))
 
 -- what a piece of a statement that stands here comes to by a symbol table, or its fault
-abbrev pub made_of : Symbols → Place → Context → Piece → Result Made AsmFault
+abbrev pub made_of : Symbols → SourceLocation → Context → Piece → Result PieceResult AsmFault
 made_of y place s (given p) = as_part s.segment p
-made_of y place s (valued why e) = norm_of y s e >>= used place s why
+made_of y place s (valued why e) = norm_of y s e >>= value_result place s why
 made_of y place s (imported n) = import_fault y n >>= as_said
 made_of y place s (demanded n) = as_said (ForcedImport n ∷ [])
 made_of y place s (exported must n) =
-    export_said y place n (absent_of must n) (defined y (named 0 n)) >>= as_said
+    export_said y place n (absent_of must n) (definition_index y (named 0 n)) >>= as_said
 
 -- ---- Slots, in the order of the source.
 
 -- a piece that waits, and where it stands
 pub record Fixup : Type 0 where
-  pub place : Place
+  pub place : SourceLocation
   pub context : Context
   pub piece : Piece
 
 -- a content, or a piece whose content is decided behind the last line
 pub data Slot : Type 0 where
-  holds : Content → Slot
-  waits : Fixup → Slot
+  resolved : Content → Slot
+  deferred : Fixup → Slot
 
 -- a piece of a laid statement
-abbrev pub waiting_at : Laid → Piece → Slot
-waiting_at l p = waits (record { place = l.place; context = l.context; piece = p })
+abbrev pub waiting_at : LaidOutStatement → Piece → Slot
+waiting_at l p = deferred (record { place = l.place; context = l.context; piece = p })
 
 -- a laid statement asks for its section, where it does, and then comes piece by piece
-abbrev pub slots_of : Laid → List Slot
+abbrev pub slots_of : LaidOutStatement → List Slot
 slots_of l =
-    (if asks_section l.stated then holds (asking l.context.segment) ∷ [] else [])
+    (if needs_section l.stated then resolved (section_request l.context.segment) ∷ [] else [])
     ++ map (waiting_at l) (pieces_of l.length l.settled l.stated)
 
 -- an export of one of these names, which were exported before: it does nothing
@@ -172,54 +172,54 @@ is_repeated names (exported must n) = list_any (bytes_eq n) names
 is_repeated names p = false
 
 -- what a piece that stands here comes to by the symbol table of all statements, behind exports of these names
-abbrev pub comes_behind : Symbols → List (List ℕ) → Place → Context → Piece → Result Made AsmFault
-comes_behind y names place s p = if is_repeated names p then as_said [] else made_of y place s p
+abbrev pub piece_result : Symbols → List (List ℕ) → SourceLocation → Context → Piece → Result PieceResult AsmFault
+piece_result y names place s p = if is_repeated names p then as_said [] else made_of y place s p
 
 -- what a slot comes to so, or its fault
-abbrev pub coming : Symbols → List (List ℕ) → Slot → Result Made PlacedFault
-coming y names (holds c) = Ok (quietly c)
-coming y names (waits w) = at_place w.place (comes_behind y names w.place w.context w.piece)
+abbrev pub slot_result : Symbols → List (List ℕ) → Slot → Result PieceResult LocatedFault
+slot_result y names (resolved c) = Ok (quietly c)
+slot_result y names (deferred w) = at_place w.place (piece_result y names w.place w.context w.piece)
 
 -- what was found, or the first fault; and the warnings of assertions up to there
-pub record Finished : Type 0 where
-  pub found : Result (List Content) PlacedFault
+pub record Resolution : Type 0 where
+  pub found : Result (List Content) LocatedFault
   pub warned : List ℕ
 
 -- what was made, before what follows it; its fault ends all
-abbrev pub followed_by : Result Made PlacedFault → (Made → Finished) → Finished
-followed_by (Ok m) rest =
+abbrev pub result_then : Result PieceResult LocatedFault → (PieceResult → Resolution) → Resolution
+result_then (Ok m) rest =
     record { found = (rest m).found >>= (λ cs. Ok (m.content ∷ cs)); warned = m.warning ++ (rest m).warned }
-followed_by (Err e) rest = record { found = Err e; warned = [] }
+result_then (Err e) rest = record { found = Err e; warned = [] }
 
 -- slots are gone through once, in the order of the source, behind exports of these names
-abbrev pub resolved : Symbols → List (List ℕ) → List Slot → Finished
-resolved y names [] = record { found = Ok []; warned = [] }
-resolved y names (x ∷ slots) =
-    followed_by (coming y names x) (λ m. resolved y (names ++ exported_names m.content.said) slots)
+abbrev pub resolution_of : Symbols → List (List ℕ) → List Slot → Resolution
+resolution_of y names [] = record { found = Ok []; warned = [] }
+resolution_of y names (x ∷ slots) =
+    result_then (slot_result y names x) (λ m. resolution_of y (names ++ exported_names m.content.said) slots)
 
 -- ---- What a module comes to.
 
 -- what laid statements come to, by the symbol table of all
-abbrev pub ending_of : List Laid → Finished
-ending_of ls = resolved (symbols_of ls) [] (flat_map slots_of ls)
+abbrev pub module_resolution : List LaidOutStatement → Resolution
+module_resolution ls = resolution_of (symbols_of ls) [] (flat_map slots_of ls)
 
 -- the object of laid statements
-abbrev pub object_of : Layout → Result Object PlacedFault
+abbrev pub object_of : Layout → Result Object LocatedFault
 object_of y =
     let names : List (List ℕ) = (symbols_of y.laid).imports in
-    (ending_of y.laid).found >>= (λ cs. Ok (object_with y.cursor.segments names cs))
+    (module_resolution y.laid).found >>= (λ cs. Ok (object_with y.cursor.segments names cs))
 
 -- the warnings of a module whose lines have no fault: those of assertions stand behind the others
-abbrev pub all_warned : List Laid → List ℕ
-all_warned ls = warned ls ++ (ending_of ls).warned
+abbrev pub all_warned : List LaidOutStatement → List ℕ
+all_warned ls = warning_text ls ++ (module_resolution ls).warned
 
 -- the object or the first fault, and what is said up to there
 pub record Outcome : Type 0 where
-  pub result : Result Object PlacedFault
+  pub result : Result Object LocatedFault
   pub out : List ℕ
   pub err : List ℕ
 
 -- a fault of a line stands before all others, and before the warnings of assertions
-abbrev pub outcome_of : Layout → Option PlacedFault → Outcome
-outcome_of y None = record { result = object_of y; out = printed y.laid; err = all_warned y.laid }
-outcome_of y (Some e) = record { result = Err e; out = printed y.laid; err = warned y.laid }
+abbrev pub outcome_of : Layout → Option LocatedFault → Outcome
+outcome_of y None = record { result = object_of y; out = stdout_text y.laid; err = all_warned y.laid }
+outcome_of y (Some e) = record { result = Err e; out = stdout_text y.laid; err = warning_text y.laid }

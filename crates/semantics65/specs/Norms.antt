@@ -6,8 +6,8 @@ use Rattle.object65.specs.Form.{Form, lit, sec, imp}
 use Rattle.object65.specs.Folding.{fold1, fold2}
 use Rattle.object65.specs.declared.folding.FormFault.{FormFault}
 use Rattle.object65.specs.declared.folding.FormFault.TheVariants as form
-use Rattle.semantics65.specs.Types.{AsmFault, OutOfMemory, Circular, NoValue, TooLarge, NoSuchLabel, Context, Mnemonic, AddressSize, Width, Byte, Word, Branch, Item, Operand, Statement, Instruction, Values, Reserve, Align, FilePart, Value, Text, Settled, Unsettled, InMode, FilledWith, FromByte}
-use Rattle.semantics65.specs.Symbols.{Symbols, Definition, Scope, Meaning, defined_at, imported_as, meaning_of}
+use Rattle.semantics65.specs.Types.{AsmFault, OutOfMemory, Circular, NoValue, TooLarge, NoSuchLabel, Context, Mnemonic, AddressSize, Width, Byte, Word, Branch, Item, Operand, Statement, Instruction, Values, Reserve, Align, Incbin, Value, StringLiteral, EncodingChoice, Undecided, InMode, FillByte, FileOffset}
+use Rattle.semantics65.specs.Symbols.{Symbols, Definition, Scope, Binding, defined_at, imported_as, binding_of}
 use Rattle.std.specs.Int.{next_multiple_of}
 use Rattle.std.specs.List.{list_any}
 use Rattle.std.specs.Str.{bytes_eq}
@@ -24,11 +24,11 @@ use Rattle.ast65.specs.declared.language.Operand.TheVariants as operands
 
 -- ---- Normal forms of expressions by a symbol table, and what is constant there.
 
-abbrev pub folded : Result Form FormFault → Result Form AsmFault
-folded (Ok f) = Ok f
-folded (Err form.OutOfMemory) = Err OutOfMemory
-folded (Err form.NoValue) = Err NoValue
-folded (Err form.TooLarge) = Err TooLarge
+abbrev pub fold_result : Result Form FormFault → Result Form AsmFault
+fold_result (Ok f) = Ok f
+fold_result (Err form.OutOfMemory) = Err OutOfMemory
+fold_result (Err form.NoValue) = Err NoValue
+fold_result (Err form.TooLarge) = Err TooLarge
 
 -- the address of a statement
 abbrev pub address_of : Context → Form
@@ -38,8 +38,8 @@ address_of s = sec s.segment (pos s.offset)
 abbrev pub form_by : (Tree → Result Form AsmFault) → Context → Tree → Result Form AsmFault
 form_by operand s (number v) = Ok (lit (pos v))
 form_by operand s here = Ok (address_of s)
-form_by operand s (unary op e) = form_by operand s e >>= (λ f. folded (fold1 op f))
-form_by operand s (binary op e g) = form_by operand s e >>= (λ f. form_by operand s g >>= (λ h. folded (fold2 op f h)))
+form_by operand s (unary op e) = form_by operand s e >>= (λ f. fold_result (fold1 op f))
+form_by operand s (binary op e g) = form_by operand s e >>= (λ f. form_by operand s g >>= (λ h. fold_result (fold2 op f h)))
 form_by operand s e = operand e
 
 -- a constant has the form of its expression at its own place, and a label its address
@@ -51,7 +51,7 @@ abbrev pub form_of_definition : (Context → Tree → Result Form AsmFault) → 
 form_of_definition constant_form None = Err NoSuchLabel
 form_of_definition constant_form (Some d) = form_of_value constant_form d.context d.value
 
-abbrev pub form_of_meaning : (Context → Tree → Result Form AsmFault) → Symbols → Meaning → Result Form AsmFault
+abbrev pub form_of_meaning : (Context → Tree → Result Form AsmFault) → Symbols → Binding → Result Form AsmFault
 form_of_meaning constant_form y (imported_as k) = Ok (imp k)
 form_of_meaning constant_form y (defined_at j) = form_of_definition constant_form (slice_get y.definitions j)
 
@@ -59,7 +59,7 @@ form_of_meaning constant_form y (defined_at j) = form_of_definition constant_for
 -- a constant of the one before.
 abbrev pub norm : ℕ → Symbols → Context → Tree → Result Form AsmFault
 norm zero y s e = Err Circular
-norm (suc n) y s e = form_by (λ operand. meaning_of y s operand >>= form_of_meaning (norm n y) y) s e
+norm (suc n) y s e = form_by (λ operand. binding_of y s operand >>= form_of_meaning (norm n y) y) s e
 
 -- The normal form of an expression. With it there are at most as many expressions as definitions and one, so a constant
 -- that needs more of them one inside the other leads back to itself.
@@ -122,7 +122,7 @@ abbrev pub size_of_import : Symbols → Option (List ℕ) → AddressSize
 size_of_import y None = size.Absolute
 size_of_import y (Some n) = if is_zero_page_name y n then size.ZeroPage else size.Absolute
 
-abbrev pub size_of_meaning : Symbols → Result Meaning AsmFault → AddressSize
+abbrev pub size_of_meaning : Symbols → Result Binding AsmFault → AddressSize
 size_of_meaning y (Ok (defined_at j)) = size_defined (slice_get y.definitions j)
 size_of_meaning y (Ok (imported_as k)) = size_of_import y (slice_get y.imports k)
 size_of_meaning y (Err e) = size.Absolute
@@ -138,7 +138,7 @@ size_of y s own (unary op e) = size_by (if takes_byte op then size.ZeroPage else
 size_of y s own (binary op e f) = size_by (larger (size_of y s own e) (size_of y s own f)) (constant_in y s (binary op e f))
 size_of y s own here = own
 size_of y s own (number v) = size_of_value (pos v)
-size_of y s own e = size_by (size_of_meaning y (meaning_of y s e)) (constant_in y s e)
+size_of y s own e = size_by (size_of_meaning y (binding_of y s e)) (constant_in y s e)
 
 -- ---- Instructions.
 
@@ -202,7 +202,7 @@ width_of _ = Some Byte
 
 abbrev pub item_len : Width → Item → ℕ
 item_len width (Value e) = width_len width
-item_len width (Text bytes) = length bytes
+item_len width (StringLiteral bytes) = length bytes
 
 abbrev pub operand_len : Option Width → ℕ
 operand_len None = 0
@@ -213,9 +213,9 @@ mode_len None = 0
 mode_len (Some mode) = 1 + operand_len (width_of mode)
 
 -- a number of bytes
-abbrev pub counted : Option ℤ → ℕ
-counted (Some (pos n)) = n
-counted _ = 0
+abbrev pub byte_count : Option ℤ → ℕ
+byte_count (Some (pos n)) = n
+byte_count _ = 0
 
 abbrev pub optional_value : Symbols → Context → Option Tree → ℤ → Option ℤ
 optional_value y s None default = Some default
@@ -229,11 +229,11 @@ gap offset _ = 0
 -- the bytes of a file from a start on, so many or all that follow
 abbrev pub bytes_between : List ℕ → ℕ → Option ℤ → List ℕ
 bytes_between bytes start None = []
-bytes_between bytes start (Some len) = take (counted (Some len)) (drop start bytes)
+bytes_between bytes start (Some len) = take (byte_count (Some len)) (drop start bytes)
 
 -- the byte of a file at which the part that is taken begins, and how long the part is
 abbrev pub part_start : Symbols → Context → Option Tree → ℕ
-part_start y s start = counted (optional_value y s start (pos 0))
+part_start y s start = byte_count (optional_value y s start (pos 0))
 
 abbrev pub part_len : Symbols → Context → Option (List ℕ) → Option Tree → Option Tree → ℕ
 part_len y s None start len = 0
@@ -244,25 +244,25 @@ part_len y s (Some bytes) start len =
 abbrev pub length_of : Symbols → Context → AddressSize → Statement → ℕ
 length_of y s own (Instruction m operand) = mode_len (mode_of y s own m operand)
 length_of y s own (Values width items) = sum_by (item_len width) items
-length_of y s own (Reserve n v) = counted (constant_in y s n)
+length_of y s own (Reserve n v) = byte_count (constant_in y s n)
 length_of y s own (Align n v) = gap s.offset (constant_in y s n)
-length_of y s own (FilePart bytes start len) = part_len y s bytes start len
+length_of y s own (Incbin bytes start len) = part_len y s bytes start len
 length_of y s own _ = 0
 
 -- ---- What is settled.
 
-abbrev pub mode_settled : Option Mode → Settled
-mode_settled None = Unsettled
+abbrev pub mode_settled : Option Mode → EncodingChoice
+mode_settled None = Undecided
 mode_settled (Some mode) = InMode mode
 
-abbrev pub fill_settled : Symbols → Context → Option Tree → Settled
-fill_settled y s None = Unsettled
-fill_settled y s (Some v) = FilledWith (counted (constant_in y s v))
+abbrev pub fill_settled : Symbols → Context → Option Tree → EncodingChoice
+fill_settled y s None = Undecided
+fill_settled y s (Some v) = FillByte (byte_count (constant_in y s v))
 
 -- what is settled of a statement at its line, where the segment has this size
-abbrev pub settled_of : Symbols → Context → AddressSize → Statement → Settled
+abbrev pub settled_of : Symbols → Context → AddressSize → Statement → EncodingChoice
 settled_of y s own (Instruction m operand) = mode_settled (mode_of y s own m operand)
 settled_of y s own (Reserve n v) = fill_settled y s v
 settled_of y s own (Align n v) = fill_settled y s v
-settled_of y s own (FilePart bytes start len) = FromByte (part_start y s start)
-settled_of y s own _ = Unsettled
+settled_of y s own (Incbin bytes start len) = FileOffset (part_start y s start)
+settled_of y s own _ = Undecided

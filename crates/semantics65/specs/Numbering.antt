@@ -7,7 +7,7 @@ use Rattle.object65.specs.declared.object.Assert.{Assert}
 use Rattle.object65.specs.declared.object.Export.{Export}
 use Rattle.object65.specs.declared.object.Fragment.{Fragment}
 use Rattle.object65.specs.declared.object.Fragment.TheVariants.{Literal, Fill, Value}
-use Rattle.semantics65.specs.Types.{Object, Place, Segment, Statement}
+use Rattle.semantics65.specs.Types.{Object, SourceLocation, Segment, Statement}
 use Rattle.object65.specs.declared.object.Origin.{Origin}
 use Rattle.object65.specs.declared.object.Section.{Section}
 use Rattle.semantics65.specs.Contents.{Content, Part, Known, Filled, Waiting, Declaration, Exported, ForcedImport, Asserted, exported_names}
@@ -19,26 +19,26 @@ use Rattle.object65.specs.Folding.{is_literal}
 use Rattle.object65.specs.Laws.{IsFolded}
 use Rattle.object65.specs.Objects.{are_names, is_file_name, is_name, section_limit, width_len}
 use Rattle.ast65.specs.declared.language.Statement.TheVariants as statement
-use Rattle.semantics65.specs.Symbols.{Laid, Symbols, symbols_of}
+use Rattle.semantics65.specs.Symbols.{LaidOutStatement, Symbols, symbols_of}
 use Rattle.semantics65.specs.Norms.{length_of, settled_of}
 
 -- ---- Numbers.
 
 -- keys behind those found, each once, in the order in which they first come
-abbrev pub once : List ℕ → List ℕ → List ℕ
-once found [] = found
-once found (k ∷ ks) = once (if list_any (nat_eq k) found then found else found ++ k ∷ []) ks
+abbrev pub distinct_keys : List ℕ → List ℕ → List ℕ
+distinct_keys found [] = found
+distinct_keys found (k ∷ ks) = distinct_keys (if list_any (nat_eq k) found then found else found ++ k ∷ []) ks
 
 abbrev pub number_of : List ℕ → ℕ → ℕ
 number_of keys k = unwrap_or (position (nat_eq k) keys) 0
 
 -- the form with the numbers of sections and imports
-abbrev pub numbered : (sections imports : List ℕ) → Form → Form
-numbered sections imports (lit v) = lit v
-numbered sections imports (sec g a) = sec (number_of sections g) a
-numbered sections imports (imp k) = imp (number_of imports k)
-numbered sections imports (prefix op f) = prefix op (numbered sections imports f)
-numbered sections imports (binary op f g) = binary op (numbered sections imports f) (numbered sections imports g)
+abbrev pub renumbered_form : (sections imports : List ℕ) → Form → Form
+renumbered_form sections imports (lit v) = lit v
+renumbered_form sections imports (sec g a) = sec (number_of sections g) a
+renumbered_form sections imports (imp k) = imp (number_of imports k)
+renumbered_form sections imports (prefix op f) = prefix op (renumbered_form sections imports f)
+renumbered_form sections imports (binary op f g) = binary op (renumbered_form sections imports f) (renumbered_form sections imports g)
 
 -- ---- Sections, in the order of the first statement that asks for one.
 
@@ -46,7 +46,7 @@ abbrev pub segments_asked : List Content → List ℕ
 segments_asked cs = map (λ c. c.segment) (filter (λ c. c.asks) cs)
 
 abbrev pub section_keys : List Content → List ℕ
-section_keys cs = once [] (segments_asked cs)
+section_keys cs = distinct_keys [] (segments_asked cs)
 
 -- ---- Imports, in the order in which written forms first hold them.
 
@@ -80,7 +80,7 @@ abbrev pub content_imports : List (List ℕ) → Content → List ℕ
 content_imports names c = flat_map part_imports c.parts ++ flat_map (said_imports names) c.said
 
 abbrev pub import_keys : List (List ℕ) → List Content → List ℕ
-import_keys names cs = once [] (flat_map (content_imports names) cs)
+import_keys names cs = distinct_keys [] (flat_map (content_imports names) cs)
 
 abbrev pub name_of : List (List ℕ) → ℕ → List ℕ
 name_of names k = unwrap_or (slice_get names k) []
@@ -88,10 +88,10 @@ name_of names k = unwrap_or (slice_get names k) []
 -- ---- Fragments.
 
 -- a part, where places have these origins
-abbrev pub fragment_of : (at : Place → Origin) (sections imports : List ℕ) → Part → Fragment
+abbrev pub fragment_of : (at : SourceLocation → Origin) (sections imports : List ℕ) → Part → Fragment
 fragment_of at sections imports (Known bytes) = Literal bytes
 fragment_of at sections imports (Filled n) = Fill n
-fragment_of at sections imports (Waiting width place f) = Value width (at place) (numbered sections imports f)
+fragment_of at sections imports (Waiting width place f) = Value width (at place) (renumbered_form sections imports f)
 
 -- of no byte
 abbrev pub is_empty : Fragment → Bool
@@ -100,18 +100,18 @@ is_empty (Fill zero) = true
 is_empty _ = false
 
 -- a fragment and those behind it, of which neighbours of one kind are one
-abbrev pub joined : Fragment → List Fragment → List Fragment
-joined f [] = f ∷ []
-joined (Literal a) (Literal b ∷ fs) = joined (Literal (a ++ b)) fs
-joined (Fill m) (Fill n ∷ fs) = joined (Fill (m + n)) fs
-joined f (g ∷ fs) = f ∷ joined g fs
+abbrev pub merged_fragments : Fragment → List Fragment → List Fragment
+merged_fragments f [] = f ∷ []
+merged_fragments (Literal a) (Literal b ∷ fs) = merged_fragments (Literal (a ++ b)) fs
+merged_fragments (Fill m) (Fill n ∷ fs) = merged_fragments (Fill (m + n)) fs
+merged_fragments f (g ∷ fs) = f ∷ merged_fragments g fs
 
 abbrev pub all_joined : List Fragment → List Fragment
 all_joined [] = []
-all_joined (f ∷ fs) = joined f fs
+all_joined (f ∷ fs) = merged_fragments f fs
 
 -- the fragments of parts, without the empty ones
-abbrev pub fragments_of : (at : Place → Origin) (sections imports : List ℕ) → List Part → List Fragment
+abbrev pub fragments_of : (at : SourceLocation → Origin) (sections imports : List ℕ) → List Part → List Fragment
 fragments_of at sections imports ps = filter (λ f. not (is_empty f)) (map (fragment_of at sections imports) ps)
 
 -- what statements put into a segment
@@ -129,7 +129,7 @@ abbrev pub segment_power : Option Segment → ℕ
 segment_power None = 0
 segment_power (Some s) = number_of powers s.align
 
-abbrev pub section_of : (at : Place → Origin) → List Segment → (sections imports : List ℕ) → List Content → ℕ → Section
+abbrev pub section_of : (at : SourceLocation → Origin) → List Segment → (sections imports : List ℕ) → List Content → ℕ → Section
 section_of at segments sections imports cs g = record {
   name = segment_name (slice_get segments g);
   align = segment_power (slice_get segments g);
@@ -138,12 +138,12 @@ section_of at segments sections imports cs g = record {
 
 -- ---- Exports and assertions.
 
-abbrev pub export_of : (at : Place → Origin) (sections imports : List ℕ) → Declaration → Option Export
-export_of at sections imports (Exported n place f) = Some (record { name = n; origin = at place; form = numbered sections imports f })
+abbrev pub export_of : (at : SourceLocation → Origin) (sections imports : List ℕ) → Declaration → Option Export
+export_of at sections imports (Exported n place f) = Some (record { name = n; origin = at place; form = renumbered_form sections imports f })
 export_of at sections imports _ = None
 
-abbrev pub assert_of : (at : Place → Origin) (sections imports : List ℕ) → Declaration → Option Assert
-assert_of at sections imports (Asserted act place words f) = Some (record { action = act; origin = at place; text = words; form = numbered sections imports f })
+abbrev pub assert_of : (at : SourceLocation → Origin) (sections imports : List ℕ) → Declaration → Option Assert
+assert_of at sections imports (Asserted act place words f) = Some (record { action = act; origin = at place; text = words; form = renumbered_form sections imports f })
 assert_of at sections imports _ = None
 
 abbrev pub all_said : List Content → List Declaration
@@ -178,13 +178,13 @@ abbrev pub files_of : List Content → List (List ℕ)
 files_of cs = names_once [] (files_named cs)
 
 -- where a place lies, by its file's place among these
-abbrev pub in_files : List (List ℕ) → Place → Origin
+abbrev pub in_files : List (List ℕ) → SourceLocation → Origin
 in_files files place = record { file = position (bytes_eq place.file) files; line = place.line }
 
 -- ---- The object.
 
 -- of this version, with these files, where places have these origins
-abbrev pub object_by : ℕ → List (List ℕ) → (at : Place → Origin) → List Segment → List (List ℕ) → List Content → Object
+abbrev pub object_by : ℕ → List (List ℕ) → (at : SourceLocation → Origin) → List Segment → List (List ℕ) → List Content → Object
 object_by version files at segments names cs =
     let sections : List ℕ = section_keys cs in
     let imports : List ℕ = import_keys names cs in
@@ -207,34 +207,34 @@ abbrev pub IsNamed : TokenKind → List ℕ → Type 0
 IsNamed token.Identifier t = is_name t ≡ true
 IsNamed _ t = ⊤
 
-abbrev pub AreNamed : List Lexeme → Type 0
-AreNamed ts = AllByRecursion (λ t. IsNamed t.0 t.1) ts
+abbrev pub AreSymbolNames : List Lexeme → Type 0
+AreSymbolNames ts = AllByRecursion (λ t. IsNamed t.0 t.1) ts
 
 -- what a statement hands to the object are names, and texts that are short enough
-abbrev pub IsSound : Statement → Type 0
-IsSound (statement.Segment n own) = is_name n ≡ true
-IsSound (statement.Import own names) = list_all is_name names ≡ true
-IsSound (statement.Export names) = list_all is_name names ≡ true
-IsSound (statement.Global own names) = list_all is_name names ≡ true
-IsSound (statement.ForceImport names) = list_all is_name names ≡ true
-IsSound (statement.Assert e action words) = length words < 256
-IsSound _ = ⊤
+abbrev pub IsWellFormedStatement : Statement → Type 0
+IsWellFormedStatement (statement.Segment n own) = is_name n ≡ true
+IsWellFormedStatement (statement.Import own names) = list_all is_name names ≡ true
+IsWellFormedStatement (statement.Export names) = list_all is_name names ≡ true
+IsWellFormedStatement (statement.Global own names) = list_all is_name names ≡ true
+IsWellFormedStatement (statement.ForceImport names) = list_all is_name names ≡ true
+IsWellFormedStatement (statement.Assert e action words) = length words < 256
+IsWellFormedStatement _ = ⊤
 
 -- ---- Layouts.
 
-abbrev pub statements_in : List Laid → ℕ → List Laid
+abbrev pub statements_in : List LaidOutStatement → ℕ → List LaidOutStatement
 statements_in ls g = filter (λ l. nat_eq l.context.segment g) ls
 
 -- a statement places as many bytes as is said behind those before it, and what is settled of it is what is said there
-pub record IsMeasured (y : Symbols) (l : Laid) : Type 0 where
+pub record IsMeasured (y : Symbols) (l : LaidOutStatement) : Type 0 where
   pub length : l.length ≡ length_of y l.context l.size l.stated
   pub settled : l.settled ≡ settled_of y l.context l.size l.stated
 
 pub record IsSoundLayout (y : Layout) : Type 0 where
   pub named : are_names (map (λ g. g.name) y.cursor.segments) ≡ true
-  pub sound : AllByRecursion (λ l. IsSound l.stated) y.laid
+  pub sound : AllByRecursion (λ l. IsWellFormedStatement l.stated) y.laid
   pub standing : AllByRecursion (λ l. l.context.segment < length y.cursor.segments) y.laid
-  pub measured : (i : ℕ) (l : Laid) → slice_get y.laid i ≡ Some l → IsMeasured (symbols_of (take i y.laid)) l
+  pub measured : (i : ℕ) (l : LaidOutStatement) → slice_get y.laid i ≡ Some l → IsMeasured (symbols_of (take i y.laid)) l
   pub room : (g : ℕ) → sum_by (λ l. l.length) (statements_in y.laid g) ≤ section_limit
 
 -- ---- Contents.
@@ -254,7 +254,7 @@ pub record IsSoundForm (asked : List ℕ) (count : ℕ) (f : Form) : Type 0 wher
   pub imports : list_all (λ k. nat_lt k count) (imports_in f) ≡ true
 
 -- what is written with its place: an object can hold the name of the file and the form
-pub record IsSoundAt (asked : List ℕ) (count : ℕ) (place : Place) (f : Form) : Type 0 where
+pub record IsSoundAt (asked : List ℕ) (count : ℕ) (place : SourceLocation) (f : Form) : Type 0 where
   pub file : is_file_name place.file ≡ true
   pub form : IsSoundForm asked count f
 

@@ -1,6 +1,6 @@
 -- The symbol table that laid statements make, and what names mean in it.
 use Rattle.std.specs.Prelude.{ℕ, Bool, true, false, ◌||◌, List, [], ◌∷◌, ◌++◌, Option, Some, None, ◌==◌, ◌&&◌, if◌then◌else◌, zero, suc, slice_get, ◌+◌, ◌-◌, nat_le, take, Result, Ok, Err, codes}
-use Rattle.semantics65.specs.Types.{Place, AddressSize, Settled, Context, Statement, Label, CheapLabel, UnnamedLabel, Constant, Instruction, Values, Reserve, Align, FilePart, OpenProc, Assert, OpenScope, Import, Global, ForceImport, AsmFault, Undefined, NoSuchScope, NoSuchLabel}
+use Rattle.semantics65.specs.Types.{SourceLocation, AddressSize, EncodingChoice, Context, Statement, Label, CheapLabel, UnnamedLabel, Constant, Instruction, Values, Reserve, Align, Incbin, OpenProc, Assert, OpenScope, Import, Global, ForceImport, AsmFault, Undefined, NoSuchScope, NoSuchLabel}
 use Rattle.syntax65.specs.Trees.{Tree, here, unary, binary, name, cheap, forward, backward}
 use Rattle.std.specs.List.{flat_map, list_any, position}
 use Rattle.std.specs.Str.{bytes_eq}
@@ -9,15 +9,15 @@ use Rattle.syntax65.specs.declared.lexing.tokens.AddressSize.TheVariants as size
 -- ---- What statements lie by: places, scopes, regions, segments, offsets.
 
 -- a statement with what it lies by
-pub record Laid : Type 0 where
+pub record LaidOutStatement : Type 0 where
   pub stated : Statement
-  pub place : Place
+  pub place : SourceLocation
   pub context : Context
   -- how many bytes it places in its section
   pub length : ℕ
   -- the address size of what it defines: that of a constant's expression at its line, or of the segment
   pub size : AddressSize
-  pub settled : Settled
+  pub settled : EncodingChoice
 
 -- a name before a colon and that of a proc open a new region of cheap labels
 abbrev pub opens_region : Statement → Bool
@@ -39,19 +39,19 @@ has_here (binary op e f) = has_here e || has_here f
 has_here _ = false
 
 -- a statement that asks for a section of the segment in which it stands
-abbrev pub asks_section : Statement → Bool
-asks_section (Label n) = true
-asks_section (CheapLabel n) = true
-asks_section UnnamedLabel = true
-asks_section (OpenProc n) = true
-asks_section (Instruction m o) = true
-asks_section (Values width items) = true
-asks_section (Reserve n v) = true
-asks_section (Align n v) = true
-asks_section (FilePart bytes start len) = true
-asks_section (Constant n e) = has_here e
-asks_section (Assert e action words) = has_here e
-asks_section _ = false
+abbrev pub needs_section : Statement → Bool
+needs_section (Label n) = true
+needs_section (CheapLabel n) = true
+needs_section UnnamedLabel = true
+needs_section (OpenProc n) = true
+needs_section (Instruction m o) = true
+needs_section (Values width items) = true
+needs_section (Reserve n v) = true
+needs_section (Align n v) = true
+needs_section (Incbin bytes start len) = true
+needs_section (Constant n e) = has_here e
+needs_section (Assert e action words) = has_here e
+needs_section _ = false
 
 -- ---- The symbol table of statements: what they define, the scopes that they open, the names that they import.
 
@@ -106,13 +106,13 @@ abbrev pub definition_with : Option Key → Option Tree → Context → AddressS
 definition_with None value s own = []
 definition_with (Some k) value s own = record { key = k; value = value; context = s; size = own } ∷ []
 
-abbrev pub definitions_of : Laid → List Definition
+abbrev pub definitions_of : LaidOutStatement → List Definition
 definitions_of l = definition_with (key_defined l.context l.stated) (value_defined l.stated) l.context l.size
 
 abbrev pub scope_opened : ℕ → Statement → List Scope
-scope_opened within (OpenScope n) = record { within = within; name = n; is_proc = false } ∷ []
-scope_opened within (OpenProc n) = record { within = within; name = Some n; is_proc = true } ∷ []
-scope_opened within _ = []
+scope_opened parent_scope (OpenScope n) = record { within = parent_scope; name = n; is_proc = false } ∷ []
+scope_opened parent_scope (OpenProc n) = record { within = parent_scope; name = Some n; is_proc = true } ∷ []
+scope_opened parent_scope _ = []
 
 abbrev pub imports_of : Statement → List (List ℕ)
 imports_of (Import own names) = names
@@ -132,7 +132,7 @@ with_new known [] = known
 with_new known (n ∷ names) = with_new (if list_any (λ k. bytes_eq n k) known then known else known ++ n ∷ []) names
 
 -- ---- The symbol table.
-abbrev pub symbols_of : List Laid → Symbols
+abbrev pub symbols_of : List LaidOutStatement → Symbols
 symbols_of ls = record {
   definitions = flat_map definitions_of ls;
   scopes = flat_map (λ l. scope_opened l.context.scope l.stated) ls;
@@ -149,21 +149,21 @@ same_key (unnamed_at j) (unnamed_at k) = j == k
 same_key _ _ = false
 
 -- the place of the first definition of a key
-abbrev pub defined : Symbols → Key → Option ℕ
-defined y k = position (λ d. same_key d.key k) y.definitions
+abbrev pub definition_index : Symbols → Key → Option ℕ
+definition_index y k = position (λ d. same_key d.key k) y.definitions
 
 -- the place of an import
-abbrev pub imported : Symbols → List ℕ → Option ℕ
-imported y n = position (λ k. bytes_eq n k) y.imports
+abbrev pub import_index : Symbols → List ℕ → Option ℕ
+import_index y n = position (λ k. bytes_eq n k) y.imports
 
 -- ---- What names mean by a symbol table.
 
 -- what a name means
-pub data Meaning : Type 0 where
+pub data Binding : Type 0 where
   -- the definition at this place
-  defined_at : ℕ → Meaning
+  defined_at : ℕ → Binding
   -- the import at this place
-  imported_as : ℕ → Meaning
+  imported_as : ℕ → Binding
 
 abbrev pub or_else : {A : Type 0} → Option A → Option A → Option A
 or_else (Some x) other = Some x
@@ -175,14 +175,14 @@ is_named n (Some m) = bytes_eq m n
 
 -- ---- Scopes.
 
-abbrev pub within : Option Scope → ℕ
-within None = zero
-within (Some c) = c.within
+abbrev pub parent_scope : Option Scope → ℕ
+parent_scope None = zero
+parent_scope (Some c) = c.within
 
 -- the scope in which a scope was opened; the global one stands in no other
 abbrev pub enclosing : List Scope → ℕ → ℕ
 enclosing cs zero = zero
-enclosing cs (suc i) = within (slice_get cs i)
+enclosing cs (suc i) = parent_scope (slice_get cs i)
 
 -- a scope and those around it, so many at most
 abbrev pub outward_from : List Scope → ℕ → ℕ → List ℕ
@@ -200,53 +200,53 @@ abbrev pub first_found : {A : Type 0} → (ℕ → Option A) → List ℕ → Op
 first_found find [] = None
 first_found find (s ∷ ss) = or_else (find s) (first_found find ss)
 
-abbrev pub numbered : Option ℕ → Option ℕ
-numbered None = None
-numbered (Some i) = Some (suc i)
+abbrev pub one_based : Option ℕ → Option ℕ
+one_based None = None
+one_based (Some i) = Some (suc i)
 
 -- the scope of a name that was opened directly in a scope
 abbrev pub scope_in : List Scope → ℕ → List ℕ → Option ℕ
-scope_in cs scope n = numbered (position (λ c. c.within == scope && is_named n c.name) cs)
+scope_in cs scope n = one_based (position (λ c. c.within == scope && is_named n c.name) cs)
 
 -- the scope that the names lead to, one inside the other
-abbrev pub inside : List Scope → List (List ℕ) → Option ℕ → Option ℕ
-inside cs names None = None
-inside cs [] (Some scope) = Some scope
-inside cs (n ∷ names) (Some scope) = inside cs names (scope_in cs scope n)
+abbrev pub nested_scope : List Scope → List (List ℕ) → Option ℕ → Option ℕ
+nested_scope cs names None = None
+nested_scope cs [] (Some scope) = Some scope
+nested_scope cs (n ∷ names) (Some scope) = nested_scope cs names (scope_in cs scope n)
 
 -- ---- Names.
 
 -- names joined by `::`, as they are shown
-abbrev pub joined : List (List ℕ) → List ℕ
-joined [] = []
-joined (n ∷ []) = n
-joined (n ∷ m ∷ names) = n ++ codes "::" ++ joined (m ∷ names)
+abbrev pub qualified_name : List (List ℕ) → List ℕ
+qualified_name [] = []
+qualified_name (n ∷ []) = n
+qualified_name (n ∷ m ∷ names) = n ++ codes "::" ++ qualified_name (m ∷ names)
 
-abbrev pub shown : Bool → List (List ℕ) → List ℕ
-shown false parts = joined parts
-shown true parts = codes "::" ++ joined parts
+abbrev pub display_name : Bool → List (List ℕ) → List ℕ
+display_name false parts = qualified_name parts
+display_name true parts = codes "::" ++ qualified_name parts
 
-abbrev pub or_fault : AsmFault → Option ℕ → Option ℕ → Result Meaning AsmFault
+abbrev pub or_fault : AsmFault → Option ℕ → Option ℕ → Result Binding AsmFault
 or_fault e (Some i) other = Ok (defined_at i)
 or_fault e None (Some k) = Ok (imported_as k)
 or_fault e None None = Err e
 
 -- a plain name: that of the innermost scope, from the use outward, which defines it; else an import
-abbrev pub plain_meaning : Symbols → ℕ → List ℕ → Result Meaning AsmFault
-plain_meaning y scope n = or_fault (Undefined n) (first_found (λ s. defined y (named s n)) (scopes_from y.scopes scope)) (imported y n)
+abbrev pub plain_meaning : Symbols → ℕ → List ℕ → Result Binding AsmFault
+plain_meaning y scope n = or_fault (Undefined n) (first_found (λ s. definition_index y (named s n)) (scopes_from y.scopes scope)) (import_index y n)
 
 -- a name behind `::`: that of the scope itself; imports stand in the global scope
-abbrev pub member_meaning : Symbols → List ℕ → AsmFault → AsmFault → Option ℕ → Result Meaning AsmFault
+abbrev pub member_meaning : Symbols → List ℕ → AsmFault → AsmFault → Option ℕ → Result Binding AsmFault
 member_meaning y n absent lost None = Err lost
-member_meaning y n absent lost (Some zero) = or_fault absent (defined y (named zero n)) (imported y n)
-member_meaning y n absent lost (Some (suc i)) = or_fault absent (defined y (named (suc i) n)) None
+member_meaning y n absent lost (Some zero) = or_fault absent (definition_index y (named zero n)) (import_index y n)
+member_meaning y n absent lost (Some (suc i)) = or_fault absent (definition_index y (named (suc i) n)) None
 
 -- The scope of a name with `::`, of these scopes, which were opened before the use. The first is searched from the
 -- innermost scope outward, or in the global scope behind a leading `::`.
 abbrev pub scope_from : List Scope → ℕ → Bool → List (List ℕ) → Option ℕ
-scope_from cs scope true scopes = inside cs scopes (Some zero)
+scope_from cs scope true scopes = nested_scope cs scopes (Some zero)
 scope_from cs scope false [] = None
-scope_from cs scope false (n ∷ scopes) = inside cs scopes (first_found (λ s. scope_in cs s n) (scopes_from cs scope))
+scope_from cs scope false (n ∷ scopes) = nested_scope cs scopes (first_found (λ s. scope_in cs s n) (scopes_from cs scope))
 
 -- all parts but the last, and the last
 abbrev pub scopes_of : List (List ℕ) → List (List ℕ)
@@ -259,28 +259,28 @@ last_of [] = []
 last_of (n ∷ []) = n
 last_of (n ∷ m ∷ parts) = last_of (m ∷ parts)
 
-abbrev pub scoped_meaning : Symbols → Context → Bool → List (List ℕ) → Result Meaning AsmFault
+abbrev pub scoped_meaning : Symbols → Context → Bool → List (List ℕ) → Result Binding AsmFault
 scoped_meaning y s global parts =
-    member_meaning y (last_of parts) (Undefined (shown global parts)) (NoSuchScope (shown global parts)) (scope_from (take s.opened y.scopes) s.scope global (scopes_of parts))
+    member_meaning y (last_of parts) (Undefined (display_name global parts)) (NoSuchScope (display_name global parts)) (scope_from (take s.opened y.scopes) s.scope global (scopes_of parts))
 
 -- ---- Labels.
 
 -- a cheap label of the same region
-abbrev pub cheap_meaning : Symbols → ℕ → List ℕ → Result Meaning AsmFault
-cheap_meaning y region n = or_fault (Undefined n) (defined y (cheap_in region n)) None
+abbrev pub cheap_meaning : Symbols → ℕ → List ℕ → Result Binding AsmFault
+cheap_meaning y region n = or_fault (Undefined n) (definition_index y (cheap_in region n)) None
 
 -- the unnamed label before which so many stand
-abbrev pub unnamed_meaning : Symbols → ℕ → Result Meaning AsmFault
-unnamed_meaning y k = or_fault NoSuchLabel (defined y (unnamed_at k)) None
+abbrev pub unnamed_meaning : Symbols → ℕ → Result Binding AsmFault
+unnamed_meaning y k = or_fault NoSuchLabel (definition_index y (unnamed_at k)) None
 
-abbrev pub backward_meaning : Symbols → ℕ → ℕ → Result Meaning AsmFault
+abbrev pub backward_meaning : Symbols → ℕ → ℕ → Result Binding AsmFault
 backward_meaning y k n = if nat_le n k then unnamed_meaning y (k - n) else Err NoSuchLabel
 
 -- ---- What an operand means where it stands.
-abbrev pub meaning_of : Symbols → Context → Tree → Result Meaning AsmFault
-meaning_of y s (name false (n ∷ [])) = plain_meaning y s.scope n
-meaning_of y s (name global parts) = scoped_meaning y s global parts
-meaning_of y s (cheap n) = cheap_meaning y s.region n
-meaning_of y s (forward n) = unnamed_meaning y (s.unnamed + n - 1)
-meaning_of y s (backward n) = backward_meaning y s.unnamed n
-meaning_of y s _ = Err NoSuchLabel
+abbrev pub binding_of : Symbols → Context → Tree → Result Binding AsmFault
+binding_of y s (name false (n ∷ [])) = plain_meaning y s.scope n
+binding_of y s (name global parts) = scoped_meaning y s global parts
+binding_of y s (cheap n) = cheap_meaning y s.region n
+binding_of y s (forward n) = unnamed_meaning y (s.unnamed + n - 1)
+binding_of y s (backward n) = backward_meaning y s.unnamed n
+binding_of y s _ = Err NoSuchLabel

@@ -1,7 +1,7 @@
 //! What statements say to other modules and to the linker, and the segments that they lay. Where a statement stands is said
 //! beside what it says.
 
-use base65::Sequence;
+use base65::ListVec;
 use object65::{Action, Norm};
 use syntax65::AddressSize;
 
@@ -10,15 +10,15 @@ use syntax65::AddressSize;
 pub enum Declaration {
     /// A name that the module defines for others.
     Exported {
-        name: Sequence<u8>,
+        name: ListVec<u8>,
         form: Norm,
     },
     /// An import that is asked for though no form may hold it.
-    ForcedImport(Sequence<u8>),
+    ForcedImport(ListVec<u8>),
     /// What the linker has to check.
     Asserted {
         action: Action,
-        text: Sequence<u8>,
+        text: ListVec<u8>,
         form: Norm,
     },
 }
@@ -26,7 +26,7 @@ pub enum Declaration {
 /// A segment as far as it has been laid.
 #[derive(Drop)]
 pub struct Segment {
-    pub name: Sequence<u8>,
+    pub name: ListVec<u8>,
     /// The address size of what lies in it.
     pub size: AddressSize,
     /// The end of its section.

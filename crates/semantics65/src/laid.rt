@@ -4,7 +4,7 @@ use syntax65::Mode;
 
 /// A place in a source: a file, and the number of a line in it, 0 where none was read.
 #[derive(Clone, Copy)]
-pub struct At<'a> {
+pub struct LocationRef<'a> {
     pub file: &'a str,
     pub line: u32,
 }
@@ -31,12 +31,12 @@ pub struct Context {
 
 /// What is settled of a statement at its line, by what is known there.
 #[derive(Clone, Copy)]
-pub enum Settled {
-    Unsettled,
+pub enum EncodingChoice {
+    Undecided,
     /// The addressing mode of an instruction.
     InMode(Mode),
     /// The byte that fills room, where one is named.
-    FilledWith(u8),
+    FillByte(u8),
     /// The byte of a file at which the part that is taken begins.
-    FromByte(u32),
+    FileOffset(u32),
 }

@@ -5,4 +5,4 @@ mod contents;
 mod laid;
 
 pub use contents::{Declaration, Segment};
-pub use laid::{At, Context, GLOBAL_SCOPE, Settled};
+pub use laid::{Context, EncodingChoice, GLOBAL_SCOPE, LocationRef};

@@ -18,15 +18,15 @@ use Rattle.ast65.specs.declared.fault.AsmFault.{AsmFault}
 use Rattle.ast65.specs.declared.language.Operand.{Operand}
 use Rattle.ast65.specs.declared.language.Statement.{Statement}
 use Rattle.ast65.specs.declared.language.Statement.TheVariants.{Constant, Instruction, Values, Import, Export, Global, ForceImport}
-use Rattle.semantics65.specs.Contents.{asking, Content, decided, Declaration, Exported, ForcedImport, Asserted, export_said, import_fault, Known, Filled, Waiting, opcode_part, operand_form, operand_tree, Part, stored, telling, written, exported_names}
-use Rattle.semantics65.specs.Module.{absent_of, as_part, as_said, asserted, coming, datum, demanded, equated, exported, Finished, Fixup, followed_by, given, holds, imported, instruction_pieces, item_piece, Made, made_of, operand, operand_pieces, Piece, pieces_of, Purpose, resolved, Slot, slots_of, used, valued, waiting_at, waits, at_place, PlacedFault}
+use Rattle.semantics65.specs.Contents.{section_request, Content, decided_assertion, Declaration, Exported, ForcedImport, Asserted, export_said, import_fault, Known, Filled, Waiting, opcode_part, operand_form, operand_tree, Part, value_part, declaration_content, located_declarations, exported_names}
+use Rattle.semantics65.specs.Module.{absent_of, as_part, as_said, asserted, slot_result, datum, demanded, equated, exported, Resolution, Fixup, result_then, given, resolved, imported, instruction_pieces, item_piece, PieceResult, made_of, operand, operand_pieces, Piece, pieces_of, Purpose, resolution_of, Slot, slots_of, value_result, valued, waiting_at, deferred, at_place, LocatedFault}
 use Rattle.semantics65.specs.Norms.{defined_form, norm_of, width_of}
 use Rattle.semantics65.specs.Numbering.{segments_asked}
-use Rattle.semantics65.specs.Symbols.{asks_section, defined, has_here, Laid, named, Symbols}
-use Rattle.semantics65.specs.Types.{Place}
+use Rattle.semantics65.specs.Symbols.{needs_section, definition_index, has_here, LaidOutStatement, named, Symbols}
+use Rattle.semantics65.specs.Types.{SourceLocation}
 use Rattle.semantics65.specs.declared.laid.Context.{Context}
-use Rattle.semantics65.specs.declared.laid.Settled.{Settled}
-use Rattle.semantics65.specs.declared.laid.Settled.TheVariants.{InMode}
+use Rattle.semantics65.specs.declared.laid.EncodingChoice.{EncodingChoice}
+use Rattle.semantics65.specs.declared.laid.EncodingChoice.TheVariants.{InMode}
 use Rattle.sources65.proofs.FitForms.{AreDefinitionsFit, IsBounded, IsPlaced, after_it, defined_bounded, folded_bounded, norm_bounded, small_fits, two_bounded}
 use Rattle.sources65.proofs.FitItems.{IsPlaceFit}
 use Rattle.sources65.proofs.FitStatements.{IsSmallItem, IsSmallOperand, IsSmallStatement}
@@ -38,7 +38,7 @@ use Rattle.sources65.proofs.SoundForms.{all_append}
 abbrev pub IsAmong : List (List ℕ) → List ℕ → Type 0
 IsAmong files n = list_any (bytes_eq n) files ≡ true
 
-pub record IsWritten (files : List (List ℕ)) (n : ℕ) (at : Place) (f : Form) : Type 0 where
+pub record IsWritten (files : List (List ℕ)) (n : ℕ) (at : SourceLocation) (f : Form) : Type 0 where
   pub place : IsPlaceFit at
   pub file : IsAmong files at.file
   pub form : IsBounded n f
@@ -76,8 +76,8 @@ pub record IsFixupFit (files : List (List ℕ)) (n : ℕ) (w : Fixup) : Type 0 w
   piece : IsPieceFit files n w.place.file w.piece
 
 abbrev pub IsSlotFit : List (List ℕ) → ℕ → Slot → Type 0
-IsSlotFit files n (holds c) = IsContentFit files n c
-IsSlotFit files n (waits w) = IsFixupFit files n w
+IsSlotFit files n (resolved c) = IsContentFit files n c
+IsSlotFit files n (deferred w) = IsFixupFit files n w
 
 -- ---- Statements that are laid.
 
@@ -86,7 +86,7 @@ abbrev pub is_counted : Statement → Bool
 is_counted (Constant n e) = has_here e
 is_counted _ = true
 
-pub record IsLaidFit (files : List (List ℕ)) (l : Laid) : Type 0 where
+pub record IsLaidFit (files : List (List ℕ)) (l : LaidOutStatement) : Type 0 where
   pub small : IsSmallStatement l.stated
   pub place : IsPlaceFit l.place
   pub file : is_counted l.stated ≡ true → IsAmong files l.place.file
@@ -120,11 +120,11 @@ module _ (files : List (List ℕ)) (n : ℕ) where
     operands_fit : (w : Option Width) (o : Option Tree) → IfSome o IsSmallTree → IsAmong files file → AllByRecursion IsPiece (operand_pieces w o)
     operands_fit w o small there = grind (arith)
 
-    instruction_fit : (m : Mnemonic) (o : Operand) (fixed : Settled) → IsSmallOperand o → IsAmong files file → AllByRecursion IsPiece (instruction_pieces m o fixed)
+    instruction_fit : (m : Mnemonic) (o : Operand) (fixed : EncodingChoice) → IsSmallOperand o → IsAmong files file → AllByRecursion IsPiece (instruction_pieces m o fixed)
     instruction_fit m o (InMode mode) small there = (opcode_fit (opcode_of m mode), operands_fit (width_of mode) (operand_tree o) (tree_small o small) there)
     instruction_fit m o _ small there = tt
 
-    pieces_fit : (count : ℕ) (fixed : Settled) (x : Statement) → IsSmallStatement x → (is_counted x ≡ true → IsAmong files file) → AllByRecursion IsPiece (pieces_of count fixed x)
+    pieces_fit : (count : ℕ) (fixed : EncodingChoice) (x : Statement) → IsSmallStatement x → (is_counted x ≡ true → IsAmong files file) → AllByRecursion IsPiece (pieces_of count fixed x)
     pieces_fit count fixed (Instruction m o) small there = instruction_fit m o fixed small (there refl)
     pieces_fit count fixed (Values width items) small there = let file = there refl in all_mapped IsSmallItem IsPiece (item_piece width) (λ it h. grind (arith)) items small
     pieces_fit count fixed (Import own names) small there = each_mapped IsPiece imported (λ m. tt) names
@@ -139,22 +139,22 @@ module _ (files : List (List ℕ)) (n : ℕ) where
   abbrev IsSlot : Slot → Type 0
   IsSlot x = IsSlotFit files n x
 
-  slots_fit : (l : Laid) → IsLaidFit files l → AllByRecursion IsSlot (slots_of l)
+  slots_fit : (l : LaidOutStatement) → IsLaidFit files l → AllByRecursion IsSlot (slots_of l)
   slots_fit l h =
       let pieces : List Piece = pieces_of l.length l.settled l.stated in
-      let asked : IsContentFit files n (asking l.context.segment) = record { parts = tt; said = tt } in
-      all_append IsSlot (if asks_section l.stated then holds (asking l.context.segment) ∷ [] else []) (map (waiting_at l) pieces) (grind (arith, asked))
+      let asked : IsContentFit files n (section_request l.context.segment) = record { parts = tt; said = tt } in
+      all_append IsSlot (if needs_section l.stated then resolved (section_request l.context.segment) ∷ [] else []) (map (waiting_at l) pieces) (grind (arith, asked))
       (all_mapped (IsPieceFit files n l.place.file) IsSlot (waiting_at l) (λ p k. record { place = h.place; at = h.at; piece = k }) pieces
       (pieces_fit l.place.file l.length l.settled l.stated h.small h.file))
 
-  pub all_slots_fit : (ls : List Laid) → AllByRecursion (IsLaidFit files) ls → AllByRecursion IsSlot (flat_map slots_of ls)
+  pub all_slots_fit : (ls : List LaidOutStatement) → AllByRecursion (IsLaidFit files) ls → AllByRecursion IsSlot (flat_map slots_of ls)
   all_slots_fit ls h = flat_all (IsLaidFit files) IsSlot slots_of slots_fit ls h
 
 -- ---- How many slots ask for a section.
 
 abbrev pub asks : Slot → Bool
-asks (holds c) = c.asks
-asks (waits w) = false
+asks (resolved c) = c.asks
+asks (deferred w) = false
 
 abbrev pub counted : Bool → ℕ
 counted true = 1
@@ -167,7 +167,7 @@ asking_count (x ∷ xs) = counted (asks x) + asking_count xs
 -- ---- What slots come to.
 
 -- what follows something that was made
-followed_fit : (P : Made → Type 0) (Q : List Content → Type 0) (r : Result Made PlacedFault) (rest : Made → Finished) → IfOk r P → ((m : Made) → P m → IfOk ((rest m).found >>= (λ cs. Ok (m.content ∷ cs))) Q) → IfOk (followed_by r rest).found Q
+followed_fit : (P : PieceResult → Type 0) (Q : List Content → Type 0) (r : Result PieceResult LocatedFault) (rest : PieceResult → Resolution) → IfOk r P → ((m : PieceResult) → P m → IfOk ((rest m).found >>= (λ cs. Ok (m.content ∷ cs))) Q) → IfOk (result_then r rest).found Q
 followed_fit P Q (Ok m) rest h k = k m h
 followed_fit P Q (Err e) rest h k = tt
 
@@ -182,20 +182,20 @@ module _ (y : Symbols) (fit : AreDefinitionsFit y.definitions) (files : List (Li
   AreSaidFit ss = AllByRecursion (IsSaidFit files imports) ss
 
   -- a content that fits, and asks for a section where this says so
-  record IsMadeFit (b : Bool) (m : Made) : Type 0 where
+  record IsMadeFit (b : Bool) (m : PieceResult) : Type 0 where
     content : IsContentFit files imports m.content
     asks : m.content.asks ≡ b
 
   part_fit : (g : ℕ) (r : Result Part AsmFault) → IfOk r IsPart → IfOk (r >>= as_part g) (IsMadeFit false)
   part_fit g r h = after_it IsPart (IsMadeFit false) r _ h (λ p k. record { content = record { parts = (k, tt); said = tt }; asks = refl })
 
-  telling_fit : (ss : List Declaration) (warning : List ℕ) → AreSaidFit ss → IsMadeFit false (record { content = telling ss; warning = warning })
+  telling_fit : (ss : List Declaration) (warning : List ℕ) → AreSaidFit ss → IsMadeFit false (record { content = declaration_content ss; warning = warning })
   telling_fit ss warning h = record { content = record { parts = tt; said = h }; asks = refl }
 
   said_fit : (r : Result (List Declaration) AsmFault) → IfOk r AreSaidFit → IfOk (r >>= as_said) (IsMadeFit false)
   said_fit r h = after_it AreSaidFit (IsMadeFit false) r _ h (λ ss k. telling_fit ss [] k)
 
-  written_fit : {A : Type 0} (P : A → Type 0) (place : Place) (x : A) → P x → IfOk (written place x) P
+  written_fit : {A : Type 0} (P : A → Type 0) (place : SourceLocation) (x : A) → P x → IfOk (located_declarations place x) P
   written_fit P place x h = grind (arith)
 
   import_fit : (n : List ℕ) → IfOk (import_fault y n) AreSaidFit
@@ -206,8 +206,8 @@ module _ (y : Symbols) (fit : AreDefinitionsFit y.definitions) (files : List (Li
 
   -- ---- A piece.
 
-  module _ (place : Place) (s : Context) (at : IsPlaced s) (there : IsPlaceFit place) where
-    stored_fit : (width : Width) (f : Form) → IsWritten files imports place f → IfOk (stored width place f) IsPart
+  module _ (place : SourceLocation) (s : Context) (at : IsPlaced s) (there : IsPlaceFit place) where
+    stored_fit : (width : Width) (f : Form) → IsWritten files imports place f → IfOk (value_part width place f) IsPart
     stored_fit width (lit v) h = grind (arith)
     stored_fit width f h = written_fit IsPart place (Waiting width place f) h
 
@@ -215,7 +215,7 @@ module _ (y : Symbols) (fit : AreDefinitionsFit y.definitions) (files : List (Li
     form_fit Branch f h = folded_bounded imports (fold2 Subtract f (sec s.segment (pos (s.offset + 2)))) (two_bounded imports Subtract f (sec s.segment (pos (s.offset + 2))) h (small_fits (s.offset + 2) (omega (arith, at))))
     form_fit width f h = h
 
-    decided_fit : (act : Action) (words : List ℕ) (f : Form) → IsWritten files imports place f → IfOk (decided act place words f) AreSaidFit
+    decided_fit : (act : Action) (words : List ℕ) (f : Form) → IsWritten files imports place f → IfOk (decided_assertion act place words f) AreSaidFit
     decided_fit action.Error words (lit (pos zero)) h = tt
     decided_fit act words (lit v) h = tt
     decided_fit act words f h = written_fit AreSaidFit place (Asserted act place words f ∷ []) (h, tt)
@@ -229,30 +229,30 @@ module _ (y : Symbols) (fit : AreDefinitionsFit y.definitions) (files : List (Li
         after_it (IsBounded imports) AreSaidFit (defined_form y j) _ (defined_bounded y fit j)
         (λ f b. written_fit AreSaidFit place (Exported n place f ∷ []) (is_written file f b, tt))
 
-    used_fit : (why : Purpose) (f : Form) → HasFile files place.file why → IsBounded imports f → IfOk (used place s why f) (IsMadeFit false)
-    used_fit (datum width) f file h = part_fit s.segment (stored width place f) (stored_fit width f (is_written file f h))
+    used_fit : (why : Purpose) (f : Form) → HasFile files place.file why → IsBounded imports f → IfOk (value_result place s why f) (IsMadeFit false)
+    used_fit (datum width) f file h = part_fit s.segment (value_part width place f) (stored_fit width f (is_written file f h))
     used_fit (operand width) f file h =
-        part_fit s.segment (operand_form width s f >>= stored width place)
+        part_fit s.segment (operand_form width s f >>= value_part width place)
         (after_it (IsBounded imports) IsPart (operand_form width s f) _ (form_fit width f h) (λ g k. stored_fit width g (is_written file g k)))
     used_fit equated f file h = telling_fit [] [] tt
     used_fit (asserted act words) f file h =
-        after_it AreSaidFit (IsMadeFit false) (decided act place words f) _ (decided_fit act words f (is_written file f h)) (λ ss k. telling_fit ss _ k)
+        after_it AreSaidFit (IsMadeFit false) (decided_assertion act place words f) _ (decided_fit act words f (is_written file f h)) (λ ss k. telling_fit ss _ k)
 
     made_fit : (p : Piece) → IsPieceFit files imports place.file p → IfOk (made_of y place s p) (IsMadeFit false)
     made_fit (given p) h = part_fit s.segment (Ok p) h
     made_fit (valued why e) h = after_it (IsBounded imports) (IsMadeFit false) (norm_of y s e) _ (norm_bounded y fit s e at h.0) (λ f b. used_fit why f h.1 b)
     made_fit (imported n) h = said_fit (import_fault y n) (import_fit n)
     made_fit (demanded n) h = telling_fit (ForcedImport n ∷ []) [] (tt, tt)
-    made_fit (exported must n) h = said_fit (export_said y place n (absent_of must n) (defined y (named 0 n))) (export_fit n (absent_of must n) (absent_fit must n) h (defined y (named 0 n)))
+    made_fit (exported must n) h = said_fit (export_said y place n (absent_of must n) (definition_index y (named 0 n))) (export_fit n (absent_of must n) (absent_fit must n) h (definition_index y (named 0 n)))
 
   -- ---- All slots.
 
-  placed_fit : {A : Type 0} (P : A → Type 0) (place : Place) (r : Result A AsmFault) → IfOk r P → IfOk (at_place place r) P
+  placed_fit : {A : Type 0} (P : A → Type 0) (place : SourceLocation) (r : Result A AsmFault) → IfOk r P → IfOk (at_place place r) P
   placed_fit P place r1 h = grind (arith)
 
-  coming_fit : (names : List (List ℕ)) (x : Slot) → IsSlotFit files imports x → IfOk (coming y names x) (IsMadeFit (asks x))
-  coming_fit names (holds c) h = record { content = h; asks = refl }
-  coming_fit names (waits w) h =
+  coming_fit : (names : List (List ℕ)) (x : Slot) → IsSlotFit files imports x → IfOk (slot_result y names x) (IsMadeFit (asks x))
+  coming_fit names (resolved c) h = record { content = h; asks = refl }
+  coming_fit names (deferred w) h =
       let nothing = telling_fit [] [] tt in
       let made = made_fit w.place w.context h.at h.place w.piece h.piece in
       placed_fit (IsMadeFit false) w.place _ (grind (arith, nothing, made))
@@ -264,9 +264,9 @@ module _ (y : Symbols) (fit : AreDefinitionsFit y.definitions) (files : List (Li
   asked_more : (c : Content) (cs : List Content) (b : Bool) (n : ℕ) → c.asks ≡ b → length (segments_asked cs) ≤ n → length (segments_asked (c ∷ cs)) ≤ counted b + n
   asked_more c cs b1 n e h = grind (arith)
 
-  pub contents_fit : (names : List (List ℕ)) (xs : List Slot) → AllByRecursion (IsSlotFit files imports) xs → IfOk (resolved y names xs).found (AreContentsOf xs)
+  pub contents_fit : (names : List (List ℕ)) (xs : List Slot) → AllByRecursion (IsSlotFit files imports) xs → IfOk (resolution_of y names xs).found (AreContentsOf xs)
   contents_fit names [] h = record { contents = tt; asked = omega arith }
   contents_fit names (x ∷ xs) h =
-      followed_fit (IsMadeFit (asks x)) (AreContentsOf (x ∷ xs)) (coming y names x) _ (coming_fit names x h.0)
-      (λ m p. after_it (AreContentsOf xs) (AreContentsOf (x ∷ xs)) (resolved y (names ++ exported_names m.content.said) xs).found _ (contents_fit (names ++ exported_names m.content.said) xs h.1)
+      followed_fit (IsMadeFit (asks x)) (AreContentsOf (x ∷ xs)) (slot_result y names x) _ (coming_fit names x h.0)
+      (λ m p. after_it (AreContentsOf xs) (AreContentsOf (x ∷ xs)) (resolution_of y (names ++ exported_names m.content.said) xs).found _ (contents_fit (names ++ exported_names m.content.said) xs h.1)
       (λ cs q. record { contents = (p.content, q.contents); asked = asked_more m.content cs (asks x) (asking_count xs) p.asks q.asked }))

@@ -10,20 +10,20 @@ use Rattle.std.specs.List.{AllByRecursion, position}
 use Rattle.std.specs.Ordering.{int_eq}
 use Rattle.std.specs.Str.{bytes_eq}
 use Rattle.base65.specs.Outcome.{◌>>=◌}
-use Rattle.base65.specs.Values.{divided, is_other, is_true, shifted, truth, value1, value2, wrapped}
+use Rattle.base65.specs.Values.{unless_zero_divisor, is_other, is_true, unless_bad_shift, truth, value1, value2, wrap_signed}
 use Rattle.base65.specs.declared.values.Op1.{Op1}
 use Rattle.base65.specs.declared.values.Op1.TheVariants.{Plus, Negate, BitNot, LowByte, HighByte, BankByte, Not}
 use Rattle.base65.specs.declared.values.Op2.{Op2}
 use Rattle.base65.specs.declared.values.Op2.TheVariants.{Multiply, Divide, Modulo, BitAnd, BitXor, ShiftLeft, ShiftRight, Add, Subtract, BitOr, Equal, NotEqual, Less, Greater, LessOrEqual, GreaterOrEqual, And, Xor, Or}
 use Rattle.syntax65.specs.Trees.{Tree, number, here, name, cheap, forward, backward, unary}
 use Rattle.syntax65.specs.Trees as tree
-use Rattle.object65.specs.Folding.{fold1, fold2, fold_any, fold_difference, fold_prefix, fold_sum, limited, literal, node_limit}
+use Rattle.object65.specs.Folding.{fold1, fold2, fold_any, fold_difference, fold_prefix, fold_sum, within_node_limit, literal, node_limit}
 use Rattle.object65.specs.Form.{Form, lit, sec, imp, prefix, binary, nodes}
 use Rattle.object65.specs.declared.folding.FormFault.{FormFault}
 use Rattle.object65.specs.declared.folding.FormFault.TheVariants as form
 use Rattle.ast65.specs.declared.fault.AsmFault.{AsmFault}
-use Rattle.semantics65.specs.Norms.{defined_form, folded, form_by, form_of_definition, form_of_meaning, form_of_value, norm, norm_of}
-use Rattle.semantics65.specs.Symbols.{Definition, Meaning, defined_at, imported_as, cheap_in, defined, first_found, imported, last_of, meaning_of, member_meaning, named, or_fault, scope_from, scopes_from, scopes_of, shown, Symbols, unnamed_at, unnamed_meaning}
+use Rattle.semantics65.specs.Norms.{defined_form, fold_result, form_by, form_of_definition, form_of_meaning, form_of_value, norm, norm_of}
+use Rattle.semantics65.specs.Symbols.{Definition, Binding, defined_at, imported_as, cheap_in, definition_index, first_found, import_index, last_of, binding_of, member_meaning, named, or_fault, scope_from, scopes_from, scopes_of, display_name, Symbols, unnamed_at, unnamed_meaning}
 use Rattle.semantics65.specs.Types.{NoSuchLabel, NoSuchScope, Undefined}
 use Rattle.semantics65.specs.declared.laid.Context.{Context}
 use Rattle.sources65.proofs.FitTokens.{IsSmallTree}
@@ -52,18 +52,18 @@ one_fits HighByte v h = small_fits (cast_unsigned w64 v / 2 ^ 8 % 2 ^ 8) (omega 
 one_fits BankByte v h = small_fits (cast_unsigned w64 v / 2 ^ 16 % 2 ^ 8) (omega arith)
 one_fits Not v h = truth_fits (not (is_true v))
 
-divided_fits : (f : ℤ → ℤ → ℤ) (a b : ℤ) → IfSome (divided f a b) Fits64
+divided_fits : (f : ℤ → ℤ → ℤ) (a b : ℤ) → IfSome (unless_zero_divisor f a b) Fits64
 divided_fits f a b = by (int_eq b (pos 0))
   where
-    by : (c : Bool) → IfSome (if c then None else Some (wrapped (f a b))) Fits64
+    by : (c : Bool) → IfSome (if c then None else Some (wrap_signed (f a b))) Fits64
     by true = tt
     by false = SFits-int_wrap w64 (f a b)
 
-shifted_fits : (f : ℤ → ℤ → ℤ) (a b : ℤ) → IfSome (shifted f a b) Fits64
+shifted_fits : (f : ℤ → ℤ → ℤ) (a b : ℤ) → IfSome (unless_bad_shift f a b) Fits64
 shifted_fits f a (negsuc n) = tt
 shifted_fits f a (pos n) = by (nat_lt n 64)
   where
-    by : (c : Bool) → IfSome (if c then Some (wrapped (f a (pos (2 ^ n)))) else None) Fits64
+    by : (c : Bool) → IfSome (if c then Some (wrap_signed (f a (pos (2 ^ n)))) else None) Fits64
     by true = SFits-int_wrap w64 (f a (pos (2 ^ n)))
     by false = tt
 
@@ -99,7 +99,7 @@ IsBounded n (prefix op f) = IsBounded n f
 IsBounded n (binary op f g) = IsBounded n f × IsBounded n g
 
 module _ (n : ℕ) where
-  limited_bounded : (f : Form) → IsBounded n f → IfOk (limited f) (IsBounded n)
+  limited_bounded : (f : Form) → IsBounded n f → IfOk (within_node_limit f) (IsBounded n)
   limited_bounded f h = by (nat_le (nodes f) node_limit)
     where
       by : (b : Bool) → IfOk (if b then Ok f else Err form.TooLarge) (IsBounded n)
@@ -130,7 +130,7 @@ module _ (n : ℕ) where
   difference_bounded : (f g : Form) → IsBounded n f → IsBounded n g → IfOk (fold_difference f g) (IsBounded n)
   difference_bounded (sec k a) (sec m b) h j = by (k == m)
     where
-      by : (c : Bool) → IfOk (if c then Ok (lit (wrapped (a -ℤ b))) else fold_any Subtract (sec k a) (sec m b)) (IsBounded n)
+      by : (c : Bool) → IfOk (if c then Ok (lit (wrap_signed (a -ℤ b))) else fold_any Subtract (sec k a) (sec m b)) (IsBounded n)
       by true = SFits-int_wrap w64 (a -ℤ b)
       by false = any_bounded Subtract (sec k a) (sec m b) h j
   difference_bounded (sec k a) (lit v) h j = SFits-int_wrap w64 (a -ℤ v)
@@ -141,7 +141,7 @@ module _ (n : ℕ) where
   two_bounded Subtract f g h j = difference_bounded f g h j
   two_bounded op f g h j = any_bounded op f g h j
 
-  pub folded_bounded : (q : Result Form FormFault) → IfOk q (IsBounded n) → IfOk (folded q) (IsBounded n)
+  pub folded_bounded : (q : Result Form FormFault) → IfOk q (IsBounded n) → IfOk (fold_result q) (IsBounded n)
   folded_bounded (Ok f) h = h
   folded_bounded (Err form.OutOfMemory) h = tt
   folded_bounded (Err form.NoValue) h = tt
@@ -168,14 +168,14 @@ module _ (n : ℕ) (operand : Tree → Result Form AsmFault) (s : Context) (at :
   by_bounded (cheap t) k = h (cheap t)
   by_bounded (forward i) k = h (forward i)
   by_bounded (backward i) k = h (backward i)
-  by_bounded (unary op e) k = after_it (IsBounded n) (IsBounded n) (form_by operand s e) (λ f. folded (fold1 op f)) (by_bounded e k) (λ f w. folded_bounded n (fold1 op f) (one_bounded n op f w))
+  by_bounded (unary op e) k = after_it (IsBounded n) (IsBounded n) (form_by operand s e) (λ f. fold_result (fold1 op f)) (by_bounded e k) (λ f w. folded_bounded n (fold1 op f) (one_bounded n op f w))
   by_bounded (tree.binary op e g) k =
-      after_it (IsBounded n) (IsBounded n) (form_by operand s e) (λ f. form_by operand s g >>= (λ z. folded (fold2 op f z))) (by_bounded e k.0)
-      (λ f v. after_it (IsBounded n) (IsBounded n) (form_by operand s g) (λ z. folded (fold2 op f z)) (by_bounded g k.1) (λ z w. folded_bounded n (fold2 op f z) (two_bounded n op f z v w)))
+      after_it (IsBounded n) (IsBounded n) (form_by operand s e) (λ f. form_by operand s g >>= (λ z. fold_result (fold2 op f z))) (by_bounded e k.0)
+      (λ f v. after_it (IsBounded n) (IsBounded n) (form_by operand s g) (λ z. fold_result (fold2 op f z)) (by_bounded g k.1) (λ z w. folded_bounded n (fold2 op f z) (two_bounded n op f z v w)))
 
 -- ---- Names.
 
-abbrev IsThere : ℕ → Meaning → Type 0
+abbrev IsThere : ℕ → Binding → Type 0
 IsThere n (defined_at j) = ⊤
 IsThere n (imported_as k) = k < n
 
@@ -185,10 +185,10 @@ position_below test xs k h = grind (arith, common_steps, nat_tests)
 abbrev IsFound : ℕ → Option ℕ → Type 0
 IsFound n o = IfSome o (λ k. k < n)
 
-imported_found : (y : Symbols) (t : List ℕ) → IsFound (length y.imports) (imported y t)
-imported_found y t = by (imported y t) refl
+imported_found : (y : Symbols) (t : List ℕ) → IsFound (length y.imports) (import_index y t)
+imported_found y t = by (import_index y t) refl
   where
-    by : (o : Option ℕ) → imported y t ≡ o → IsFound (length y.imports) o
+    by : (o : Option ℕ) → import_index y t ≡ o → IsFound (length y.imports) o
     by None e = tt
     by (Some k) e = position_below (bytes_eq t) y.imports k e
 
@@ -200,20 +200,20 @@ fault_there n e None None h = tt
 module _ (y : Symbols) where
   member_there : (t : List ℕ) (absent lost : AsmFault) (o : Option ℕ) → IfOk (member_meaning y t absent lost o) (IsThere (length y.imports))
   member_there t absent lost None = tt
-  member_there t absent lost (Some zero) = fault_there (length y.imports) absent (defined y (named zero t)) (imported y t) (imported_found y t)
-  member_there t absent lost (Some (suc i)) = fault_there (length y.imports) absent (defined y (named (suc i) t)) None tt
+  member_there t absent lost (Some zero) = fault_there (length y.imports) absent (definition_index y (named zero t)) (import_index y t) (imported_found y t)
+  member_there t absent lost (Some (suc i)) = fault_there (length y.imports) absent (definition_index y (named (suc i) t)) None tt
 
   unnamed_there : (k : ℕ) → IfOk (unnamed_meaning y k) (IsThere (length y.imports))
-  unnamed_there k = fault_there (length y.imports) NoSuchLabel (defined y (unnamed_at k)) None tt
+  unnamed_there k = fault_there (length y.imports) NoSuchLabel (definition_index y (unnamed_at k)) None tt
 
   backward_there : (b : Bool) (k : ℕ) → IfOk (if b then unnamed_meaning y k else Err NoSuchLabel) (IsThere (length y.imports))
   backward_there true k = unnamed_there k
   backward_there false k = tt
 
-  meaning_there : (s : Context) (e : Tree) → IfOk (meaning_of y s e) (IsThere (length y.imports))
-  meaning_there s (name false (t ∷ [])) = fault_there (length y.imports) (Undefined t) (first_found (λ i. defined y (named i t)) (scopes_from y.scopes s.scope)) (imported y t) (imported_found y t)
-  meaning_there s (name global parts) = member_there (last_of parts) (Undefined (shown global parts)) (NoSuchScope (shown global parts)) (scope_from (take s.opened y.scopes) s.scope global (scopes_of parts))
-  meaning_there s (cheap t) = fault_there (length y.imports) (Undefined t) (defined y (cheap_in s.region t)) None tt
+  meaning_there : (s : Context) (e : Tree) → IfOk (binding_of y s e) (IsThere (length y.imports))
+  meaning_there s (name false (t ∷ [])) = fault_there (length y.imports) (Undefined t) (first_found (λ i. definition_index y (named i t)) (scopes_from y.scopes s.scope)) (import_index y t) (imported_found y t)
+  meaning_there s (name global parts) = member_there (last_of parts) (Undefined (display_name global parts)) (NoSuchScope (display_name global parts)) (scope_from (take s.opened y.scopes) s.scope global (scopes_of parts))
+  meaning_there s (cheap t) = fault_there (length y.imports) (Undefined t) (definition_index y (cheap_in s.region t)) None tt
   meaning_there s (forward n) = unnamed_there (s.unnamed + n - 1)
   meaning_there s (backward n) = backward_there (nat_le n s.unnamed) (s.unnamed - n)
   meaning_there s _ = tt
@@ -249,15 +249,15 @@ module _ (y : Symbols) (fit : AreDefinitionsFit y.definitions) where
     definition_bounded None j = tt
     definition_bounded (Some d) j = value_bounded d.context d.value j.0 j.1
 
-    meant_bounded : (w : Meaning) → IsThere (length y.imports) w → IfOk (form_of_meaning constant y w) Bounded
+    meant_bounded : (w : Binding) → IsThere (length y.imports) w → IfOk (form_of_meaning constant y w) Bounded
     meant_bounded (imported_as k) j = j
     meant_bounded (defined_at i) j = definition_bounded (slice_get y.definitions i) (definition_at y.definitions i fit)
 
   within_bounded : (n : ℕ) (s : Context) (e : Tree) → IsPlaced s → IsSmallTree e → IfOk (norm n y s e) Bounded
   within_bounded zero s e at small = tt
   within_bounded (suc n) s e at small =
-      by_bounded (length y.imports) (λ operand. meaning_of y s operand >>= form_of_meaning (norm n y) y) s at
-      (λ operand. after_it (IsThere (length y.imports)) Bounded (meaning_of y s operand) (form_of_meaning (norm n y) y) (meaning_there y s operand) (λ w j. meant_bounded (norm n y) (λ t f. within_bounded n t f) w j)) e small
+      by_bounded (length y.imports) (λ operand. binding_of y s operand >>= form_of_meaning (norm n y) y) s at
+      (λ operand. after_it (IsThere (length y.imports)) Bounded (binding_of y s operand) (form_of_meaning (norm n y) y) (meaning_there y s operand) (λ w j. meant_bounded (norm n y) (λ t f. within_bounded n t f) w j)) e small
 
   pub norm_bounded : (s : Context) (e : Tree) → IsPlaced s → IsSmallTree e → IfOk (norm_of y s e) Bounded
   norm_bounded s e at small = within_bounded (suc (length y.definitions)) s e at small

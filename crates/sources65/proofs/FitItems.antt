@@ -9,10 +9,10 @@ use Rattle.std.proofs.lemmas.Bool.Decides.{nat_tests}
 use Rattle.base65.specs.Store.{Files}
 use Rattle.syntax65.specs.Tokens.{Lexeme}
 use Rattle.syntax65.specs.declared.fault.ExpandFault.{ExpandFault}
-use Rattle.syntax65.specs.declared.place.Place.{Place}
-use Rattle.expand65.specs.Blocks.{Block, the_last, one_more, with_line, Whole}
+use Rattle.syntax65.specs.declared.source_location.SourceLocation.{SourceLocation}
+use Rattle.expand65.specs.Blocks.{Block, the_last, one_more, with_line, CompleteBlock}
 use Rattle.expand65.specs.declared.blocks.BlockKind.{BlockKind}
-use Rattle.expand65.specs.Lines.{come_back, fitted, in_turn, IsOpened, Item, written, played, labelled, branch, mark, Left, left, localised, Mark, numbered, outside_macro, reached, repeating, Replacing, Stop, Taken, taken_as, Takes, TakesFrom, turns}
+use Rattle.expand65.specs.Lines.{come_back, body_line_tokens, in_iteration, IsOpened, Item, written, played, labelled, branch, mark, RemainingInput, remaining_input, with_local_names, InputEnd, file_lines_after, outside_macro, location_after, repeat_substitution, Substitution, LocatedError, LineAndRest, taken_as, TakesNextLine, TakesFrom, iterations}
 use Rattle.sources65.proofs.FitLines.{AreAllFit, AreBases, Each, IsReplacingFit, most, replaced_fit, with_locals_fit}
 use Rattle.sources65.proofs.FitTokens.{AreBytes, AreFit, HaveBytes, IsLineFit, number_limit, read_fit}
 use Rattle.semantics65.proofs.Segments.{all_more}
@@ -27,28 +27,28 @@ tokens_in (labelled ts ∷ is) = length ts + tokens_in is
 tokens_in (_ ∷ is) = tokens_in is
 
 -- and how many more may be given
-abbrev pub tokens_left : Left → ℕ
+abbrev pub tokens_left : RemainingInput → ℕ
 tokens_left l = 4096 * l.room + tokens_in l.items
 
-tokens_behind : (i : Item) (is : List Item) → tokens_in is ≤ tokens_in (i ∷ is)
-tokens_behind x1 is = grind arith
+tokens_after : (i : Item) (is : List Item) → tokens_in is ≤ tokens_in (i ∷ is)
+tokens_after x1 is = grind arith
 
 tokens_append : (is js : List Item) → tokens_in (is ++ js) ≡ tokens_in is + tokens_in js
 tokens_append [] js = omega arith
 tokens_append (labelled ts ∷ is) js = let more = tokens_append is js in omega (arith, more)
 tokens_append (_ ∷ is) js = tokens_append is js
 
-pub localised_tokens : (names : List (List ℕ)) (is : List Item) → tokens_in (localised names is) ≡ tokens_in is
+pub localised_tokens : (names : List (List ℕ)) (is : List Item) → tokens_in (with_local_names names is) ≡ tokens_in is
 localised_tokens names [] = refl
 localised_tokens names (mark k ∷ is) = refl
 localised_tokens names (labelled ts ∷ is) = ap (λ n. length ts + n) (localised_tokens names is)
 localised_tokens names (played r ts ∷ is) = localised_tokens names is
 localised_tokens names (_ ∷ is) = localised_tokens names is
 
-abbrev pub IsPlaceFit : Place → Type 0
+abbrev pub IsPlaceFit : SourceLocation → Type 0
 IsPlaceFit p = (is_utf8 p.file ≡ true) × (p.line < 4294967296)
 
-back_fit : (p : Place) (o : Option Place) → IsPlaceFit p → Each IsPlaceFit o → IsPlaceFit (come_back p o)
+back_fit : (p : SourceLocation) (o : Option SourceLocation) → IsPlaceFit p → Each IsPlaceFit o → IsPlaceFit (come_back p o)
 back_fit p x1 h j = grind (arith, common_steps)
 
 module _ (m : Files) where
@@ -62,12 +62,12 @@ module _ (m : Files) where
   IsItemFit (mark k) = Each IsPlaceFit k.back
 
   -- what is left behind so many tokens
-  pub record IsLeftFit (n : ℕ) (l : Left) : Type 0 where
+  pub record IsLeftFit (n : ℕ) (l : RemainingInput) : Type 0 where
     pub items : AllByRecursion IsItemFit l.items
     pub place : IsPlaceFit l.place
     pub few : n + tokens_left l ≤ most
 
-  pub fewer : (k n : ℕ) (l : Left) → k ≤ n → IsLeftFit n l → IsLeftFit k l
+  pub fewer : (k n : ℕ) (l : RemainingInput) → k ≤ n → IsLeftFit n l → IsLeftFit k l
   fewer k n l le h = let few = h.few in record { items = h.items; place = h.place; few = omega (arith, le, few) }
 
   -- ---- Lines that are put in.
@@ -76,26 +76,26 @@ module _ (m : Files) where
   abbrev pub AreLines : List Item → Type 0
   AreLines is = AllByRecursion IsItemFit is × (tokens_in is ≡ 0)
 
-  pub numbered_lines : (n : ℕ) (lines : List (List ℕ)) → (HaveBytes m → AllByRecursion AreBytes lines) → n + length lines < 4294967296 → AreLines (numbered n lines)
+  pub numbered_lines : (n : ℕ) (lines : List (List ℕ)) → (HaveBytes m → AllByRecursion AreBytes lines) → n + length lines < 4294967296 → AreLines (file_lines_after n lines)
   numbered_lines n [] h few = (tt, refl)
   numbered_lines n (line ∷ lines) h few = let more = numbered_lines (n + 1) lines (λ all. (h all).1) (omega arith) in (((omega arith, (λ all. (h all).0)), more.0), more.1)
 
-  pub played_lines : (r : Replacing) (body : List (List Lexeme)) → IsReplacingFit m r → AreAllFit m body → AreLines (map (played r) body)
+  pub played_lines : (r : Substitution) (body : List (List Lexeme)) → IsReplacingFit m r → AreAllFit m body → AreLines (map (played r) body)
   played_lines r [] fit h = (tt, refl)
   played_lines r (ts ∷ body) fit h = let more = played_lines r body fit h.1 in (((fit, h.0), more.0), more.1)
 
-  pub turns_lines : (variable : List (List ℕ)) (body : List (List Lexeme)) (t n : ℕ) → AreAllFit m body → t + n < number_limit → AreLines (turns (repeating variable) body t n)
+  pub turns_lines : (variable : List (List ℕ)) (body : List (List Lexeme)) (t n : ℕ) → AreAllFit m body → t + n < number_limit → AreLines (iterations (repeat_substitution variable) body t n)
   turns_lines variable body t zero h few = (tt, refl)
   turns_lines variable body t (suc n) h few =
-      let first = played_lines (in_turn (repeating variable) t) body (record { arguments = (((omega arith), tt), tt); count = tt; locals = tt; number = omega arith }) h in
+      let first = played_lines (in_iteration (repeat_substitution variable) t) body (record { arguments = (((omega arith), tt), tt); count = tt; locals = tt; number = omega arith }) h in
       let more = turns_lines variable body (t + 1) n h (omega arith) in
       let one = first.1 in
       let two = more.1 in
-      let all = tokens_append (map (played (in_turn (repeating variable) t)) body) (turns (repeating variable) body (t + 1) n) in
-      (all_append IsItemFit (map (played (in_turn (repeating variable) t)) body) (turns (repeating variable) body (t + 1) n) first.0 more.0, omega (arith, all, one, two))
+      let all = tokens_append (map (played (in_iteration (repeat_substitution variable) t)) body) (iterations (repeat_substitution variable) body (t + 1) n) in
+      (all_append IsItemFit (map (played (in_iteration (repeat_substitution variable) t)) body) (iterations (repeat_substitution variable) body (t + 1) n) first.0 more.0, omega (arith, all, one, two))
 
   -- lines and an end mark in front of what is left
-  pub pushed_fit : (n : ℕ) (is : List Item) (k : Mark) (l : Left) (p : Place) → IsLeftFit n l → AreLines is → Each IsPlaceFit k.back → IsPlaceFit p → IsLeftFit n (left (is ++ mark k ∷ l.items) l.room p)
+  pub pushed_fit : (n : ℕ) (is : List Item) (k : InputEnd) (l : RemainingInput) (p : SourceLocation) → IsLeftFit n l → AreLines is → Each IsPlaceFit k.back → IsPlaceFit p → IsLeftFit n (remaining_input (is ++ mark k ∷ l.items) l.room p)
   pushed_fit n is k l p h lines back place =
       let few = h.few in
       let none = lines.1 in
@@ -104,29 +104,29 @@ module _ (m : Files) where
 
   -- ---- Names of an expansion's own, and what is left behind it.
 
-  pub localised_fit : (names : List (List ℕ)) (is : List Item) → AreBases names → AllByRecursion IsItemFit is → AllByRecursion IsItemFit (localised names is)
+  pub localised_fit : (names : List (List ℕ)) (is : List Item) → AreBases names → AllByRecursion IsItemFit is → AllByRecursion IsItemFit (with_local_names names is)
   localised_fit names [] bases h = tt
   localised_fit names (played r ts ∷ is) bases h = ((with_locals_fit m names r bases h.0.0, h.0.1), localised_fit names is bases h.1)
   localised_fit names (mark k ∷ is) bases h = h
   localised_fit names (_ ∷ is) bases h = (h.0, localised_fit names is bases h.1)
 
-  pub behind_mark : (n : ℕ) (k : Mark) (is : List Item) (room : ℕ) (p : Place) → IsLeftFit n (left (mark k ∷ is) room p) → IsLeftFit n (left is room (come_back p k.back))
-  behind_mark n k is room p h = let few = h.few in record { items = h.items.1; place = back_fit p k.back h.place h.items.0; few = omega (arith, few) }
+  pub after_mark : (n : ℕ) (k : InputEnd) (is : List Item) (room : ℕ) (p : SourceLocation) → IsLeftFit n (remaining_input (mark k ∷ is) room p) → IsLeftFit n (remaining_input is room (come_back p k.back))
+  after_mark n k is room p h = let few = h.few in record { items = h.items.1; place = back_fit p k.back h.place h.items.0; few = omega (arith, few) }
 
-  behind_item : (n : ℕ) (i : Item) (is : List Item) (room : ℕ) (p : Place) → IsLeftFit n (left (i ∷ is) room p) → IsLeftFit n (left is room p)
-  behind_item n i is room p h = let few = h.few in let less = tokens_behind i is in record { items = h.items.1; place = h.place; few = omega (arith, few, less) }
+  after_item : (n : ℕ) (i : Item) (is : List Item) (room : ℕ) (p : SourceLocation) → IsLeftFit n (remaining_input (i ∷ is) room p) → IsLeftFit n (remaining_input is room p)
+  after_item n i is room p h = let few = h.few in let less = tokens_after i is in record { items = h.items.1; place = h.place; few = omega (arith, few, less) }
 
-  abbrev pub IsOutsideFit : ℕ → ℕ → ℕ × List Item × Place → Type 0
-  IsOutsideFit n room (c, is, p) = IsLeftFit n (left is room p)
+  abbrev pub IsOutsideFit : ℕ → ℕ → ℕ × List Item × SourceLocation → Type 0
+  IsOutsideFit n room (c, is, p) = IsLeftFit n (remaining_input is room p)
 
-  pub outside_fit : (n : ℕ) (is : List Item) (room : ℕ) (p : Place) → IsLeftFit n (left is room p) → Each (IsOutsideFit n room) (outside_macro is p)
+  pub outside_fit : (n : ℕ) (is : List Item) (room : ℕ) (p : SourceLocation) → IsLeftFit n (remaining_input is room p) → Each (IsOutsideFit n room) (outside_macro is p)
   outside_fit n [] room p h = tt
-  outside_fit n (mark k ∷ is) room p h = let j = behind_mark n k is room p h in grind (arith, common_steps, j, (outside_fit n is room (come_back p k.back) j))
-  outside_fit n (i ∷ is) room p h = outside_fit n is room p (behind_item n i is room p h)
+  outside_fit n (mark k ∷ is) room p h = let j = after_mark n k is room p h in grind (arith, common_steps, j, (outside_fit n is room (come_back p k.back) j))
+  outside_fit n (i ∷ is) room p h = outside_fit n is room p (after_item n i is room p h)
 
   -- ---- A line that is taken.
 
-  abbrev pub IsTakenFit : ℕ → Taken → Type 0
+  abbrev pub IsTakenFit : ℕ → LineAndRest → Type 0
   IsTakenFit n (Ok (Some ts, x)) = AreFit m ts × IsLeftFit (n + length ts) x
   IsTakenFit n (Ok (None, x)) = IsLeftFit n x
   IsTakenFit n (Err e) = ⊤
@@ -135,41 +135,41 @@ module _ (m : Files) where
   IsOpenedFit (Ok ts) = IsLineFit m ts
   IsOpenedFit (Err f) = ⊤
 
-  fitted_fit : (ts : List Lexeme) → AreFit m ts → IsOpenedFit (fitted ts)
+  fitted_fit : (ts : List Lexeme) → AreFit m ts → IsOpenedFit (body_line_tokens ts)
   fitted_fit ts h = grind (arith, common_steps, nat_tests)
 
   opened_fit : (i : Item) (q : Result (List Lexeme) ExpandFault) → IsItemFit i → IsOpened i q → IsOpenedFit q
   opened_fit x1 q h x2 = grind (arith, common_steps, (read_fit m), (replaced_fit m), fitted_fit)
 
-  reached_fit : (p : Place) (i : Item) → IsPlaceFit p → IsItemFit i → IsPlaceFit (reached p i)
+  reached_fit : (p : SourceLocation) (i : Item) → IsPlaceFit p → IsItemFit i → IsPlaceFit (location_after p i)
   reached_fit p (written n bytes) h j = (h.0, j.0)
   reached_fit p _ h j = h
 
-  line_behind : (n : ℕ) (i : Item) (is : List Item) (room : ℕ) (p : Place) → IsLeftFit n (left (i ∷ is) (suc room) p) → (ts : List Lexeme) → length ts ≤ 4096 → IsLeftFit (n + length ts) (left is room (reached p i))
-  line_behind n i is room p h ts short = let few = h.few in let less = tokens_behind i is in record { items = h.items.1; place = reached_fit p i h.place h.items.0; few = omega (arith, few, short, less) }
+  line_after : (n : ℕ) (i : Item) (is : List Item) (room : ℕ) (p : SourceLocation) → IsLeftFit n (remaining_input (i ∷ is) (suc room) p) → (ts : List Lexeme) → length ts ≤ 4096 → IsLeftFit (n + length ts) (remaining_input is room (location_after p i))
+  line_after n i is room p h ts short = let few = h.few in let less = tokens_after i is in record { items = h.items.1; place = reached_fit p i h.place h.items.0; few = omega (arith, few, short, less) }
 
-  a_line : (n : ℕ) (i : Item) (is : List Item) (room : ℕ) (p : Place) (q : Result (List Lexeme) ExpandFault) → IsLeftFit n (left (i ∷ is) (suc room) p) → IsOpened i q → IsTakenFit n (taken_as q (left is room (reached p i)))
-  a_line n i is room p x1 h o = grind (arith, common_steps, (opened_fit i x1 h.items.0 o), (line_behind n i is room p h))
+  a_line : (n : ℕ) (i : Item) (is : List Item) (room : ℕ) (p : SourceLocation) (q : Result (List Lexeme) ExpandFault) → IsLeftFit n (remaining_input (i ∷ is) (suc room) p) → IsOpened i q → IsTakenFit n (taken_as q (remaining_input is room (location_after p i)))
+  a_line n i is room p x1 h o = grind (arith, common_steps, (opened_fit i x1 h.items.0 o), (line_after n i is room p h))
 
-  from_fit : (n : ℕ) (is : List Item) (room : ℕ) (p : Place) (t : Taken) → IsLeftFit n (left is room p) → TakesFrom is room p t → IsTakenFit n t
+  from_fit : (n : ℕ) (is : List Item) (room : ℕ) (p : SourceLocation) (t : LineAndRest) → IsLeftFit n (remaining_input is room p) → TakesFrom is room p t → IsTakenFit n t
   from_fit n [] room p t h e = subst (IsTakenFit n) (sym e) h
   from_fit n (mark k ∷ is) room p t h e = subst (IsTakenFit n) (sym e) h
   from_fit n (_ ∷ is) zero p t h e = subst (IsTakenFit n) (sym e) tt
   from_fit n (i ∷ is) (suc room) p t h (q, o, e) = subst (IsTakenFit n) (sym e) (a_line n i is room p q h o)
 
-  pub taken_fit : (n : ℕ) (l : Left) (t : Taken) → IsLeftFit n l → Takes l t → IsTakenFit n t
+  pub taken_fit : (n : ℕ) (l : RemainingInput) (t : LineAndRest) → IsLeftFit n l → TakesNextLine l t → IsTakenFit n t
   taken_fit n l t h takes = from_fit n l.items l.room l.place t h takes
 
   -- ---- Blocks.
 
-  abbrev pub IsBlockFit : ℕ → Result (Whole × Left) Stop → Type 0
+  abbrev pub IsBlockFit : ℕ → Result (CompleteBlock × RemainingInput) LocatedError → Type 0
   IsBlockFit n (Ok (b, x)) = AreAllFit m b.0 × IsLeftFit n x
   IsBlockFit n (Err e) = ⊤
 
   with_line_fit : (k : BlockKind) (body : List (List Lexeme)) (ts : List Lexeme) → AreAllFit m body → AreFit m ts → AreAllFit m (with_line k body ts)
   with_line_fit k body ts h j = grind (arith, common_steps, all_more)
 
-  pub block_fit : (n : ℕ) (k : BlockKind) (d : ℕ) (body : List (List Lexeme)) (l : Left) (q : Result (Whole × Left) Stop) → AreAllFit m body → IsLeftFit n l → Block k d body l q → IsBlockFit n q
+  pub block_fit : (n : ℕ) (k : BlockKind) (d : ℕ) (body : List (List Lexeme)) (l : RemainingInput) (q : Result (CompleteBlock × RemainingInput) LocatedError) → AreAllFit m body → IsLeftFit n l → Block k d body l q → IsBlockFit n q
   block_fit n k _ _ _ _ h j (the_last d body l x ts b t e) = let line = taken_fit n l (Ok (Some ts, x)) j t in (h, fewer n (n + length ts) x (omega arith) line.1)
   block_fit n k _ _ _ _ h j (one_more d c body l x ts r t e more) =
       let line = taken_fit n l (Ok (Some ts, x)) j t in

@@ -7,7 +7,7 @@ use Rattle.std.proofs.lemmas.Bool.Decides.{nat_tests}
 use Rattle.std.proofs.lemmas.Slice.Eq.{bytes_eq-Decides}
 use Rattle.std.proofs.lemmas.List.{length-append}
 use Rattle.std.proofs.lemmas.List.Folds.{list_any-append}
-use Rattle.semantics65.specs.Numbering.{names_once, once}
+use Rattle.semantics65.specs.Numbering.{names_once, distinct_keys}
 use Rattle.sources65.proofs.FitContents.{IsAmong}
 use Rattle.sources65.proofs.SoundForms.{all_append}
 
@@ -61,9 +61,9 @@ module _ {A : Type 0} (eq : A → A → Bool) (same : (a b : A) → eq a b ≡ t
       by true e h more_of =
           let is : n ≡ x = same n x e in
           let before : one (is_in found x) ≡ 0 = ap one (subst (λ z. is_in found z ≡ false) is none) in
-          let behind : one (is_in (found ++ n ∷ []) x) ≡ 1 = ap one (subst (λ z. is_in (found ++ n ∷ []) z ≡ true) is (new_one found n)) in
+          let following : one (is_in (found ++ n ∷ []) x) ≡ 1 = ap one (subst (λ z. is_in (found ++ n ∷ []) z ≡ true) is (new_one found n)) in
           let more = no_fewer xs found n in
-          omega (arith, before, behind, more)
+          omega (arith, before, following, more)
       by false e h more = let a = stays found n x in let b = more h in omega (arith, a, b)
 
 -- ---- Names of files.
@@ -114,11 +114,11 @@ upto_has (suc n) k lt = by (nat_eq k n) refl (λ less. upto_has n k less)
     by true e more = refl
     by false e more = more (grind (arith, nat_tests))
 
-once_few : (keys found ks : List ℕ) → length found ≤ how_many nat_eq is_number own_number keys found → AllByRecursion (λ k. list_any (nat_eq k) keys ≡ true) ks → length (once found ks) ≤ length keys
+once_few : (keys found ks : List ℕ) → length found ≤ how_many nat_eq is_number own_number keys found → AllByRecursion (λ k. list_any (nat_eq k) keys ≡ true) ks → length (distinct_keys found ks) ≤ length keys
 once_few keys found [] h all = let few = most nat_eq is_number own_number keys found in omega (arith, h, few)
 once_few keys found (n ∷ ns) h all = by (list_any (nat_eq n) found) refl (λ k. once_few keys found ns k all.1) (λ k. once_few keys (found ++ n ∷ []) ns k all.1)
   where
-    by : (b : Bool) → list_any (nat_eq n) found ≡ b → (length found ≤ how_many nat_eq is_number own_number keys found → length (once found ns) ≤ length keys) → (length (found ++ n ∷ []) ≤ how_many nat_eq is_number own_number keys (found ++ n ∷ []) → length (once (found ++ n ∷ []) ns) ≤ length keys) → length (once (if b then found else found ++ n ∷ []) ns) ≤ length keys
+    by : (b : Bool) → list_any (nat_eq n) found ≡ b → (length found ≤ how_many nat_eq is_number own_number keys found → length (distinct_keys found ns) ≤ length keys) → (length (found ++ n ∷ []) ≤ how_many nat_eq is_number own_number keys (found ++ n ∷ []) → length (distinct_keys (found ++ n ∷ []) ns) ≤ length keys) → length (distinct_keys (if b then found else found ++ n ∷ []) ns) ≤ length keys
     by true e old new = old h
     by false e old new =
         let more = one_more nat_eq is_number own_number keys found n all.0 e in
@@ -129,14 +129,14 @@ below_has : (n : ℕ) (ks : List ℕ) → AllByRecursion (λ k. k < n) ks → Al
 below_has n [] h = tt
 below_has n (k ∷ ks) h = (upto_has n k h.0, below_has n ks h.1)
 
-pub below_few : (n : ℕ) (ks : List ℕ) → AllByRecursion (λ k. k < n) ks → length (once [] ks) ≤ n
+pub below_few : (n : ℕ) (ks : List ℕ) → AllByRecursion (λ k. k < n) ks → length (distinct_keys [] ks) ≤ n
 below_few n ks h = let few = once_few (upto n) [] ks (omega arith) (below_has n ks h) in let same = upto_length n in omega (arith, few, same)
 
 -- as many as are listed, at most
-pub once_short : (found ks : List ℕ) → length (once found ks) ≤ length found + length ks
+pub once_short : (found ks : List ℕ) → length (distinct_keys found ks) ≤ length found + length ks
 once_short found [] = omega arith
 once_short found (k ∷ ks) = by (list_any (nat_eq k) found) (once_short found ks) (once_short (found ++ k ∷ []) ks)
   where
-    by : (b : Bool) → length (once found ks) ≤ length found + length ks → length (once (found ++ k ∷ []) ks) ≤ length (found ++ k ∷ []) + length ks → length (once (if b then found else found ++ k ∷ []) ks) ≤ length found + suc (length ks)
+    by : (b : Bool) → length (distinct_keys found ks) ≤ length found + length ks → length (distinct_keys (found ++ k ∷ []) ks) ≤ length (found ++ k ∷ []) + length ks → length (distinct_keys (if b then found else found ++ k ∷ []) ks) ≤ length found + suc (length ks)
     by true old new = omega (arith, old)
     by false old new = let longer = length-append found (k ∷ []) in omega (arith, new, longer)

@@ -17,8 +17,8 @@ use Rattle.syntax65.specs.declared.lexing.tokens.TokenKind.{TokenKind}
 use Rattle.syntax65.specs.declared.lexing.tokens.TokenKind.TheVariants as token
 use Rattle.object65.specs.Objects.{is_name, is_printed}
 use Rattle.expand65.specs.Fronts.{name_in, names_from}
-use Rattle.expand65.specs.Lines.{own_token, all_local, with_local, with_locals, Replacing, argument_at, replaced, stand_in}
-use Rattle.expand65.specs.Macros.{is_made, new_names, arguments_of, braces_behind, parts_within, put_in_first, unbraced}
+use Rattle.expand65.specs.Lines.{own_token, all_local, with_local, with_locals, Substitution, argument_at, substituted_line, replacement_for}
+use Rattle.expand65.specs.Macros.{is_made, new_names, arguments_of, braces_after, parts_within, put_in_first, without_braces}
 use Rattle.sources65.proofs.FitTokens.{all_drop, all_take, AreFit, IsFit, IsTokenFit}
 use Rattle.sources65.proofs.SoundForms.{all_append}
 
@@ -83,11 +83,11 @@ first_few t x1 = grind arith
 
 parts_few : (d : ℕ) (ts : List Lexeme) → length (parts_within d ts) ≤ length ts + 1
 parts_few d [] = omega arith
-parts_few d (t ∷ ts) = grind (arith, common_steps, (parts_few 0 ts), (parts_few (braces_behind d t) ts), (first_few t (parts_within (braces_behind d t) ts)))
+parts_few d (t ∷ ts) = grind (arith, common_steps, (parts_few 0 ts), (parts_few (braces_after d t) ts), (first_few t (parts_within (braces_after d t) ts)))
 
 pub arguments_few : (ts : List Lexeme) → length (arguments_of ts) ≤ length ts + 1
 arguments_few [] = omega arith
-arguments_few (t ∷ ts) = let same = length-map (parts_within 0 (t ∷ ts)) unbraced in let few = parts_few 0 (t ∷ ts) in omega (arith, same, few)
+arguments_few (t ∷ ts) = let same = length-map (parts_within 0 (t ∷ ts)) without_braces in let few = parts_few 0 (t ∷ ts) in omega (arith, same, few)
 
 -- ---- What is replaced, and by what.
 
@@ -107,7 +107,7 @@ module _ (m : Files) where
   abbrev AreLocalsFit : List (List ℕ × List Lexeme) → Type 0
   AreLocalsFit es = AllByRecursion (λ e. AreFit m e.1) es
 
-  pub record IsReplacingFit (r : Replacing) : Type 0 where
+  pub record IsReplacingFit (r : Substitution) : Type 0 where
     pub arguments : AreAllFit r.arguments
     pub count : Each (AreFit m) r.count
     pub locals : AreLocalsFit r.locals
@@ -120,15 +120,15 @@ module _ (m : Files) where
   argument_fit : (tss : List (List Lexeme)) (o : Option ℕ) → AreAllFit tss → Each (AreFit m) (argument_at tss o)
   argument_fit tss x1 h = grind (arith, common_steps, at_fit)
 
-  stand_in_fit : (r : Replacing) (k : TokenKind) (t : List ℕ) → IsReplacingFit r → Each (AreFit m) (stand_in r (k, t))
+  stand_in_fit : (r : Substitution) (k : TokenKind) (t : List ℕ) → IsReplacingFit r → Each (AreFit m) (replacement_for r (k, t))
   stand_in_fit r x1 t fit = grind (arith, common_steps, argument_fit, lookup_each)
 
   or_itself : (o : Option (List Lexeme)) (t : Lexeme) → Each (AreFit m) o → IsFit m t.0 t.1 → AreFit m (unwrap_or o (t ∷ []))
   or_itself x1 t h fit = grind (arith, common_steps)
 
-  pub replaced_fit : (r : Replacing) (ts : List Lexeme) → IsReplacingFit r → AreFit m ts → AreFit m (replaced r ts)
+  pub replaced_fit : (r : Substitution) (ts : List Lexeme) → IsReplacingFit r → AreFit m ts → AreFit m (substituted_line r ts)
   replaced_fit r [] fit h = tt
-  replaced_fit r (t ∷ ts) fit h = all_append (IsTokenFit m) (unwrap_or (stand_in r t) (t ∷ [])) (replaced r ts) (or_itself (stand_in r t) t (stand_in_fit r t.0 t.1 fit) h.0) (replaced_fit r ts fit h.1)
+  replaced_fit r (t ∷ ts) fit h = all_append (IsTokenFit m) (unwrap_or (replacement_for r t) (t ∷ [])) (substituted_line r ts) (or_itself (replacement_for r t) t (stand_in_fit r t.0 t.1 fit) h.0) (replaced_fit r ts fit h.1)
 
   -- ---- Arguments.
 
@@ -137,9 +137,9 @@ module _ (m : Files) where
 
   parts_fit : (d : ℕ) (ts : List Lexeme) → AreFit m ts → AreAllFit (parts_within d ts)
   parts_fit d [] h = (tt, tt)
-  parts_fit d (t ∷ ts) h = grind (arith, common_steps, (parts_fit 0 ts h.1), (parts_fit (braces_behind d t) ts h.1), first_fit)
+  parts_fit d (t ∷ ts) h = grind (arith, common_steps, (parts_fit 0 ts h.1), (parts_fit (braces_after d t) ts h.1), first_fit)
 
-  all_unbraced : (tss : List (List Lexeme)) → AreAllFit tss → AreAllFit (map unbraced tss)
+  all_unbraced : (tss : List (List Lexeme)) → AreAllFit tss → AreAllFit (map without_braces tss)
   all_unbraced [] h = tt
   all_unbraced (ts ∷ tss) h = grind (arith, common_steps, all_take, all_drop, (all_unbraced tss h.1))
 
@@ -168,5 +168,5 @@ module _ (m : Files) where
   locals_fit number [] es small bases h = h
   locals_fit number (name ∷ names) es small bases h = locals_fit number names (with_local es name (own_token number name ∷ [])) small bases.1 (local_fit es name (own_token number name ∷ []) h (own_fit m name number bases.0 small))
 
-  pub with_locals_fit : (names : List (List ℕ)) (r : Replacing) → AreBases names → IsReplacingFit r → IsReplacingFit (with_locals names r)
+  pub with_locals_fit : (names : List (List ℕ)) (r : Substitution) → AreBases names → IsReplacingFit r → IsReplacingFit (with_locals names r)
   with_locals_fit names r bases fit = grind (arith, common_steps, locals_fit)

@@ -4,7 +4,7 @@ use Rattle.std.specs.Prelude.{⊤, IfSome, filter_map, sum_by, unwrap_or}
 use Rattle.std.specs.List.{AllByRecursion, filter, flat_map, position}
 use Rattle.std.specs.Str.{bytes_eq, is_utf8}
 use Rattle.std.proofs.lemmas.List.Sums.{sum_by-cons}
-use Rattle.syntax65.specs.declared.place.Place.{Place}
+use Rattle.syntax65.specs.declared.source_location.SourceLocation.{SourceLocation}
 use Rattle.object65.specs.Form.{Form, lit, sec, imp, prefix, binary}
 use Rattle.object65.specs.Objects.{FitsBits, FragmentFits, ObjectFits, OriginFits}
 use Rattle.object65.specs.declared.object.Assert.{Assert}
@@ -14,7 +14,7 @@ use Rattle.object65.specs.declared.object.Fragment.TheVariants.{Literal, Fill, V
 use Rattle.object65.specs.declared.object.Origin.{Origin}
 use Rattle.object65.specs.declared.object.Section.{Section}
 use Rattle.semantics65.specs.Contents.{Content, Declaration, Exported, ForcedImport, Asserted, Part, Known, Filled, Waiting}
-use Rattle.semantics65.specs.Numbering.{all_joined, all_said, assert_files, assert_of, content_imports, export_files, export_of, files_named, files_of, fragment_of, fragments_of, import_keys, imports_in, in_files, is_empty, joined, key_of, number_of, numbered, object_with, optional_key, part_files, part_imports, part_len, parts_in, said_imports, section_keys, section_of, segments_asked}
+use Rattle.semantics65.specs.Numbering.{all_joined, all_said, assert_files, assert_of, content_imports, export_files, export_of, files_named, files_of, fragment_of, fragments_of, import_keys, imports_in, in_files, is_empty, merged_fragments, key_of, number_of, renumbered_form, object_with, optional_key, part_files, part_imports, part_len, parts_in, said_imports, section_keys, section_of, segments_asked}
 use Rattle.semantics65.specs.declared.contents.Segment.{Segment}
 use Rattle.sources65.proofs.FitContents.{IsAmong, IsContentFit, IsPartFit, IsSaidFit, IsWritten, flat_all}
 use Rattle.sources65.proofs.FitForms.{IsBounded, position_below}
@@ -85,7 +85,7 @@ module _ (files : List (List ℕ)) (names : List (List ℕ)) where
   abbrev IsName : List ℕ → Type 0
   IsName n = (is_utf8 n ≡ true) × IsAmong files n
 
-  written_name : (place : Place) (f : Form) → IsWritten files (length names) place f → IsName place.file
+  written_name : (place : SourceLocation) (f : Form) → IsWritten files (length names) place f → IsName place.file
   written_name place f h = (h.place.0, h.file)
 
   part_names : (p : Part) → IsPart p → AllByRecursion IsName (part_files p)
@@ -139,7 +139,7 @@ module _ (files : List (List ℕ)) (names : List (List ℕ)) where
       by (Some i) h = let below = h i refl in omega (arith, below, few)
 
   module _ (sections imports : List ℕ) (few_sections : length sections ≤ 4294967296) (few_imports : length imports ≤ 4294967296) where
-    numbered_fits : (f : Form) → IsBounded (length names) f → FitsBits (numbered sections imports f)
+    numbered_fits : (f : Form) → IsBounded (length names) f → FitsBits (renumbered_form sections imports f)
     numbered_fits (lit v) h = h
     numbered_fits (sec g a) h = (number_below 4294967296 sections g few_sections (omega arith), h)
     numbered_fits (imp k) h = number_below 4294967296 imports k few_imports (omega arith)
@@ -147,10 +147,10 @@ module _ (files : List (List ℕ)) (names : List (List ℕ)) where
     numbered_fits (binary op f g) h = (numbered_fits f h.0, numbered_fits g h.1)
 
     module _ (all : List (List ℕ)) (few : length all ≤ 4294967296) where
-      abbrev at : Place → Origin
+      abbrev at : SourceLocation → Origin
       at place = in_files all place
 
-      origin_fits : (place : Place) → place.line < 4294967296 → OriginFits (at place)
+      origin_fits : (place : SourceLocation) → place.line < 4294967296 → OriginFits (at place)
       origin_fits place h = (by (position (bytes_eq place.file) all) (λ k e. position_below (bytes_eq place.file) all k e), h)
         where
           by : (o : Option ℕ) → ((k : ℕ) → o ≡ Some k → k < length all) → IfSome o (λ k. k < 4294967296)
@@ -196,7 +196,7 @@ module _ (files : List (List ℕ)) (names : List (List ℕ)) where
           by true rest = let sum = sum_by-cons part_len p ps in let head = filled_one p (fragments_of at sections imports ps) in omega (arith, sum, head, rest)
           by false rest = let sum = sum_by-cons part_len p ps in omega (arith, sum, rest)
 
-      joined_fits : (f : Fragment) (fs : List Fragment) → IsFragment f → AllByRecursion IsFragment fs → filled (f ∷ fs) < 4294967296 → AllByRecursion FragmentFits (joined f fs)
+      joined_fits : (f : Fragment) (fs : List Fragment) → IsFragment f → AllByRecursion IsFragment fs → filled (f ∷ fs) < 4294967296 → AllByRecursion FragmentFits (merged_fragments f fs)
       joined_fits (Literal a) [] h all lt = (tt, tt)
       joined_fits (Fill m) [] h all lt = (omega arith, tt)
       joined_fits (Value width origin form) [] h all lt = (h, tt)

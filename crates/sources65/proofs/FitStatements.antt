@@ -10,7 +10,7 @@ use Rattle.syntax65.specs.Tokens.{Lexeme}
 use Rattle.syntax65.specs.Trees.{Tree}
 use Rattle.syntax65.specs.declared.expressions.words.ExprFault.{ExprFault}
 use Rattle.syntax65.specs.declared.instructions.names.Mnemonic.{Mnemonic}
-use Rattle.syntax65.specs.declared.lexing.tokens.Mark.TheVariants as mark
+use Rattle.syntax65.specs.declared.lexing.tokens.Punctuation.TheVariants as mark
 use Rattle.syntax65.specs.declared.lexing.tokens.TokenKind.TheVariants as token
 use Rattle.syntax65.specs.declared.lexing.tokens.AddressSize.{AddressSize}
 use Rattle.object65.specs.declared.object.Action.{Action}
@@ -26,8 +26,8 @@ use Rattle.ast65.specs.declared.language.Statement.{Statement}
 use Rattle.ast65.specs.declared.language.Statement.TheVariants as statement
 use Rattle.ast65.specs.declared.reading.words.Directive.{Directive}
 use Rattle.ast65.specs.declared.reading.words.Directive.TheVariants as directive
-use Rattle.ast65.specs.declared.reading.words.Elements.{Elements}
-use Rattle.ast65.specs.declared.reading.words.Names.{Names}
+use Rattle.ast65.specs.declared.reading.words.ElementKind.{ElementKind}
+use Rattle.ast65.specs.declared.reading.words.NameListDirective.{NameListDirective}
 use Rattle.sources65.proofs.Sounding.{after_first}
 use Rattle.sources65.proofs.FitTokens.{AreSmall, IsSmall, IsSmallTree, parsed_small}
 
@@ -35,7 +35,7 @@ use Rattle.sources65.proofs.FitTokens.{AreSmall, IsSmall, IsSmallTree, parsed_sm
 
 abbrev pub IsSmallItem : Item → Type 0
 IsSmallItem (item.Value e) = IsSmallTree e
-IsSmallItem (item.Text bytes) = ⊤
+IsSmallItem (item.StringLiteral bytes) = ⊤
 
 abbrev pub IsSmallOperand : Operand → Type 0
 IsSmallOperand operand.Absent = ⊤
@@ -74,17 +74,17 @@ told x = Ok x
 
 -- ---- Expressions.
 
-whole_small : (ts : List Lexeme) (e : Tree) (q : Result (Tree × ℕ) ExprFault) → AreSmall ts → IsParsed ts q → Ok e ≡ p.whole (length ts) q → IsSmallTree e
+whole_small : (ts : List Lexeme) (e : Tree) (q : Result (Tree × ℕ) ExprFault) → AreSmall ts → IsParsed ts q → Ok e ≡ p.complete_expression (length ts) q → IsSmallTree e
 whole_small ts e x1 small is h = grind (arith, common_steps, parsed_small)
 
 expression_small : (ts : List Lexeme) (e : Tree) → AreSmall ts → p.IsExpression ts (Ok e) → IsSmallTree e
 expression_small ts e small (q, is, h) = whole_small ts e q small is h
 
-behind_small : (ts : List Lexeme) (x : Tree × List Lexeme) (q : Result (Tree × ℕ) ExprFault) → AreSmall ts → IsParsed ts q → Ok x ≡ p.behind ts q → IsSmallTree x.0
-behind_small ts x x1 small is h = grind (arith, common_steps, parsed_small)
+after_small : (ts : List Lexeme) (x : Tree × List Lexeme) (q : Result (Tree × ℕ) ExprFault) → AreSmall ts → IsParsed ts q → Ok x ≡ p.expression_and_rest ts q → IsSmallTree x.0
+after_small ts x x1 small is h = grind (arith, common_steps, parsed_small)
 
 front_small : (ts : List Lexeme) (x : Tree × List Lexeme) → AreSmall ts → p.IsFront ts (Ok x) → IsSmallTree x.0
-front_small ts x small (q, is, h) = behind_small ts x q small is h
+front_small ts x small (q, is, h) = after_small ts x q small is h
 
 -- ---- Lists.
 
@@ -110,10 +110,10 @@ each_few {A} {B} Is (x ∷ xs) ys h = grind (arith, common_steps, (each_few Is x
 value_small : (ts : List Lexeme) (it : Item) → AreSmall ts → p.IsValue ts (Ok it) → IsSmallItem it
 value_small ts it small h = grind (arith, common_steps, (λ (e : Tree). expression_small ts e small))
 
-item_small : (which : Elements) (ts : List Lexeme) (it : Item) → AreSmall ts → p.IsItem which ts (Ok it) → IsSmallItem it
+item_small : (which : ElementKind) (ts : List Lexeme) (it : Item) → AreSmall ts → p.IsItem which ts (Ok it) → IsSmallItem it
 item_small x1 ts it small h = grind (arith, common_steps, value_small)
 
-items_small : (which : Elements) (parts : List (List Lexeme)) (its : List Item) → AllByRecursion AreSmall parts → p.EachIs (p.IsItem which) parts (Ok its) → AllByRecursion IsSmallItem its
+items_small : (which : ElementKind) (parts : List (List Lexeme)) (its : List Item) → AllByRecursion AreSmall parts → p.EachIs (p.IsItem which) parts (Ok its) → AllByRecursion IsSmallItem its
 items_small which [] its small h = let e : [] ≡ its = cc in subst (AllByRecursion IsSmallItem) e tt
 items_small which (part ∷ parts) its small h = grind (arith, common_steps, (λ (it : Item). item_small which part it small.0), (λ (zs : List Item). items_small which parts zs small.1))
 
@@ -144,10 +144,10 @@ operand_small ((k, t) ∷ ts) o small h = plain_small ((k, t) ∷ ts) o small h
 -- ---- Directives.
 
 module _ (n : ℕ) (some : 1 ≤ n) where
-  segment_fit : (w : Option (List ℕ)) (own : Result (Option AddressSize) AsmFault) (x : Statement) → told x ≡ (p.understood w >>= (λ s. own >>= (λ o. if p.is_identifier s then Ok (statement.Segment s o) else p.unknown))) → IsFit n x
+  segment_fit : (w : Option (List ℕ)) (own : Result (Option AddressSize) AsmFault) (x : Statement) → told x ≡ (p.ok_or_not_understood w >>= (λ s. own >>= (λ o. if p.is_identifier s then Ok (statement.Segment s o) else p.unknown))) → IsFit n x
   segment_fit x1 x2 x h = grind (arith, common_steps)
 
-  names_fit : (which : Names) (ns : List (List ℕ)) → length ns ≤ n → IsFit n (p.names_statement which ns)
+  names_fit : (which : NameListDirective) (ns : List (List ℕ)) → length ns ≤ n → IsFit n (p.names_statement which ns)
   names_fit x1 ns le = grind (arith, common_steps)
 
   file_part_fit : (parts : List (List Lexeme)) (x : Statement) → p.IsFilePart parts (Ok x) → IsFit n x
@@ -160,15 +160,15 @@ module _ (n : ℕ) (some : 1 ≤ n) where
   assertion_fit : (parts : List (List Lexeme)) (x : Statement) → AllByRecursion AreSmall parts → p.IsAssertion parts (Ok x) → IsFit n x
   assertion_fit [] x small h = absurd cc
   assertion_fit (e ∷ []) x small h = absurd cc
-  assertion_fit (e ∷ a ∷ rest) x small (q, is, h) = asserted_fit q (p.understood (p.word_of a) >>= p.action_word) (p.words_of rest) x (λ t e. expression_small _ t small.0 (subst (p.IsExpression _) e is)) h
+  assertion_fit (e ∷ a ∷ rest) x small (q, is, h) = asserted_fit q (p.ok_or_not_understood (p.word_of a) >>= p.action_word) (p.words_of rest) x (λ t e. expression_small _ t small.0 (subst (p.IsExpression _) e is)) h
 
   directive_fit : (d : Directive) (ts : List Lexeme) (x : Statement) → length ts + 1 ≤ n → AreSmall ts → p.IsDirective d ts (Ok x) → IsFit n x
   directive_fit (directive.List which width) ts x le small h = grind (arith, common_steps, (λ (its : List Item). items_small which (p.parts_of ts) its (parts_small ts small)))
-  directive_fit directive.EndedText ts x le small h = grind (arith, common_steps)
+  directive_fit directive.Asciiz ts x le small h = grind (arith, common_steps)
   directive_fit (directive.Amount which) ts x le small h = grind (arith, common_steps)
-  directive_fit directive.FilePart ts x le small h = file_part_fit (p.parts_of ts) x h
+  directive_fit directive.Incbin ts x le small h = file_part_fit (p.parts_of ts) x h
   directive_fit directive.Segment [] x le small h = absurd cc
-  directive_fit directive.Segment (t ∷ ts) x le small h = segment_fit (p.quoted_in t) (p.size_behind ts) x h
+  directive_fit directive.Segment (t ∷ ts) x le small h = segment_fit (p.quoted_in t) (p.size_after ts) x h
   directive_fit (directive.Lone which) [] x le small h = grind (arith, common_steps)
   directive_fit (directive.Lone which) (t ∷ ts) x le small h = absurd cc
   directive_fit directive.Scope [] x le small h = grind (arith, common_steps)
@@ -194,7 +194,7 @@ module _ (n : ℕ) (some : 1 ≤ n) where
   begun_fit : (ts : List Lexeme) (x : Statement) → length ts ≤ n → AreSmall ts → p.IsStatement ts (Ok x) → IsFit n x
   begun_fit [] x le small h = absurd cc
   begun_fit ((token.Identifier, s) ∷ ts) x le small h = named_fit s ts x small.1 h
-  begun_fit ((token.Directive, d) ∷ ts) x le small h = after_first (IsFit n) (p.understood (p.directive_of d)) (λ a. p.IsDirective a ts) x (λ a k. directive_fit a ts x (omega (arith, le)) small.1 k) h
+  begun_fit ((token.Directive, d) ∷ ts) x le small h = after_first (IsFit n) (p.ok_or_not_understood (p.directive_of d)) (λ a. p.IsDirective a ts) x (λ a k. directive_fit a ts x (omega (arith, le)) small.1 k) h
   begun_fit ((_, t) ∷ ts) x le small h = absurd cc
 
 pub statement_fit : (t : Lexeme) (ts : List Lexeme) (x : Statement) → AreSmall (t ∷ ts) → p.IsStatement (t ∷ ts) (Ok x) → IsFit (length (t ∷ ts)) x

@@ -15,20 +15,20 @@ use Rattle.syntax65.specs.declared.expressions.words.ExprFault.{ExprFault}
 use Rattle.syntax65.specs.declared.fault.ExpandFault.{ExpandFault}
 use Rattle.syntax65.specs.declared.fault.ExpandFault.TheVariants as faults
 use Rattle.syntax65.specs.declared.lexing.tokens.TokenKind.{TokenKind}
-use Rattle.syntax65.specs.declared.place.Place.{Place}
-use Rattle.expand65.specs.Blocks.{Block, Branch, Whole}
+use Rattle.syntax65.specs.declared.source_location.SourceLocation.{SourceLocation}
+use Rattle.expand65.specs.Blocks.{Block, Branch, CompleteBlock}
 use Rattle.expand65.specs.declared.blocks.BlockKind.{BlockKind}
 use Rattle.expand65.specs.declared.blocks.BlockKind.TheVariants as kind
 use Rattle.expand65.specs.declared.fronts.Directive.{Directive}
 use Rattle.expand65.specs.declared.fronts.Directive.TheVariants.{Macro, EndMacro, ExitMacro, Local, Repeat, EndRepeat, If, ElseIf, Else, EndIf, Include, Error, End}
-use Rattle.expand65.specs.declared.fronts.Test.{Test}
-use Rattle.expand65.specs.declared.fronts.Test.TheVariants.{True}
-use Rattle.expand65.specs.Expansion.{acted, at_mark, bytes_in, directed, file_named, first_file, first_state, found_or, include_file, IsStep, last_condition, Leads, Next, statement, nothing, fault, not_opened, opened_in, Reaches, further, given, split, step_behind, step_from, unless_mislabelled}
-use Rattle.expand65.specs.Fronts.{front_directive, is_mislabelled, label_len, line_directive, string_of, understood}
-use Rattle.expand65.specs.Lines.{Definition, in_line, Item, line_limit, played, labelled, branch, Left, left, lines_of, Mark, Replacing, numbered, outside_macro, put_before, repeating, Taken, Takes, turns}
-use Rattle.expand65.specs.Macros.{arguments_of, called, counted, defined, entered, exit_macro, exited, given_to, header_of, local_line, macro_at, macro_of, mark_from, ordinary, repeat_line, repeat_of, repeated, turns_of}
-use Rattle.expand65.specs.State.{decided, else_line, ended_if, found, goes, gives, ends, stops, if_alone, if_line, leads, parses, decides, takes, takes_block, searches, Meaning, State, Stated, label, plain, Step, Stepped, unless_refused, with_items, with_left}
-use Rattle.sources65.proofs.FitItems.{AreLines, behind_mark, block_fit, fewer, IsLeftFit, IsOutsideFit, IsPlaceFit, IsTakenFit, localised_fit, localised_tokens, numbered_lines, outside_fit, played_lines, pushed_fit, taken_fit, turns_lines}
+use Rattle.expand65.specs.declared.fronts.ConditionKind.{ConditionKind}
+use Rattle.expand65.specs.declared.fronts.ConditionKind.TheVariants.{True}
+use Rattle.expand65.specs.Expansion.{line_step, at_mark, bytes_in, directive_step, file_named, first_file, first_state, found_or, include_file, IsStep, last_condition, StepReaches, Next, statement, nothing, fault, not_opened, opened_in, ReachesNext, further, given, label_step, step_after, step_from, unless_mislabelled}
+use Rattle.expand65.specs.Fronts.{front_directive, is_mislabelled, label_len, line_directive, string_of, ok_or_unknown}
+use Rattle.expand65.specs.Lines.{Definition, in_line, Item, line_limit, played, labelled, branch, RemainingInput, remaining_input, lines_of, InputEnd, Substitution, file_lines_after, outside_macro, put_before, repeat_substitution, LineAndRest, TakesNextLine, iterations}
+use Rattle.expand65.specs.Macros.{arguments_of, call_result, with_one_more_call, definition_step, with_input, exit_macro, exit_result, given_to, header_of, local_line, macro_at, macro_of, mark_from, ordinary, repeat_line, repeat_of, iterations_step, iterations_of}
+use Rattle.expand65.specs.State.{condition_step, else_line, ended_if, after_false_condition, goes, gives, ends, stops, if_alone, if_line, leads, parses, decides, takes, takes_block, searches, EnvironmentView, State, ExpandedStatement, label, plain, ExpansionStep, StepResult, unless_refused, with_items, with_remaining}
+use Rattle.sources65.proofs.FitItems.{AreLines, after_mark, block_fit, fewer, IsLeftFit, IsOutsideFit, IsPlaceFit, IsTakenFit, localised_fit, localised_tokens, numbered_lines, outside_fit, played_lines, pushed_fit, taken_fit, turns_lines}
 use Rattle.sources65.proofs.FitLines.{AreAllFit, arguments_few, arguments_fit, Each, lookup_each, new_names_fit}
 use Rattle.sources65.proofs.FitTokens.{all_drop, all_take, AreBytes, AreFit, HaveBytes, IsTokenFit}
 use Rattle.semantics65.proofs.Segments.{all_more}
@@ -73,12 +73,12 @@ lines_few : (bs : List ℕ) → length (lines_of bs) ≤ length bs
 lines_few [] = omega arith
 lines_few (b ∷ bs) = grind (arith, common_steps, (lines_few bs), (put_few b (lines_of bs)))
 
-file_lines : (m : Files) (name bytes : List ℕ) → IsFileFit m name bytes → AreLines m (numbered 0 (lines_of bytes))
+file_lines : (m : Files) (name bytes : List ℕ) → IsFileFit m name bytes → AreLines m (file_lines_after 0 (lines_of bytes))
 file_lines m name bytes (text, all, short) = let few = lines_few bytes in numbered_lines m 0 (lines_of bytes) (λ have. lines_bytes bytes (all have)) (omega (arith, few, short))
 
 -- ---- States.
 
-abbrev pub tokens_of : Stated → List Lexeme
+abbrev pub tokens_of : ExpandedStatement → List Lexeme
 tokens_of (label ts) = ts
 tokens_of (plain ts) = ts
 
@@ -86,16 +86,16 @@ tokens_of (plain ts) = ts
 abbrev IsFew : Result (ℕ × List (List ℕ)) ExpandFault → Type 0
 IsFew q = IfOk q (λ h. h.0 ≤ 65536)
 
-turns_few : (o : Option ℤ) → IfOk (turns_of o) (λ n. n ≤ 65536)
+turns_few : (o : Option ℤ) → IfOk (iterations_of o) (λ n. n ≤ 65536)
 turns_few x1 = grind (arith, common_steps, nat_tests)
 
-repeat_few : (k : Meaning) (ts : List Lexeme) (q : Result (Tree × ℕ) ExprFault) → IsFew (repeat_of k ts q)
+repeat_few : (k : EnvironmentView) (ts : List Lexeme) (q : Result (Tree × ℕ) ExprFault) → IsFew (repeat_of k ts q)
 repeat_few k ts q = grind (arith, common_steps, turns_few)
 
 module _ (m : Files) where
   -- so many tokens were given, or are acted on, and each macro that was called took one more
   pub record IsStateFit (n : ℕ) (s : State) : Type 0 where
-    pub left : IsLeftFit m (n + s.expansions) s.left
+    pub remaining_input : IsLeftFit m (n + s.expansions) s.left
     pub macros : AllByRecursion (λ e. AreAllFit m e.1.body) s.macros
 
   -- fewer were given
@@ -106,22 +106,22 @@ module _ (m : Files) where
   macro_fit ms x1 t h = grind (arith, common_steps, lookup_each)
 
   module _ (n : ℕ) where
-    abbrev pub IsKept : Stepped → Type 0
+    abbrev pub IsKept : StepResult → Type 0
     IsKept (goes t) = IsStateFit n t
     IsKept (gives x t) = AreFit m (tokens_of x) × IsStateFit (n + length (tokens_of x)) t
     IsKept (ends t) = ⊤
     IsKept (stops e) = ⊤
 
     -- a step that leads to nothing else, whatever it reads
-    abbrev Keeps : Step → Type 0
+    abbrev Keeps : ExpansionStep → Type 0
     Keeps (leads x) = IsKept x
     Keeps (parses ts next) = (q : Result (Tree × ℕ) ExprFault) → Keeps (next q)
     Keeps (decides k test ts next) = (c : Result Bool ExpandFault) → Keeps (next c)
-    Keeps (takes l next) = (t : Taken) → Takes l t → Keeps (next t)
-    Keeps (takes_block k l next) = (b : Whole) (x : Left) → Block k 0 [] l (Ok (b, x)) → IsKept (next b x)
+    Keeps (takes l next) = (t : LineAndRest) → TakesNextLine l t → Keeps (next t)
+    Keeps (takes_block k l next) = (b : CompleteBlock) (x : RemainingInput) → Block k 0 [] l (Ok (b, x)) → IsKept (next b x)
     Keeps (searches l names next) = (q : Result (List ℕ × List ℕ) ExpandFault) → IsSearchFit m q → Keeps (next q)
 
-    led_fit : (step : Step) (r : Stepped) → Keeps step → Leads m step r → IsKept r
+    led_fit : (step : ExpansionStep) (r : StepResult) → Keeps step → StepReaches m step r → IsKept r
     led_fit (leads x) r fit h = subst IsKept (sym h) fit
     led_fit (parses ts next) r fit (q, p, h) = led_fit (next q) r (fit q) h
     led_fit (decides k test ts next) r fit (c, p, h) = led_fit (next c) r (fit c) h
@@ -132,35 +132,35 @@ module _ (m : Files) where
 
     -- ---- What steps go through.
 
-    unless : {A : Type 0} (s : State) (q : Result A ExpandFault) (after : A → Step) → ((x : A) → q ≡ Ok x → Keeps (after x)) → Keeps (unless_refused s q after)
+    unless : {A : Type 0} (s : State) (q : Result A ExpandFault) (after : A → ExpansionStep) → ((x : A) → q ≡ Ok x → Keeps (after x)) → Keeps (unless_refused s q after)
     unless s (Ok x) after h = h x refl
     unless s (Err f) after h = tt
 
-    alone : (s : State) (ts : List Lexeme) (after : Step) → Keeps after → Keeps (if_alone s ts after)
+    alone : (s : State) (ts : List Lexeme) (after : ExpansionStep) → Keeps after → Keeps (if_alone s ts after)
     alone s [] after h = h
     alone s (t ∷ ts) after h = tt
 
-    enters : (s : State) (is : List Item) (k : Mark) (p : Place) → IsStateFit n s → AreLines m is → Each IsPlaceFit k.back → IsPlaceFit p → IsKept (entered s is k p)
+    enters : (s : State) (is : List Item) (k : InputEnd) (p : SourceLocation) → IsStateFit n s → AreLines m is → Each IsPlaceFit k.back → IsPlaceFit p → IsKept (with_input s is k p)
     enters s is k p fit lines back place = let inner = pushed_fit m (n + s.expansions) is k s.left p fit.left lines back place in grind (arith, common_steps, inner)
 
     module _ (s : State) (fit : IsStateFit n s) where
-      block : (k : BlockKind) (b : Whole) (x : Left) → Block k 0 [] s.left (Ok (b, x)) → AreAllFit m b.0 × IsLeftFit m (n + s.expansions) x
+      block : (k : BlockKind) (b : CompleteBlock) (x : RemainingInput) → Block k 0 [] s.left (Ok (b, x)) → AreAllFit m b.0 × IsLeftFit m (n + s.expansions) x
       block k b x p = block_fit m (n + s.expansions) k 0 [] s.left (Ok (b, x)) tt fit.left p
 
       -- ---- Conditions.
 
-      finds : (b : Branch) (x : Left) → IsLeftFit m (n + s.expansions) x → IsKept (found s b x)
+      finds : (b : Branch) (x : RemainingInput) → IsLeftFit m (n + s.expansions) x → IsKept (after_false_condition s b x)
       finds x1 x h = grind (arith, common_steps)
 
-      decides_on : (b : Bool) → Keeps (decided s b)
+      decides_on : (b : Bool) → Keeps (condition_step s b)
       decides_on true = record { left = fit.left; macros = fit.macros }
       decides_on false = λ b x p. finds b.1 x (block kind.Skipped b x p).1
 
-      if_on : (k : Meaning) (test : Test) (ts : List Lexeme) → Keeps (if_line k s test ts)
-      if_on k test ts = λ c. unless s c (decided s) (λ b e. decides_on b)
+      if_on : (k : EnvironmentView) (test : ConditionKind) (ts : List Lexeme) → Keeps (if_line k s test ts)
+      if_on k test ts = λ c. unless s c (condition_step s) (λ b e. decides_on b)
 
       else_on : (o : Option (Bool × List Bool)) → Keeps (else_line s o)
-      else_on (Some (false, bs)) = λ b x p. record { left = (block kind.Passed b x p).1; macros = fit.macros }
+      else_on (Some (false, bs)) = λ b x p. record { left = (block kind.RemainingBranches b x p).1; macros = fit.macros }
       else_on _ = tt
 
       end_if_on : (o : Option (Bool × List Bool)) → IsKept (ended_if s o)
@@ -168,11 +168,11 @@ module _ (m : Files) where
 
       -- ---- Macros.
 
-      defines_on : (name : List ℕ) (params : List (List ℕ)) (o : Option Definition) → Keeps (defined s name params o)
+      defines_on : (name : List ℕ) (params : List (List ℕ)) (o : Option Definition) → Keeps (definition_step s name params o)
       defines_on name params (Some d) = tt
       defines_on name params None = λ b x p. (let h = block kind.Macro b x p in record { left = h.1; macros = all_more (λ (e : List ℕ × Definition). AreAllFit m e.1.body) s.macros (name, record { params = params; body = b.0 }) fit.macros h.0 })
 
-      exits_on : (o : Option (ℕ × List Item × Place)) → Each (IsOutsideFit m (n + s.expansions) s.left.room) o → IsKept (exited s o)
+      exits_on : (o : Option (ℕ × List Item × SourceLocation)) → Each (IsOutsideFit m (n + s.expansions) s.left.room) o → IsKept (exit_result s o)
       exits_on x1 h = grind (arith, common_steps)
 
       local_on : (ts : List Lexeme) → AreFit m ts → IsKept (local_line s ts)
@@ -180,17 +180,17 @@ module _ (m : Files) where
 
       -- ---- Repeats and included files.
 
-      repeats_on : (count : ℕ) (variable : List (List ℕ)) → count ≤ 65536 → Keeps (repeated s count variable)
-      repeats_on count variable small = λ b x p. (let h = block kind.Repeat b x p in enters (with_left s x) (turns (repeating variable) b.0 0 count) (mark_from s false None) x.place (record { left = h.1; macros = fit.macros }) (turns_lines m variable b.0 0 count h.0 (omega (arith, small))) tt h.1.place)
+      repeats_on : (count : ℕ) (variable : List (List ℕ)) → count ≤ 65536 → Keeps (iterations_step s count variable)
+      repeats_on count variable small = λ b x p. (let h = block kind.Repeat b x p in enters (with_remaining s x) (iterations (repeat_substitution variable) b.0 0 count) (mark_from s false None) x.place (record { left = h.1; macros = fit.macros }) (turns_lines m variable b.0 0 count h.0 (omega (arith, small))) tt h.1.place)
 
-      repeat_on : (k : Meaning) (ts : List Lexeme) → Keeps (repeat_line k s ts)
+      repeat_on : (k : EnvironmentView) (ts : List Lexeme) → Keeps (repeat_line k s ts)
       repeat_on k ts = λ q. unless s (repeat_of k ts q) _ (λ h e. repeats_on h.0 h.1 (subst IsFew e (repeat_few k ts q)))
 
       include_on : (file : List ℕ) → Keeps (include_file s file)
-      include_on file = λ q found. unless s q _ (λ f e. (let h = subst (IsSearchFit m) e found in enters s (numbered 0 (lines_of f.1)) (mark_from s false (Some s.left.place)) (record { file = f.0; line = 0 }) fit (file_lines m f.0 f.1 h) fit.left.place (h.0, omega arith)))
+      include_on file = λ q after_false_condition. unless s q _ (λ f e. (let h = subst (IsSearchFit m) e after_false_condition in enters s (file_lines_after 0 (lines_of f.1)) (mark_from s false (Some s.left.place)) (record { file = f.0; line = 0 }) fit (file_lines m f.0 f.1 h) fit.left.place (h.0, omega arith)))
 
-      directed_on : (k : Meaning) (d : Directive) (ts : List Lexeme) → AreFit m ts → Keeps (directed k s d ts)
-      directed_on k Macro ts h = unless s (understood (header_of ts)) _ (λ x e. defines_on x.0 x.1 (macro_of s.macros x.0))
+      directed_on : (k : EnvironmentView) (d : Directive) (ts : List Lexeme) → AreFit m ts → Keeps (directive_step k s d ts)
+      directed_on k Macro ts h = unless s (ok_or_unknown (header_of ts)) _ (λ x e. defines_on x.0 x.1 (macro_of s.macros x.0))
       directed_on k EndMacro ts h = alone s ts (leads (not_opened s)) tt
       directed_on k ExitMacro ts h = alone s ts (leads (exit_macro s)) (exits_on (outside_macro s.left.items s.left.place) (outside_fit m (n + s.expansions) s.left.items s.left.room s.left.place fit.left))
       directed_on k Local ts h = local_on ts h
@@ -200,30 +200,30 @@ module _ (m : Files) where
       directed_on k ElseIf ts h = else_on (last_condition s)
       directed_on k Else ts h = alone s ts (else_line s (last_condition s)) (else_on (last_condition s))
       directed_on k EndIf ts h = alone s ts (leads (ended_if s (last_condition s))) (end_if_on (last_condition s))
-      directed_on k Include ts h = unless s (understood (string_of ts)) (include_file s) (λ file e. include_on file)
-      directed_on k Error ts h = unless s (understood (string_of ts)) (λ text. leads (stops (faults.Error text, s.left.place))) (λ text e. tt)
+      directed_on k Include ts h = unless s (ok_or_unknown (string_of ts)) (include_file s) (λ file e. include_on file)
+      directed_on k Error ts h = unless s (ok_or_unknown (string_of ts)) (λ text. leads (stops (faults.Error text, s.left.place))) (λ text e. tt)
       directed_on k End ts h = alone s ts (leads (goes (with_items s []))) (let few = fit.left.few in record { left = record { items = tt; place = fit.left.place; few = omega (arith, few) }; macros = fit.macros })
 
     -- ---- Calls, and other lines.
 
-    calls_on : (s : State) (ts : List Lexeme) → IsStateFit (n + suc (length ts)) s → AreFit m ts → (d : Definition) → AreAllFit m d.body → IsKept (called s d (arguments_of ts))
+    calls_on : (s : State) (ts : List Lexeme) → IsStateFit (n + suc (length ts)) s → AreFit m ts → (d : Definition) → AreAllFit m d.body → IsKept (call_result s d (arguments_of ts))
     calls_on s ts fit h d body =
         let few = fit.left.few in
         let less = arguments_few ts in
-        let inner : IsStateFit n (counted s) = record { left = fewer m (n + (s.expansions + 1)) ((n + suc (length ts)) + s.expansions) s.left (omega arith) fit.left; macros = fit.macros } in
-        let given : Replacing = given_to d (arguments_of ts) (s.expansions + 1) in
+        let inner : IsStateFit n (with_one_more_call s) = record { left = fewer m (n + (s.expansions + 1)) ((n + suc (length ts)) + s.expansions) s.left (omega arith) fit.left; macros = fit.macros } in
+        let given : Substitution = given_to d (arguments_of ts) (s.expansions + 1) in
         let lines = played_lines m given d.body (record { arguments = arguments_fit m ts h; count = (omega (arith, few, less), tt); locals = tt; number = omega (arith, few) }) body in
-        grind (arith, common_steps, (enters (counted s) (map (played given) d.body) (mark_from s true None) s.left.place inner lines tt fit.left.place))
+        grind (arith, common_steps, (enters (with_one_more_call s) (map (played given) d.body) (mark_from s true None) s.left.place inner lines tt fit.left.place))
 
     ordinary_on : (s : State) (ts : List Lexeme) → IsStateFit (n + length ts) s → AreFit m ts → IsKept (ordinary s ts)
     ordinary_on s [] fit h = fewer_given n 0 s fit
     ordinary_on s (t ∷ ts) fit h = grind (arith, common_steps, (macro_fit s.macros t.0 t.1 fit.macros), (calls_on s ts fit h.1))
 
-    acted_on : (k : Meaning) (s : State) (ts : List Lexeme) (o : Option Directive) → IsStateFit (n + length ts) s → AreFit m ts → Keeps (acted k s ts o)
+    acted_on : (k : EnvironmentView) (s : State) (ts : List Lexeme) (o : Option Directive) → IsStateFit (n + length ts) s → AreFit m ts → Keeps (line_step k s ts o)
     acted_on k s ts (Some d) fit h = directed_on s (fewer_given n (length ts) s fit) k d (drop 1 ts) (all_drop (IsTokenFit m) 1 ts h)
     acted_on k s ts None fit h = ordinary_on s ts fit h
 
-    split_on : (k : Meaning) (s : State) (ts : List Lexeme) (d : Option Directive) (len : ℕ) → IsStateFit (n + length ts) s → AreFit m ts → Keeps (split k s ts d len)
+    split_on : (k : EnvironmentView) (s : State) (ts : List Lexeme) (d : Option Directive) (len : ℕ) → IsStateFit (n + length ts) s → AreFit m ts → Keeps (label_step k s ts d len)
     split_on k s ts d zero fit h = acted_on k s ts d fit h
     split_on k s ts d (suc len) fit h =
         let few = fit.left.few in
@@ -231,27 +231,27 @@ module _ (m : Files) where
         let rest = length-drop (suc len) ts in
         (all_take (IsTokenFit m) (suc len) ts h, record { left = record { items = (all_drop (IsTokenFit m) (suc len) ts h, fit.left.items); place = fit.left.place; few = omega (arith, few, front, rest) }; macros = fit.macros })
 
-    line_on : (k : Meaning) (s : State) (ts : List Lexeme) (b : Bool) → IsStateFit (n + length ts) s → AreFit m ts → Keeps (unless_mislabelled k s ts b)
+    line_on : (k : EnvironmentView) (s : State) (ts : List Lexeme) (b : Bool) → IsStateFit (n + length ts) s → AreFit m ts → Keeps (unless_mislabelled k s ts b)
     line_on k s ts true fit h = tt
     line_on k s ts false fit h = split_on k s ts (line_directive ts) (label_len ts) fit h
 
     -- ---- A step.
 
-    mark_on : (s : State) (is : List Item) → IsStateFit n s → IsLeftFit m (n + s.expansions) (left is s.left.room s.left.place) → IsKept (at_mark s is)
-    mark_on s x1 fit h = grind (arith, common_steps, behind_mark)
+    mark_on : (s : State) (is : List Item) → IsStateFit n s → IsLeftFit m (n + s.expansions) (remaining_input is s.left.room s.left.place) → IsKept (at_mark s is)
+    mark_on s x1 fit h = grind (arith, common_steps, after_mark)
 
-    behind_on : (k : Meaning) (s : State) → IsStateFit n s → (t : Taken) → IsTakenFit m (n + s.expansions) t → Keeps (step_behind k s t)
-    behind_on k s fit (Ok (Some ts, x)) h = line_on k (with_left s x) ts (is_mislabelled ts) (record { left = fewer m ((n + length ts) + s.expansions) ((n + s.expansions) + length ts) x (omega arith) h.1; macros = fit.macros }) h.0
-    behind_on k s fit (Ok (None, x)) h = mark_on (with_left s x) x.items (record { left = h; macros = fit.macros }) h
-    behind_on k s fit (Err e) h = tt
+    after_on : (k : EnvironmentView) (s : State) → IsStateFit n s → (t : LineAndRest) → IsTakenFit m (n + s.expansions) t → Keeps (step_after k s t)
+    after_on k s fit (Ok (Some ts, x)) h = line_on k (with_remaining s x) ts (is_mislabelled ts) (record { left = fewer m ((n + length ts) + s.expansions) ((n + s.expansions) + length ts) x (omega arith) h.1; macros = fit.macros }) h.0
+    after_on k s fit (Ok (None, x)) h = mark_on (with_remaining s x) x.items (record { left = h; macros = fit.macros }) h
+    after_on k s fit (Err e) h = tt
 
     -- the first line, and what else is left
-    from_on : (k : Meaning) (s : State) (is : List Item) → IsStateFit n s → IsLeftFit m (n + s.expansions) (left is s.left.room s.left.place) → Keeps (step_from k s is)
+    from_on : (k : EnvironmentView) (s : State) (is : List Item) → IsStateFit n s → IsLeftFit m (n + s.expansions) (remaining_input is s.left.room s.left.place) → Keeps (step_from k s is)
     from_on k s (labelled ts ∷ is) fit h = let few = h.few in acted_on k (with_items s is) ts (front_directive ts) (record { left = record { items = h.items.1; place = h.place; few = omega (arith, few) }; macros = fit.macros }) h.items.0
     from_on k s (branch ts ∷ is) fit h = if_on (with_items s is) (record { left = record { items = h.items.1; place = h.place; few = h.few }; macros = fit.macros }) k True ts
-    from_on k s _ fit h = λ t takes. behind_on k s fit t (taken_fit m (n + s.expansions) s.left t fit.left takes)
+    from_on k s _ fit h = λ t takes. after_on k s fit t (taken_fit m (n + s.expansions) s.left t fit.left takes)
 
-  step_fit : (n : ℕ) (k : Meaning) (s : State) (r : Stepped) → IsStateFit n s → IsStep m k s r → IsKept n r
+  step_fit : (n : ℕ) (k : EnvironmentView) (s : State) (r : StepResult) → IsStateFit n s → IsStep m k s r → IsKept n r
   unfolding IsStep
   step_fit n k s r fit step = led_fit n (step_from k s s.left.items) r (from_on n k s s.left.items fit fit.left) step
 
@@ -262,7 +262,7 @@ module _ (m : Files) where
   IsNextFit n (nothing t) = ⊤
   IsNextFit n (fault e) = ⊤
 
-  pub next_fit : (n : ℕ) (k : Meaning) (s : State) (x : Next) → IsStateFit n s → Reaches m k s x → IsNextFit n x
+  pub next_fit : (n : ℕ) (k : EnvironmentView) (s : State) (x : Next) → IsStateFit n s → ReachesNext m k s x → IsNextFit n x
   next_fit n k s x fit (further _ t _ step more) = next_fit n k t x (step_fit n k s (goes t) fit step) more
   next_fit n k s x fit (given _ t y step) = step_fit n k s (gives y t) fit step
   next_fit n k s x fit _ = tt
@@ -272,8 +272,8 @@ module _ (m : Files) where
   pub first_fit : (file : List ℕ) (folders : List (List ℕ)) (bytes : List ℕ) → IsFileFit m file bytes → IsStateFit 0 (first_state file folders bytes)
   first_fit file folders bytes h =
       let place : IsPlaceFit (in_line file 0) = (h.0, omega arith) in
-      let none : IsLeftFit m 0 (left [] line_limit (in_line file 0)) = record { items = tt; place = place; few = omega arith } in
-      record { left = pushed_fit m 0 (numbered 0 (lines_of bytes)) (record { is_macro = false; conditions = 0; back = None }) (left [] line_limit (in_line file 0)) (in_line file 0) none (file_lines m file bytes h) tt place; macros = tt }
+      let none : IsLeftFit m 0 (remaining_input [] line_limit (in_line file 0)) = record { items = tt; place = place; few = omega arith } in
+      record { left = pushed_fit m 0 (file_lines_after 0 (lines_of bytes)) (record { is_macro = false; conditions = 0; back = None }) (remaining_input [] line_limit (in_line file 0)) (in_line file 0) none (file_lines m file bytes h) tt place; macros = tt }
 
   pub opened_fit : (file : List ℕ) (folders : List (List ℕ)) (s : State) → opened_in m file folders ≡ Ok s → IsStateFit 0 s
   opened_fit file folders s h = by (bytes_in (file_named m file)) (opened_bytes m file (file_named m file) refl) h

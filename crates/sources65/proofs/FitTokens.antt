@@ -11,18 +11,18 @@ use Rattle.base65.specs.Digit.{digits}
 use Rattle.base65.specs.Store.{Files}
 use Rattle.syntax65.specs.Expressions.{IsParsed, leaf_of, opening_at, opening_of, opening_of_mark, opening_of_word, text_at, Phrase, a_leaf, a_name, a_global, prefixed, enclosed, of_level, joined, negated}
 use Rattle.syntax65.specs.Forms.{IsForm, IsToken, number_of, plain_number_of, is_blank}
-use Rattle.syntax65.specs.Tokens.{IsRead, Lexeme, Reads, after_blanks}
+use Rattle.syntax65.specs.Tokens.{IsRead, Lexeme, HasTokens, after_blanks}
 use Rattle.syntax65.specs.Trees.{Tree, number, unary, binary}
-use Rattle.syntax65.specs.declared.expressions.words.Opening.{Opening}
-use Rattle.syntax65.specs.declared.expressions.words.Opening.TheVariants.{Number}
+use Rattle.syntax65.specs.declared.expressions.words.OperandStart.{OperandStart}
+use Rattle.syntax65.specs.declared.expressions.words.OperandStart.TheVariants.{Number}
 use Rattle.syntax65.specs.declared.lexing.tokens.LexFault.{LexFault}
-use Rattle.syntax65.specs.declared.lexing.tokens.Mark.{Mark}
+use Rattle.syntax65.specs.declared.lexing.tokens.Punctuation.{Punctuation}
 use Rattle.syntax65.specs.declared.lexing.tokens.TokenKind.{TokenKind}
 use Rattle.syntax65.specs.declared.lexing.tokens.TokenKind.TheVariants as token
 use Rattle.syntax65.proofs.Fronts.{empty}
 use Rattle.object65.specs.Objects.{is_name}
 use Rattle.expand65.specs.Macros.{is_made}
-use Rattle.semantics65.specs.Numbering.{AreNamed, IsNamed}
+use Rattle.semantics65.specs.Numbering.{AreSymbolNames, IsNamed}
 use Rattle.semantics65.proofs.Segments.{all_same}
 use Rattle.sources65.proofs.Sounding.{short_name}
 
@@ -81,7 +81,7 @@ AreFit m ts = AllByRecursion (IsTokenFit m) ts
 is_named : (m : Files) (k : TokenKind) (t : List ℕ) → IsFit m k t → IsNamed k t
 is_named m x1 t h = grind (arith, common_steps)
 
-pub are_named : (m : Files) (ts : List Lexeme) → AreFit m ts → AreNamed ts
+pub are_named : (m : Files) (ts : List Lexeme) → AreFit m ts → AreSymbolNames ts
 are_named m ts h = all_same (IsTokenFit m) (λ t. IsNamed t.0 t.1) (λ t fit. is_named m t.0 t.1 fit) ts h
 
 is_small : (m : Files) (k : TokenKind) (t : List ℕ) → HaveBytes m → IsFit m k t → IsSmall k
@@ -114,7 +114,7 @@ token_fit m first (token.Number v) t text at is bytes = let small = number_small
 token_fit m first (token.Character c) t text at is bytes = λ all. character_small c (take (length t) text) is.longest.stands.form (all_take IsByte (length t) text (bytes all))
 token_fit m first _ t text at is bytes = tt
 
-tokens_fit : (m : Files) (first : Bool) (line : List ℕ) (ts : List Lexeme) (end : Option LexFault) → Reads first line ts end → (HaveBytes m → AreBytes line) → AreFit m ts
+tokens_fit : (m : Files) (first : Bool) (line : List ℕ) (ts : List Lexeme) (end : Option LexFault) → HasTokens first line ts end → (HaveBytes m → AreBytes line) → AreFit m ts
 tokens_fit m first line [] end h bytes = tt
 tokens_fit m first line (t ∷ ts) end h bytes =
     let text : HaveBytes m → AreBytes (after_blanks line) = λ all. all_drop IsByte (prefix_len is_blank line) line (bytes all) in
@@ -124,7 +124,7 @@ some_bytes : (first : Bool) (k : TokenKind) (n : ℕ) (text : List ℕ) → IsTo
 some_bytes first k zero text h = absurd (empty first k text h.longest.stands)
 some_bytes first k (suc n) text h = omega arith
 
-tokens_few : (first : Bool) (line : List ℕ) (ts : List Lexeme) (end : Option LexFault) → Reads first line ts end → length ts ≤ length line
+tokens_few : (first : Bool) (line : List ℕ) (ts : List Lexeme) (end : Option LexFault) → HasTokens first line ts end → length ts ≤ length line
 tokens_few first line [] end h = omega arith
 tokens_few first line (t ∷ ts) end h =
     let few = tokens_few false (drop (length t.1) (after_blanks line)) ts end h.2 in
@@ -149,11 +149,11 @@ IsSmallTree (unary op e) = IsSmallTree e
 IsSmallTree (binary op e f) = IsSmallTree e × IsSmallTree f
 IsSmallTree _ = ⊤
 
-abbrev OpensSmall : Opening → Type 0
+abbrev OpensSmall : OperandStart → Type 0
 OpensSmall (Number v) = v < number_limit
 OpensSmall _ = ⊤
 
-mark_small : (m : Mark) → OpensSmall (opening_of_mark m)
+mark_small : (m : Punctuation) → OpensSmall (opening_of_mark m)
 mark_small m = grind (arith, common_steps)
 
 word_small : (text : List ℕ) → OpensSmall (opening_of_word text)
@@ -168,7 +168,7 @@ opening_small [] (suc i) h = tt
 opening_small (t ∷ ts) zero h = kind_small t.0 t.1 h.0
 opening_small (t ∷ ts) (suc i) h = opening_small ts i h.1
 
-leaf_small : (o : Opening) (text : List ℕ) (t : Tree) → leaf_of o text ≡ Some t → OpensSmall o → IsSmallTree t
+leaf_small : (o : OperandStart) (text : List ℕ) (t : Tree) → leaf_of o text ≡ Some t → OpensSmall o → IsSmallTree t
 leaf_small x1 text t e h = grind (arith, common_steps)
 
 module _ (ts : List Lexeme) (h : AreSmall ts) where

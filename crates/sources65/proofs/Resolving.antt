@@ -5,13 +5,13 @@ use Rattle.std.specs.List.{flat_map, list_any}
 use Rattle.std.specs.Str.{bytes_eq}
 use Rattle.std.proofs.lemmas.Grind.{common_steps, flat_map-append}
 use Rattle.std.proofs.lemmas.List.{append-nil}
-use Rattle.semantics65.specs.Symbols.{Laid, Symbols, symbols_of, with_new}
+use Rattle.semantics65.specs.Symbols.{LaidOutStatement, Symbols, symbols_of, with_new}
 use Rattle.semantics65.specs.Norms.{Extends}
-use Rattle.sources65.specs.Machine.{symbols_behind, IsSettled, FinalSettles}
+use Rattle.sources65.specs.Machine.{symbols_after, IsSettled, FinalSettles}
 use Rattle.base65.specs.Outcome.{◌>>=◌}
-use Rattle.semantics65.specs.Module.{at_place, given, used}
-use Rattle.semantics65.specs.Contents.{Part, put}
-use Rattle.syntax65.specs.declared.place.Place.{Place}
+use Rattle.semantics65.specs.Module.{at_place, given, value_result}
+use Rattle.semantics65.specs.Contents.{Part, section_part}
+use Rattle.syntax65.specs.declared.source_location.SourceLocation.{SourceLocation}
 use Rattle.semantics65.specs.declared.laid.Context.{Context}
 
 -- ---- Symbol tables that grow.
@@ -24,7 +24,7 @@ new_append known [] ys = refl
 new_append known (x ∷ xs) ys = new_append (if list_any (λ k. bytes_eq x k) known then known else known ++ x ∷ []) xs ys
 
 -- the symbol table of statements with one more behind them
-pub symbols_push : (ls : List Laid) (l : Laid) → symbols_of (ls ++ l ∷ []) ≡ symbols_behind (symbols_of ls) l
+pub symbols_push : (ls : List LaidOutStatement) (l : LaidOutStatement) → symbols_of (ls ++ l ∷ []) ≡ symbols_after (symbols_of ls) l
 symbols_push ls l = grind (arith, common_steps, flat_push, new_append)
 
 pub extends_same : (y : Symbols) → Extends y y
@@ -35,8 +35,8 @@ extends_same y = record {
   scopes = sym (append-nil y.scopes);
 }
 
-pub extends_behind : (y : Symbols) (l : Laid) → Extends y (symbols_behind y l)
-extends_behind y l = grind (arith, common_steps)
+pub extends_after : (y : Symbols) (l : LaidOutStatement) → Extends y (symbols_after y l)
+extends_after y l = grind (arith, common_steps)
 
 pub extends_then : (x y z : Symbols) → Extends x y → Extends y z → Extends x z
 extends_then x y z a b = grind (arith, common_steps)
@@ -44,9 +44,9 @@ extends_then x y z a b = grind (arith, common_steps)
 -- ---- Which pieces are settled at their line.
 
 -- what needs no value
-pub settled_given : (y : Symbols) (place : Place) (s : Context) (p : Part) → IsSettled y place s (given p) (put s.segment p)
+pub settled_given : (y : Symbols) (place : SourceLocation) (s : Context) (p : Part) → IsSettled y place s (given p) (section_part s.segment p)
 settled_given y place s p z names e = refl
 
 -- a value whose form is final
 pub final_settles : FinalSettles
-final_settles y place s why e f c final there z names more = ap (at_place place) (ap (λ r. r >>= used place s why) (final z more) ∙ there)
+final_settles y place s why e f c final there z names more = ap (at_place place) (ap (λ r. r >>= value_result place s why) (final z more) ∙ there)

@@ -3,9 +3,9 @@ use Rattle.std.proofs.Common.{arith, ◌≡◌, pos, ℕ, zero, ◌+◌, Bool, f
 use Rattle.std.specs.Prelude.{Result, Ok, Err, IfSome}
 use Rattle.std.specs.List.{flat_map}
 use Rattle.base65.specs.Outcome.{◌>>=◌}
-use Rattle.base65.specs.Own.{IsOwn}
+use Rattle.base65.specs.SystemErrors.{IsNoSystemError}
 use Rattle.base65.specs.declared.values.Op2.TheVariants.{Subtract}
-use Rattle.base65.proofs.Own.{Own, bad, choice, good, next}
+use Rattle.base65.proofs.SystemErrors.{Own, bad, choice, good, next}
 use Rattle.object65.specs.Form.{Form, lit, sec}
 use Rattle.object65.specs.Objects.{fits_width, is_file_name}
 use Rattle.object65.specs.declared.object.Action.{Action}
@@ -13,92 +13,92 @@ use Rattle.object65.specs.declared.object.Action.TheVariants as action
 use Rattle.object65.specs.declared.object.Width.{Width}
 use Rattle.object65.specs.declared.object.Width.TheVariants.{Branch}
 use Rattle.object65.proofs.SomeObject.{some_fold}
-use Rattle.ast65.specs.Faults.{is_outside}
-use Rattle.semantics65.specs.Contents.{decided, Declaration, export_said, import_fault, operand_form, stored, written, exported_names}
+use Rattle.ast65.specs.Faults.{is_system_error}
+use Rattle.semantics65.specs.Contents.{decided_assertion, Declaration, export_said, import_fault, operand_form, value_part, located_declarations, exported_names}
 use Rattle.sources65.specs.Laws.{is_found_outside}
 use Rattle.semantics65.specs.Layout.{Layout}
-use Rattle.semantics65.specs.Module.{absent_of, asserted, coming, datum, demanded, ending_of, equated, exported, Finished, followed_by, given, holds, imported, is_repeated, Made, made_of, object_of, operand, outcome_of, Piece, Purpose, resolved, Slot, slots_of, used, valued, waits, at_place, PlacedFault}
+use Rattle.semantics65.specs.Module.{absent_of, asserted, slot_result, datum, demanded, module_resolution, equated, exported, Resolution, result_then, given, resolved, imported, is_repeated, PieceResult, made_of, object_of, operand, outcome_of, Piece, Purpose, resolution_of, Slot, slots_of, value_result, valued, deferred, at_place, LocatedFault}
 use Rattle.semantics65.specs.Norms.{defined_form, norm_of}
-use Rattle.semantics65.specs.Symbols.{defined, named, Symbols, symbols_of}
-use Rattle.semantics65.specs.Types.{AsmFault, Place}
+use Rattle.semantics65.specs.Symbols.{definition_index, named, Symbols, symbols_of}
+use Rattle.semantics65.specs.Types.{AsmFault, SourceLocation}
 use Rattle.semantics65.specs.declared.laid.Context.{Context}
 use Rattle.sources65.proofs.SomeForms.{defined_own, folded_own, norm_own}
 
 -- ---- Parts.
 
-written_own : {A : Type 0} (place : Place) (a : A) → Own is_outside (written place a)
+written_own : {A : Type 0} (place : SourceLocation) (a : A) → Own is_system_error (located_declarations place a)
 written_own place a = choice (is_file_name place.file) _ _ (good a) (bad _ refl)
 
-stored_own : (width : Width) (place : Place) (f : Form) → Own is_outside (stored width place f)
+stored_own : (width : Width) (place : SourceLocation) (f : Form) → Own is_system_error (value_part width place f)
 stored_own width place (lit v) = choice (fits_width width v) _ _ (good _) (bad _ refl)
 stored_own width place f = written_own place _
 
-form_own : (width : Width) (s : Context) (f : Form) → Own is_outside (operand_form width s f)
+form_own : (width : Width) (s : Context) (f : Form) → Own is_system_error (operand_form width s f)
 form_own Branch s f = folded_own _ (record { own = some_fold.1 Subtract f (sec s.segment (pos (s.offset + 2))) })
 form_own width s f = good f
 
 -- ---- What is said.
 
-import_own : (y : Symbols) (n : List ℕ) → Own is_outside (import_fault y n)
+import_own : (y : Symbols) (n : List ℕ) → Own is_system_error (import_fault y n)
 import_own y n = record { own = grind (arith) }
 
-absent_own : (must : Bool) (n : List ℕ) → Own is_outside (absent_of must n)
+absent_own : (must : Bool) (n : List ℕ) → Own is_system_error (absent_of must n)
 absent_own must n = record { own = grind (arith) }
 
-export_own : (y : Symbols) (place : Place) (n : List ℕ) (absent : Result (List Declaration) AsmFault) → Own is_outside absent → (o : Option ℕ) → Own is_outside (export_said y place n absent o)
+export_own : (y : Symbols) (place : SourceLocation) (n : List ℕ) (absent : Result (List Declaration) AsmFault) → Own is_system_error absent → (o : Option ℕ) → Own is_system_error (export_said y place n absent o)
 export_own y place n absent h None = h
 export_own y place n absent h (Some j) = next (defined_form y j) _ (defined_own y j) (λ f. written_own place _)
 
-decided_own : (act : Action) (place : Place) (words : List ℕ) (f : Form) → Own is_outside (decided act place words f)
+decided_own : (act : Action) (place : SourceLocation) (words : List ℕ) (f : Form) → Own is_system_error (decided_assertion act place words f)
 decided_own action.Error place words (lit (pos zero)) = bad _ refl
 decided_own act place words (lit v) = good _
 decided_own act place words f = written_own place _
 
 -- ---- Pieces.
 
-used_own : (place : Place) (s : Context) (why : Purpose) (f : Form) → Own is_outside (used place s why f)
-used_own place s (datum width) f = next (stored width place f) _ (stored_own width place f) (λ p. good _)
+used_own : (place : SourceLocation) (s : Context) (why : Purpose) (f : Form) → Own is_system_error (value_result place s why f)
+used_own place s (datum width) f = next (value_part width place f) _ (stored_own width place f) (λ p. good _)
 used_own place s (operand width) f =
-    next (operand_form width s f >>= stored width place) _
+    next (operand_form width s f >>= value_part width place) _
     (next (operand_form width s f) _ (form_own width s f) (λ g. stored_own width place g))
     (λ p. good _)
 used_own place s equated f = good _
-used_own place s (asserted act words) f = next (decided act place words f) _ (decided_own act place words f) (λ ss. good _)
+used_own place s (asserted act words) f = next (decided_assertion act place words f) _ (decided_own act place words f) (λ ss. good _)
 
-made_own : (y : Symbols) (place : Place) (s : Context) (p : Piece) → Own is_outside (made_of y place s p)
+made_own : (y : Symbols) (place : SourceLocation) (s : Context) (p : Piece) → Own is_system_error (made_of y place s p)
 made_own y place s (given p) = good _
 made_own y place s (valued why e) = next (norm_of y s e) _ (norm_own y s e) (λ f. used_own place s why f)
 made_own y place s (imported n) = next (import_fault y n) _ (import_own y n) (λ ss. good _)
 made_own y place s (demanded n) = good _
 made_own y place s (exported must n) =
-    next (export_said y place n (absent_of must n) (defined y (named 0 n))) _
-    (export_own y place n (absent_of must n) (absent_own must n) (defined y (named 0 n)))
+    next (export_said y place n (absent_of must n) (definition_index y (named 0 n))) _
+    (export_own y place n (absent_of must n) (absent_own must n) (definition_index y (named 0 n)))
     (λ ss. good _)
 
 -- ---- Slots.
 
-placed_own : {A : Type 0} (place : Place) (r : Result A AsmFault) → Own is_outside r → Own is_found_outside (at_place place r)
+placed_own : {A : Type 0} (place : SourceLocation) (r : Result A AsmFault) → Own is_system_error r → Own is_found_outside (at_place place r)
 placed_own place (Ok x) h = good x
 placed_own place (Err e) h = bad _ h.own
 
-coming_own : (y : Symbols) (names : List (List ℕ)) (x : Slot) → Own is_found_outside (coming y names x)
-coming_own y names (holds c) = good _
-coming_own y names (waits w) =
+coming_own : (y : Symbols) (names : List (List ℕ)) (x : Slot) → Own is_found_outside (slot_result y names x)
+coming_own y names (resolved c) = good _
+coming_own y names (deferred w) =
     placed_own w.place _ (choice (is_repeated names w.piece) _ _ (good _) (made_own y w.place w.context w.piece))
 
-followed_own : (r : Result Made PlacedFault) (rest : Made → Finished) → Own is_found_outside r → ((m : Made) → Own is_found_outside (rest m).found) → Own is_found_outside (followed_by r rest).found
+followed_own : (r : Result PieceResult LocatedFault) (rest : PieceResult → Resolution) → Own is_found_outside r → ((m : PieceResult) → Own is_found_outside (rest m).found) → Own is_found_outside (result_then r rest).found
 followed_own (Ok m) rest h k = next (rest m).found _ (k m) (λ cs. good _)
 followed_own (Err e) rest h k = bad e h.own
 
-resolved_own : (y : Symbols) (names : List (List ℕ)) (xs : List Slot) → Own is_found_outside (resolved y names xs).found
+resolved_own : (y : Symbols) (names : List (List ℕ)) (xs : List Slot) → Own is_found_outside (resolution_of y names xs).found
 resolved_own y names [] = good []
-resolved_own y names (x ∷ xs) = followed_own (coming y names x) _ (coming_own y names x) (λ m. resolved_own y (names ++ exported_names m.content.said) xs)
+resolved_own y names (x ∷ xs) = followed_own (slot_result y names x) _ (coming_own y names x) (λ m. resolved_own y (names ++ exported_names m.content.said) xs)
 
 -- ---- Objects.
 
 object_own : (y : Layout) → Own is_found_outside (object_of y)
-object_own y = next (ending_of y.laid).found _ (resolved_own (symbols_of y.laid) [] (flat_map slots_of y.laid)) (λ cs. good _)
+object_own y = next (module_resolution y.laid).found _ (resolved_own (symbols_of y.laid) [] (flat_map slots_of y.laid)) (λ cs. good _)
 
-pub outcome_own : (y : Layout) (o : Option PlacedFault) → IfSome o (λ e. is_found_outside e ≡ false) → IsOwn is_found_outside (outcome_of y o).result
+pub outcome_own : (y : Layout) (o : Option LocatedFault) → IfSome o (λ e. is_found_outside e ≡ false) → IsNoSystemError is_found_outside (outcome_of y o).result
 outcome_own y None h = (object_own y).own
 outcome_own y (Some e) h = h

@@ -2,38 +2,38 @@
 use Rattle.std.proofs.Common.{◌≡◌, ℤ, pos, negsuc, ℕ, Bool, true, false, not, List, [], ◌∷◌, Option, Some, None, refl}
 use Rattle.std.specs.Prelude.{⊤, IfSome, ◌==◌, ◌&&◌}
 use Rattle.std.specs.List.{list_any}
-use Rattle.base65.proofs.Own.{Own, bad, good}
+use Rattle.base65.proofs.SystemErrors.{Own, bad, good}
 use Rattle.syntax65.specs.Trees.{Tree, name, unary, binary}
 use Rattle.syntax65.specs.declared.lexing.tokens.AddressSize.{AddressSize}
-use Rattle.ast65.specs.Faults.{is_outside}
+use Rattle.ast65.specs.Faults.{is_system_error}
 use Rattle.ast65.specs.declared.language.Statement.TheVariants as statement
-use Rattle.semantics65.specs.Layout.{alignment_fault, block_fault, changed_size, context_of, Cursor, defined_twice, first_fault, form_fault, is_open, Layout, layout_behind, line_fault, lost_scope, lost_scopes, missing_file, multiple_fault, opened_twice, operand_fault, or_then, own_size, part_fault, place_of, placing_faults, pop_fault, powers, scope_name, size_fault, stands_outside, trees_of, unless_fault, unless_there, when, where_there}
+use Rattle.semantics65.specs.Layout.{alignment_fault, block_fault, changed_size, context_of, Cursor, defined_twice, first_fault, form_fault, is_open, Layout, layout_after, line_fault, lost_scope, lost_scopes, missing_file, multiple_fault, opened_twice, operand_fault, or_then, own_size, part_fault, place_of, placing_faults, pop_fault, powers, scope_name, size_fault, stands_outside, trees_of, unless_fault, unless_there, when, where_there}
 use Rattle.semantics65.specs.Norms.{constant_in, mode_of}
 use Rattle.sources65.specs.Reading.{with_statement}
-use Rattle.semantics65.specs.Symbols.{Key, named, cheap_in, unnamed_at, key_defined, Scope, scope_from, scope_in, scopes_of, shown, Symbols, symbols_of, defined}
-use Rattle.semantics65.specs.Types.{AsmFault, BadAlignment, BadOperand, BadPart, BadScope, DefinedTwice, FileNotFound, NoSuchForm, NoSuchScope, NotUnderstood, Place, PopWithoutPush, ScopeTwice, SectionTooLarge, SizeChanged, Statement}
+use Rattle.semantics65.specs.Symbols.{Key, named, cheap_in, unnamed_at, key_defined, Scope, scope_from, scope_in, scopes_of, display_name, Symbols, symbols_of, definition_index}
+use Rattle.semantics65.specs.Types.{AsmFault, BadAlignment, BadOperand, BadPart, BadScope, DefinedTwice, FileNotFound, NoSuchForm, NoSuchScope, NotUnderstood, SourceLocation, PopWithoutPush, ScopeTwice, SectionTooLarge, SizeChanged, Statement}
 use Rattle.semantics65.specs.declared.laid.Context.{Context}
 use Rattle.semantics65.specs.declared.contents.Segment.{Segment}
 
 -- a fault, if there is one, that comes from no outside
 pub record MayFail (o : Option AsmFault) : Type 0 where
-  pub own : IfSome o (λ e. is_outside e ≡ false)
+  pub own : IfSome o (λ e. is_system_error e ≡ false)
 
 never : MayFail None
 never = record { own = tt }
 
-always : (e : AsmFault) → is_outside e ≡ false → MayFail (Some e)
+always : (e : AsmFault) → is_system_error e ≡ false → MayFail (Some e)
 always e h = record { own = h }
 
-when_own : (b : Bool) (e : AsmFault) → is_outside e ≡ false → MayFail (when b e)
+when_own : (b : Bool) (e : AsmFault) → is_system_error e ≡ false → MayFail (when b e)
 when_own true e h = always e h
 when_own false e h = never
 
-unless_own : {A : Type 0} (o : Option A) (e : AsmFault) → is_outside e ≡ false → MayFail (unless_there o e)
+unless_own : {A : Type 0} (o : Option A) (e : AsmFault) → is_system_error e ≡ false → MayFail (unless_there o e)
 unless_own None e h = always e h
 unless_own (Some x) e h = never
 
-where_own : {A : Type 0} (o : Option A) (e : AsmFault) → is_outside e ≡ false → MayFail (where_there o e)
+where_own : {A : Type 0} (o : Option A) (e : AsmFault) → is_system_error e ≡ false → MayFail (where_there o e)
 where_own None e h = never
 where_own (Some x) e h = always e h
 
@@ -45,7 +45,7 @@ then_own None b h j = j
 
 scope_own : (cs : List Scope) (scope : ℕ) (e : Tree) → MayFail (lost_scope cs scope e)
 scope_own cs scope (name false (n ∷ [])) = never
-scope_own cs scope (name global parts) = unless_own (scope_from cs scope global (scopes_of parts)) (NoSuchScope (shown global parts)) refl
+scope_own cs scope (name global parts) = unless_own (scope_from cs scope global (scopes_of parts)) (NoSuchScope (display_name global parts)) refl
 scope_own cs scope (unary op e) = scope_own cs scope e
 scope_own cs scope (binary op e f) = then_own (lost_scope cs scope e) (lost_scope cs scope f) (scope_own cs scope e) (scope_own cs scope f)
 scope_own cs scope _ = never
@@ -59,8 +59,8 @@ opened_own cs scope None = never
 opened_own cs scope (Some n) = where_own (scope_in cs scope n) (ScopeTwice n) refl
 
 twice_own : (y : Symbols) (o : Option Key) → MayFail (defined_twice y o)
-twice_own y (Some (named scope n)) = where_own (defined y (named scope n)) (DefinedTwice n) refl
-twice_own y (Some (cheap_in region n)) = where_own (defined y (cheap_in region n)) (DefinedTwice n) refl
+twice_own y (Some (named scope n)) = where_own (definition_index y (named scope n)) (DefinedTwice n) refl
+twice_own y (Some (cheap_in region n)) = where_own (definition_index y (cheap_in region n)) (DefinedTwice n) refl
 twice_own y (Some (unnamed_at k)) = never
 twice_own y None = never
 
@@ -73,7 +73,7 @@ mode_own y s own _ = never
 operand_own : (y : Symbols) (s : Context) (x : Statement) → MayFail (operand_fault y s x)
 operand_own y s (statement.Reserve n v) = when_own _ BadOperand refl
 operand_own y s (statement.Align n v) = when_own _ BadOperand refl
-operand_own y s (statement.FilePart bytes start len) = when_own _ BadOperand refl
+operand_own y s (statement.Incbin bytes start len) = when_own _ BadOperand refl
 operand_own y s _ = never
 
 multiple_own : (o : Option ℤ) → MayFail (multiple_fault o)
@@ -86,12 +86,12 @@ alignment_own y s (statement.Align n v) = multiple_own (constant_in y s n)
 alignment_own y s _ = never
 
 missing_own : (x : Statement) → MayFail (missing_file x)
-missing_own (statement.FilePart bytes start len) = unless_own bytes FileNotFound refl
+missing_own (statement.Incbin bytes start len) = unless_own bytes FileNotFound refl
 missing_own _ = never
 
 part_own : (y : Symbols) (s : Context) (x : Statement) → MayFail (part_fault y s x)
-part_own y s (statement.FilePart (Some bytes) start len) = when_own _ BadPart refl
-part_own y s (statement.FilePart None start len) = never
+part_own y s (statement.Incbin (Some bytes) start len) = when_own _ BadPart refl
+part_own y s (statement.Incbin None start len) = never
 part_own y s _ = never
 
 changed_own : (gs : List Segment) (own : Option AddressSize) (o : Option ℕ) → MayFail (changed_size gs own o)
@@ -170,9 +170,9 @@ line_own y w x = first_own
       ),
     )
 
-found_own : {A : Type 0} (o : Option AsmFault) (x : A) → MayFail o → Own is_outside (unless_fault o x)
+found_own : {A : Type 0} (o : Option AsmFault) (x : A) → MayFail o → Own is_system_error (unless_fault o x)
 found_own None x h = good x
 found_own (Some e) x h = bad e h.own
 
-pub statement_own : (y : Layout) (place : Place) (x : Statement) → Own is_outside (with_statement y place x)
-statement_own y place x = found_own (line_fault (symbols_of y.laid) y.cursor x) (layout_behind y place x) (line_own (symbols_of y.laid) y.cursor x)
+pub statement_own : (y : Layout) (place : SourceLocation) (x : Statement) → Own is_system_error (with_statement y place x)
+statement_own y place x = found_own (line_fault (symbols_of y.laid) y.cursor x) (layout_after y place x) (line_own (symbols_of y.laid) y.cursor x)

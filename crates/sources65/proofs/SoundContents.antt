@@ -7,22 +7,22 @@ use Rattle.std.specs.Str.{bytes_eq}
 use Rattle.std.proofs.lemmas.List.{append-nil}
 use Rattle.std.proofs.lemmas.List.Sums.{sum_by-append, sum_by-cons}
 use Rattle.base65.specs.Outcome.{◌>>=◌}
-use Rattle.syntax65.specs.declared.place.Place.{Place}
+use Rattle.syntax65.specs.declared.source_location.SourceLocation.{SourceLocation}
 use Rattle.object65.specs.Form.{Form}
 use Rattle.object65.specs.Objects.{are_names, is_file_name, is_name}
 use Rattle.object65.specs.declared.object.Action.{Action}
 use Rattle.object65.proofs.Reached.{names_push}
-use Rattle.semantics65.specs.Contents.{Content, Exported, Part, asking, decided, export_said, exported_names, import_fault, operand_form, stored, telling, written}
-use Rattle.semantics65.specs.Symbols.{Laid, asks_section, defined, Symbols, imported, imports_of, named, symbols_of, with_new}
+use Rattle.semantics65.specs.Contents.{Content, Exported, Part, section_request, decided_assertion, export_said, exported_names, import_fault, operand_form, value_part, declaration_content, located_declarations}
+use Rattle.semantics65.specs.Symbols.{LaidOutStatement, needs_section, definition_index, Symbols, import_index, imports_of, named, symbols_of, with_new}
 use Rattle.semantics65.specs.declared.laid.Context.{Context}
 use Rattle.ast65.specs.declared.fault.AsmFault.{AsmFault}
 use Rattle.ast65.specs.declared.fault.AsmFault.TheVariants.{FileNameTooLong}
 use Rattle.ast65.specs.declared.language.Statement.{Statement}
 use Rattle.sources65.specs.Machine.{SoundContents}
-use Rattle.semantics65.specs.Module.{Made, Piece, Purpose, Slot, absent_of, as_part, as_said, asserted, coming, datum, demanded, equated, exported, failed, given, holds, made_of, pieces_of, quietly, slots_of, used, valued, waiting_at, waits, at_place}
+use Rattle.semantics65.specs.Module.{PieceResult, Piece, Purpose, Slot, absent_of, as_part, as_said, asserted, slot_result, datum, demanded, equated, exported, failed_assertion_text, given, resolved, made_of, pieces_of, quietly, slots_of, value_result, valued, waiting_at, deferred, at_place}
 use Rattle.semantics65.specs.Module as purpose
 use Rattle.semantics65.specs.Norms.{defined_form, norm_of}
-use Rattle.semantics65.specs.Numbering.{all_said, once, parts_in, section_keys, segments_asked, IsMeasured, IsSound, IsSoundContent, part_len, statements_in}
+use Rattle.semantics65.specs.Numbering.{all_said, distinct_keys, parts_in, section_keys, segments_asked, IsMeasured, IsWellFormedStatement, IsSoundContent, part_len, statements_in}
 use Rattle.semantics65.proofs.Found.{AreFound, found_all_so, found_each, found_split, names_append}
 use Rattle.sources65.proofs.SoundForms.{Asks, all_append, definitions_pass, well_then}
 use Rattle.sources65.proofs.SoundParts.{IsKnown, any_ok, asked_in, below, content_is, if_found, placed_ok, slots_long}
@@ -37,11 +37,11 @@ known_key found g k h = grind (arith, common_steps)
 new_key : (found : List ℕ) (g k : ℕ) → nat_eq g k ≡ true → asked_in (if list_any (nat_eq k) found then found else found ++ k ∷ []) g ≡ true
 new_key found g k e = grind (arith, common_steps)
 
-kept : (ks found : List ℕ) (g : ℕ) → asked_in found g ≡ true → asked_in (once found ks) g ≡ true
+kept : (ks found : List ℕ) (g : ℕ) → asked_in found g ≡ true → asked_in (distinct_keys found ks) g ≡ true
 kept [] found g h = h
 kept (k ∷ ks) found g h = kept ks (if list_any (nat_eq k) found then found else found ++ k ∷ []) g (known_key found g k h)
 
-once_holds : (ks found : List ℕ) (g : ℕ) → asked_in ks g ≡ true → asked_in (once found ks) g ≡ true
+once_holds : (ks found : List ℕ) (g : ℕ) → asked_in ks g ≡ true → asked_in (distinct_keys found ks) g ≡ true
 once_holds [] found g h = absurd cc
 once_holds (k ∷ ks) found g h = grind (arith, common_steps, (once_holds ks (if list_any (nat_eq k) found then found else found ++ k ∷ []) g), asked_in, kept, new_key)
 
@@ -55,21 +55,21 @@ new_names (n ∷ ns) known h (good, all) = new_names ns (if list_any (λ k. byte
     go true e = h
     go false e = names_push known n h good e
 
-imports_named : (x : Statement) → IsSound x → AllByRecursion (λ n. is_name n ≡ true) (imports_of x)
+imports_named : (x : Statement) → IsWellFormedStatement x → AllByRecursion (λ n. is_name n ≡ true) (imports_of x)
 imports_named x1 h = grind (arith, common_steps, names_all)
 
-all_names : (ls : List Laid) (known : List (List ℕ)) → are_names known ≡ true → AllByRecursion (λ l. IsSound l.stated) ls → are_names (with_new known (flat_map (λ l. imports_of l.stated) ls)) ≡ true
+all_names : (ls : List LaidOutStatement) (known : List (List ℕ)) → are_names known ≡ true → AllByRecursion (λ l. IsWellFormedStatement l.stated) ls → are_names (with_new known (flat_map (λ l. imports_of l.stated) ls)) ≡ true
 all_names [] known h all = h
 all_names (x ∷ ls) known h (sound, all) =
     ap are_names (new_append known (imports_of x.stated) (flat_map (λ l. imports_of l.stated) ls))
     ∙ all_names ls (with_new known (imports_of x.stated)) (new_names (imports_of x.stated) known h (imports_named x.stated sound)) all
 
-imports_below : (y : Symbols) (n : List ℕ) (k : ℕ) → imported y n ≡ Some k → below (length y.imports) k ≡ true
+imports_below : (y : Symbols) (n : List ℕ) (k : ℕ) → import_index y n ≡ Some k → below (length y.imports) k ≡ true
 imports_below y n k e = grind (arith, common_steps)
 
 -- ---- What is asked.
 
-asks_more : (q r : ℕ → Bool) → ((g : ℕ) → q g ≡ true → r g ≡ true) → (ls : List Laid) → AllByRecursion (Asks q) ls → AllByRecursion (Asks r) ls
+asks_more : (q r : ℕ → Bool) → ((g : ℕ) → q g ≡ true → r g ≡ true) → (ls : List LaidOutStatement) → AllByRecursion (Asks q) ls → AllByRecursion (Asks r) ls
 asks_more q r h [] every = tt
 asks_more q r h (l ∷ ls) (a, every) = ((λ e. h l.context.segment (a e)), asks_more q r h ls every)
 
@@ -79,71 +79,71 @@ asked_more c cs g h = grind (arith, common_steps)
 asked_first : (c : Content) (cs : List Content) → c.asks ≡ true → asked_in (segments_asked (c ∷ cs)) c.segment ≡ true
 asked_first c cs e = grind (arith, common_steps)
 
-asked_behind : (cs ds : List Content) (g : ℕ) → asked_in (segments_asked ds) g ≡ true → asked_in (segments_asked (cs ++ ds)) g ≡ true
-asked_behind [] ds g h = h
-asked_behind (c ∷ cs) ds g h = asked_more c (cs ++ ds) g (asked_behind cs ds g h)
+asked_after : (cs ds : List Content) (g : ℕ) → asked_in (segments_asked ds) g ≡ true → asked_in (segments_asked (cs ++ ds)) g ≡ true
+asked_after [] ds g h = h
+asked_after (c ∷ cs) ds g h = asked_more c (cs ++ ds) g (asked_after cs ds g h)
 
 -- a statement that asks for its section does so before all else
-asks_first : (z : Symbols) (names : List (List ℕ)) (l : Laid) (b : Bool) (xs : List Slot) (cs ds : List Content) → b ≡ true → AreFound z names ((if b then holds (asking l.context.segment) ∷ [] else []) ++ xs) cs → asked_in (segments_asked (cs ++ ds)) l.context.segment ≡ true
+asks_first : (z : Symbols) (names : List (List ℕ)) (l : LaidOutStatement) (b : Bool) (xs : List Slot) (cs ds : List Content) → b ≡ true → AreFound z names ((if b then resolved (section_request l.context.segment) ∷ [] else []) ++ xs) cs → asked_in (segments_asked (cs ++ ds)) l.context.segment ≡ true
 asks_first z names l true xs [] ds e h = absurd h
-asks_first z names l true xs (c ∷ cs) ds e (w, made, h) = (let is : asking l.context.segment ≡ c = content_is (quietly (asking l.context.segment)) (record { content = c; warning = w }) made in subst (λ (d : Content). asked_in (segments_asked (d ∷ cs ++ ds)) l.context.segment ≡ true) is (asked_first (asking l.context.segment) (cs ++ ds) refl))
+asks_first z names l true xs (c ∷ cs) ds e (w, made, h) = (let is : section_request l.context.segment ≡ c = content_is (quietly (section_request l.context.segment)) (record { content = c; warning = w }) made in subst (λ (d : Content). asked_in (segments_asked (d ∷ cs ++ ds)) l.context.segment ≡ true) is (asked_first (section_request l.context.segment) (cs ++ ds) refl))
 asks_first z names l false xs cs ds e h = absurd cc
 
-asked_all : (z : Symbols) (names : List (List ℕ)) (ls : List Laid) (cs : List Content) → AreFound z names (flat_map slots_of ls) cs → AllByRecursion (Asks (asked_in (segments_asked cs))) ls
+asked_all : (z : Symbols) (names : List (List ℕ)) (ls : List LaidOutStatement) (cs : List Content) → AreFound z names (flat_map slots_of ls) cs → AllByRecursion (Asks (asked_in (segments_asked cs))) ls
 asked_all z names [] cs h = tt
 asked_all z names (l ∷ ls) cs h =
     let both = found_split z names (slots_of l) (flat_map slots_of ls) cs h in
-    let rest = asked_all z (names ++ exported_names (all_said both.first)) ls both.last both.behind in
+    let rest = asked_all z (names ++ exported_names (all_said both.first)) ls both.last both.following in
     let so : AllByRecursion (Asks (asked_in (segments_asked (both.first ++ both.last)))) (l ∷ ls) = (
-      (λ e. asks_first z names l (asks_section l.stated) (map (waiting_at l) (pieces_of l.length l.settled l.stated)) both.first both.last e both.before),
-      asks_more (asked_in (segments_asked both.last)) (asked_in (segments_asked (both.first ++ both.last))) (λ g e. asked_behind both.first both.last g e) ls rest,
+      (λ e. asks_first z names l (needs_section l.stated) (map (waiting_at l) (pieces_of l.length l.settled l.stated)) both.first both.last e both.before),
+      asks_more (asked_in (segments_asked both.last)) (asked_in (segments_asked (both.first ++ both.last))) (λ g e. asked_after both.first both.last g e) ls rest,
     ) in
     subst (λ ds. AllByRecursion (Asks (asked_in (segments_asked ds))) (l ∷ ls)) both.all so
 
-asked_keys : (z : Symbols) (ls : List Laid) (cs : List Content) → AreFound z [] (flat_map slots_of ls) cs → AllByRecursion (Asks (asked_in (section_keys cs))) ls
+asked_keys : (z : Symbols) (ls : List LaidOutStatement) (cs : List Content) → AreFound z [] (flat_map slots_of ls) cs → AllByRecursion (Asks (asked_in (section_keys cs))) ls
 asked_keys z ls cs h = asks_more (asked_in (segments_asked cs)) (asked_in (section_keys cs)) (λ g e. once_holds (segments_asked cs) [] g e) ls (asked_all z [] ls cs h)
 
 -- ---- Contents.
 
 -- what is known of each statement
-record IsSafe (asked : List ℕ) (bound : ℕ) (l : Laid) : Type 0 where
-  sound : IsSound l.stated
+record IsSafe (asked : List ℕ) (bound : ℕ) (l : LaidOutStatement) : Type 0 where
+  sound : IsWellFormedStatement l.stated
   standing : l.context.segment < bound
   asks : Asks (asked_in asked) l
 
 -- and of each of its slots
 abbrev IsSafeSlot : List ℕ → ℕ → ℕ → Slot → Type 0
-IsSafeSlot asked count bound (holds c) = IsSoundContent asked count c × (c.segment < bound) × (c.said ≡ [])
-IsSafeSlot asked count bound (waits w) = IsSoundPiece asked count w.context w.piece × (w.context.segment < bound)
+IsSafeSlot asked count bound (resolved c) = IsSoundContent asked count c × (c.segment < bound) × (c.said ≡ [])
+IsSafeSlot asked count bound (deferred w) = IsSoundPiece asked count w.context w.piece × (w.context.segment < bound)
 
-waiting_safe : (asked : List ℕ) (count bound : ℕ) (l : Laid) → l.context.segment < bound → (ps : List Piece) → AllByRecursion (IsSoundPiece asked count l.context) ps → AllByRecursion (IsSafeSlot asked count bound) (map (waiting_at l) ps)
+waiting_safe : (asked : List ℕ) (count bound : ℕ) (l : LaidOutStatement) → l.context.segment < bound → (ps : List Piece) → AllByRecursion (IsSoundPiece asked count l.context) ps → AllByRecursion (IsSafeSlot asked count bound) (map (waiting_at l) ps)
 waiting_safe asked count bound l lt [] h = tt
 waiting_safe asked count bound l lt (p ∷ ps) h = ((h.0, lt), waiting_safe asked count bound l lt ps h.1)
 
-asking_safe : (asked : List ℕ) (count bound : ℕ) (l : Laid) → l.context.segment < bound → (b : Bool) → AllByRecursion (IsSafeSlot asked count bound) (if b then holds (asking l.context.segment) ∷ [] else [])
+asking_safe : (asked : List ℕ) (count bound : ℕ) (l : LaidOutStatement) → l.context.segment < bound → (b : Bool) → AllByRecursion (IsSafeSlot asked count bound) (if b then resolved (section_request l.context.segment) ∷ [] else [])
 asking_safe asked count bound l lt true = ((record { parts = tt; said = tt }, lt, refl), tt)
 asking_safe asked count bound l lt false = tt
 
-slots_safe : (asked : List ℕ) (count bound : ℕ) (ls : List Laid) → AllByRecursion (IsSafe asked bound) ls → AllByRecursion (IsSafeSlot asked count bound) (flat_map slots_of ls)
+slots_safe : (asked : List ℕ) (count bound : ℕ) (ls : List LaidOutStatement) → AllByRecursion (IsSafe asked bound) ls → AllByRecursion (IsSafeSlot asked count bound) (flat_map slots_of ls)
 slots_safe asked count bound [] h = tt
 slots_safe asked count bound (l ∷ ls) h =
-    let asks : List Slot = if asks_section l.stated then holds (asking l.context.segment) ∷ [] else [] in
+    let asks : List Slot = if needs_section l.stated then resolved (section_request l.context.segment) ∷ [] else [] in
     let ps = pieces_of l.length l.settled l.stated in
     all_append (IsSafeSlot asked count bound) (slots_of l) (flat_map slots_of ls)
-    (all_append (IsSafeSlot asked count bound) asks (map (waiting_at l) ps) (asking_safe asked count bound l h.0.standing (asks_section l.stated))
+    (all_append (IsSafeSlot asked count bound) asks (map (waiting_at l) ps) (asking_safe asked count bound l h.0.standing (needs_section l.stated))
     (waiting_safe asked count bound l h.0.standing ps (pieces_sound asked count l.context l.length l.settled l.stated h.0.sound h.0.asks)))
     (slots_safe asked count bound ls h.1)
 
 -- ---- Names of exports, each once.
 
 -- what a piece says exports a name that wasn't exported before, if any
-abbrev IsNew : List (List ℕ) → Made → Type 0
+abbrev IsNew : List (List ℕ) → PieceResult → Type 0
 IsNew names m = are_names names ≡ true → are_names (names ++ exported_names m.content.said) ≡ true
 
 no_more : (names : List (List ℕ)) → are_names names ≡ true → are_names (names ++ []) ≡ true
 no_more names h = ap are_names (append-nil names) ∙ h
 
-written_new : (names : List (List ℕ)) (n : List ℕ) (place : Place) (f : Form) → is_name n ≡ true → list_any (bytes_eq n) names ≡ false → IfOk (written place (Exported n place f ∷ []) >>= as_said) (IsNew names)
+written_new : (names : List (List ℕ)) (n : List ℕ) (place : SourceLocation) (f : Form) → is_name n ≡ true → list_any (bytes_eq n) names ≡ false → IfOk (located_declarations place (Exported n place f ∷ []) >>= as_said) (IsNew names)
 written_new names n place f good new = by (is_file_name place.file)
   where
     by : (b : Bool) → IfOk ((if b then Ok (Exported n place f ∷ []) else Err FileNameTooLong) >>= as_said) (IsNew names)
@@ -151,7 +151,7 @@ written_new names n place f good new = by (is_file_name place.file)
     by false = tt
 
 -- what says no export
-quiet_new : (names : List (List ℕ)) (r : Result Made AsmFault) → IfOk r (λ m. exported_names m.content.said ≡ []) → IfOk r (IsNew names)
+quiet_new : (names : List (List ℕ)) (r : Result PieceResult AsmFault) → IfOk r (λ m. exported_names m.content.said ≡ []) → IfOk r (IsNew names)
 quiet_new names (Ok m) e = λ h. ap (λ ns. are_names (names ++ ns)) e ∙ no_more names h
 quiet_new names (Err f) e = tt
 
@@ -159,53 +159,53 @@ part_quiet : (segment : ℕ) (r : Result Part AsmFault) → IfOk (r >>= as_part 
 part_quiet segment (Ok p) = refl
 part_quiet segment (Err f) = tt
 
-decided_quiet : (act : Action) (place : Place) (words : List ℕ) (f : Form) → IfOk (decided act place words f) (λ ss. exported_names ss ≡ [])
+decided_quiet : (act : Action) (place : SourceLocation) (words : List ℕ) (f : Form) → IfOk (decided_assertion act place words f) (λ ss. exported_names ss ≡ [])
 decided_quiet act place words f = grind (arith, common_steps)
 
-used_quiet : (place : Place) (s : Context) (why : Purpose) (f : Form) → IfOk (used place s why f) (λ m. exported_names m.content.said ≡ [])
-used_quiet place s (datum width) f = part_quiet s.segment (stored width place f)
-used_quiet place s (purpose.operand width) f = part_quiet s.segment (operand_form width s f >>= stored width place)
+used_quiet : (place : SourceLocation) (s : Context) (why : Purpose) (f : Form) → IfOk (value_result place s why f) (λ m. exported_names m.content.said ≡ [])
+used_quiet place s (datum width) f = part_quiet s.segment (value_part width place f)
+used_quiet place s (purpose.operand width) f = part_quiet s.segment (operand_form width s f >>= value_part width place)
 used_quiet place s equated f = refl
-used_quiet place s (asserted act words) f = well_then (λ ss. exported_names ss ≡ []) (λ m. exported_names m.content.said ≡ []) (decided act place words f) (λ ss. Ok (record { content = telling ss; warning = failed place act words (Ok f) })) (decided_quiet act place words f) (λ ss e. e)
+used_quiet place s (asserted act words) f = well_then (λ ss. exported_names ss ≡ []) (λ m. exported_names m.content.said ≡ []) (decided_assertion act place words f) (λ ss. Ok (record { content = declaration_content ss; warning = failed_assertion_text place act words (Ok f) })) (decided_quiet act place words f) (λ ss e. e)
 
 import_new : (names : List (List ℕ)) (n : List ℕ) (y : Symbols) → IfOk (import_fault y n >>= as_said) (IsNew names)
-import_new names n y = by (defined y (named 0 n)) refl
+import_new names n y = by (definition_index y (named 0 n)) refl
   where
-    by : (o : Option ℕ) → defined y (named 0 n) ≡ o → IfOk (import_fault y n >>= as_said) (IsNew names)
+    by : (o : Option ℕ) → definition_index y (named 0 n) ≡ o → IfOk (import_fault y n >>= as_said) (IsNew names)
     by None e = rw e (no_more names)
     by (Some j) e = rw e tt
 
-export_new : (names : List (List ℕ)) (y : Symbols) (place : Place) (must : Bool) (n : List ℕ) → is_name n ≡ true → list_any (bytes_eq n) names ≡ false → (o : Option ℕ) → IfOk (export_said y place n (absent_of must n) o >>= as_said) (IsNew names)
+export_new : (names : List (List ℕ)) (y : Symbols) (place : SourceLocation) (must : Bool) (n : List ℕ) → is_name n ≡ true → list_any (bytes_eq n) names ≡ false → (o : Option ℕ) → IfOk (export_said y place n (absent_of must n) o >>= as_said) (IsNew names)
 export_new names y place true n good new None = tt
 export_new names y place false n good new None = no_more names
 export_new names y place must n good new (Some j) = by (defined_form y j)
   where
-    by : (r : Result Form AsmFault) → IfOk ((r >>= (λ f. written place (Exported n place f ∷ []))) >>= as_said) (IsNew names)
+    by : (r : Result Form AsmFault) → IfOk ((r >>= (λ f. located_declarations place (Exported n place f ∷ []))) >>= as_said) (IsNew names)
     by (Ok f) = written_new names n place f good new
     by (Err f) = tt
 
 -- each piece that waits says no name again
-coming_new : (asked : List ℕ) (count : ℕ) (y : Symbols) (names : List (List ℕ)) (place : Place) (s : Context) (p : Piece) → IsSoundPiece asked count s p → IfOk (coming y names (waits (record { place = place; context = s; piece = p }))) (IsNew names)
+coming_new : (asked : List ℕ) (count : ℕ) (y : Symbols) (names : List (List ℕ)) (place : SourceLocation) (s : Context) (p : Piece) → IsSoundPiece asked count s p → IfOk (slot_result y names (deferred (record { place = place; context = s; piece = p }))) (IsNew names)
 coming_new asked count y names place s (exported must n) good = by (list_any (bytes_eq n) names) refl
   where
     by : (b : Bool) → list_any (bytes_eq n) names ≡ b → IfOk (at_place place (if b then as_said [] else made_of y place s (exported must n))) (IsNew names)
     by true e = no_more names
-    by false e = placed_ok (IsNew names) place (made_of y place s (exported must n)) (export_new names y place must n good e (defined y (named 0 n)))
+    by false e = placed_ok (IsNew names) place (made_of y place s (exported must n)) (export_new names y place must n good e (definition_index y (named 0 n)))
 coming_new asked count y names place s (given p) good = no_more names
 coming_new asked count y names place s (valued why e) good =
     placed_ok (IsNew names) place (made_of y place s (valued why e))
-    (quiet_new names (made_of y place s (valued why e)) (well_then (λ f. ⊤) (λ m. exported_names m.content.said ≡ []) (norm_of y s e) (used place s why) (any_ok (norm_of y s e)) (λ f u. used_quiet place s why f)))
+    (quiet_new names (made_of y place s (valued why e)) (well_then (λ f. ⊤) (λ m. exported_names m.content.said ≡ []) (norm_of y s e) (value_result place s why) (any_ok (norm_of y s e)) (λ f u. used_quiet place s why f)))
 coming_new asked count y names place s (purpose.imported n) good = placed_ok (IsNew names) place (made_of y place s (purpose.imported n)) (import_new names n y)
 coming_new asked count y names place s (demanded n) good = no_more names
 
 -- slots that say nothing, and pieces that wait
 abbrev IsNamedSlot : List ℕ → ℕ → Slot → Type 0
-IsNamedSlot asked count (holds c) = c.said ≡ []
-IsNamedSlot asked count (waits w) = IsSoundPiece asked count w.context w.piece
+IsNamedSlot asked count (resolved c) = c.said ≡ []
+IsNamedSlot asked count (deferred w) = IsSoundPiece asked count w.context w.piece
 
-slot_new : (asked : List ℕ) (count : ℕ) (y : Symbols) (names : List (List ℕ)) (x : Slot) (m : Made) → IsNamedSlot asked count x → coming y names x ≡ Ok m → IsNew names m
-slot_new asked count y names (holds c) m e made = (let is : c ≡ m.content = content_is (quietly c) m made in λ h. ap (λ (d : Content). are_names (names ++ exported_names d.said)) (sym is) ∙ ap (λ ss. are_names (names ++ exported_names ss)) e ∙ no_more names h)
-slot_new asked count y names (waits w) m good made = if_found (IsNew names) (coming y names (waits w)) m made (coming_new asked count y names w.place w.context w.piece good)
+slot_new : (asked : List ℕ) (count : ℕ) (y : Symbols) (names : List (List ℕ)) (x : Slot) (m : PieceResult) → IsNamedSlot asked count x → slot_result y names x ≡ Ok m → IsNew names m
+slot_new asked count y names (resolved c) m e made = (let is : c ≡ m.content = content_is (quietly c) m made in λ h. ap (λ (d : Content). are_names (names ++ exported_names d.said)) (sym is) ∙ ap (λ ss. are_names (names ++ exported_names ss)) e ∙ no_more names h)
+slot_new asked count y names (deferred w) m good made = if_found (IsNew names) (slot_result y names (deferred w)) m made (coming_new asked count y names w.place w.context w.piece good)
 
 all_named : (asked : List ℕ) (count : ℕ) (y : Symbols) (names : List (List ℕ)) (xs : List Slot) (cs : List Content) → AllByRecursion (IsNamedSlot asked count) xs → are_names names ≡ true → AreFound y names xs cs → are_names (names ++ exported_names (all_said cs)) ≡ true
 all_named asked count y names [] [] all good h = no_more names good
@@ -218,17 +218,17 @@ all_named asked count y names (x ∷ xs) (c ∷ cs) all good (w, made, h) =
 
 named_slots : (asked : List ℕ) (count bound : ℕ) (xs : List Slot) → AllByRecursion (IsSafeSlot asked count bound) xs → AllByRecursion (IsNamedSlot asked count) xs
 named_slots asked count bound [] h = tt
-named_slots asked count bound (holds c ∷ xs) h = (h.0.2, named_slots asked count bound xs h.1)
-named_slots asked count bound (waits w ∷ xs) h = (h.0.0, named_slots asked count bound xs h.1)
+named_slots asked count bound (resolved c ∷ xs) h = (h.0.2, named_slots asked count bound xs h.1)
+named_slots asked count bound (deferred w ∷ xs) h = (h.0.0, named_slots asked count bound xs h.1)
 
 -- what each slot comes to
 abbrev IsWell : List ℕ → ℕ → ℕ → Content → Type 0
 IsWell asked count bound c = IsSoundContent asked count c × (c.segment < bound)
 
-slot_well : (asked : List ℕ) (count bound : ℕ) (z : Symbols) → IsKnown asked count z → (names : List (List ℕ)) (x : Slot) (m : Made) → IsSafeSlot asked count bound x → coming z names x ≡ Ok m → IsWell asked count bound m.content
-slot_well asked count bound z k names (holds c) m h made = (let is : c ≡ m.content = content_is (quietly c) m made in subst (IsWell asked count bound) is (h.0, h.1))
-slot_well asked count bound z k names (waits w) m h made =
-    let so : IsWellMade asked count w.context m = if_found (IsWellMade asked count w.context) (coming z names (waits w)) m made (piece_sound asked count z k names w.place w.context w.piece h.0) in
+slot_well : (asked : List ℕ) (count bound : ℕ) (z : Symbols) → IsKnown asked count z → (names : List (List ℕ)) (x : Slot) (m : PieceResult) → IsSafeSlot asked count bound x → slot_result z names x ≡ Ok m → IsWell asked count bound m.content
+slot_well asked count bound z k names (resolved c) m h made = (let is : c ≡ m.content = content_is (quietly c) m made in subst (IsWell asked count bound) is (h.0, h.1))
+slot_well asked count bound z k names (deferred w) m h made =
+    let so : IsWellMade asked count w.context m = if_found (IsWellMade asked count w.context) (slot_result z names (deferred w)) m made (piece_sound asked count z k names w.place w.context w.piece h.0) in
     (so.0, (let le = so.1 in let lt = h.1 in omega (arith, le, lt)))
 
 parted : (P Q : Content → Type 0) (cs : List Content) → AllByRecursion (λ c. P c × Q c) cs → AllByRecursion P cs × AllByRecursion Q cs
@@ -240,26 +240,26 @@ all_places : {A : Type 0} (P : A → Type 0) (xs : List A) → ((i : ℕ) (x : A
 all_places P [] h = tt
 all_places P (x ∷ xs) h = (h 0 x refl, all_places P xs (λ i y e. h (suc i) y e))
 
-safe_all : (asked : List ℕ) (bound : ℕ) (ls : List Laid) → AllByRecursion (λ l. IsSound l.stated) ls → AllByRecursion (λ l. l.context.segment < bound) ls → AllByRecursion (Asks (asked_in asked)) ls → AllByRecursion (IsSafe asked bound) ls
+safe_all : (asked : List ℕ) (bound : ℕ) (ls : List LaidOutStatement) → AllByRecursion (λ l. IsWellFormedStatement l.stated) ls → AllByRecursion (λ l. l.context.segment < bound) ls → AllByRecursion (Asks (asked_in asked)) ls → AllByRecursion (IsSafe asked bound) ls
 safe_all asked bound [] s b a = tt
 safe_all asked bound (l ∷ ls) (s, ss) (b, bs) (a, every) = (record { sound = s; standing = b; asks = a }, safe_all asked bound ls ss bs every)
 
 -- ---- Room.
 
-abbrev IsMeasuredSome : Laid → Type 0
+abbrev IsMeasuredSome : LaidOutStatement → Type 0
 IsMeasuredSome l = (before : Symbols) × IsMeasured before l
 
 parts_append : (cs ds : List Content) (g : ℕ) → parts_in (cs ++ ds) g ≡ parts_in cs g ++ parts_in ds g
 parts_append cs ds g = grind (arith, common_steps)
 
-length_first : (l : Laid) (ls : List Laid) (g : ℕ) → sum_by (λ (x : Laid). x.length) (statements_in (l ∷ ls) g) ≡ (if nat_eq l.context.segment g then l.length else 0) + sum_by (λ (x : Laid). x.length) (statements_in ls g)
+length_first : (l : LaidOutStatement) (ls : List LaidOutStatement) (g : ℕ) → sum_by (λ (x : LaidOutStatement). x.length) (statements_in (l ∷ ls) g) ≡ (if nat_eq l.context.segment g then l.length else 0) + sum_by (λ (x : LaidOutStatement). x.length) (statements_in ls g)
 length_first l ls g = by (nat_eq l.context.segment g)
   where
-    by : (b : Bool) → sum_by (λ (x : Laid). x.length) (if b then l ∷ statements_in ls g else statements_in ls g) ≡ (if b then l.length else 0) + sum_by (λ (x : Laid). x.length) (statements_in ls g)
-    by true = sum_by-cons (λ (x : Laid). x.length) l (statements_in ls g)
+    by : (b : Bool) → sum_by (λ (x : LaidOutStatement). x.length) (if b then l ∷ statements_in ls g else statements_in ls g) ≡ (if b then l.length else 0) + sum_by (λ (x : LaidOutStatement). x.length) (statements_in ls g)
+    by true = sum_by-cons (λ (x : LaidOutStatement). x.length) l (statements_in ls g)
     by false = omega arith
 
-same_room : (z : Symbols) (names : List (List ℕ)) (g : ℕ) (ls : List Laid) (cs : List Content) → AllByRecursion IsMeasuredSome ls → AreFound z names (flat_map slots_of ls) cs → sum_by part_len (parts_in cs g) ≡ sum_by (λ l. l.length) (statements_in ls g)
+same_room : (z : Symbols) (names : List (List ℕ)) (g : ℕ) (ls : List LaidOutStatement) (cs : List Content) → AllByRecursion IsMeasuredSome ls → AreFound z names (flat_map slots_of ls) cs → sum_by part_len (parts_in cs g) ≡ sum_by (λ l. l.length) (statements_in ls g)
 same_room z names g [] [] m h = refl
 same_room z names g [] (c ∷ cs) m h = absurd h
 same_room z names g (l ∷ ls) cs m h =
@@ -267,7 +267,7 @@ same_room z names g (l ∷ ls) cs m h =
     ap (λ ds. sum_by part_len (parts_in ds g)) (sym both.all)
     ∙ ap (sum_by part_len) (parts_append both.first both.last g) ∙ sum_by-append part_len (parts_in both.first g) (parts_in both.last g)
     ∙ ap (λ n. n + sum_by part_len (parts_in both.last g)) (slots_long z names m.0.0 l g both.first m.0.1 both.before)
-    ∙ ap (λ n. (if nat_eq l.context.segment g then l.length else 0) + n) (same_room z (names ++ exported_names (all_said both.first)) g ls both.last m.1 both.behind)
+    ∙ ap (λ n. (if nat_eq l.context.segment g then l.length else 0) + n) (same_room z (names ++ exported_names (all_said both.first)) g ls both.last m.1 both.following)
     ∙ sym (length_first l ls g)
 
 -- ---- What holds of all contents.

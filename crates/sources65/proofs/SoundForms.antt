@@ -11,7 +11,7 @@ use Rattle.object65.specs.Folding.{fold1, fold2}
 use Rattle.object65.specs.Form.{Form, lit, sec, imp, prefix, binary}
 use Rattle.object65.specs.Laws.{IsFolded}
 use Rattle.object65.proofs.Foldings.{normal_law}
-use Rattle.semantics65.specs.Norms.{folded, defined_form, form_by, form_of_meaning, form_of_value, norm, norm_of}
+use Rattle.semantics65.specs.Norms.{fold_result, defined_form, form_by, form_of_meaning, form_of_value, norm, norm_of}
 use Rattle.std.specs.List.{AllByRecursion, flat_map}
 use Rattle.base65.specs.Outcome.{◌>>=◌}
 use Rattle.syntax65.specs.Trees.{Tree, number, here, name, cheap, forward, backward, unary}
@@ -19,7 +19,7 @@ use Rattle.syntax65.specs.declared.lexing.tokens.AddressSize.{AddressSize}
 use Rattle.ast65.specs.declared.fault.AsmFault.{AsmFault}
 use Rattle.ast65.specs.declared.fault.AsmFault.TheVariants.{Undefined, NoSuchScope, NoSuchLabel}
 use Rattle.ast65.specs.declared.language.Statement.{Statement}
-use Rattle.semantics65.specs.Symbols.{Laid, asks_section, has_here, Meaning, defined_at, imported_as, backward_meaning, first_found, last_of, meaning_of, member_meaning, or_fault, plain_meaning, scope_from, scoped_meaning, scopes_from, scopes_of, shown, unnamed_meaning, Definition, Symbols, defined, definition_with, definitions_of, imported, key_defined, named, unnamed_at, value_defined}
+use Rattle.semantics65.specs.Symbols.{LaidOutStatement, needs_section, has_here, Binding, defined_at, imported_as, backward_meaning, first_found, last_of, binding_of, member_meaning, or_fault, plain_meaning, scope_from, scoped_meaning, scopes_from, scopes_of, display_name, unnamed_meaning, Definition, Symbols, definition_index, definition_with, definitions_of, import_index, key_defined, named, unnamed_at, value_defined}
 use Rattle.semantics65.specs.declared.laid.Context.{Context}
 
 -- ---- The sections and imports that forms hold.
@@ -44,13 +44,13 @@ pub record IsWell (q r : ℕ → Bool) (f : Form) : Type 0 where
   pub folded : IsFolded f
   pub holds : Holds q r f
 
-well_folded : (q r : ℕ → Bool) (x : Result Form FormFault) → ((f : Form) → x ≡ Ok f → IsFolded f) → IfOk x (Holds q r) → IfOk (folded x) (IsWell q r)
+well_folded : (q r : ℕ → Bool) (x : Result Form FormFault) → ((f : Form) → x ≡ Ok f → IsFolded f) → IfOk x (Holds q r) → IfOk (fold_result x) (IsWell q r)
 well_folded q r x1 h k = grind (arith, common_steps)
 
-pub one_well : (q r : ℕ → Bool) (op : Op1) (f : Form) → IsWell q r f → IfOk (folded (fold1 op f)) (IsWell q r)
+pub one_well : (q r : ℕ → Bool) (op : Op1) (f : Form) → IsWell q r f → IfOk (fold_result (fold1 op f)) (IsWell q r)
 one_well q r op f w = well_folded q r (fold1 op f) (λ h e. normal_law.0 op f h w.folded e) (one_holds q r op f w.holds)
 
-pub two_well : (q r : ℕ → Bool) (op : Op2) (f g : Form) → IsWell q r f → IsWell q r g → IfOk (folded (fold2 op f g)) (IsWell q r)
+pub two_well : (q r : ℕ → Bool) (op : Op2) (f g : Form) → IsWell q r f → IsWell q r g → IfOk (fold_result (fold2 op f g)) (IsWell q r)
 two_well q r op f g v w = well_folded q r (fold2 op f g) (λ h e. normal_law.1 op f g h v.folded w.folded e) (two_holds q r op f g v.holds w.holds)
 
 -- ---- The forms of expressions by the symbol table of sound statements.
@@ -59,8 +59,8 @@ pub well_then : {A B E : Type 0} (P : A → Type 0) (Q : B → Type 0) (r : Resu
 well_then x1 x2 x3 f h k = grind (arith, common_steps)
 
 -- a statement's segment passes where it asks for a section
-abbrev pub Asks : (ℕ → Bool) → Laid → Type 0
-Asks q l = asks_section l.stated ≡ true → q l.context.segment ≡ true
+abbrev pub Asks : (ℕ → Bool) → LaidOutStatement → Type 0
+Asks q l = needs_section l.stated ≡ true → q l.context.segment ≡ true
 
 or_left : (a b : Bool) → a ≡ true → (a || b) ≡ true
 or_left a b h = rw h refl
@@ -78,10 +78,10 @@ form_well q r operand s h (name global parts) k = h (name global parts)
 form_well q r operand s h (cheap n) k = h (cheap n)
 form_well q r operand s h (forward n) k = h (forward n)
 form_well q r operand s h (backward n) k = h (backward n)
-form_well q r operand s h (unary op e) k = well_then (IsWell q r) (IsWell q r) (form_by operand s e) (λ f. folded (fold1 op f)) (form_well q r operand s h e k) (λ f w. one_well q r op f w)
+form_well q r operand s h (unary op e) k = well_then (IsWell q r) (IsWell q r) (form_by operand s e) (λ f. fold_result (fold1 op f)) (form_well q r operand s h e k) (λ f w. one_well q r op f w)
 form_well q r operand s h (tree.binary op e g) k =
-    well_then (IsWell q r) (IsWell q r) (form_by operand s e) (λ f. form_by operand s g >>= (λ z. folded (fold2 op f z))) (form_well q r operand s h e (λ a. k (or_left (has_here e) (has_here g) a)))
-    (λ f v. well_then (IsWell q r) (IsWell q r) (form_by operand s g) (λ z. folded (fold2 op f z)) (form_well q r operand s h g (λ a. k (or_right (has_here e) (has_here g) a))) (λ z w. two_well q r op f z v w))
+    well_then (IsWell q r) (IsWell q r) (form_by operand s e) (λ f. form_by operand s g >>= (λ z. fold_result (fold2 op f z))) (form_well q r operand s h e (λ a. k (or_left (has_here e) (has_here g) a)))
+    (λ f v. well_then (IsWell q r) (IsWell q r) (form_by operand s g) (λ z. fold_result (fold2 op f z)) (form_well q r operand s h g (λ a. k (or_right (has_here e) (has_here g) a))) (λ z w. two_well q r op f z v w))
 
 -- ---- What is defined.
 
@@ -99,7 +99,7 @@ Passes q d = ValuePasses q d.context.segment d.value
 -- all definitions pass, and the imports
 pub record Pass (q r : ℕ → Bool) (y : Symbols) : Type 0 where
   pub definitions : AllByRecursion (Passes q) y.definitions
-  pub imports : (n : List ℕ) (k : ℕ) → imported y n ≡ Some k → r k ≡ true
+  pub imports : (n : List ℕ) (k : ℕ) → import_index y n ≡ Some k → r k ≡ true
 
 value_well : (q r : ℕ → Bool) (a : Context → Tree → Result Form AsmFault) → FormsWell q r a → (s : Context) (v : Option Tree) → ValuePasses q s.segment v → IfOk (form_of_value a s v) (IsWell q r)
 value_well q r a h s x1 k = grind (arith, common_steps)
@@ -110,11 +110,11 @@ item_of P (y ∷ xs) zero x (a, h) e = (let same : y ≡ x = cc in subst P same 
 item_of P (y ∷ xs) (suc j) x (a, h) e = item_of P xs j x h e
 
 -- what a meaning leads to passes
-abbrev MeansWell : (ℕ → Bool) → Meaning → Type 0
+abbrev MeansWell : (ℕ → Bool) → Binding → Type 0
 MeansWell r (defined_at j) = ⊤
 MeansWell r (imported_as k) = r k ≡ true
 
-meaning_well : (q r : ℕ → Bool) (y : Symbols) (a : Context → Tree → Result Form AsmFault) → Pass q r y → FormsWell q r a → (m : Meaning) → MeansWell r m → IfOk (form_of_meaning a y m) (IsWell q r)
+meaning_well : (q r : ℕ → Bool) (y : Symbols) (a : Context → Tree → Result Form AsmFault) → Pass q r y → FormsWell q r a → (m : Binding) → MeansWell r m → IfOk (form_of_meaning a y m) (IsWell q r)
 meaning_well q r y a pass h x1 w = grind (arith, common_steps, value_well, item_of)
 
 -- ---- Names.
@@ -126,21 +126,21 @@ no_import : (r : ℕ → Bool) (k : ℕ) → None ≡ Some k → r k ≡ true
 no_import r k e = absurd cc
 
 plain_well : (q r : ℕ → Bool) (y : Symbols) (scope : ℕ) (n : List ℕ) → Pass q r y → IfOk (plain_meaning y scope n) (MeansWell r)
-plain_well q r y scope n pass = found_well r (Undefined n) (first_found (λ s. defined y (named s n)) (scopes_from y.scopes scope)) (imported y n) (pass.imports n)
+plain_well q r y scope n pass = found_well r (Undefined n) (first_found (λ s. definition_index y (named s n)) (scopes_from y.scopes scope)) (import_index y n) (pass.imports n)
 
 member_well : (q r : ℕ → Bool) (y : Symbols) (n : List ℕ) (absent lost : AsmFault) (scope : Option ℕ) → Pass q r y → IfOk (member_meaning y n absent lost scope) (MeansWell r)
 member_well q r y n absent lost x1 pass = grind (arith, common_steps)
 
 scoped_well : (q r : ℕ → Bool) (y : Symbols) (s : Context) (global : Bool) (parts : List (List ℕ)) → Pass q r y → IfOk (scoped_meaning y s global parts) (MeansWell r)
-scoped_well q r y s global parts pass = member_well q r y (last_of parts) (Undefined (shown global parts)) (NoSuchScope (shown global parts)) (scope_from (take s.opened y.scopes) s.scope global (scopes_of parts)) pass
+scoped_well q r y s global parts pass = member_well q r y (last_of parts) (Undefined (display_name global parts)) (NoSuchScope (display_name global parts)) (scope_from (take s.opened y.scopes) s.scope global (scopes_of parts)) pass
 
 unnamed_well : (r : ℕ → Bool) (y : Symbols) (k : ℕ) → IfOk (unnamed_meaning y k) (MeansWell r)
-unnamed_well r y k = found_well r NoSuchLabel (defined y (unnamed_at k)) None (no_import r)
+unnamed_well r y k = found_well r NoSuchLabel (definition_index y (unnamed_at k)) None (no_import r)
 
 backward_well : (r : ℕ → Bool) (y : Symbols) (k n : ℕ) → IfOk (backward_meaning y k n) (MeansWell r)
 backward_well r y k n = grind (arith, common_steps)
 
-operand_well : (q r : ℕ → Bool) (y : Symbols) (s : Context) (e : Tree) → Pass q r y → IfOk (meaning_of y s e) (MeansWell r)
+operand_well : (q r : ℕ → Bool) (y : Symbols) (s : Context) (e : Tree) → Pass q r y → IfOk (binding_of y s e) (MeansWell r)
 operand_well q r y s x1 pass = search (rules, plain_well, scoped_well, found_well, no_import, unnamed_well, backward_well)
 
 -- ---- Forms.
@@ -148,8 +148,8 @@ operand_well q r y s x1 pass = search (rules, plain_well, scoped_well, found_wel
 norm_each : (q r : ℕ → Bool) (y : Symbols) → Pass q r y → (n : ℕ) → FormsWell q r (norm n y)
 norm_each q r y pass zero = λ s e k. tt
 norm_each q r y pass (suc n) = λ s e k.
-    form_well q r (λ t. meaning_of y s t >>= form_of_meaning (norm n y) y) s
-    (λ t. well_then (MeansWell r) (IsWell q r) (meaning_of y s t) (form_of_meaning (norm n y) y) (operand_well q r y s t pass) (λ m w. meaning_well q r y (norm n y) pass (norm_each q r y pass n) m w)) e k
+    form_well q r (λ t. binding_of y s t >>= form_of_meaning (norm n y) y) s
+    (λ t. well_then (MeansWell r) (IsWell q r) (binding_of y s t) (form_of_meaning (norm n y) y) (operand_well q r y s t pass) (λ m w. meaning_well q r y (norm n y) pass (norm_each q r y pass n) m w)) e k
 
 pub norm_well : (q r : ℕ → Bool) (y : Symbols) → Pass q r y → (s : Context) (e : Tree) → (has_here e ≡ true → q s.segment ≡ true) → IfOk (norm_of y s e) (IsWell q r)
 norm_well q r y pass = norm_each q r y pass (suc (length y.definitions))
@@ -159,13 +159,13 @@ export_well q r y pass j = meaning_well q r y (norm_of y) pass (norm_well q r y 
 
 -- ---- The definitions of statements that ask for their sections.
 
-one_passes : (q : ℕ → Bool) (s : Context) (own : AddressSize) (x : Statement) → (asks_section x ≡ true → q s.segment ≡ true) → AllByRecursion (Passes q) (definition_with (key_defined s x) (value_defined x) s own)
+one_passes : (q : ℕ → Bool) (s : Context) (own : AddressSize) (x : Statement) → (needs_section x ≡ true → q s.segment ≡ true) → AllByRecursion (Passes q) (definition_with (key_defined s x) (value_defined x) s own)
 one_passes q s own x1 h = grind (arith, common_steps)
 
 pub all_append : {X : Type 0} (P : X → Type 0) (xs ys : List X) → AllByRecursion P xs → AllByRecursion P ys → AllByRecursion P (xs ++ ys)
 all_append P [] ys h k = k
 all_append P (x ∷ xs) ys (p, h) k = (p, all_append P xs ys h k)
 
-pub definitions_pass : (q : ℕ → Bool) (ls : List Laid) → AllByRecursion (Asks q) ls → AllByRecursion (Passes q) (flat_map definitions_of ls)
+pub definitions_pass : (q : ℕ → Bool) (ls : List LaidOutStatement) → AllByRecursion (Asks q) ls → AllByRecursion (Passes q) (flat_map definitions_of ls)
 definitions_pass q [] h = tt
 definitions_pass q (l ∷ ls) (a, h) = all_append (Passes q) (definitions_of l) (flat_map definitions_of ls) (one_passes q l.context l.size l.stated a) (definitions_pass q ls h)

@@ -10,16 +10,16 @@ use Rattle.object65.specs.Objects.{are_names, is_name, section_limit}
 use Rattle.object65.proofs.Reached.{names_push}
 use Rattle.semantics65.specs.declared.contents.Segment.{Segment}
 use Rattle.ast65.specs.declared.fault.AsmFault.{AsmFault}
-use Rattle.syntax65.specs.declared.place.Place.{Place}
-use Rattle.semantics65.specs.Symbols.{Laid, Symbols, symbols_of}
+use Rattle.syntax65.specs.declared.source_location.SourceLocation.{SourceLocation}
+use Rattle.semantics65.specs.Symbols.{LaidOutStatement, Symbols, symbols_of}
 use Rattle.semantics65.specs.declared.laid.Context.{Context}
 use Rattle.ast65.specs.declared.language.Statement.{Statement}
 use Rattle.ast65.specs.declared.language.Statement.TheVariants as statement
-use Rattle.semantics65.specs.Layout.{Layout, Cursor, current_behind, grown_at, kept_behind, laid, layout_behind, multiple_of, named_segments, nothing_laid, own_size, place_of, segment_at, segments_behind, size_stated, context_of, line_fault, unless_fault}
-use Rattle.sources65.specs.Reading.{IsLaid}
+use Rattle.semantics65.specs.Layout.{Layout, Cursor, current_after, grown_at, kept_after, laid_out_statement, layout_after, multiple_of, named_segments, nothing_laid, own_size, place_of, segment_at, segments_after, size_stated, context_of, line_fault, unless_fault}
+use Rattle.sources65.specs.Reading.{IsLaidOut}
 use Rattle.semantics65.specs.Norms.{length_of, settled_of}
-use Rattle.semantics65.specs.Numbering.{IsMeasured, IsSound, IsSoundLayout, statements_in}
-use Rattle.semantics65.proofs.Segments.{Grows, all_more, all_same, end_behind, grows, grows_none, not_among, one_longer}
+use Rattle.semantics65.specs.Numbering.{IsMeasured, IsWellFormedStatement, IsSoundLayout, statements_in}
+use Rattle.semantics65.proofs.Segments.{Grows, all_more, all_same, end_after, grows, grows_none, not_among, one_longer}
 
 -- ---- Faults that there aren't.
 
@@ -41,52 +41,52 @@ same_settled y s own x1 = grind (arith, common_steps)
 
 -- ---- What holds behind each statement.
 
-abbrev total_in : List Laid → ℕ → ℕ
-total_in ls g = sum_by (λ (l : Laid). l.length) (statements_in ls g)
+abbrev total_in : List LaidOutStatement → ℕ → ℕ
+total_in ls g = sum_by (λ (l : LaidOutStatement). l.length) (statements_in ls g)
 
-abbrev stands_in : ℕ → Laid → Type 0
+abbrev stands_in : ℕ → LaidOutStatement → Type 0
 stands_in count l = l.context.segment < count
 
 abbrev are_below : ℕ → List ℕ → Type 0
 are_below count ks = AllByRecursion (λ k. k < count) ks
 
 -- so it is with each statement and those before it
-abbrev EachBehind : (List Laid → Laid → Type 0) → List Laid → Type 0
-EachBehind M ls = (i : ℕ) (l : Laid) → slice_get ls i ≡ Some l → M (take i ls) l
+abbrev EachAfter : (List LaidOutStatement → LaidOutStatement → Type 0) → List LaidOutStatement → Type 0
+EachAfter M ls = (i : ℕ) (l : LaidOutStatement) → slice_get ls i ≡ Some l → M (take i ls) l
 
-pub record Good (ls : List Laid) (gs : List Segment) (current : ℕ) (kept : List ℕ) : Type 0 where
+pub record Good (ls : List LaidOutStatement) (gs : List Segment) (current : ℕ) (kept : List ℕ) : Type 0 where
   named : are_names (map (λ (g : Segment). g.name) gs) ≡ true
-  sound : AllByRecursion (λ (l : Laid). IsSound l.stated) ls
+  sound : AllByRecursion (λ (l : LaidOutStatement). IsWellFormedStatement l.stated) ls
   standing : AllByRecursion (stands_in (length gs)) ls
-  measured : EachBehind (λ before l. IsMeasured (symbols_of before) l) ls
+  measured : EachAfter (λ before l. IsMeasured (symbols_of before) l) ls
   here : current < length gs
   keeps : are_below (length gs) kept
   ends : (g : ℕ) → total_in ls g ≡ (segment_at gs g).end
   limit : (g : ℕ) → (segment_at gs g).end ≤ section_limit
 
 -- a statement is measured behind these
-abbrev MeasuredBehind : List Laid → Laid → Type 0
-MeasuredBehind before l = IsMeasured (symbols_of before) l
+abbrev MeasuredAfter : List LaidOutStatement → LaidOutStatement → Type 0
+MeasuredAfter before l = IsMeasured (symbols_of before) l
 
 abbrev pub IsGood : Layout → Type 0
 IsGood y = Good y.laid y.cursor.segments y.cursor.current y.cursor.kept
 
-behind_push : (M : List Laid → Laid → Type 0) (ls : List Laid) (l : Laid) → EachBehind M ls → M ls l → EachBehind M (ls ++ l ∷ [])
-behind_push M [] l h m zero x e = let same : l ≡ x = cc in subst (M []) same m
-behind_push M [] l h m (suc i) x e = absurd cc
-behind_push M (y ∷ ys) l h m zero x e = h zero x e
-behind_push M (y ∷ ys) l h m (suc i) x e = behind_push (λ zs z. M (y ∷ zs) z) ys l (λ j z f. h (suc j) z f) m i x e
+after_push : (M : List LaidOutStatement → LaidOutStatement → Type 0) (ls : List LaidOutStatement) (l : LaidOutStatement) → EachAfter M ls → M ls l → EachAfter M (ls ++ l ∷ [])
+after_push M [] l h m zero x e = let same : l ≡ x = cc in subst (M []) same m
+after_push M [] l h m (suc i) x e = absurd cc
+after_push M (y ∷ ys) l h m zero x e = h zero x e
+after_push M (y ∷ ys) l h m (suc i) x e = after_push (λ zs z. M (y ∷ zs) z) ys l (λ j z f. h (suc j) z f) m i x e
 
-total_push : (ls : List Laid) (l : Laid) (g : ℕ) → total_in (ls ++ l ∷ []) g ≡ total_in ls g + cond (nat_eq l.context.segment g) l.length 0
+total_push : (ls : List LaidOutStatement) (l : LaidOutStatement) (g : ℕ) → total_in (ls ++ l ∷ []) g ≡ total_in ls g + cond (nat_eq l.context.segment g) l.length 0
 total_push ls l g = grind (arith, common_steps)
 
 -- one more statement in the current segment
-good_push : (ls : List Laid) (gs hs : List Segment) (current : ℕ) (kept : List ℕ) (l : Laid) → Good ls gs current kept → Grows gs hs current l.length → l.context.segment ≡ current → IsSound l.stated → MeasuredBehind ls l → (segment_at gs current).end + l.length ≤ section_limit → Good (ls ++ l ∷ []) hs current kept
+good_push : (ls : List LaidOutStatement) (gs hs : List Segment) (current : ℕ) (kept : List ℕ) (l : LaidOutStatement) → Good ls gs current kept → Grows gs hs current l.length → l.context.segment ≡ current → IsWellFormedStatement l.stated → MeasuredAfter ls l → (segment_at gs current).end + l.length ≤ section_limit → Good (ls ++ l ∷ []) hs current kept
 good_push ls gs hs current kept l good more at sound measured room = record {
   named = ap are_names more.names ∙ good.named;
-  sound = all_more (λ (m : Laid). IsSound m.stated) ls l good.sound sound;
+  sound = all_more (λ (m : LaidOutStatement). IsWellFormedStatement m.stated) ls l good.sound sound;
   standing = subst (λ n. AllByRecursion (stands_in n) (ls ++ l ∷ [])) (sym more.size) (all_more (stands_in (length gs)) ls l good.standing (subst (λ n. n < length gs) (sym at) good.here));
-  measured = behind_push MeasuredBehind ls l good.measured measured;
+  measured = after_push MeasuredAfter ls l good.measured measured;
   here = subst (λ n. current < n) (sym more.size) good.here;
   keeps = subst (λ n. are_below n kept) (sym more.size) good.keeps;
   ends = λ g. total_push ls l g ∙ ap (λ n. total_in ls g + cond (nat_eq n g) l.length 0) at ∙ ends_at g (nat_eq current g) refl;
@@ -110,39 +110,39 @@ good_push ls gs hs current kept l good more at sound measured room = record {
 
 -- ---- One more segment.
 
-good_named : (ls : List Laid) (gs : List Segment) (current : ℕ) (kept : List ℕ) (n : List ℕ) (own : Option AddressSize) (place : Option ℕ) → Good ls gs current kept → is_name n ≡ true → place_of gs n ≡ place → Good ls (named_segments gs n own place) current kept
-good_named ls gs current kept n own x1 good fine e = grind (arith, common_steps, one_longer, map-append, names_push, not_among, all_same, end_behind)
+good_named : (ls : List LaidOutStatement) (gs : List Segment) (current : ℕ) (kept : List ℕ) (n : List ℕ) (own : Option AddressSize) (place : Option ℕ) → Good ls gs current kept → is_name n ≡ true → place_of gs n ≡ place → Good ls (named_segments gs n own place) current kept
+good_named ls gs current kept n own x1 good fine e = grind (arith, common_steps, one_longer, map-append, names_push, not_among, all_same, end_after)
 
 -- ---- One statement.
 
-good_current : (ls : List Laid) (w : Cursor) (count multiple : ℕ) (x : Statement) → Good ls (segments_behind w.segments w.current count multiple x) w.current w.kept → Good ls (segments_behind w.segments w.current count multiple x) (current_behind w x) (kept_behind w x)
-good_current ls w count multiple x1 good = grind (arith, common_steps)
+good_current : (ls : List LaidOutStatement) (w : Cursor) (count alignment : ℕ) (x : Statement) → Good ls (segments_after w.segments w.current count alignment x) w.current w.kept → Good ls (segments_after w.segments w.current count alignment x) (current_after w x) (kept_after w x)
+good_current ls w count alignment x1 good = grind (arith, common_steps)
 
-good_laying : (ls : List Laid) (w : Cursor) (count multiple : ℕ) (x : Statement) → Good ls w.segments w.current w.kept → IsSound x → (more : List Laid) → ((hs : List Segment) → Grows w.segments hs w.current count → Good more hs w.current w.kept) → (is_segment x ≡ true → count ≡ 0) → Good more (segments_behind w.segments w.current count multiple x) w.current w.kept
-good_laying ls w count multiple (statement.Segment n own) good sound more next none =
+good_laying : (ls : List LaidOutStatement) (w : Cursor) (count alignment : ℕ) (x : Statement) → Good ls w.segments w.current w.kept → IsWellFormedStatement x → (more : List LaidOutStatement) → ((hs : List Segment) → Grows w.segments hs w.current count → Good more hs w.current w.kept) → (is_segment x ≡ true → count ≡ 0) → Good more (segments_after w.segments w.current count alignment x) w.current w.kept
+good_laying ls w count alignment (statement.Segment n own) good sound more next none =
     good_named more w.segments w.current w.kept n own (place_of w.segments n) (next w.segments (subst (Grows w.segments w.segments w.current) (sym (none refl)) (grows_none w.segments w.current))) sound refl
-good_laying ls w count multiple x good sound more next none = next (grown_at w.segments w.current count multiple) (grows w.segments w.current count multiple good.here)
+good_laying ls w count alignment x good sound more next none = next (grown_at w.segments w.current count alignment) (grows w.segments w.current count alignment good.here)
 
 segment_empty : (before : Symbols) (s : Context) (own : AddressSize) (x : Statement) → is_segment x ≡ true → length_of before s own x ≡ 0
 segment_empty before s own x1 h = grind (arith, common_steps)
 
-good_step : (y : Layout) (place : Place) (x : Statement) → IsGood y → IsSound x → line_fault (symbols_of y.laid) y.cursor x ≡ None → IsGood (layout_behind y place x)
+good_step : (y : Layout) (place : SourceLocation) (x : Statement) → IsGood y → IsWellFormedStatement x → line_fault (symbols_of y.laid) y.cursor x ≡ None → IsGood (layout_after y place x)
 good_step y place x good sound none =
     let w : Cursor = y.cursor in
     let z : Symbols = symbols_of y.laid in
-    let l : Laid = laid z w place x in
+    let l : LaidOutStatement = laid_out_statement z w place x in
     let room = has_room z w x none in
-    let measured : MeasuredBehind y.laid l = record { length = same_length z (context_of w) (own_size w) x; settled = same_settled z (context_of w) (own_size w) x } in
+    let measured : MeasuredAfter y.laid l = record { length = same_length z (context_of w) (own_size w) x; settled = same_settled z (context_of w) (own_size w) x } in
     good_current (y.laid ++ l ∷ []) w l.length (multiple_of z (context_of w) x) x
     (good_laying y.laid w l.length (multiple_of z (context_of w) x) x good sound (y.laid ++ l ∷ []) (λ hs more. good_push y.laid w.segments hs w.current w.kept l good more refl sound measured room) (segment_empty z (context_of w) (own_size w) x))
 
-pub good_statement : (y z : Layout) (place : Place) (x : Statement) → IsGood y → IsSound x → IsLaid y place x (Ok z) → IsGood z
+pub good_statement : (y z : Layout) (place : SourceLocation) (x : Statement) → IsGood y → IsWellFormedStatement x → IsLaidOut y place x (Ok z) → IsGood z
 good_statement y z place x good sound h = by (line_fault (symbols_of y.laid) y.cursor x) refl h
   where
-    by : (o : Option AsmFault) → line_fault (symbols_of y.laid) y.cursor x ≡ o → Ok z ≡ unless_fault o (layout_behind y place x) → IsGood z
+    by : (o : Option AsmFault) → line_fault (symbols_of y.laid) y.cursor x ≡ o → Ok z ≡ unless_fault o (layout_after y place x) → IsGood z
     by (Some e) is h = absurd cc
     by None is h =
-        let same : layout_behind y place x ≡ z = cc in
+        let same : layout_after y place x ≡ z = cc in
         subst IsGood same (good_step y place x good sound is)
 
 -- ---- The first and the last.

@@ -17,20 +17,20 @@ use Rattle.syntax65.specs.declared.lexing.tokens.AddressSize.{AddressSize}
 use Rattle.object65.specs.Form.{Form, lit, sec, imp, prefix, binary}
 use Rattle.object65.specs.Objects.{is_file_name, value_bytes, width_len}
 use Rattle.object65.specs.declared.object.Width.{Width}
-use Rattle.semantics65.specs.Contents.{Content, Declaration, ForcedImport, Part, Waiting, asking, decided, export_said, file_bytes, import_fault, opcode_part, operand_form, operand_tree, put, room_part, stored, telling, written, exported_names}
-use Rattle.syntax65.specs.declared.place.Place.{Place}
-use Rattle.semantics65.specs.Symbols.{Laid, asks_section, defined, has_here, named, Symbols}
-use Rattle.semantics65.specs.declared.laid.Settled.TheVariants.{FromByte}
+use Rattle.semantics65.specs.Contents.{Content, Declaration, ForcedImport, Part, Waiting, section_request, decided_assertion, export_said, file_bytes, import_fault, opcode_part, operand_form, operand_tree, section_part, room_part, value_part, declaration_content, located_declarations, exported_names}
+use Rattle.syntax65.specs.declared.source_location.SourceLocation.{SourceLocation}
+use Rattle.semantics65.specs.Symbols.{LaidOutStatement, needs_section, definition_index, has_here, named, Symbols}
+use Rattle.semantics65.specs.declared.laid.EncodingChoice.TheVariants.{FileOffset}
 use Rattle.semantics65.specs.declared.laid.Context.{Context}
 use Rattle.ast65.specs.declared.fault.AsmFault.{AsmFault}
 use Rattle.ast65.specs.declared.language.Item.{Item}
 use Rattle.ast65.specs.declared.language.Operand.{Operand}
 use Rattle.ast65.specs.declared.language.Statement.{Statement}
-use Rattle.ast65.specs.declared.language.Statement.TheVariants.{Constant, Instruction, Values, Reserve, Align, FilePart, Import, Export, Global, ForceImport, Assert}
+use Rattle.ast65.specs.declared.language.Statement.TheVariants.{Constant, Instruction, Values, Reserve, Align, Incbin, Import, Export, Global, ForceImport, Assert}
 use Rattle.ast65.specs.declared.language.Operand.TheVariants as operand
-use Rattle.ast65.specs.declared.language.Item.TheVariants.{Value, Text}
+use Rattle.ast65.specs.declared.language.Item.TheVariants.{Value, StringLiteral}
 use Rattle.ast65.specs.declared.language.Index.{Index}
-use Rattle.semantics65.specs.Module.{Made, Piece, absent_of, as_part, as_said, asserted, coming, datum, demanded, equated, exported, failed, given, holds, imported, instruction_pieces, item_piece, made_of, operand_pieces, pieces_of, quietly, slots_of, used, valued, waiting_at, waits, PlacedFault, at_place}
+use Rattle.semantics65.specs.Module.{PieceResult, Piece, absent_of, as_part, as_said, asserted, slot_result, datum, demanded, equated, exported, failed_assertion_text, given, resolved, imported, instruction_pieces, item_piece, made_of, operand_pieces, pieces_of, quietly, slots_of, value_result, valued, waiting_at, deferred, LocatedFault, at_place}
 use Rattle.semantics65.specs.Module as purpose
 use Rattle.semantics65.specs.Norms.{norm_of, address_mode, branch_mode, bytes_between, fill_settled, first_of, is_branch, item_len, length_of, mode_len, mode_of, mode_settled, operand_len, part_len as file_len, part_start, settled_of, size_of, width_of}
 use Rattle.semantics65.specs.Numbering.{imports_in, IsMeasured, IsSoundAt, IsSoundForm, part_len, parts_in, sections_in}
@@ -74,10 +74,10 @@ form_sound asked count y k s e h = norm_well (asked_in asked) (below count) y k 
 
 -- ---- What is written with its place.
 
-pub written_with : {A : Type 0} (P : A → Type 0) (place : Place) (x : A) → (is_file_name place.file ≡ true → P x) → IfOk (written place x) P
+pub written_with : {A : Type 0} (P : A → Type 0) (place : SourceLocation) (x : A) → (is_file_name place.file ≡ true → P x) → IfOk (located_declarations place x) P
 written_with {A} P place x h = grind (arith, common_steps)
 
-pub form_at : (asked : List ℕ) (count : ℕ) (place : Place) (f : Form) → IsWell (asked_in asked) (below count) f → is_file_name place.file ≡ true → IsSoundAt asked count place f
+pub form_at : (asked : List ℕ) (count : ℕ) (place : SourceLocation) (f : Form) → IsWell (asked_in asked) (below count) f → is_file_name place.file ≡ true → IsSoundAt asked count place f
 form_at asked count place f w e = record { file = e; form = sound_form asked count f w }
 
 value_len : (width : Width) (v : ℤ) → length (value_bytes width v) ≡ width_len width
@@ -100,30 +100,30 @@ there b n = if b then n else 0
 abbrev IsLong : ℕ → ℕ → Content → Type 0
 IsLong segment len c = (g : ℕ) → sum_by part_len (parts_in (c ∷ []) g) ≡ there (nat_eq segment g) len
 
-put_long : (segment : ℕ) (p : Part) → IsLong segment (part_len p) (put segment p)
+put_long : (segment : ℕ) (p : Part) → IsLong segment (part_len p) (section_part segment p)
 put_long segment p g = by (nat_eq segment g)
   where
-    by : (b : Bool) → sum_by part_len (flat_map (λ (c : Content). c.parts) (if b then put segment p ∷ [] else [])) ≡ there b (part_len p)
+    by : (b : Bool) → sum_by part_len (flat_map (λ (c : Content). c.parts) (if b then section_part segment p ∷ [] else [])) ≡ there b (part_len p)
     by true = sum_by-cons part_len p [] ∙ omega arith
     by false = refl
 
-told_long : (segment : ℕ) (ss : List Declaration) → IsLong segment 0 (telling ss)
+told_long : (segment : ℕ) (ss : List Declaration) → IsLong segment 0 (declaration_content ss)
 told_long segment ss g = nothing (nat_eq 0 g) (nat_eq segment g)
   where
-    nothing : (a b : Bool) → sum_by part_len (flat_map (λ (c : Content). c.parts) (if a then telling ss ∷ [] else [])) ≡ there b 0
+    nothing : (a b : Bool) → sum_by part_len (flat_map (λ (c : Content). c.parts) (if a then declaration_content ss ∷ [] else [])) ≡ there b 0
     nothing true true = refl
     nothing true false = refl
     nothing false true = refl
     nothing false false = refl
 
-asking_long : (segment g : ℕ) → sum_by part_len (parts_in (asking segment ∷ []) g) ≡ 0
+asking_long : (segment g : ℕ) → sum_by part_len (parts_in (section_request segment ∷ []) g) ≡ 0
 asking_long segment g = by (nat_eq segment g)
   where
-    by : (b : Bool) → sum_by part_len (flat_map (λ (c : Content). c.parts) (if b then asking segment ∷ [] else [])) ≡ 0
+    by : (b : Bool) → sum_by part_len (flat_map (λ (c : Content). c.parts) (if b then section_request segment ∷ [] else [])) ≡ 0
     by true = refl
     by false = refl
 
-stored_len : (width : Width) (place : Place) (f : Form) → IfOk (stored width place f) (λ p. part_len p ≡ width_len width)
+stored_len : (width : Width) (place : SourceLocation) (f : Form) → IfOk (value_part width place f) (λ p. part_len p ≡ width_len width)
 stored_len width place (lit v) = grind (arith, common_steps, value_len)
 stored_len width place f = written_with (λ p. part_len p ≡ width_len width) place (Waiting width place f) (λ e. refl)
 
@@ -139,32 +139,32 @@ said_long : (segment : ℕ) (r : Result (List Declaration) AsmFault) → IfOk (r
 said_long segment (Ok ss) = told_long segment ss
 said_long segment (Err e) = tt
 
-made_long : (y : Symbols) (place : Place) (s : Context) (p : Piece) → IfOk (made_of y place s p) (λ m. IsLong s.segment (piece_len p) m.content)
+made_long : (y : Symbols) (place : SourceLocation) (s : Context) (p : Piece) → IfOk (made_of y place s p) (λ m. IsLong s.segment (piece_len p) m.content)
 made_long y place s (given p) = put_long s.segment p
 made_long y place s (valued (datum width) e) =
-    well_then (λ f. ⊤) (λ m. IsLong s.segment (width_len width) m.content) (norm_of y s e) (used place s (datum width)) (any_ok (norm_of y s e))
-    (λ f u. part_long s.segment (width_len width) (stored width place f) (stored_len width place f))
+    well_then (λ f. ⊤) (λ m. IsLong s.segment (width_len width) m.content) (norm_of y s e) (value_result place s (datum width)) (any_ok (norm_of y s e))
+    (λ f u. part_long s.segment (width_len width) (value_part width place f) (stored_len width place f))
 made_long y place s (valued (purpose.operand width) e) =
-    well_then (λ f. ⊤) (λ m. IsLong s.segment (width_len width) m.content) (norm_of y s e) (used place s (purpose.operand width)) (any_ok (norm_of y s e))
-    (λ f u. part_long s.segment (width_len width) (operand_form width s f >>= stored width place)
-    (well_then (λ g. ⊤) (λ p. part_len p ≡ width_len width) (operand_form width s f) (stored width place) (any_ok (operand_form width s f)) (λ g v. stored_len width place g)))
+    well_then (λ f. ⊤) (λ m. IsLong s.segment (width_len width) m.content) (norm_of y s e) (value_result place s (purpose.operand width)) (any_ok (norm_of y s e))
+    (λ f u. part_long s.segment (width_len width) (operand_form width s f >>= value_part width place)
+    (well_then (λ g. ⊤) (λ p. part_len p ≡ width_len width) (operand_form width s f) (value_part width place) (any_ok (operand_form width s f)) (λ g v. stored_len width place g)))
 made_long y place s (valued equated e) =
-    well_then (λ f. ⊤) (λ m. IsLong s.segment 0 m.content) (norm_of y s e) (used place s equated) (any_ok (norm_of y s e)) (λ f u. told_long s.segment [])
+    well_then (λ f. ⊤) (λ m. IsLong s.segment 0 m.content) (norm_of y s e) (value_result place s equated) (any_ok (norm_of y s e)) (λ f u. told_long s.segment [])
 made_long y place s (valued (asserted act words) e) =
-    well_then (λ f. ⊤) (λ m. IsLong s.segment 0 m.content) (norm_of y s e) (used place s (asserted act words)) (any_ok (norm_of y s e))
-    (λ f u. well_then (λ ss. ⊤) (λ m. IsLong s.segment 0 m.content) (decided act place words f) (λ ss. Ok (record { content = telling ss; warning = failed place act words (Ok f) })) (any_ok (decided act place words f)) (λ ss v. told_long s.segment ss))
+    well_then (λ f. ⊤) (λ m. IsLong s.segment 0 m.content) (norm_of y s e) (value_result place s (asserted act words)) (any_ok (norm_of y s e))
+    (λ f u. well_then (λ ss. ⊤) (λ m. IsLong s.segment 0 m.content) (decided_assertion act place words f) (λ ss. Ok (record { content = declaration_content ss; warning = failed_assertion_text place act words (Ok f) })) (any_ok (decided_assertion act place words f)) (λ ss v. told_long s.segment ss))
 made_long y place s (imported n) = said_long s.segment (import_fault y n)
 made_long y place s (demanded n) = told_long s.segment (ForcedImport n ∷ [])
-made_long y place s (exported must n) = said_long s.segment (export_said y place n (absent_of must n) (defined y (named 0 n)))
+made_long y place s (exported must n) = said_long s.segment (export_said y place n (absent_of must n) (definition_index y (named 0 n)))
 
-pub placed_ok : {A : Type 0} (P : A → Type 0) (place : Place) (r : Result A AsmFault) → IfOk r P → IfOk (at_place place r) P
+pub placed_ok : {A : Type 0} (P : A → Type 0) (place : SourceLocation) (r : Result A AsmFault) → IfOk r P → IfOk (at_place place r) P
 placed_ok P place (Ok x) h = h
 placed_ok P place (Err e) h = tt
 
 -- what is so of what is made of a piece, and of nothing where an export is repeated
-pub coming_so : (P : Made → Type 0) (y : Symbols) (names : List (List ℕ)) (place : Place) (s : Context) (p : Piece) →
-    ((must : Bool) (n : List ℕ) → p ≡ exported must n → P (quietly (telling []))) → IfOk (made_of y place s p) P →
-    IfOk (coming y names (waits (record { place = place; context = s; piece = p }))) P
+pub coming_so : (P : PieceResult → Type 0) (y : Symbols) (names : List (List ℕ)) (place : SourceLocation) (s : Context) (p : Piece) →
+    ((must : Bool) (n : List ℕ) → p ≡ exported must n → P (quietly (declaration_content []))) → IfOk (made_of y place s p) P →
+    IfOk (slot_result y names (deferred (record { place = place; context = s; piece = p }))) P
 coming_so P y names place s (exported must n) repeated h = by (list_any (bytes_eq n) names)
   where
     by : (b : Bool) → IfOk (at_place place (if b then as_said [] else made_of y place s (exported must n))) P
@@ -175,9 +175,9 @@ coming_so P y names place s (valued why e) repeated h = placed_ok P place (made_
 coming_so P y names place s (imported n) repeated h = placed_ok P place (made_of y place s (imported n)) h
 coming_so P y names place s (demanded n) repeated h = h
 
-coming_long : (y : Symbols) (names : List (List ℕ)) (place : Place) (s : Context) (p : Piece) → IfOk (coming y names (waits (record { place = place; context = s; piece = p }))) (λ m. IsLong s.segment (piece_len p) m.content)
+coming_long : (y : Symbols) (names : List (List ℕ)) (place : SourceLocation) (s : Context) (p : Piece) → IfOk (slot_result y names (deferred (record { place = place; context = s; piece = p }))) (λ m. IsLong s.segment (piece_len p) m.content)
 coming_long y names place s p =
-    coming_so (λ m. IsLong s.segment (piece_len p) m.content) y names place s p (λ must n e. subst (λ q. IsLong s.segment (piece_len q) (telling [])) (sym e) (told_long s.segment [])) (made_long y place s p)
+    coming_so (λ m. IsLong s.segment (piece_len p) m.content) y names place s p (λ must n e. subst (λ q. IsLong s.segment (piece_len q) (declaration_content [])) (sym e) (told_long s.segment [])) (made_long y place s p)
 
 -- ---- Slots of a statement.
 
@@ -200,14 +200,14 @@ nothing_there false = refl
 pub if_found : {A E : Type 0} (P : A → Type 0) (r : Result A E) (x : A) → r ≡ Ok x → IfOk r P → P x
 if_found P r x e h = subst (λ q. IfOk q P) e h
 
-pieces_long : (y : Symbols) (names : List (List ℕ)) (l : Laid) (g : ℕ) (ps : List Piece) (cs : List Content) → AreFound y names (map (waiting_at l) ps) cs → sum_by part_len (parts_in cs g) ≡ there (nat_eq l.context.segment g) (sum_by piece_len ps)
+pieces_long : (y : Symbols) (names : List (List ℕ)) (l : LaidOutStatement) (g : ℕ) (ps : List Piece) (cs : List Content) → AreFound y names (map (waiting_at l) ps) cs → sum_by part_len (parts_in cs g) ≡ there (nat_eq l.context.segment g) (sum_by piece_len ps)
 pieces_long y names l g [] [] h = nothing_there (nat_eq l.context.segment g)
 pieces_long y names l g [] (c ∷ cs) h = absurd h
 pieces_long y names l g (p ∷ ps) [] h = absurd h
 pieces_long y names l g (p ∷ ps) (c ∷ cs) (w, made, h) =
     let b = nat_eq l.context.segment g in
     parts_cons c cs g
-    ∙ ap (λ n. n + sum_by part_len (parts_in cs g)) (if_found (λ (m : Made). IsLong l.context.segment (piece_len p) m.content) (coming y names (waiting_at l p)) (record { content = c; warning = w }) made (coming_long y names l.place l.context p) g)
+    ∙ ap (λ n. n + sum_by part_len (parts_in cs g)) (if_found (λ (m : PieceResult). IsLong l.context.segment (piece_len p) m.content) (slot_result y names (waiting_at l p)) (record { content = c; warning = w }) made (coming_long y names l.place l.context p) g)
     ∙ ap (λ n. there b (piece_len p) + n) (pieces_long y (names ++ exported_names c.said) l g ps cs h)
     ∙ there_plus b (piece_len p) (sum_by piece_len ps)
     ∙ ap (there b) (sym (sum_by-cons piece_len p ps))
@@ -215,15 +215,15 @@ pieces_long y names l g (p ∷ ps) (c ∷ cs) (w, made, h) =
 none_first : (n : ℕ) → 0 + n ≡ n
 none_first n = omega arith
 
-pub content_is : (m n : Made) → ◌≡◌ {A = Result Made PlacedFault} (Ok m) (Ok n) → m.content ≡ n.content
-content_is m n e = (let same : m ≡ n = cc in ap (λ (x : Made). x.content) same)
+pub content_is : (m n : PieceResult) → ◌≡◌ {A = Result PieceResult LocatedFault} (Ok m) (Ok n) → m.content ≡ n.content
+content_is m n e = (let same : m ≡ n = cc in ap (λ (x : PieceResult). x.content) same)
 
-asked_long : (y : Symbols) (names : List (List ℕ)) (l : Laid) (g : ℕ) (b : Bool) (cs : List Content) → AreFound y names ((if b then holds (asking l.context.segment) ∷ [] else []) ++ map (waiting_at l) (pieces_of l.length l.settled l.stated)) cs →
+asked_long : (y : Symbols) (names : List (List ℕ)) (l : LaidOutStatement) (g : ℕ) (b : Bool) (cs : List Content) → AreFound y names ((if b then resolved (section_request l.context.segment) ∷ [] else []) ++ map (waiting_at l) (pieces_of l.length l.settled l.stated)) cs →
     sum_by part_len (parts_in cs g) ≡ there (nat_eq l.context.segment g) (sum_by piece_len (pieces_of l.length l.settled l.stated))
 asked_long y names l g false cs h = pieces_long y names l g (pieces_of l.length l.settled l.stated) cs h
 asked_long y names l g true [] h = absurd h
 asked_long y names l g true (c ∷ cs) (w, made, h) =
-    let is : asking l.context.segment ≡ c = content_is (quietly (asking l.context.segment)) (record { content = c; warning = w }) made in
+    let is : section_request l.context.segment ≡ c = content_is (quietly (section_request l.context.segment)) (record { content = c; warning = w }) made in
     parts_cons c cs g ∙ ap (λ n. n + sum_by part_len (parts_in cs g)) (ap (λ (d : Content). sum_by part_len (parts_in (d ∷ []) g)) (sym is) ∙ asking_long l.context.segment g)
     ∙ none_first (sum_by part_len (parts_in cs g))
     ∙ pieces_long y (names ++ exported_names c.said) l g (pieces_of l.length l.settled l.stated) cs h
@@ -262,8 +262,8 @@ first_form m t a b v w = go (opcode_of m a) (opcode_of m b) refl refl
     go None (Some d) h k = subst (MayForm m t) (sym (first_second m a b d h k)) (with_code m t b d w k)
     go None None h k = subst (MayForm m t) (sym (first_none m a b h k)) tt
 
-stored_behind : (e : Tree) (mode : Mode) → Alone (Some e) mode
-stored_behind e mode h = absurd cc
+stored_after : (e : Tree) (mode : Mode) → Alone (Some e) mode
+stored_after e mode h = absurd cc
 
 address_form : (m : Mnemonic) (e : Tree) (forced : Option AddressSize) (own : AddressSize) (r : Option Index) → MayForm m (Some e) (address_mode m forced own r)
 address_form m e x1 own r = grind (arith, common_steps)
@@ -274,22 +274,22 @@ branch_form m e x1 x2 b = grind (arith, common_steps)
 operand_mode : (before : Symbols) (s : Context) (own : AddressSize) (m : Mnemonic) (o : Operand) → MayForm m (operand_tree o) (mode_of before s own m o)
 operand_mode before s own m operand.Absent = first_form m None Implied Accumulator (λ h. refl) (λ h. refl)
 operand_mode before s own m operand.Accumulator = first_form m None Accumulator Accumulator (λ h. refl) (λ h. refl)
-operand_mode before s own m (operand.Immediate e) = first_form m (Some e) Immediate Immediate (stored_behind e Immediate) (stored_behind e Immediate)
+operand_mode before s own m (operand.Immediate e) = first_form m (Some e) Immediate Immediate (stored_after e Immediate) (stored_after e Immediate)
 operand_mode before s own m (operand.Address forced e r) = by (is_branch m) refl
   where
     by : (b : Bool) → is_branch m ≡ b → MayForm m (Some e) (if b then branch_mode forced r else address_mode m forced (size_of before s own e) r)
     by true h = branch_form m e forced r h
     by false h = address_form m e forced (size_of before s own e) r
-operand_mode before s own m (operand.Indirect e) = first_form m (Some e) Indirect Indirect (stored_behind e Indirect) (stored_behind e Indirect)
-operand_mode before s own m (operand.IndirectX e) = first_form m (Some e) IndirectX IndirectX (stored_behind e IndirectX) (stored_behind e IndirectX)
-operand_mode before s own m (operand.IndirectY e) = first_form m (Some e) IndirectY IndirectY (stored_behind e IndirectY) (stored_behind e IndirectY)
+operand_mode before s own m (operand.Indirect e) = first_form m (Some e) Indirect Indirect (stored_after e Indirect) (stored_after e Indirect)
+operand_mode before s own m (operand.IndirectX e) = first_form m (Some e) IndirectX IndirectX (stored_after e IndirectX) (stored_after e IndirectX)
+operand_mode before s own m (operand.IndirectY e) = first_form m (Some e) IndirectY IndirectY (stored_after e IndirectY) (stored_after e IndirectY)
 
 -- ---- Parts of files.
 
 between_taken : (bytes : List ℕ) (start : ℕ) (len : Option ℤ) → length (take (length (bytes_between bytes start len)) (drop start bytes)) ≡ length (bytes_between bytes start len)
 between_taken bytes start x1 = grind (arith, common_steps)
 
-file_taken : (before : Symbols) (s : Context) (bytes : Option (List ℕ)) (start len : Option Tree) → length (file_bytes (file_len before s bytes start len) bytes (FromByte (part_start before s start))) ≡ file_len before s bytes start len
+file_taken : (before : Symbols) (s : Context) (bytes : Option (List ℕ)) (start len : Option Tree) → length (file_bytes (file_len before s bytes start len) bytes (FileOffset (part_start before s start))) ≡ file_len before s bytes start len
 file_taken before s x1 start len = grind (arith, common_steps, between_taken)
 
 -- ---- The pieces of a statement are as long as it is.
@@ -300,7 +300,7 @@ items_long width (it ∷ its) = sum_by-cons piece_len (item_piece width it) (map
   where
     one : (it : Item) → piece_len (item_piece width it) ≡ item_len width it
     one (Value e) = refl
-    one (Text bytes) = refl
+    one (StringLiteral bytes) = refl
 
 operands_long : (w : Option Width) (t : Option Tree) → (t ≡ None → w ≡ None) → sum_by piece_len (operand_pieces w t) ≡ operand_len w
 operands_long None t a = refl
@@ -328,7 +328,7 @@ measured_long before s own (Instruction m o) = instruction_long m o (mode_of bef
 measured_long before s own (Values width its) = items_long width its
 measured_long before s own (Reserve n v) = one_long (room_part (length_of before s own (Reserve n v)) (fill_settled before s v)) (length_of before s own (Reserve n v)) (room_long before s (length_of before s own (Reserve n v)) v)
 measured_long before s own (Align n v) = one_long (room_part (length_of before s own (Align n v)) (fill_settled before s v)) (length_of before s own (Align n v)) (room_long before s (length_of before s own (Align n v)) v)
-measured_long before s own (FilePart bytes start more) = grind (arith, common_steps, one_long, file_taken)
+measured_long before s own (Incbin bytes start more) = grind (arith, common_steps, one_long, file_taken)
 measured_long before s own (Constant n e) = refl
 measured_long before s own (Import size names) = silent imported (λ n. refl) names
 measured_long before s own (Export names) = silent (exported true) (λ n. refl) names
@@ -338,9 +338,9 @@ measured_long before s own (Assert e act words) = refl
 measured_long before s own _ = refl
 
 -- a statement's contents put as many bytes into its segment as it places
-pub slots_long : (y : Symbols) (names : List (List ℕ)) (before : Symbols) (l : Laid) (g : ℕ) (cs : List Content) → IsMeasured before l → AreFound y names (slots_of l) cs → sum_by part_len (parts_in cs g) ≡ (if nat_eq l.context.segment g then l.length else 0)
+pub slots_long : (y : Symbols) (names : List (List ℕ)) (before : Symbols) (l : LaidOutStatement) (g : ℕ) (cs : List Content) → IsMeasured before l → AreFound y names (slots_of l) cs → sum_by part_len (parts_in cs g) ≡ (if nat_eq l.context.segment g then l.length else 0)
 slots_long y names before l g cs e h =
-    asked_long y names l g (asks_section l.stated) cs h
+    asked_long y names l g (needs_section l.stated) cs h
     ∙ ap (λ n. there (nat_eq l.context.segment g) n)
     (ap (λ n. sum_by piece_len (pieces_of n l.settled l.stated)) e.length ∙ ap (λ z. sum_by piece_len (pieces_of (length_of before l.context l.size l.stated) z l.stated)) e.settled
     ∙ measured_long before l.context l.size l.stated ∙ sym e.length)

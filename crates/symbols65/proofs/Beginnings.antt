@@ -5,8 +5,8 @@ use Rattle.std.proofs.lemmas.List.{length-replicate}
 use Rattle.std.proofs.lemmas.List.Sums.{sum_by-cons}
 use Rattle.semantics65.specs.Symbols.{Symbols}
 use Rattle.symbols65.specs.declared.resolving.attempt.State.{State}
-use Rattle.symbols65.specs.declared.resolving.attempt.State.TheVariants.{Unknown, Waiting, Hangs, Found}
-use Rattle.symbols65.specs.Resolving.{AreHung, IsTable, is_open, unknown}
+use Rattle.symbols65.specs.declared.resolving.attempt.State.TheVariants.{Unknown, Waiting, BlockedOn, Found}
+use Rattle.symbols65.specs.Resolving.{BlocksAreSound, IsTable, is_open, unknown}
 
 abbrev pub AreOpen : List State → Type 0
 AreOpen [] = ⊤
@@ -26,7 +26,7 @@ open_at (y ∷ xs) zero x (u, h) e = let same : y ≡ x = cc in sym (ap is_open 
 open_at (y ∷ xs) (suc j) x (u, h) e = open_at xs j x h e
 
 -- it is one for any statements by which what hangs does
-pub blank_table : (table : Symbols) (xs : List State) → AreOpen xs → AreHung table xs → length xs ≡ length table.definitions → IsTable table xs
+pub blank_table : (table : Symbols) (xs : List State) → AreOpen xs → BlocksAreSound table xs → length xs ≡ length table.definitions → IsTable table xs
 blank_table table xs h hung e = record {
   long = e;
   turns = 0;
@@ -36,12 +36,12 @@ blank_table table xs h hung e = record {
   hung = hung;
 }
 
-hung_replicated : (table : Symbols) (n : ℕ) → AreHung table (replicate n Unknown)
+hung_replicated : (table : Symbols) (n : ℕ) → BlocksAreSound table (replicate n Unknown)
 hung_replicated table zero j k e = absurd cc
 hung_replicated table (suc n) zero k e = absurd cc
 hung_replicated table (suc n) (suc j) k e = absurd (none n j e)
   where
-    none : (m i : ℕ) → slice_get (replicate m Unknown) i ≡ Some (Hangs k) → ⊥
+    none : (m i : ℕ) → slice_get (replicate m Unknown) i ≡ Some (BlockedOn k) → ⊥
     none zero i q = cc
     none (suc m) zero q = cc
     none (suc m) (suc i) q = none m i q

@@ -14,13 +14,13 @@ use Rattle.object65.specs.Folding.{fold1, fold2}
 use Rattle.object65.specs.declared.folding.FormFault.{FormFault}
 use Rattle.ast65.specs.declared.fault.AsmFault.TheVariants.{NoSuchLabel, NoSuchScope, Undefined}
 use Rattle.semantics65.specs.declared.laid.Context.{Context}
-use Rattle.semantics65.specs.Symbols.{defined_at, enclosing, first_found, last_of, meaning_of, member_meaning, or_else, or_fault, outward_from, scope_from, scopes_of, shown, unnamed_meaning, Definition, Key, Symbols, cheap_in, defined, imported, named, same_key, unnamed_at}
-use Rattle.semantics65.specs.Norms.{folded, form_of_definition, form_of_meaning, norm, norm_of, Extends}
-use Rattle.symbols65.specs.declared.resolving.attempt.Source.TheVariants.{Finals}
+use Rattle.semantics65.specs.Symbols.{defined_at, enclosing, first_found, last_of, binding_of, member_meaning, or_else, or_fault, outward_from, scope_from, scopes_of, display_name, unnamed_meaning, Definition, Key, Symbols, cheap_in, definition_index, import_index, named, same_key, unnamed_at}
+use Rattle.semantics65.specs.Norms.{fold_result, form_of_definition, form_of_meaning, norm, norm_of, Extends}
+use Rattle.symbols65.specs.declared.resolving.attempt.FormSource.TheVariants.{Finals}
 use Rattle.symbols65.specs.declared.resolving.attempt.State.{State}
 use Rattle.symbols65.specs.declared.resolving.attempt.State.TheVariants.{Found}
 use Rattle.symbols65.specs.declared.table.symbols.Symbols as code
-use Rattle.symbols65.specs.Resolving.{IsFinalWithin, IsReference, binary_form, prefix_form, attempt_definition, attempt_value, known_form, plain_part, MeansAlways, MeansFinally, Operands}
+use Rattle.symbols65.specs.Resolving.{IsFinalWithin, IsReference, binary_form, prefix_form, attempt_definition, attempt_value, known_form, plain_part, MeansAlways, MeansFinally, EachOperand}
 use Rattle.symbols65.specs.Views.{known_by, table_of}
 use Rattle.symbols65.proofs.Scopes.{name_is, name_meaning}
 use Rattle.symbols65.proofs.Words.{first_within, get_stays, position_stays}
@@ -30,59 +30,59 @@ use Rattle.symbols65.proofs.Turns.{expression_course, expression_is, ok_later}
 
 -- ---- Definitions.
 
-defined_stays : (y z : Symbols) → Extends y z → (k : Key) (j : ℕ) → defined y k ≡ Some j → defined z k ≡ Some j
+defined_stays : (y z : Symbols) → Extends y z → (k : Key) (j : ℕ) → definition_index y k ≡ Some j → definition_index z k ≡ Some j
 defined_stays y z more k j e = ap (position (λ d. same_key d.key k)) more.definitions ∙ position_stays (λ d. same_key d.key k) y.definitions more.later_definitions j e
 
 -- what means the definition of a key, wherever that is defined
-by_key : (y : Symbols) (s : Context) (e : Tree) (k : Key) (j : ℕ) → defined y k ≡ Some j → ((z : Symbols) (j : ℕ) → Extends y z → defined z k ≡ Some j → meaning_of z s e ≡ Ok (defined_at j)) → MeansAlways y s e j
+by_key : (y : Symbols) (s : Context) (e : Tree) (k : Key) (j : ℕ) → definition_index y k ≡ Some j → ((z : Symbols) (j : ℕ) → Extends y z → definition_index z k ≡ Some j → binding_of z s e ≡ Ok (defined_at j)) → MeansAlways y s e j
 by_key y s e k j at means = (first_within (λ d. same_key d.key k) y.definitions j at, λ z more. means z j more (defined_stays y z more k j at))
 
 -- ---- Operands.
 
-pub own_name : (y : Symbols) (s : Context) (n : List ℕ) (j : ℕ) → defined y (named s.scope n) ≡ Some j → MeansAlways y s (name false (n ∷ [])) j
-own_name y s n i h = by_key y s (name false (n ∷ [])) (named s.scope n) i h (λ z j more e. ap (λ o. or_fault (Undefined n) o (imported z n)) (innermost z s.scope s.scope j e))
+pub own_name : (y : Symbols) (s : Context) (n : List ℕ) (j : ℕ) → definition_index y (named s.scope n) ≡ Some j → MeansAlways y s (name false (n ∷ [])) j
+own_name y s n i h = by_key y s (name false (n ∷ [])) (named s.scope n) i h (λ z j more e. ap (λ o. or_fault (Undefined n) o (import_index z n)) (innermost z s.scope s.scope j e))
   where
-    innermost : (z : Symbols) (m q j : ℕ) → defined z (named q n) ≡ Some j → first_found (λ s. defined z (named s n)) (outward_from z.scopes m q) ≡ Some j
+    innermost : (z : Symbols) (m q j : ℕ) → definition_index z (named q n) ≡ Some j → first_found (λ s. definition_index z (named s n)) (outward_from z.scopes m q) ≡ Some j
     innermost z m zero j e = ap (λ o. or_else o None) e
     innermost z zero (suc i) j e = ap (λ o. or_else o None) e
-    innermost z (suc m) (suc i) j e = ap (λ o. or_else o (first_found (λ s. defined z (named s n)) (outward_from z.scopes m (enclosing z.scopes (suc i))))) e
+    innermost z (suc m) (suc i) j e = ap (λ o. or_else o (first_found (λ s. definition_index z (named s n)) (outward_from z.scopes m (enclosing z.scopes (suc i))))) e
 
-pub own_label : (y : Symbols) (s : Context) (n : List ℕ) (j : ℕ) → defined y (cheap_in s.region n) ≡ Some j → MeansAlways y s (cheap n) j
+pub own_label : (y : Symbols) (s : Context) (n : List ℕ) (j : ℕ) → definition_index y (cheap_in s.region n) ≡ Some j → MeansAlways y s (cheap n) j
 own_label y s n i h = by_key y s (cheap n) (cheap_in s.region n) i h (λ z j more e. ap (λ o. or_fault (Undefined n) o None) e)
 
-pub label_before : (y : Symbols) (s : Context) (n j : ℕ) → n ≤ s.unnamed → defined y (unnamed_at (s.unnamed - n)) ≡ Some j → MeansAlways y s (backward n) j
+pub label_before : (y : Symbols) (s : Context) (n j : ℕ) → n ≤ s.unnamed → definition_index y (unnamed_at (s.unnamed - n)) ≡ Some j → MeansAlways y s (backward n) j
 label_before y s n i le h = by_key y s (backward n) (unnamed_at (s.unnamed - n)) i h (λ z j more e.
     (let yes : nat_le n s.unnamed ≡ true = grind (arith, nat_tests, le) in
     ap (λ b. if b then unnamed_meaning z (s.unnamed - n) else Err NoSuchLabel) yes ∙ ap (λ o. or_fault NoSuchLabel o None) e))
 
 pub own_member : (y : Symbols) (s : Context) (global : Bool) (parts : List (List ℕ)) (q j : ℕ) → plain_part global parts ≡ None → s.opened ≤ length y.scopes →
-    scope_from (take s.opened y.scopes) s.scope global (scopes_of parts) ≡ Some q → defined y (named q (last_of parts)) ≡ Some j → MeansAlways y s (name global parts) j
+    scope_from (take s.opened y.scopes) s.scope global (scopes_of parts) ≡ Some q → definition_index y (named q (last_of parts)) ≡ Some j → MeansAlways y s (name global parts) j
 own_member y s global parts q i plain le found h = by_key y s (name global parts) (named q (last_of parts)) i h (λ z j more e.
     name_is z s global parts ∙ ap (name_meaning z s global parts) plain
-    ∙ ap (λ cs. member_meaning z (last_of parts) (Undefined (shown global parts)) (NoSuchScope (shown global parts)) (scope_from cs s.scope global (scopes_of parts))) (ap (take s.opened) more.scopes ∙ take-append-le s.opened y.scopes more.later_scopes le)
-    ∙ ap (member_meaning z (last_of parts) (Undefined (shown global parts)) (NoSuchScope (shown global parts))) found
+    ∙ ap (λ cs. member_meaning z (last_of parts) (Undefined (display_name global parts)) (NoSuchScope (display_name global parts)) (scope_from cs s.scope global (scopes_of parts))) (ap (take s.opened) more.scopes ∙ take-append-le s.opened y.scopes more.later_scopes le)
+    ∙ ap (member_meaning z (last_of parts) (Undefined (display_name global parts)) (NoSuchScope (display_name global parts))) found
     ∙ member z q j e)
   where
-    member : (z : Symbols) (q j : ℕ) → defined z (named q (last_of parts)) ≡ Some j → member_meaning z (last_of parts) (Undefined (shown global parts)) (NoSuchScope (shown global parts)) (Some q) ≡ Ok (defined_at j)
-    member z zero j e = ap (λ o. or_fault (Undefined (shown global parts)) o (imported z (last_of parts))) e
-    member z (suc i) j e = ap (λ o. or_fault (Undefined (shown global parts)) o None) e
+    member : (z : Symbols) (q j : ℕ) → definition_index z (named q (last_of parts)) ≡ Some j → member_meaning z (last_of parts) (Undefined (display_name global parts)) (NoSuchScope (display_name global parts)) (Some q) ≡ Ok (defined_at j)
+    member z zero j e = ap (λ o. or_fault (Undefined (display_name global parts)) o (import_index z (last_of parts))) e
+    member z (suc i) j e = ap (λ o. or_fault (Undefined (display_name global parts)) o None) e
 
 -- ---- Expressions.
 
-folds : (r : Result Form FormFault) (f : Form) → result_ok r ≡ Some f → folded r ≡ Ok f
+folds : (r : Result Form FormFault) (f : Form) → result_ok r ≡ Some f → fold_result r ≡ Ok f
 folds x f q = grind (arith, common_steps)
 
 -- where the part of an operation stays, so does the whole
 pub prefix_stays : (n : ℕ) (y : Symbols) (s : Context) (op : Op1) (e : Tree) (o : Option Form) → ((g : Form) → o ≡ Some g → IsFinalWithin n y s e g) → (f : Form) → prefix_form op o ≡ Some f → IsFinalWithin n y s (unary op e) f
 prefix_stays n y s op e None h f q = absurd cc
-prefix_stays n y s op e (Some g) h f q = λ z more. ap (λ r. r >>= (λ x. folded (fold1 op x))) (h g refl z more) ∙ folds (fold1 op g) f q
+prefix_stays n y s op e (Some g) h f q = λ z more. ap (λ r. r >>= (λ x. fold_result (fold1 op x))) (h g refl z more) ∙ folds (fold1 op g) f q
 
 pub binary_stays : (n : ℕ) (y : Symbols) (s : Context) (op : Op2) (e g : Tree) (o p : Option Form) → ((x : Form) → o ≡ Some x → IsFinalWithin n y s e x) → ((x : Form) → p ≡ Some x → IsFinalWithin n y s g x) → (f : Form) → binary_form op o p ≡ Some f → IsFinalWithin n y s (binary op e g) f
 binary_stays n y s op e g None p h k f q = absurd cc
 binary_stays n y s op e g (Some x) None h k f q = absurd cc
 binary_stays n y s op e g (Some x) (Some w) h k f q = λ z more.
-    ap (λ r. r >>= (λ u. norm (suc n) z s g >>= (λ v. folded (fold2 op u v)))) (h x refl z more)
-    ∙ ap (λ r. r >>= (λ v. folded (fold2 op x v))) (k w refl z more)
+    ap (λ r. r >>= (λ u. norm (suc n) z s g >>= (λ v. fold_result (fold2 op u v)))) (h x refl z more)
+    ∙ ap (λ r. r >>= (λ v. fold_result (fold2 op x v))) (k w refl z more)
     ∙ folds (fold2 op x w) f q
 
 value_ok : (n : ℕ) (z : Symbols) (j : ℕ) (k : Option State) (d : Definition) (f : Form) → ((g : Form) → k ≡ Some (Found g) → form_of_definition (norm n z) (Some d) ≡ Ok g) → (v : Option Tree) → d.value ≡ v → attempt_value (λ q e. known_form j k) d.context v ≡ Ok f → form_of_definition (norm n z) (Some d) ≡ Ok f
@@ -92,7 +92,7 @@ module _ (t : code.Symbols) (s : Context) where
   abbrev pub y : Symbols
   y = table_of t
 
-  meant_ok : (z : Symbols) → Extends y z → (u : Tree) (j : ℕ) → MeansAlways y s u j → (f : Form) → attempt_definition (λ q e. known_form j (known_by t Finals j)) (slice_get y.definitions j) ≡ Ok f → (meaning_of z s u >>= form_of_meaning (norm (length y.definitions) z) z) ≡ Ok f
+  meant_ok : (z : Symbols) → Extends y z → (u : Tree) (j : ℕ) → MeansAlways y s u j → (f : Form) → attempt_definition (λ q e. known_form j (known_by t Finals j)) (slice_get y.definitions j) ≡ Ok f → (binding_of z s u >>= form_of_meaning (norm (length y.definitions) z) z) ≡ Ok f
   meant_ok z more u j (lt, means) f h =
       ap (λ m. m >>= form_of_meaning (norm (length y.definitions) z) z) (means z more)
       ∙ ap (λ ds. form_of_definition (norm (length y.definitions) z) (slice_get ds j)) more.definitions
@@ -131,7 +131,7 @@ pub some_place : (y : Symbols) (s : Context) (e : Tree) (o : Option ℕ) → IfS
 some_place y s e None h q = absurd cc
 some_place y s e (Some j) h q = (j, h)
 
-pub operands_of : (P : Tree → Type 0) (e : Tree) → IsReference e → P e → Operands P e
+pub operands_of : (P : Tree → Type 0) (e : Tree) → IsReference e → P e → EachOperand P e
 operands_of x y r p = grind (arith, common_steps)
 
 pub more_ok : {A E : Type 0} (P Q : A → Type 0) (r : Result A E) → ((x : A) → P x → Q x) → IfOk r P → IfOk r Q

@@ -6,10 +6,10 @@ use Rattle.std.proofs.lemmas.Grind.{common_steps}
 use Rattle.std.proofs.lemmas.List.Sums.{sum_by-set}
 use Rattle.std.proofs.lemmas.Option.{slice_get_within}
 use Rattle.symbols65.specs.declared.resolving.attempt.State.{State}
-use Rattle.symbols65.specs.declared.resolving.attempt.State.TheVariants.{Unknown, Waiting, Hangs, Found}
+use Rattle.symbols65.specs.declared.resolving.attempt.State.TheVariants.{Unknown, Waiting, BlockedOn, Found}
 use Rattle.symbols65.specs.Views.{without}
 use Rattle.semantics65.specs.Symbols.{Symbols}
-use Rattle.symbols65.specs.Resolving.{IsTable, is_open, unknown, AreHung, bare}
+use Rattle.symbols65.specs.Resolving.{IsTable, is_open, unknown, BlocksAreSound, bare}
 use Rattle.symbols65.proofs.Hanging.{found_same, same_found, same_length, same_unknown, same_waiting, waiting_same}
 use Rattle.symbols65.proofs.Knowns.{get_other, get_same}
 use Rattle.symbols65.proofs.Meanings.{keeps_fewer}
@@ -53,11 +53,11 @@ pursuit_lost table states v ws p = record {
   room = (let room = p.room in let more = without_unknown states ws p.inside in omega (arith, room, more));
   found = λ z more k j f e. p.found z more (keeps_fewer table z (slice_get (without states ws)) (slice_get states) (λ i g at. (g, without_after states ws i (Found g) (λ a. (let both : Some Waiting ≡ Some (Found g) = sym (p.waits i a) ∙ at in absurd cc)) at)) k) j f (without_before states ws j (Found f) (λ q. cc) e).0;
   idle = λ j e. (let before = without_before states ws j Waiting (λ q. cc) e in before.1 (p.marked j before.0));
-  hung = λ j k e. p.hung j k (without_before states ws j (Hangs k) (λ q. cc) e).0;
+  hung = λ j k e. p.hung j k (without_before states ws j (BlockedOn k) (λ q. cc) e).0;
 }
 
 -- constants that are looked for in a table that knows the same but for what hangs
-pub pursuit_same : (table : Symbols) (states new : List State) (v : Course) (ws : List ℕ) → map bare new ≡ map bare states → AreHung table new → IsPursuit table states v ws → IsPursuit table new v ws
+pub pursuit_same : (table : Symbols) (states new : List State) (v : Course) (ws : List ℕ) → map bare new ≡ map bare states → BlocksAreSound table new → IsPursuit table states v ws → IsPursuit table new v ws
 pursuit_same table states new v ws same hung p = record {
   turns = p.turns;
   long = same_length states new same ∙ p.long;

@@ -12,13 +12,13 @@ use Rattle.indexmap.specs.IndexMap.{insert_entry}
 use Rattle.semantics65.specs.Symbols as l
 use Rattle.semantics65.specs.Symbols.{Key, named, cheap_in, unnamed_at}
 use Rattle.semantics65.specs.Layout.{opened_twice}
-use Rattle.symbols65.specs.declared.table.symbols.Entry.{Entry}
-use Rattle.symbols65.specs.declared.table.symbols.Entry.TheVariants as entry
-use Rattle.symbols65.specs.declared.table.symbols.Opening.{Opening}
-use Rattle.symbols65.specs.declared.table.symbols.Opening.TheVariants as opening
+use Rattle.symbols65.specs.declared.table.symbols.InternedKey.{InternedKey}
+use Rattle.symbols65.specs.declared.table.symbols.InternedKey.TheVariants as entry
+use Rattle.symbols65.specs.declared.table.symbols.ScopeKey.{ScopeKey}
+use Rattle.symbols65.specs.declared.table.symbols.ScopeKey.TheVariants as opening
 use Rattle.symbols65.specs.declared.table.symbols.Definition.{Definition}
 use Rattle.semantics65.specs.Norms.{Extends}
-use Rattle.symbols65.specs.Tables.{AreCounted, AreDistinct, AreFinal, AreInnerKnown, AreNumbered, Begins, HasNumber, IsCounted, IsInnerKnown, IsOpening, KeepsFinal, definition_in, entry_of, first_number, key_in, same_opening, scope_by, scope_opened, table_without_imports, word_at, word_of, word_opened}
+use Rattle.symbols65.specs.Tables.{AreCounted, AreDistinct, AreFinal, AreInnerKnown, AreNumbered, IsPrefixOf, HasNumber, IsCounted, IsInnerKnown, IsOpening, KeepsFinal, definition_in, entry_of, first_number, key_in, same_opening, scope_by, scope_opened, table_without_imports, word_at, word_of, word_opened}
 use Rattle.symbols65.proofs.Words.{position_none, first_within, first_passes, get_more, map_same, position_same, position_stays, finds_opened, get_word, keys_get}
 use Rattle.ast65.proofs.Lists.{same_bytes}
 
@@ -62,29 +62,29 @@ module _ (ws more : List (List ℕ)) where
   number_stays None h = refl
   number_stays (Some w) h = ap (λ n. position (bytes_eq n) (ws ++ more)) (word_stays w h) ∙ position_stays (bytes_eq (word_at ws w)) ws more w h
 
-  key_stays : (k : Entry) → first_number ws (word_of k) ≡ word_of k → key_in (ws ++ more) k ≡ key_in ws k
+  key_stays : (k : InternedKey) → first_number ws (word_of k) ≡ word_of k → key_in (ws ++ more) k ≡ key_in ws k
   key_stays x h = grind (arith, common_steps)
 
-  scope_stays : (k : Opening) (is_proc : Bool) → first_number ws (word_opened k) ≡ word_opened k → scope_by (ws ++ more) k is_proc ≡ scope_by ws k is_proc
+  scope_stays : (k : ScopeKey) (is_proc : Bool) → first_number ws (word_opened k) ≡ word_opened k → scope_by (ws ++ more) k is_proc ≡ scope_by ws k is_proc
   scope_stays x is_proc h = grind (arith, common_steps)
 
-  definition_stays : (e : Entry × Definition) → first_number ws (word_of e.0) ≡ word_of e.0 → definition_in (ws ++ more) e ≡ definition_in ws e
+  definition_stays : (e : InternedKey × Definition) → first_number ws (word_of e.0) ≡ word_of e.0 → definition_in (ws ++ more) e ≡ definition_in ws e
   definition_stays e h = ap (λ k. record { key = k; value = (definition_in ws e).value; context = (definition_in ws e).context; size = (definition_in ws e).size }) (key_stays e.0 h)
 
   pub numbered_more : {K : Type 0} (word : K → Option ℕ) (ks : List K) → AreNumbered word ws ks → AreNumbered word (ws ++ more) ks
   numbered_more word ks h = λ i k at. number_stays (word k) (h i k at)
 
-  pub definitions_stay : (es : List (Entry × Definition)) → AreNumbered word_of ws (keys_of es) → map (definition_in (ws ++ more)) es ≡ map (definition_in ws) es
+  pub definitions_stay : (es : List (InternedKey × Definition)) → AreNumbered word_of ws (keys_of es) → map (definition_in (ws ++ more)) es ≡ map (definition_in ws) es
   definitions_stay es h = map_same (definition_in (ws ++ more)) (definition_in ws) es (λ i e at. definition_stays e (h i e.0 (keys_get ws es i e at)))
 
-  pub scopes_stay : (ss : List (Opening × Bool)) → AreNumbered word_opened ws (keys_of ss) → map (scope_opened (ws ++ more)) ss ≡ map (scope_opened ws) ss
+  pub scopes_stay : (ss : List (ScopeKey × Bool)) → AreNumbered word_opened ws (keys_of ss) → map (scope_opened (ws ++ more)) ss ≡ map (scope_opened ws) ss
   scopes_stay ss h = map_same (scope_opened (ws ++ more)) (scope_opened ws) ss (λ i e at. scope_stays e.0 e.1 (h i e.0 (keys_get ws ss i e at)))
 
-  pub final_more : (es : List (Entry × Definition)) (ss : List (Opening × Bool)) → AreNumbered word_of ws (keys_of es) → AreNumbered word_opened ws (keys_of ss) → AreFinal ws es ss → AreFinal (ws ++ more) es ss
+  pub final_more : (es : List (InternedKey × Definition)) (ss : List (ScopeKey × Bool)) → AreNumbered word_of ws (keys_of es) → AreNumbered word_opened ws (keys_of ss) → AreFinal ws es ss → AreFinal (ws ++ more) es ss
   final_more es ss entered scoped h = grind (arith, common_steps, definitions_stay, scopes_stay)
 
 -- what a new table of words gives
-pub begun : (P : List (List ℕ) → Type 0) (ws new : List (List ℕ)) → Begins ws new → ((more : List (List ℕ)) → P (ws ++ more)) → P new
+pub begun : (P : List (List ℕ) → Type 0) (ws new : List (List ℕ)) → IsPrefixOf ws new → ((more : List (List ℕ)) → P (ws ++ more)) → P new
 begun P ws new h k = subst P (sym h.1) (k h.0)
 
 -- ---- One definition or scope more.
@@ -92,37 +92,37 @@ begun P ws new h k = subst P (sym h.1) (k h.0)
 pub numbered_pushed : {K V : Type 0} (word : K → Option ℕ) (ws : List (List ℕ)) (es : List (K × V)) (k : K) (v : V) → AreNumbered word ws (keys_of es) → first_number ws (word k) ≡ word k → AreNumbered word ws (keys_of (es ++ (k, v) ∷ []))
 numbered_pushed {K} word ws es k v h own = grind (arith, common_steps, get_more, keys_pushed)
 
-pub counted_pushed : {V : Type 0} (es : List (Entry × V)) (k : Entry) (v : V) → AreCounted (keys_of es) → IsCounted k → AreCounted (keys_of (es ++ (k, v) ∷ []))
+pub counted_pushed : {V : Type 0} (es : List (InternedKey × V)) (k : InternedKey) (v : V) → AreCounted (keys_of es) → IsCounted k → AreCounted (keys_of (es ++ (k, v) ∷ []))
 counted_pushed es k v h own = grind (arith, common_steps, get_more, keys_pushed)
 
-pub inner_pushed : {V : Type 0} (es : List (Entry × V)) (k : Entry) (v : V) (inner : List Bool) → AreInnerKnown (keys_of es) inner → IsInnerKnown inner k → AreInnerKnown (keys_of (es ++ (k, v) ∷ [])) inner
+pub inner_pushed : {V : Type 0} (es : List (InternedKey × V)) (k : InternedKey) (v : V) (inner : List Bool) → AreInnerKnown (keys_of es) inner → IsInnerKnown inner k → AreInnerKnown (keys_of (es ++ (k, v) ∷ [])) inner
 inner_pushed es k v inner h own = grind (arith, common_steps, get_more, keys_pushed)
 
 -- what is noted stays noted
-pub inner_kept : (ks : List Entry) (old new : List Bool) → ((w : ℕ) → slice_get old w ≡ Some true → slice_get new w ≡ Some true) → AreInnerKnown ks old → AreInnerKnown ks new
+pub inner_kept : (ks : List InternedKey) (old new : List Bool) → ((w : ℕ) → slice_get old w ≡ Some true → slice_get new w ≡ Some true) → AreInnerKnown ks old → AreInnerKnown ks new
 inner_kept ks old new kept h = λ i k at scope w is. kept w (h i k at scope w is)
 
-pub distinct_pushed : (ss : List (Opening × Bool)) (k : Opening) (v : Bool) → AreDistinct (keys_of ss) → HasNumber (length ss) k → AreDistinct (keys_of (ss ++ (k, v) ∷ []))
+pub distinct_pushed : (ss : List (ScopeKey × Bool)) (k : ScopeKey) (v : Bool) → AreDistinct (keys_of ss) → HasNumber (length ss) k → AreDistinct (keys_of (ss ++ (k, v) ∷ []))
 distinct_pushed ss k v h own = grind (arith, common_steps, get_more, keys_pushed, keys_length)
 
-module _ (ws : List (List ℕ)) (es : List (Entry × Definition)) (ss : List (Opening × Bool)) where
+module _ (ws : List (List ℕ)) (es : List (InternedKey × Definition)) (ss : List (ScopeKey × Bool)) where
   -- what extends a table with one definition more extends the table
-  less_definition : (e : Entry × Definition) (z : l.Symbols) → Extends (table_without_imports ws (es ++ e ∷ []) ss) z → Extends (table_without_imports ws es ss) z
+  less_definition : (e : InternedKey × Definition) (z : l.Symbols) → Extends (table_without_imports ws (es ++ e ∷ []) ss) z → Extends (table_without_imports ws es ss) z
   less_definition e z h = grind (arith, common_steps)
 
-  less_scope : (s : Opening × Bool) (z : l.Symbols) → Extends (table_without_imports ws es (ss ++ s ∷ [])) z → Extends (table_without_imports ws es ss) z
+  less_scope : (s : ScopeKey × Bool) (z : l.Symbols) → Extends (table_without_imports ws es (ss ++ s ∷ [])) z → Extends (table_without_imports ws es ss) z
   less_scope s z h = grind (arith, common_steps)
 
-  pub final_pushed : (e : Entry × Definition) → AreFinal ws es ss → KeepsFinal (table_without_imports ws es ss) (length es) (definition_in ws e) e.1.form → AreFinal ws (es ++ e ∷ []) ss
+  pub final_pushed : (e : InternedKey × Definition) → AreFinal ws es ss → KeepsFinal (table_without_imports ws es ss) (length es) (definition_in ws e) e.1.form → AreFinal ws (es ++ e ∷ []) ss
   final_pushed e h own = grind (arith, common_steps, less_definition, get_more)
 
-  pub final_scoped : (s : Opening × Bool) → AreFinal ws es ss → AreFinal ws es (ss ++ s ∷ [])
+  pub final_scoped : (s : ScopeKey × Bool) → AreFinal ws es ss → AreFinal ws es (ss ++ s ∷ [])
   final_scoped s h = λ j d at f is z extends. h j d at f is z (less_scope s z extends)
 
 -- ---- The entry of a key.
 
 -- it has the first number of its name, and stands for the key
-pub entry_is : (ws : List (List ℕ)) (q : Key) (k : Entry) → entry_of ws q ≡ Some k → (first_number ws (word_of k) ≡ word_of k) × (key_in ws k ≡ q)
+pub entry_is : (ws : List (List ℕ)) (q : Key) (k : InternedKey) → entry_of ws q ≡ Some k → (first_number ws (word_of k) ≡ word_of k) × (key_in ws k ≡ q)
 entry_is ws (named s n) k e = by (position (bytes_eq n) ws) refl e
   where
     by : (o : Option ℕ) → position (bytes_eq n) ws ≡ o → option_map (entry.Named s) o ≡ Some k → (first_number ws (word_of k) ≡ word_of k) × (key_in ws k ≡ named s n)
@@ -144,7 +144,7 @@ entry_is ws (cheap_in s n) k e = by (position (bytes_eq n) ws) refl e
 entry_is ws (unnamed_at c) k e = (let same : entry.Unnamed c ≡ k = cc in subst (λ x. (first_number ws (word_of x) ≡ word_of x) × (key_in ws x ≡ unnamed_at c)) same (refl, refl))
 
 -- the same of the opening of a scope of a name
-pub opening_is : (ws : List (List ℕ)) (s : ℕ) (n : List ℕ) (k : Opening) (is_proc : Bool) → option_map (opening.Named s) (position (bytes_eq n) ws) ≡ Some k →
+pub opening_is : (ws : List (List ℕ)) (s : ℕ) (n : List ℕ) (k : ScopeKey) (is_proc : Bool) → option_map (opening.Named s) (position (bytes_eq n) ws) ≡ Some k →
     (first_number ws (word_opened k) ≡ word_opened k) × (scope_by ws k is_proc ≡ record { within = s; name = Some n; is_proc = is_proc }) × ((i : ℕ) → HasNumber i k)
 opening_is ws s n k is_proc e = by (position (bytes_eq n) ws) refl e
   where
@@ -160,7 +160,7 @@ opening_is ws s n k is_proc e = by (position (bytes_eq n) ws) refl e
 
 -- ---- The opening of a scope.
 
-module _ (ws : List (List ℕ)) (s : ℕ) (k : Opening) where
+module _ (ws : List (List ℕ)) (s : ℕ) (k : ScopeKey) where
   pub opening_numbered : (count : ℕ) (name : Option (List ℕ)) → IsOpening ws count s name k → first_number ws (word_opened k) ≡ word_opened k
   opening_numbered count None h = subst (λ x. first_number ws (word_opened x) ≡ word_opened x) (sym h) refl
   opening_numbered count (Some n) h = (opening_is ws s n k false h).0
@@ -173,7 +173,7 @@ module _ (ws : List (List ℕ)) (s : ℕ) (k : Opening) where
   opening_scope count (Some n) is_proc h = (opening_is ws s n k is_proc h).1
 
   -- a scope is opened once by its opening
-  pub opened_once : (ss : List (Opening × Bool)) (name : Option (List ℕ)) → AreNumbered word_opened ws (keys_of ss) → AreDistinct (keys_of ss) → IsOpening ws (length ss) s name k →
+  pub opened_once : (ss : List (ScopeKey × Bool)) (name : Option (List ℕ)) → AreNumbered word_opened ws (keys_of ss) → AreDistinct (keys_of ss) → IsOpening ws (length ss) s name k →
       opened_twice (map (scope_opened ws) ss) s name ≡ None → position (same_opening k) (keys_of ss) ≡ None
   opened_once ss x numbers distinct h e = grind (arith, common_steps, position_none, slice_get_within, keys_length, nat_tests, finds_opened)
 

@@ -11,8 +11,8 @@ use Rattle.semantics65.specs.Norms.{Extends}
 use Rattle.semantics65.specs.Symbols.{Symbols}
 use Rattle.object65.specs.Form.{Form}
 use Rattle.symbols65.specs.declared.resolving.attempt.State.{State}
-use Rattle.symbols65.specs.declared.resolving.attempt.State.TheVariants.{Unknown, Waiting, Hangs, Found}
-use Rattle.symbols65.specs.Resolving.{AreHung, HangsOn, bare, hung_on, IsTable, is_open, may_be_looked_for, unknown}
+use Rattle.symbols65.specs.declared.resolving.attempt.State.TheVariants.{Unknown, Waiting, BlockedOn, Found}
+use Rattle.symbols65.specs.Resolving.{BlocksAreSound, IsBlockedOn, bare, blocker_of, IsTable, is_open, may_be_looked_for, unknown}
 use Rattle.symbols65.specs.Views.{AreNoted, is_found}
 
 -- a table extends itself
@@ -70,7 +70,7 @@ module _ (xs ys : List State) (same : map bare ys ≡ map bare xs) where
   pub same_idle : ((j : ℕ) → slice_get xs j ≡ Some Waiting → ⊥) → (j : ℕ) → slice_get ys j ≡ Some Waiting → ⊥
   same_idle idle j e = idle j (same_waiting j e)
 
-  pub same_table : (y : Symbols) → AreHung y ys → IsTable y xs → IsTable y ys
+  pub same_table : (y : Symbols) → BlocksAreSound y ys → IsTable y xs → IsTable y ys
   same_table y hung t = record {
     long = same_length ∙ t.long;
     turns = t.turns;
@@ -88,7 +88,7 @@ not_found xs ys same i j only none e = by (slice_get xs i) refl (ap (λ (q : ℕ
     by None is e = absurd cc
     by (Some Unknown) is e = absurd cc
     by (Some Waiting) is e = absurd cc
-    by (Some (Hangs k)) is e = absurd cc
+    by (Some (BlockedOn k)) is e = absurd cc
     by (Some (Found f)) is e = none f is
 
 -- ---- A constant that hangs on another.
@@ -96,46 +96,46 @@ not_found xs ys same i j only none e = by (slice_get xs i) refl (ap (λ (q : ℕ
 pub if_some : {P Q : ℕ → Type 0} (o : Option ℕ) → ((k : ℕ) → P k → Q k) → IfSome o P → IfSome o Q
 if_some x f h = grind (arith, common_steps)
 
-pub hung_is : (o : Option State) (k : ℕ) → Some k ≡ hung_on o → o ≡ Some (Hangs k)
+pub hung_is : (o : Option State) (k : ℕ) → Some k ≡ blocker_of o → o ≡ Some (BlockedOn k)
 hung_is x k e = grind (arith, common_steps)
 
 pub open_is : (o : Option State) → may_be_looked_for o ≡ true → (x : State) × (o ≡ Some x) × (bare x ≡ Unknown)
 open_is x e = grind (arith, common_steps)
 
 -- it is open still
-pub bare_put : (states : List State) (j k : ℕ) (x : State) → slice_get states j ≡ Some x → bare x ≡ Unknown → map bare (slice_set states j (Hangs k)) ≡ map bare states
-bare_put states j k x at free = map-set_same bare states j (Hangs k) Unknown (sym (ap bare (get_or_from_slice_get states j x Unknown at) ∙ free))
+pub bare_put : (states : List State) (j k : ℕ) (x : State) → slice_get states j ≡ Some x → bare x ≡ Unknown → map bare (slice_set states j (BlockedOn k)) ≡ map bare states
+bare_put states j k x at free = map-set_same bare states j (BlockedOn k) Unknown (sym (ap bare (get_or_from_slice_get states j x Unknown at) ∙ free))
 
 -- where it does hang on the other, each hangs
-pub hung_put : (y : Symbols) (states : List State) (j k : ℕ) → AreHung y states → HangsOn y j k → AreHung y (slice_set states j (Hangs k))
+pub hung_put : (y : Symbols) (states : List State) (j k : ℕ) → BlocksAreSound y states → IsBlockedOn y j k → BlocksAreSound y (slice_set states j (BlockedOn k))
 hung_put y states j k h on = λ i m e. by i m e (nat_eq i j) refl
   where
-    by : (i m : ℕ) → slice_get (slice_set states j (Hangs k)) i ≡ Some (Hangs m) → (b : Bool) → nat_eq i j ≡ b → HangsOn y i m
+    by : (i m : ℕ) → slice_get (slice_set states j (BlockedOn k)) i ≡ Some (BlockedOn m) → (b : Bool) → nat_eq i j ≡ b → IsBlockedOn y i m
     by i m e true b =
         let one : i ≡ j = grind (arith, nat_tests) in
-        let within : i < length (slice_set states j (Hangs k)) = slice_get_within (slice_set states j (Hangs k)) i (Hangs m) e in
-        let long : length (slice_set states j (Hangs k)) ≡ length states = grind (arith, common_steps) in
+        let within : i < length (slice_set states j (BlockedOn k)) = slice_get_within (slice_set states j (BlockedOn k)) i (BlockedOn m) e in
+        let long : length (slice_set states j (BlockedOn k)) ≡ length states = grind (arith, common_steps) in
         let lt : j < length states = omega (arith, within, long, one) in
-        let now : slice_get (slice_set states j (Hangs k)) j ≡ Some (Hangs k) = grind (arith, common_steps, gets) in
-        let same : k ≡ m = (let both : Some (Hangs k) ≡ Some (Hangs m) = sym now ∙ ap (slice_get (slice_set states j (Hangs k))) (sym one) ∙ e in cc) in
-        subst (λ (q : ℕ). HangsOn y q m) (sym one) (subst (HangsOn y j) same on)
+        let now : slice_get (slice_set states j (BlockedOn k)) j ≡ Some (BlockedOn k) = grind (arith, common_steps, gets) in
+        let same : k ≡ m = (let both : Some (BlockedOn k) ≡ Some (BlockedOn m) = sym now ∙ ap (slice_get (slice_set states j (BlockedOn k))) (sym one) ∙ e in cc) in
+        subst (λ (q : ℕ). IsBlockedOn y q m) (sym one) (subst (IsBlockedOn y j) same on)
     by i m e false b =
         let other : i ≢ j = grind (arith, nat_tests) in
-        let before : slice_get (slice_set states j (Hangs k)) i ≡ slice_get states i = grind (arith, common_steps, gets) in
+        let before : slice_get (slice_set states j (BlockedOn k)) i ≡ slice_get states i = grind (arith, common_steps, gets) in
         h i m (sym before ∙ e)
 
 -- what is lost hangs on nothing
-pub hung_lost : (y : Symbols) (states : List State) (j : ℕ) → AreHung y states → AreHung y (slice_set states j Unknown)
+pub hung_lost : (y : Symbols) (states : List State) (j : ℕ) → BlocksAreSound y states → BlocksAreSound y (slice_set states j Unknown)
 hung_lost y states j h = λ i m e. by i m e (nat_eq i j) refl
   where
-    by : (i m : ℕ) → slice_get (slice_set states j Unknown) i ≡ Some (Hangs m) → (b : Bool) → nat_eq i j ≡ b → HangsOn y i m
+    by : (i m : ℕ) → slice_get (slice_set states j Unknown) i ≡ Some (BlockedOn m) → (b : Bool) → nat_eq i j ≡ b → IsBlockedOn y i m
     by i m e true b =
         let one : i ≡ j = grind (arith, nat_tests) in
-        let within : i < length (slice_set states j Unknown) = slice_get_within (slice_set states j Unknown) i (Hangs m) e in
+        let within : i < length (slice_set states j Unknown) = slice_get_within (slice_set states j Unknown) i (BlockedOn m) e in
         let long : length (slice_set states j Unknown) ≡ length states = grind (arith, common_steps) in
         let lt : j < length states = omega (arith, within, long, one) in
         let now : slice_get (slice_set states j Unknown) j ≡ Some Unknown = grind (arith, common_steps, gets) in
-        let both : Some Unknown ≡ Some (Hangs m) = sym now ∙ ap (slice_get (slice_set states j Unknown)) (sym one) ∙ e in
+        let both : Some Unknown ≡ Some (BlockedOn m) = sym now ∙ ap (slice_get (slice_set states j Unknown)) (sym one) ∙ e in
         absurd cc
     by i m e false b =
         let other : i ≢ j = grind (arith, nat_tests) in
@@ -146,5 +146,5 @@ hung_lost y states j h = λ i m e. by i m e (nat_eq i j) refl
 extends_both : (x y z : Symbols) → Extends x y → Extends y z → Extends x z
 extends_both x y z h k = grind (arith, common_steps)
 
-pub hung_later : (x y : Symbols) (states : List State) → Extends x y → AreHung x states → AreHung y states
+pub hung_later : (x y : Symbols) (states : List State) → Extends x y → BlocksAreSound x states → BlocksAreSound y states
 hung_later x y states more h = λ j k e z further. h j k e z (extends_both x y z more further)

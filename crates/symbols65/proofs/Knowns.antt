@@ -8,20 +8,20 @@ use Rattle.std.proofs.lemmas.List.{append-nil, drop_all, take_all}
 use Rattle.std.proofs.lemmas.List.Folds.{list_any-append}
 use Rattle.std.proofs.lemmas.Option.{gets, slice_get_within}
 use Rattle.symbols65.specs.declared.resolving.attempt.State.{State}
-use Rattle.symbols65.specs.declared.resolving.attempt.State.TheVariants.{Unknown, Waiting, Hangs, Found}
+use Rattle.symbols65.specs.declared.resolving.attempt.State.TheVariants.{Unknown, Waiting, BlockedOn, Found}
 use Rattle.symbols65.specs.Views.{AreNoted, is_found, without}
 use Rattle.semantics65.specs.Symbols.{Symbols}
 use Rattle.semantics65.specs.Norms.{Extends}
-use Rattle.symbols65.specs.Resolving.{AreHung, HangsOn, IsTable, is_open}
+use Rattle.symbols65.specs.Resolving.{BlocksAreSound, IsBlockedOn, IsTable, is_open}
 use Rattle.symbols65.proofs.Beginnings.{AreOpen, blank_table}
 use Rattle.symbols65.proofs.Hanging.{hung_later}
 use Rattle.symbols65.proofs.Words.{get_more}
 
 -- nothing hangs at one more place
-pub hung_more : (y : Symbols) (states : List State) → AreHung y states → AreHung y (states ++ Unknown ∷ [])
-hung_more y states h = λ j k e. by j k (get_more states Unknown (Hangs k) j e)
+pub hung_more : (y : Symbols) (states : List State) → BlocksAreSound y states → BlocksAreSound y (states ++ Unknown ∷ [])
+hung_more y states h = λ j k e. by j k (get_more states Unknown (BlockedOn k) j e)
   where
-    by : (j k : ℕ) → (slice_get states j ≡ Some (Hangs k)) ⊎ ((j ≡ length states) × (Unknown ≡ Hangs k)) → HangsOn y j k
+    by : (j k : ℕ) → (slice_get states j ≡ Some (BlockedOn k)) ⊎ ((j ≡ length states) × (Unknown ≡ BlockedOn k)) → IsBlockedOn y j k
     by j k (inl same) = h j k same
     by j k (inr new) = absurd (let never = new.1 in cc)
 
@@ -62,10 +62,10 @@ none_noted (x ∷ states) h idle = (at x (h zero) (idle zero), none_noted states
     at : (y : State) → (is_found (Some y) ≡ true → false ≡ true) → (Some y ≡ Some Waiting → ⊥) → is_open y ≡ 1
     at Unknown k w = refl
     at Waiting k w = absurd (w refl)
-    at (Hangs m) k w = refl
+    at (BlockedOn m) k w = refl
     at (Found f) k w = let never = k refl in absurd cc
 
-pub none_known : (x y : Symbols) (states : List State) → AreNoted states [] → ((j : ℕ) → slice_get states j ≡ Some Waiting → ⊥) → AreHung x states → Extends x y → length states ≡ length y.definitions → IsTable y states
+pub none_known : (x y : Symbols) (states : List State) → AreNoted states [] → ((j : ℕ) → slice_get states j ≡ Some Waiting → ⊥) → BlocksAreSound x states → Extends x y → length states ≡ length y.definitions → IsTable y states
 none_known x y states h idle hung more e = blank_table y states (none_noted states h idle) (hung_later x y states more hung) e
 
 -- nothing more waits where nothing is known of one more place
@@ -77,5 +77,5 @@ pub written_over : {A : Type 0} (n : ℕ) (xs ys : List A) → length xs ≡ len
 written_over n xs ys same long = ap (λ zs. take n (xs ++ zs)) (drop_all (length xs) ys (omega (arith, same))) ∙ ap (take n) (append-nil xs) ∙ take_all n xs (omega (arith, same, long))
 
 -- and what hangs in that one hangs in it
-pub hung_written : (y : Symbols) (n : ℕ) (xs ys : List State) → length xs ≡ length ys → n ≡ length ys → AreHung y xs → AreHung y (take n (xs ++ drop (length xs) ys))
-hung_written y n xs ys same long h = subst (AreHung y) (sym (written_over n xs ys same long)) h
+pub hung_written : (y : Symbols) (n : ℕ) (xs ys : List State) → length xs ≡ length ys → n ≡ length ys → BlocksAreSound y xs → BlocksAreSound y (take n (xs ++ drop (length xs) ys))
+hung_written y n xs ys same long h = subst (BlocksAreSound y) (sym (written_over n xs ys same long)) h

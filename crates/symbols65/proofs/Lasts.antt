@@ -2,11 +2,11 @@
 use Rattle.std.proofs.Common.{◌≡◌, ℕ, suc, ◌-◌, sym, ap, ◌∙◌, arith, List, [], ◌∷◌, length, Option, Some, slice_get, Result}
 use Rattle.object65.specs.Form.{Form}
 use Rattle.symbols65.specs.declared.resolving.attempt.State.{State}
-use Rattle.symbols65.specs.declared.resolving.attempt.Stop.{Stop}
+use Rattle.symbols65.specs.declared.resolving.attempt.AttemptError.{AttemptError}
 use Rattle.semantics65.specs.Symbols.{Symbols}
 use Rattle.symbols65.specs.Resolving.{tried_at, tried_last}
 
-pub last_is : (known : ℕ → Option State) (table : Symbols) (a : Result Form Stop) (ws : List ℕ) (w : ℕ) → Some w ≡ slice_get ws (length ws - 1) → tried_last known table a ws ≡ tried_at known table w
+pub last_is : (known : ℕ → Option State) (table : Symbols) (a : Result Form AttemptError) (ws : List ℕ) (w : ℕ) → Some w ≡ slice_get ws (length ws - 1) → tried_last known table a ws ≡ tried_at known table w
 last_is known table a [] w e = absurd cc
 last_is known table a (u ∷ []) w e = let same : u ≡ w = cc in ap (tried_at known table) same
 last_is known table a (u ∷ x ∷ ws) w e =

@@ -1,5 +1,5 @@
 pub mod Beginnings
-pub mod Behind
+pub mod Following
 pub mod Finals
 pub mod GivenUp
 pub mod Growing

@@ -17,13 +17,13 @@ use Rattle.ast65.proofs.Lists.{bytes_swap, same_bytes}
 use Rattle.ast65.specs.declared.fault.AsmFault.{AsmFault}
 use Rattle.ast65.specs.declared.fault.AsmFault.TheVariants.{NoSuchLabel, NoSuchScope, Undefined}
 use Rattle.semantics65.specs.declared.laid.Context.{Context}
-use Rattle.semantics65.specs.Norms.{Extends, folded}
-use Rattle.semantics65.specs.Symbols.{Definition, Key, Meaning, Scope, Symbols, cheap_in, defined, defined_at, enclosing, first_found, imported, imported_as, last_of, meaning_of, member_meaning, named, or_else, or_fault, outward_from, same_key, scope_from, scopes_from, scopes_of, shown, unnamed_at, unnamed_meaning, with_new, within}
+use Rattle.semantics65.specs.Norms.{Extends, fold_result}
+use Rattle.semantics65.specs.Symbols.{Definition, Key, Binding, Scope, Symbols, cheap_in, definition_index, defined_at, enclosing, first_found, import_index, imported_as, last_of, binding_of, member_meaning, named, or_else, or_fault, outward_from, same_key, scope_from, scopes_from, scopes_of, display_name, unnamed_at, unnamed_meaning, with_new, parent_scope}
 use Rattle.symbols65.specs.declared.resolving.attempt.State.{State}
 use Rattle.symbols65.specs.declared.resolving.attempt.State.TheVariants.{Unknown, Waiting, Found}
-use Rattle.symbols65.specs.declared.resolving.attempt.Stop.{Stop}
-use Rattle.symbols65.specs.Resolving.{IsTable, IsUnknownName, KeepsConstant, KeepsFound, KeepsMeanings, KeepsOperand, KeepsValue, Operands, attempt_definition, attempt_value, constant_mentions, is_near, known_form, meaning_form, mentions, operand_form, plain_part, stands_near, stopped, tried, tried_at, tried_by, unknown, value_mentions}
-use Rattle.symbols65.specs.Tables.{Begins}
+use Rattle.symbols65.specs.declared.resolving.attempt.AttemptError.{AttemptError}
+use Rattle.symbols65.specs.Resolving.{IsTable, IsUnknownName, KeepsConstant, KeepsFound, KeepsMeanings, KeepsOperand, KeepsValue, EachOperand, attempt_definition, attempt_value, constant_mentions, is_near, known_form, meaning_form, mentions, operand_form, plain_part, stands_near, attempt_result, form_attempt, tried_at, tried_by, unknown, value_mentions}
+use Rattle.symbols65.specs.Tables.{IsPrefixOf}
 use Rattle.symbols65.specs.Views.{with_definition, with_names, with_scope}
 use Rattle.symbols65.proofs.Hanging.{hung_later}
 use Rattle.symbols65.proofs.Knowns.{hung_more}
@@ -32,7 +32,7 @@ use Rattle.symbols65.proofs.Words.{and_false, get_more, get_stays, one_begins, p
 
 -- ---- Operands.
 
-pub operands_all : (P : Tree → Type 0) → ((t : Tree) → P t) → (e : Tree) → Operands P e
+pub operands_all : (P : Tree → Type 0) → ((t : Tree) → P t) → (e : Tree) → EachOperand P e
 operands_all P h (number v) = tt
 operands_all P h here = tt
 operands_all P h (name global parts) = h (name global parts)
@@ -42,7 +42,7 @@ operands_all P h (backward n) = h (backward n)
 operands_all P h (unary op e) = operands_all P h e
 operands_all P h (binary op e g) = (operands_all P h e, operands_all P h g)
 
-operands_both : (P Q R : Tree → Type 0) → ((t : Tree) → P t → Q t → R t) → (e : Tree) → Operands P e → Operands Q e → Operands R e
+operands_both : (P Q R : Tree → Type 0) → ((t : Tree) → P t → Q t → R t) → (e : Tree) → EachOperand P e → EachOperand Q e → EachOperand R e
 operands_both P Q R h (number v) p q = tt
 operands_both P Q R h here p q = tt
 operands_both P Q R h (name global parts) p q = h (name global parts) p q
@@ -90,27 +90,27 @@ keeps_fewer y z known fewer h k j f is = (let (g, at) = h j f is in k j g at)
 -- ---- Attempts.
 
 -- the second outcome has the form of the first
-abbrev Stays : Result Form Stop → Result Form Stop → Type 0
+abbrev Stays : Result Form AttemptError → Result Form AttemptError → Type 0
 Stays r s = (f : Form) → r ≡ Ok f → s ≡ Ok f
 
-stays_then : (r s : Result Form Stop) (k l : Form → Result Form Stop) → Stays r s → ((f : Form) → Stays (k f) (l f)) → Stays (r >>= k) (s >>= l)
+stays_then : (r s : Result Form AttemptError) (k l : Form → Result Form AttemptError) → Stays r s → ((f : Form) → Stays (k f) (l f)) → Stays (r >>= k) (s >>= l)
 stays_then (Ok f) s k l h g = λ x e. ap (λ q. q >>= l) (h f refl) ∙ g f x e
 stays_then (Err z) s k l h g = λ x e. absurd cc
 
-stays_tried : (a b : Tree → Result Form Stop) (s : Context) (e : Tree) → Operands (λ t. Stays (a t) (b t)) e → Stays (tried_by a s e) (tried_by b s e)
+stays_tried : (a b : Tree → Result Form AttemptError) (s : Context) (e : Tree) → EachOperand (λ t. Stays (a t) (b t)) e → Stays (tried_by a s e) (tried_by b s e)
 stays_tried a b s (number v) h = λ f e. e
 stays_tried a b s here h = λ f e. e
 stays_tried a b s (name global parts) h = h
 stays_tried a b s (cheap n) h = h
 stays_tried a b s (forward n) h = h
 stays_tried a b s (backward n) h = h
-stays_tried a b s (unary op e) h = stays_then (tried_by a s e) (tried_by b s e) (λ f. stopped (folded (fold1 op f))) (λ f. stopped (folded (fold1 op f))) (stays_tried a b s e h) (λ f x q. q)
+stays_tried a b s (unary op e) h = stays_then (tried_by a s e) (tried_by b s e) (λ f. attempt_result (fold_result (fold1 op f))) (λ f. attempt_result (fold_result (fold1 op f))) (stays_tried a b s e h) (λ f x q. q)
 stays_tried a b s (binary op e g) h =
-    stays_then (tried_by a s e) (tried_by b s e) (λ f. tried_by a s g >>= (λ k. stopped (folded (fold2 op f k)))) (λ f. tried_by b s g >>= (λ k. stopped (folded (fold2 op f k)))) (stays_tried a b s e h.0)
-    (λ f. stays_then (tried_by a s g) (tried_by b s g) (λ k. stopped (folded (fold2 op f k))) (λ k. stopped (folded (fold2 op f k))) (stays_tried a b s g h.1) (λ k x q. q))
+    stays_then (tried_by a s e) (tried_by b s e) (λ f. tried_by a s g >>= (λ k. attempt_result (fold_result (fold2 op f k)))) (λ f. tried_by b s g >>= (λ k. attempt_result (fold_result (fold2 op f k)))) (stays_tried a b s e h.0)
+    (λ f. stays_then (tried_by a s g) (tried_by b s g) (λ k. attempt_result (fold_result (fold2 op f k))) (λ k. attempt_result (fold_result (fold2 op f k))) (stays_tried a b s g h.1) (λ k x q. q))
 
 module _ (y z : Symbols) (more : Extends y z) (known : ℕ → Option State) where
-  meaning_stays : (m : Meaning) → Stays (meaning_form known y m) (meaning_form known z m)
+  meaning_stays : (m : Binding) → Stays (meaning_form known y m) (meaning_form known z m)
   meaning_stays (imported_as k) = λ f e. e
   meaning_stays (defined_at j) = by (slice_get y.definitions j) refl
     where
@@ -119,26 +119,26 @@ module _ (y z : Symbols) (more : Extends y z) (known : ℕ → Option State) whe
       by (Some d) is = λ f e. ap (attempt_definition (λ s e. known_form j (known j))) (definition_stays y z more j d is) ∙ e
 
   operand_stays : (s : Context) (t : Tree) → KeepsOperand y z s t → Stays (operand_form known y s t) (operand_form known z s t)
-  operand_stays s t keeps = by (meaning_of y s t) refl
+  operand_stays s t keeps = by (binding_of y s t) refl
     where
-      by : (r : Result Meaning AsmFault) → meaning_of y s t ≡ r → Stays (stopped r >>= meaning_form known y) (operand_form known z s t)
-      by (Ok m) is = λ f e. ap (λ q. stopped q >>= meaning_form known z) (keeps m is) ∙ meaning_stays m f e
+      by : (r : Result Binding AsmFault) → binding_of y s t ≡ r → Stays (attempt_result r >>= meaning_form known y) (operand_form known z s t)
+      by (Ok m) is = λ f e. ap (λ q. attempt_result q >>= meaning_form known z) (keeps m is) ∙ meaning_stays m f e
       by (Err x) is = λ f e. absurd cc
 
-  tried_stays : (s : Context) (e : Tree) → Operands (KeepsOperand y z s) e → Stays (tried known y s e) (tried known z s e)
+  tried_stays : (s : Context) (e : Tree) → EachOperand (KeepsOperand y z s) e → Stays (form_attempt known y s e) (form_attempt known z s e)
   tried_stays s e keeps = stays_tried (operand_form known y s) (operand_form known z s) s e (operands_both (KeepsOperand y z s) (KeepsOperand y z s) (λ t. Stays (operand_form known y s t) (operand_form known z s t)) (λ t k l. operand_stays s t k) e keeps keeps)
 
   -- what is found of a constant that is kept is found of it with the statements that follow
   pub tried_at_stays : (j : ℕ) → KeepsConstant y z (slice_get y.definitions j) → Stays (tried_at known y j) (tried_at known z j)
   tried_at_stays j keeps = by (slice_get y.definitions j) refl keeps
     where
-      value : (s : Context) (v : Option Tree) → KeepsValue y z s v → Stays (attempt_value (tried known y) s v) (attempt_value (tried known z) s v)
+      value : (s : Context) (v : Option Tree) → KeepsValue y z s v → Stays (attempt_value (form_attempt known y) s v) (attempt_value (form_attempt known z) s v)
       value s None k = λ f e. e
       value s (Some t) k = tried_stays s t k
 
-      by : (o : Option Definition) → slice_get y.definitions j ≡ o → KeepsConstant y z o → Stays (attempt_definition (tried known y) o) (tried_at known z j)
+      by : (o : Option Definition) → slice_get y.definitions j ≡ o → KeepsConstant y z o → Stays (attempt_definition (form_attempt known y) o) (tried_at known z j)
       by None is k = λ f e. absurd cc
-      by (Some d) is k = λ f e. ap (attempt_definition (tried known z)) (definition_stays y z more j d is) ∙ value d.context d.value k f e
+      by (Some d) is k = λ f e. ap (attempt_definition (form_attempt known z)) (definition_stays y z more j d is) ∙ value d.context d.value k f e
 
 -- ---- Tables of forms.
 
@@ -184,12 +184,12 @@ first_none f none [] = refl
 first_none f none (s ∷ ss) = ap (λ o. or_else o (first_found f ss)) (none s) ∙ first_none f none ss
 
 -- what is defined or imported stays so
-fault_stays : (x : AsmFault) (o other more : Option ℕ) → ((k : ℕ) → other ≡ Some k → more ≡ Some k) → (m : Meaning) → or_fault x o other ≡ Ok m → or_fault x o more ≡ Ok m
+fault_stays : (x : AsmFault) (o other more : Option ℕ) → ((k : ℕ) → other ≡ Some k → more ≡ Some k) → (m : Binding) → or_fault x o other ≡ Ok m → or_fault x o more ≡ Ok m
 fault_stays x (Some i) other more h m e = e
 fault_stays x None (Some k) more h m e = ap (or_fault x None) (h k refl) ∙ e
 fault_stays x None None more h m e = absurd cc
 
-no_meaning : (x : AsmFault) (o other : Option ℕ) (m : Meaning) → o ≡ None → other ≡ None → or_fault x o other ≡ Ok m → ⊥
+no_meaning : (x : AsmFault) (o other : Option ℕ) (m : Binding) → o ≡ None → other ≡ None → or_fault x o other ≡ Ok m → ⊥
 no_meaning x o other m a b e = grind (arith, common_steps)
 
 -- the name for which a name, with scopes or without, is looked up
@@ -199,70 +199,70 @@ looked_up parts None = last_of parts
 
 module _ (y : Symbols) where
   -- a name that is neither defined nor imported means nothing
-  unknown_means : (s : Context) (global : Bool) (parts : List (List ℕ)) (o : Option (List ℕ)) (m : Meaning) → ((q : ℕ) → defined y (named q (looked_up parts o)) ≡ None) → imported y (looked_up parts o) ≡ None → name_meaning y s global parts o ≡ Ok m → ⊥
-  unknown_means s global parts (Some n) m none absent e = no_meaning (Undefined n) (first_found (λ q. defined y (named q n)) (scopes_from y.scopes s.scope)) (imported y n) m (first_none (λ q. defined y (named q n)) none (scopes_from y.scopes s.scope)) absent e
+  unknown_means : (s : Context) (global : Bool) (parts : List (List ℕ)) (o : Option (List ℕ)) (m : Binding) → ((q : ℕ) → definition_index y (named q (looked_up parts o)) ≡ None) → import_index y (looked_up parts o) ≡ None → name_meaning y s global parts o ≡ Ok m → ⊥
+  unknown_means s global parts (Some n) m none absent e = no_meaning (Undefined n) (first_found (λ q. definition_index y (named q n)) (scopes_from y.scopes s.scope)) (import_index y n) m (first_none (λ q. definition_index y (named q n)) none (scopes_from y.scopes s.scope)) absent e
   unknown_means s global parts None m none absent e = by (scope_from (take s.opened y.scopes) s.scope global (scopes_of parts)) e
     where
-      by : (o : Option ℕ) → member_meaning y (last_of parts) (Undefined (shown global parts)) (NoSuchScope (shown global parts)) o ≡ Ok m → ⊥
+      by : (o : Option ℕ) → member_meaning y (last_of parts) (Undefined (display_name global parts)) (NoSuchScope (display_name global parts)) o ≡ Ok m → ⊥
       by None q = cc
-      by (Some zero) q = no_meaning (Undefined (shown global parts)) (defined y (named zero (last_of parts))) (imported y (last_of parts)) m (none zero) absent q
-      by (Some (suc i)) q = no_meaning (Undefined (shown global parts)) (defined y (named (suc i) (last_of parts))) None m (none (suc i)) refl q
+      by (Some zero) q = no_meaning (Undefined (display_name global parts)) (definition_index y (named zero (last_of parts))) (import_index y (last_of parts)) m (none zero) absent q
+      by (Some (suc i)) q = no_meaning (Undefined (display_name global parts)) (definition_index y (named (suc i) (last_of parts))) None m (none (suc i)) refl q
 
 module _ (y z : Symbols) where
   -- a name is defined where it was, and imported where it was
   abbrev Agree : List ℕ → Type 0
-  Agree n = ((s : ℕ) → defined z (named s n) ≡ defined y (named s n)) × ((k : ℕ) → imported y n ≡ Some k → imported z n ≡ Some k)
+  Agree n = ((s : ℕ) → definition_index z (named s n) ≡ definition_index y (named s n)) × ((k : ℕ) → import_index y n ≡ Some k → import_index z n ≡ Some k)
 
   -- the scopes of a context are what they were
   record IsSameWithin (s : Context) : Type 0 where
     outward : scopes_from z.scopes s.scope ≡ scopes_from y.scopes s.scope
     opened : take s.opened z.scopes ≡ take s.opened y.scopes
 
-  member_stays : (n : List ℕ) (absent lost : AsmFault) (o : Option ℕ) → Agree n → (m : Meaning) → member_meaning y n absent lost o ≡ Ok m → member_meaning z n absent lost o ≡ Ok m
+  member_stays : (n : List ℕ) (absent lost : AsmFault) (o : Option ℕ) → Agree n → (m : Binding) → member_meaning y n absent lost o ≡ Ok m → member_meaning z n absent lost o ≡ Ok m
   member_stays n absent lost None h m e = absurd cc
-  member_stays n absent lost (Some zero) (same, more) m e = ap (λ o. or_fault absent o (imported z n)) (same zero) ∙ fault_stays absent (defined y (named zero n)) (imported y n) (imported z n) more m e
+  member_stays n absent lost (Some zero) (same, more) m e = ap (λ o. or_fault absent o (import_index z n)) (same zero) ∙ fault_stays absent (definition_index y (named zero n)) (import_index y n) (import_index z n) more m e
   member_stays n absent lost (Some (suc i)) (same, more) m e = ap (λ o. or_fault absent o None) (same (suc i)) ∙ e
 
-  name_stays : (s : Context) → IsSameWithin s → (global : Bool) (parts : List (List ℕ)) (o : Option (List ℕ)) → Agree (looked_up parts o) → (m : Meaning) → name_meaning y s global parts o ≡ Ok m → name_meaning z s global parts o ≡ Ok m
-  name_stays s within global parts (Some n) (same, more) m e =
-      ap (λ ss. or_fault (Undefined n) (first_found (λ q. defined z (named q n)) ss) (imported z n)) within.outward
-      ∙ ap (λ o. or_fault (Undefined n) o (imported z n)) (first_same (λ q. defined z (named q n)) (λ q. defined y (named q n)) same (scopes_from y.scopes s.scope))
-      ∙ fault_stays (Undefined n) (first_found (λ q. defined y (named q n)) (scopes_from y.scopes s.scope)) (imported y n) (imported z n) more m e
-  name_stays s within global parts None h m e =
-      ap (λ cs. member_meaning z (last_of parts) (Undefined (shown global parts)) (NoSuchScope (shown global parts)) (scope_from cs s.scope global (scopes_of parts))) within.opened
-      ∙ member_stays (last_of parts) (Undefined (shown global parts)) (NoSuchScope (shown global parts)) (scope_from (take s.opened y.scopes) s.scope global (scopes_of parts)) h m e
+  name_stays : (s : Context) → IsSameWithin s → (global : Bool) (parts : List (List ℕ)) (o : Option (List ℕ)) → Agree (looked_up parts o) → (m : Binding) → name_meaning y s global parts o ≡ Ok m → name_meaning z s global parts o ≡ Ok m
+  name_stays s parent_scope global parts (Some n) (same, more) m e =
+      ap (λ ss. or_fault (Undefined n) (first_found (λ q. definition_index z (named q n)) ss) (import_index z n)) parent_scope.outward
+      ∙ ap (λ o. or_fault (Undefined n) o (import_index z n)) (first_same (λ q. definition_index z (named q n)) (λ q. definition_index y (named q n)) same (scopes_from y.scopes s.scope))
+      ∙ fault_stays (Undefined n) (first_found (λ q. definition_index y (named q n)) (scopes_from y.scopes s.scope)) (import_index y n) (import_index z n) more m e
+  name_stays s parent_scope global parts None h m e =
+      ap (λ cs. member_meaning z (last_of parts) (Undefined (display_name global parts)) (NoSuchScope (display_name global parts)) (scope_from cs s.scope global (scopes_of parts))) parent_scope.opened
+      ∙ member_stays (last_of parts) (Undefined (display_name global parts)) (NoSuchScope (display_name global parts)) (scope_from (take s.opened y.scopes) s.scope global (scopes_of parts)) h m e
 
-  module _ (labels : (k : Key) (j : ℕ) → defined y k ≡ Some j → defined z k ≡ Some j) where
-    label_stays : (k : Key) (x : AsmFault) (m : Meaning) → or_fault x (defined y k) None ≡ Ok m → or_fault x (defined z k) None ≡ Ok m
-    label_stays k x m e = by (defined y k) refl e
+  module _ (labels : (k : Key) (j : ℕ) → definition_index y k ≡ Some j → definition_index z k ≡ Some j) where
+    label_stays : (k : Key) (x : AsmFault) (m : Binding) → or_fault x (definition_index y k) None ≡ Ok m → or_fault x (definition_index z k) None ≡ Ok m
+    label_stays k x m e = by (definition_index y k) refl e
       where
-        by : (o : Option ℕ) → defined y k ≡ o → or_fault x o None ≡ Ok m → or_fault x (defined z k) None ≡ Ok m
+        by : (o : Option ℕ) → definition_index y k ≡ o → or_fault x o None ≡ Ok m → or_fault x (definition_index z k) None ≡ Ok m
         by (Some j) is q = ap (λ o. or_fault x o None) (labels k j is) ∙ q
         by None is q = absurd cc
 
     -- an operand keeps its meaning, where its name agrees if it means something
-    operand_keeps : (s : Context) → IsSameWithin s → (t : Tree) → ((global : Bool) (parts : List (List ℕ)) (m : Meaning) → t ≡ name global parts → name_meaning y s global parts (plain_part global parts) ≡ Ok m → Agree (looked_up parts (plain_part global parts))) → KeepsOperand y z s t
-    operand_keeps s within (name global parts) agree m e =
+    operand_keeps : (s : Context) → IsSameWithin s → (t : Tree) → ((global : Bool) (parts : List (List ℕ)) (m : Binding) → t ≡ name global parts → name_meaning y s global parts (plain_part global parts) ≡ Ok m → Agree (looked_up parts (plain_part global parts))) → KeepsOperand y z s t
+    operand_keeps s parent_scope (name global parts) agree m e =
         let is : name_meaning y s global parts (plain_part global parts) ≡ Ok m = sym (name_is y s global parts) ∙ e in
-        name_is z s global parts ∙ name_stays s within global parts (plain_part global parts) (agree global parts m refl is) m is
-    operand_keeps s within (cheap n) agree m e = label_stays (cheap_in s.region n) (Undefined n) m e
-    operand_keeps s within (forward n) agree m e = label_stays (unnamed_at (s.unnamed + n - 1)) NoSuchLabel m e
-    operand_keeps s within (backward n) agree m e = by (nat_le n s.unnamed) e
+        name_is z s global parts ∙ name_stays s parent_scope global parts (plain_part global parts) (agree global parts m refl is) m is
+    operand_keeps s parent_scope (cheap n) agree m e = label_stays (cheap_in s.region n) (Undefined n) m e
+    operand_keeps s parent_scope (forward n) agree m e = label_stays (unnamed_at (s.unnamed + n - 1)) NoSuchLabel m e
+    operand_keeps s parent_scope (backward n) agree m e = by (nat_le n s.unnamed) e
       where
         by : (b : Bool) → (if b then unnamed_meaning y (s.unnamed - n) else Err NoSuchLabel) ≡ Ok m → (if b then unnamed_meaning z (s.unnamed - n) else Err NoSuchLabel) ≡ Ok m
         by true q = label_stays (unnamed_at (s.unnamed - n)) NoSuchLabel m q
         by false q = absurd cc
-    operand_keeps s within (number v) agree m e = absurd cc
-    operand_keeps s within here agree m e = absurd cc
-    operand_keeps s within (unary op t) agree m e = absurd cc
-    operand_keeps s within (binary op t u) agree m e = absurd cc
+    operand_keeps s parent_scope (number v) agree m e = absurd cc
+    operand_keeps s parent_scope here agree m e = absurd cc
+    operand_keeps s parent_scope (unary op t) agree m e = absurd cc
+    operand_keeps s parent_scope (binary op t u) agree m e = absurd cc
 
 same_scopes : (y z : Symbols) (s : Context) → z.scopes ≡ y.scopes → IsSameWithin y z s
 same_scopes y z s is = record { outward = ap (λ cs. scopes_from cs s.scope) is; opened = ap (take s.opened) is }
 
 -- ---- One import more.
 
-new_begins : (known names : List (List ℕ)) → Begins known (with_new known names)
+new_begins : (known names : List (List ℕ)) → IsPrefixOf known (with_new known names)
 new_begins known [] = ([], sym (append-nil known))
 new_begins known (n ∷ names) =
     let (first, one) = one_begins known n in
@@ -298,7 +298,7 @@ module _ (y : Symbols) (d : Definition) where
   abbrev more : Symbols
   more = with_definition y d
 
-  operand_defined : (s : Context) (t : Tree) → ((global : Bool) (parts : List (List ℕ)) (m : Meaning) → t ≡ name global parts → name_meaning y s global parts (plain_part global parts) ≡ Ok m → IsOther d.key (looked_up parts (plain_part global parts))) → KeepsOperand y more s t
+  operand_defined : (s : Context) (t : Tree) → ((global : Bool) (parts : List (List ℕ)) (m : Binding) → t ≡ name global parts → name_meaning y s global parts (plain_part global parts) ≡ Ok m → IsOther d.key (looked_up parts (plain_part global parts))) → KeepsOperand y more s t
   operand_defined s t other =
       operand_keeps y more (λ k j e. position_stays (λ c. same_key c.key k) y.definitions (d ∷ []) j e) s (same_scopes y more s refl) t
       (λ global parts m is e. (λ q. passed_over (λ c. same_key c.key (named q (looked_up parts (plain_part global parts)))) y.definitions d (other_name d.key (looked_up parts (plain_part global parts)) (other global parts m is e) q), λ k at. at))
@@ -315,14 +315,14 @@ module _ (y : Symbols) (d : Definition) where
     pub keeps_unknown : IsUnknownName y n → KeepsMeanings y more
     keeps_unknown new s t = operand_defined s t (λ global parts m is e q k at. differs (looked_up parts (plain_part global parts)) (λ none absent. unknown_means y s global parts (plain_part global parts) m none absent e) k (its_name q k at))
       where
-        differs : (x : List ℕ) → (((q : ℕ) → defined y (named q x) ≡ None) → imported y x ≡ None → ⊥) → (k : List ℕ) → k ≡ n → bytes_eq x k ≡ false
+        differs : (x : List ℕ) → (((q : ℕ) → definition_index y (named q x) ≡ None) → import_index y x ≡ None → ⊥) → (k : List ℕ) → k ≡ n → bytes_eq x k ≡ false
         differs x means k is = by (bytes_eq x k) refl
           where
             by : (b : Bool) → bytes_eq x k ≡ b → bytes_eq x k ≡ false
             by false e = e
             by true e =
                 let same : x ≡ n = same_bytes x k e ∙ is in
-                absurd (means (λ q. ap (λ w. defined y (named q w)) same ∙ new.nowhere q) (ap (imported y) same ∙ new.absent))
+                absurd (means (λ q. ap (λ w. definition_index y (named q w)) same ∙ new.nowhere q) (ap (import_index y) same ∙ new.absent))
 
     looked_last : (global : Bool) (parts : List (List ℕ)) → looked_up parts (plain_part global parts) ≡ last_of parts
     looked_last false [] = refl
@@ -336,7 +336,7 @@ module _ (y : Symbols) (d : Definition) where
     or_left false b e = (refl, e)
     or_left true b e = absurd cc
 
-    unmentioned : (s : Context) (e : Tree) → mentions n e ≡ false → Operands (KeepsOperand y more s) e
+    unmentioned : (s : Context) (e : Tree) → mentions n e ≡ false → EachOperand (KeepsOperand y more s) e
     unmentioned s (number v) h = tt
     unmentioned s here h = tt
     unmentioned s (unary op e) h = unmentioned s e h
@@ -365,7 +365,7 @@ both_true false b e = absurd cc
 
 scope_stays : (cs more : List Scope) (s : ℕ) → s ≤ length cs → enclosing (cs ++ more) s ≡ enclosing cs s
 scope_stays cs more zero le = refl
-scope_stays cs more (suc i) le = ap within (get_stays cs more i (omega (arith, le)))
+scope_stays cs more (suc i) le = ap parent_scope (get_stays cs more i (omega (arith, le)))
 
 outward_stays : (cs more : List Scope) (room n s : ℕ) → is_near cs room s ≡ true → outward_from (cs ++ more) n s ≡ outward_from cs n s
 outward_stays cs more room n zero h = refl
@@ -386,15 +386,15 @@ keeps_opened y c (Some d) h = value d.value
     parted : (nat_le d.context.opened (length y.scopes) ≡ true) × (is_near y.scopes 8 d.context.scope ≡ true)
     parted = both_true (nat_le d.context.opened (length y.scopes)) (is_near y.scopes 8 d.context.scope) h
 
-    within : IsSameWithin y z d.context
-    within = record {
+    parent_scope : IsSameWithin y z d.context
+    parent_scope = record {
       outward = outward_stays y.scopes (c ∷ []) 8 d.context.scope d.context.scope parted.1;
       opened = (let first = parted.0 in let le : d.context.opened ≤ length y.scopes = grind (arith, nat_tests) in take-append-le d.context.opened y.scopes (c ∷ []) le);
     }
 
     value : (v : Option Tree) → KeepsValue y z d.context v
     value None = tt
-    value (Some e) = operands_all (KeepsOperand y z d.context) (λ t. operand_keeps y z (λ k j at. at) d.context within t (λ global parts m is at. (λ q. refl, λ k there. there))) e
+    value (Some e) = operands_all (KeepsOperand y z d.context) (λ t. operand_keeps y z (λ k j at. at) d.context parent_scope t (λ global parts m is at. (λ q. refl, λ k there. there))) e
 
 -- ---- Lists of places.
 

@@ -2,31 +2,31 @@
 use Rattle.std.proofs.Common.{arith, ◌≡◌, ℕ, zero, suc, ◌+◌, ◌*◌, ◌<◌, ◌≤◌, nat_lt, drop, get_or, add-one, Bool, true, false, List, [], ◌∷◌, length, map, Option, Some, None, refl, sym, subst, ap, ◌∙◌}
 use Rattle.std.proofs.lemmas.Grind.{common_steps}
 use Rattle.std.specs.Prelude.{IfOk, OnOk, Result, Ok, Err, ◌&&◌, sum_by, ℤ, pos, negsuc, not, ◌-◌, MatchOption, SomeIff}
-use Rattle.base65.specs.Outcome.{Unless, ◌>>=◌, Gives}
+use Rattle.base65.specs.Outcome.{Unless, ◌>>=◌, Refines}
 use Rattle.std.proofs.lemmas.List.{drop_all}
 use Rattle.std.proofs.lemmas.List.Sums.{sum_by-cons}
 use Rattle.object65.specs.declared.object.Width.{Width}
-use Rattle.semantics65.specs.Norms.{counted, fill_settled, gap, item_len, optional_value, constant_in}
+use Rattle.semantics65.specs.Norms.{byte_count, fill_settled, gap, item_len, optional_value, constant_in}
 use Rattle.syntax65.specs.Trees.{Tree}
 use Rattle.ast65.specs.declared.fault.AsmFault.{AsmFault}
 use Rattle.ast65.specs.Faults.{is_memory}
 use Rattle.ast65.specs.declared.fault.AsmFault.TheVariants.{BadOperand, NotUnderstood, SectionTooLarge}
 use Rattle.ast65.specs.declared.language.Item.{Item}
-use Rattle.semantics65.specs.declared.laid.Settled.{Settled}
+use Rattle.semantics65.specs.declared.laid.EncodingChoice.{EncodingChoice}
 use Rattle.semantics65.specs.Symbols.{Scope, Symbols, key_defined}
 use Rattle.ast65.specs.declared.language.Statement.{Statement}
 use Rattle.ast65.specs.declared.language.Statement.TheVariants as statement
 use Rattle.object65.specs.Objects.{width_len, section_limit}
-use Rattle.ast65.specs.Items.{numbered}
+use Rattle.ast65.specs.Items.{literal_item}
 use Rattle.std.proofs.Math.Nat.{suc-mul, zero-mul}
 use Rattle.ast65.proofs.Lists.{drop_item}
 use Rattle.syntax65.specs.declared.lexing.tokens.AddressSize.TheVariants.{Absolute}
 use Rattle.syntax65.specs.declared.lexing.tokens.AddressSize.{AddressSize}
 use Rattle.semantics65.specs.declared.contents.Segment.{Segment}
 use Rattle.semantics65.specs.Layout.{Cursor, own_size, segment_at, context_of, first_fault, defined_twice, is_open, line_fault, opened_twice, placing_faults, scope_name, stands_outside, trees_of, is_byte_value, is_count, is_there, multiple_fault, item_trees, lost_scopes, or_then, when, unless_fault}
-use Rattle.symbols65.specs.declared.measuring.Measured as code
-use Rattle.symbols65.specs.declared.measuring.Measured.{Measured}
-use Rattle.symbols65.specs.Measuring.{Checks, fitted, measure_of, measured, naming_fault, placed}
+use Rattle.symbols65.specs.declared.measuring.StatementLayout as code
+use Rattle.symbols65.specs.declared.measuring.StatementLayout.{StatementLayout}
+use Rattle.symbols65.specs.Measuring.{ChecksStatement, count_if_it_fits, measure_of, layout_result, naming_fault, layout_or_error}
 
 -- ---- Small steps that many proofs take.
 
@@ -55,12 +55,12 @@ pub refused_same : {A : Type 0} (e : AsmFault) (r s : Result A AsmFault) → s �
 refused_same e r s q h = unless_then (is_memory e) (λ p. q ∙ p) h
 
 -- what is left where the first of two faults isn't there
-pub left_behind : {A : Type 0} (f g : Option AsmFault) (x y : A) → unless_fault f x ≡ Ok y → or_then f g ≡ g
-left_behind z g x y h = grind (arith, common_steps)
+pub left_after : {A : Type 0} (f g : Option AsmFault) (x y : A) → unless_fault f x ≡ Ok y → or_then f g ≡ g
+left_after z g x y h = grind (arith, common_steps)
 
 -- what the second of two checks says where the first finds nothing
-pub checked_next : (f g : Option AsmFault) (r : Result (Unit {0}) AsmFault) → Checks (Ok tt) f → Checks r g → Checks r (or_then f g)
-checked_next f g r h k = subst (Checks r) (sym (left_behind f g tt tt h)) k
+pub checked_next : (f g : Option AsmFault) (r : Result (Unit {0}) AsmFault) → ChecksStatement (Ok tt) f → ChecksStatement r g → ChecksStatement r (or_then f g)
+checked_next f g r h k = subst (ChecksStatement r) (sym (left_after f g tt tt h)) k
 
 -- ---- Lists of values.
 
@@ -93,12 +93,12 @@ pub none_left : (width : Width) (items : List Item) (i : ℕ) → length items �
 none_left width items i le = ap (sum_by (item_len width)) (drop_all i items le)
 
 -- numbers take as many bytes as one of them, each
-pub numbers_len : (width : Width) (ns : List ℕ) → sum_by (item_len width) (map numbered ns) ≡ length ns * width_len width
+pub numbers_len : (width : Width) (ns : List ℕ) → sum_by (item_len width) (map literal_item ns) ≡ length ns * width_len width
 numbers_len width [] = sym (zero-mul (width_len width))
 numbers_len width (n ∷ ns) =
     let e = numbers_len width ns in
     let f = suc-mul (length ns) (width_len width) in
-    let g : sum_by (item_len width) (map numbered (n ∷ ns)) ≡ width_len width + sum_by (item_len width) (map numbered ns) = sum_by-cons (item_len width) (numbered n) (map numbered ns) in
+    let g : sum_by (item_len width) (map literal_item (n ∷ ns)) ≡ width_len width + sum_by (item_len width) (map literal_item ns) = sum_by-cons (item_len width) (literal_item n) (map literal_item ns) in
     g ∙ omega (arith, e, f)
 
 -- what is left behind so many bytes, if there is room for them
@@ -106,7 +106,7 @@ pub what_is_left : (o : Option ℕ) (room len n : ℕ) → len ≡ n → SomeIff
 what_is_left x room len n e h = grind (arith, common_steps)
 
 -- and they have no names
-pub numbers_keep : (cs : List Scope) (scope : ℕ) (ns : List ℕ) → lost_scopes cs scope (item_trees (map numbered ns)) ≡ None
+pub numbers_keep : (cs : List Scope) (scope : ℕ) (ns : List ℕ) → lost_scopes cs scope (item_trees (map literal_item ns)) ≡ None
 numbers_keep cs scope [] = refl
 numbers_keep cs scope (n ∷ ns) = numbers_keep cs scope ns
 
@@ -118,21 +118,21 @@ last_of_two x = grind (arith, common_steps)
 -- ---- Room.
 
 -- what `.res` places, by how much, and whether its other value is a byte
-abbrev pub reserved : Cursor → Bool → Settled → Option ℤ → Result Measured AsmFault
+abbrev pub reserved : Cursor → Bool → EncodingChoice → Option ℤ → Result StatementLayout AsmFault
 reserved w b st k =
     unless_fault (first_fault (
     None
     ∷ when (not (is_count k && b)) BadOperand
     ∷ None ∷ None ∷ None ∷ None ∷ None ∷ None
-    ∷ when (nat_lt section_limit ((context_of w).offset + counted k)) SectionTooLarge
+    ∷ when (nat_lt section_limit ((context_of w).offset + byte_count k)) SectionTooLarge
     ∷ []))
-    (record { length = counted k; size = own_size w; multiple = 1; settled = st })
+    (record { length = byte_count k; size = own_size w; alignment = 1; settled = st })
 
-pub reserved_as : (y : Symbols) (w : Cursor) (n : Tree) (v : Option Tree) (k : Option ℤ) → constant_in y (context_of w) n ≡ k → placed y w (statement.Reserve n v) ≡ reserved w (is_byte_value (optional_value y (context_of w) v (pos 0))) (fill_settled y (context_of w) v) k
+pub reserved_as : (y : Symbols) (w : Cursor) (n : Tree) (v : Option Tree) (k : Option ℤ) → constant_in y (context_of w) n ≡ k → layout_or_error y w (statement.Reserve n v) ≡ reserved w (is_byte_value (optional_value y (context_of w) v (pos 0))) (fill_settled y (context_of w) v) k
 reserved_as y w n v k e = ap (reserved w (is_byte_value (optional_value y (context_of w) v (pos 0))) (fill_settled y (context_of w) v)) e
 
 -- a byte that is refused, where the number is one
-pub bad_fill : (w : Cursor) (b : Bool) (st : Settled) (k : Option ℤ) (m : ℕ) (e : AsmFault) → unless_fault (when (not (is_count k)) BadOperand) (counted k) ≡ Ok m → Unless (is_memory e) (unless_fault {A = Unit {0}} (when (not b) BadOperand) tt ≡ Err e) → Unless (is_memory e) (reserved w b st k ≡ Err e)
+pub bad_fill : (w : Cursor) (b : Bool) (st : EncodingChoice) (k : Option ℤ) (m : ℕ) (e : AsmFault) → unless_fault (when (not (is_count k)) BadOperand) (byte_count k) ≡ Ok m → Unless (is_memory e) (unless_fault {A = Unit {0}} (when (not b) BadOperand) tt ≡ Err e) → Unless (is_memory e) (reserved w b st k ≡ Err e)
 bad_fill w b st x m e t h = grind (arith, common_steps)
 
 -- ---- Alignment.
@@ -141,7 +141,7 @@ pub no_fault : {A : Type 0} (f : Option AsmFault) (x y : A) → unless_fault f x
 no_fault z x y h = grind (arith, common_steps)
 
 -- what `.align` places, by the value of its multiple, and whether its other value is a byte
-abbrev pub aligned : Cursor → Bool → Settled → Option ℤ → Result Measured AsmFault
+abbrev pub aligned : Cursor → Bool → EncodingChoice → Option ℤ → Result StatementLayout AsmFault
 aligned w b st k =
     unless_fault (first_fault (
     None
@@ -150,9 +150,9 @@ aligned w b st k =
     ∷ None ∷ None ∷ None ∷ None ∷ None
     ∷ when (nat_lt section_limit ((context_of w).offset + gap (context_of w).offset k)) SectionTooLarge
     ∷ []))
-    (record { length = gap (context_of w).offset k; size = own_size w; multiple = counted k; settled = st })
+    (record { length = gap (context_of w).offset k; size = own_size w; alignment = byte_count k; settled = st })
 
-pub aligned_as : (y : Symbols) (w : Cursor) (n : Tree) (v : Option Tree) (k : Option ℤ) → constant_in y (context_of w) n ≡ k → placed y w (statement.Align n v) ≡ aligned w (is_byte_value (optional_value y (context_of w) v (pos 0))) (fill_settled y (context_of w) v) k
+pub aligned_as : (y : Symbols) (w : Cursor) (n : Tree) (v : Option Tree) (k : Option ℤ) → constant_in y (context_of w) n ≡ k → layout_or_error y w (statement.Align n v) ≡ aligned w (is_byte_value (optional_value y (context_of w) v (pos 0))) (fill_settled y (context_of w) v) k
 aligned_as y w n v k e = ap (aligned w (is_byte_value (optional_value y (context_of w) v (pos 0))) (fill_settled y (context_of w) v)) e
 
 -- a multiple that is refused, where the values aren't
@@ -162,20 +162,20 @@ refused_third true false f r x m e t h g = absurd cc
 refused_third true true None r x m e t h g = unless_then (is_memory e) (λ p. absurd cc) g
 refused_third true true (Some d) r x m e t h g = unless_then (is_memory e) (λ p. let same : d ≡ e = cc in ap (λ k. Err k) same) g
 
-pub bad_multiple : (w : Cursor) (b : Bool) (st : Settled) (k : Option ℤ) (e : AsmFault) → unless_fault {A = Unit {0}} (when (not (is_there k)) BadOperand) tt ≡ Ok tt → unless_fault {A = Unit {0}} (when (not b) BadOperand) tt ≡ Ok tt → Unless (is_memory e) (unless_fault (multiple_fault k) (counted k) ≡ Err e) → Unless (is_memory e) (aligned w b st k ≡ Err e)
-bad_multiple w b st k e t h g = refused_third (is_there k) b (multiple_fault k) _ _ (counted k) e t h g
+pub bad_multiple : (w : Cursor) (b : Bool) (st : EncodingChoice) (k : Option ℤ) (e : AsmFault) → unless_fault {A = Unit {0}} (when (not (is_there k)) BadOperand) tt ≡ Ok tt → unless_fault {A = Unit {0}} (when (not b) BadOperand) tt ≡ Ok tt → Unless (is_memory e) (unless_fault (multiple_fault k) (byte_count k) ≡ Err e) → Unless (is_memory e) (aligned w b st k ≡ Err e)
+bad_multiple w b st k e t h g = refused_third (is_there k) b (multiple_fault k) _ _ (byte_count k) e t h g
 
 -- a byte that is refused, where the multiple is constant
-pub bad_byte : (w : Cursor) (b : Bool) (st : Settled) (k : Option ℤ) (e : AsmFault) → unless_fault {A = Unit {0}} (when (not (is_there k)) BadOperand) tt ≡ Ok tt → Unless (is_memory e) (unless_fault {A = Unit {0}} (when (not b) BadOperand) tt ≡ Err e) → Unless (is_memory e) (aligned w b st k ≡ Err e)
+pub bad_byte : (w : Cursor) (b : Bool) (st : EncodingChoice) (k : Option ℤ) (e : AsmFault) → unless_fault {A = Unit {0}} (when (not (is_there k)) BadOperand) tt ≡ Ok tt → Unless (is_memory e) (unless_fault {A = Unit {0}} (when (not b) BadOperand) tt ≡ Err e) → Unless (is_memory e) (aligned w b st k ≡ Err e)
 bad_byte w b st x e t h = grind (arith, common_steps)
 
 all_well : {A : Type 0} (f r : Option AsmFault) (x : A) → f ≡ None → r ≡ None → unless_fault (first_fault (None ∷ None ∷ f ∷ None ∷ None ∷ None ∷ None ∷ None ∷ r ∷ [])) x ≡ Ok x
 all_well y z x p q = grind (arith, common_steps)
 
-abbrev pub as_ok : ℕ → AddressSize → ℕ → Settled → Result Measured AsmFault
-as_ok len own multiple st = Ok (record { length = len; size = own; multiple = multiple; settled = st })
+abbrev pub as_ok : ℕ → AddressSize → ℕ → EncodingChoice → Result StatementLayout AsmFault
+as_ok len own alignment st = Ok (record { length = len; size = own; alignment = alignment; settled = st })
 
-pub aligned_well : (w : Cursor) (b : Bool) (st : Settled) (k : Option ℤ) (m g len : ℕ) → unless_fault {A = Unit {0}} (when (not b) BadOperand) tt ≡ Ok tt → unless_fault (multiple_fault k) (counted k) ≡ Ok m → g ≡ gap (context_of w).offset (Some (pos m)) → fitted w g ≡ Ok len → aligned w b st k ≡ as_ok len (own_size w) m st
+pub aligned_well : (w : Cursor) (b : Bool) (st : EncodingChoice) (k : Option ℤ) (m g len : ℕ) → unless_fault {A = Unit {0}} (when (not b) BadOperand) tt ≡ Ok tt → unless_fault (multiple_fault k) (byte_count k) ≡ Ok m → g ≡ gap (context_of w).offset (Some (pos m)) → count_if_it_fits w g ≡ Ok len → aligned w b st k ≡ as_ok len (own_size w) m st
 aligned_well w false st k m g len h hm hg hf = absurd cc
 aligned_well w true st None m g len h hm hg hf = absurd cc
 aligned_well w true st (Some (negsuc j)) m g len h hm hg hf = absurd cc
@@ -192,7 +192,7 @@ always true h = tt
 always false h = h
 
 -- too much of it, where the values aren't refused
-pub aligned_full : (w : Cursor) (b : Bool) (st : Settled) (k : Option ℤ) (m g : ℕ) (e : AsmFault) → unless_fault {A = Unit {0}} (when (not b) BadOperand) tt ≡ Ok tt → unless_fault (multiple_fault k) (counted k) ≡ Ok m → g ≡ gap (context_of w).offset (Some (pos m)) → fitted w g ≡ Err e → Unless (is_memory e) (aligned w b st k ≡ Err e)
+pub aligned_full : (w : Cursor) (b : Bool) (st : EncodingChoice) (k : Option ℤ) (m g : ℕ) (e : AsmFault) → unless_fault {A = Unit {0}} (when (not b) BadOperand) tt ≡ Ok tt → unless_fault (multiple_fault k) (byte_count k) ≡ Ok m → g ≡ gap (context_of w).offset (Some (pos m)) → count_if_it_fits w g ≡ Err e → Unless (is_memory e) (aligned w b st k ≡ Err e)
 aligned_full w false st k m g e h hm hg hf = absurd cc
 aligned_full w true st None m g e h hm hg hf = absurd cc
 aligned_full w true st (Some (negsuc j)) m g e h hm hg hf = absurd cc
@@ -210,15 +210,15 @@ module _ (y : Symbols) (w : Cursor) (x : Statement) where
   faults_are = four_first (when (stands_outside x && is_open w.scope) NotUnderstood) (lost_scopes y.scopes w.scope (trees_of x)) (opened_twice y.scopes w.scope (scope_name x)) (defined_twice y (key_defined (context_of w) x)) (placing_faults y w x)
 
   -- a statement that is refused for its names
-  pub measured_refused : (e : AsmFault) → Unless (is_memory e) (unless_fault {A = Unit {0}} (naming_fault y (context_of w) x) tt ≡ Err e) → Unless (is_memory e) (measured y w x ≡ Err e)
+  pub measured_refused : (e : AsmFault) → Unless (is_memory e) (unless_fault {A = Unit {0}} (naming_fault y (context_of w) x) tt ≡ Err e) → Unless (is_memory e) (layout_result y w x ≡ Err e)
   measured_refused e h = refused_same e _ _ (ap (λ f. unless_fault f (measure_of y w x)) faults_are) (refused_first e (naming_fault y (context_of w) x) (first_fault (placing_faults y w x)) (measure_of y w x) h)
 
   -- and one that isn't
-  pub measured_named : unless_fault {A = Unit {0}} (naming_fault y (context_of w) x) tt ≡ Ok tt → measured y w x ≡ placed y w x
-  measured_named h = ap (λ f. unless_fault f (measure_of y w x)) (faults_are ∙ left_behind (naming_fault y (context_of w) x) (first_fault (placing_faults y w x)) tt tt h)
+  pub measured_named : unless_fault {A = Unit {0}} (naming_fault y (context_of w) x) tt ≡ Ok tt → layout_result y w x ≡ layout_or_error y w x
+  measured_named h = ap (λ f. unless_fault f (measure_of y w x)) (faults_are ∙ left_after (naming_fault y (context_of w) x) (first_fault (placing_faults y w x)) tt tt h)
 
 -- ---- Room for what is placed.
 
 -- what is placed has room
-pub room_of : (y : Symbols) (w : Cursor) (x : Statement) (r : Result code.Measured AsmFault) → Gives is_memory (λ m. m) r (placed y w x) → IfOk r (λ m. (context_of w).offset + m.length ≤ section_limit)
+pub room_of : (y : Symbols) (w : Cursor) (x : Statement) (r : Result code.StatementLayout AsmFault) → Refines is_memory (λ m. m) r (layout_or_error y w x) → IfOk r (λ m. (context_of w).offset + m.length ≤ section_limit)
 room_of y w x z h = grind (arith, common_steps)

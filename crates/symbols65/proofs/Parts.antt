@@ -9,12 +9,12 @@ use Rattle.ast65.specs.declared.fault.AsmFault.{AsmFault}
 use Rattle.ast65.specs.declared.fault.AsmFault.TheVariants.{BadOperand}
 use Rattle.ast65.specs.Faults.{is_memory}
 use Rattle.semantics65.specs.declared.laid.Context.{Context}
-use Rattle.ast65.specs.declared.language.Statement.TheVariants.{FilePart}
+use Rattle.ast65.specs.declared.language.Statement.TheVariants.{Incbin}
 use Rattle.semantics65.specs.Layout.{Cursor, context_of, is_there, lost_scopes, operand_fault, optional_tree, when, unless_fault}
 use Rattle.semantics65.specs.Norms.{optional_value}
 use Rattle.semantics65.specs.Symbols.{Symbols}
-use Rattle.symbols65.specs.Measuring.{IsFound, placed, ranged, unread_fault}
-use Rattle.symbols65.proofs.Measures.{left_behind, unless_then}
+use Rattle.symbols65.specs.Measuring.{IsFound, layout_or_error, range_in_file, unread_fault}
+use Rattle.symbols65.proofs.Measures.{left_after, unless_then}
 
 -- ---- Ranges.
 
@@ -29,11 +29,11 @@ module _ (y : Symbols) (w : Cursor) (start len : Option Tree) (s : Context) (at 
   found_here value r h = subst (λ (here : Context). IsFound (optional_value y here value) r) at h
 
   -- a start that isn't constant
-  pub bad_start : (bytes : Option (List ℕ)) (e : AsmFault) → IsFound (optional_value y s start) (Err e) → Unless (is_memory e) (placed y w (FilePart bytes start len) ≡ Err e)
+  pub bad_start : (bytes : Option (List ℕ)) (e : AsmFault) → IsFound (optional_value y s start) (Err e) → Unless (is_memory e) (layout_or_error y w (Incbin bytes start len) ≡ Err e)
   bad_start bytes e h = grind (arith, common_steps)
 
   -- a length that isn't
-  pub bad_len : (bytes : Option (List ℕ)) (e : AsmFault) → IsFound (optional_value y s len) (Err e) → Unless (is_memory e) (placed y w (FilePart bytes start len) ≡ Err e)
+  pub bad_len : (bytes : Option (List ℕ)) (e : AsmFault) → IsFound (optional_value y s len) (Err e) → Unless (is_memory e) (layout_or_error y w (Incbin bytes start len) ≡ Err e)
   bad_len bytes e h = grind (arith, common_steps)
 
   module _ (v n : Option ℤ) (first : IsFound (optional_value y s start) (Ok v)) (second : IsFound (optional_value y s len) (Ok n)) where
@@ -47,10 +47,10 @@ module _ (y : Symbols) (w : Cursor) (start len : Option Tree) (s : Context) (at 
     both = ap (λ k. is_there k && is_there (optional_value y (context_of w) len (pos 0))) (from (pos 0)) ∙ ap is_there (more (pos 0))
 
     -- a part that the file hasn't
-    refused_so : (bytes : List ℕ) (e : AsmFault) → ranged (length bytes) v n ≡ Err e → placed y w (FilePart (Some bytes) start len) ≡ Err e
+    refused_so : (bytes : List ℕ) (e : AsmFault) → range_in_file (length bytes) v n ≡ Err e → layout_or_error y w (Incbin (Some bytes) start len) ≡ Err e
     refused_so bytes e h = grind (arith, common_steps)
 
-    pub refused : (bytes : List ℕ) (e : AsmFault) → Unless (is_memory e) (ranged (length bytes) v n ≡ Err e) → Unless (is_memory e) (placed y w (FilePart (Some bytes) start len) ≡ Err e)
+    pub refused : (bytes : List ℕ) (e : AsmFault) → Unless (is_memory e) (range_in_file (length bytes) v n ≡ Err e) → Unless (is_memory e) (layout_or_error y w (Incbin (Some bytes) start len) ≡ Err e)
     refused bytes e h = unless_then (is_memory e) (λ p. refused_so bytes e p) h
 
   -- ---- Whatever the file has.
@@ -66,8 +66,8 @@ module _ (y : Symbols) (w : Cursor) (start len : Option Tree) (s : Context) (at 
   unread_lost scope e here h = grind (arith, common_steps)
 
   module _ (scope : ℕ) (here : scope ≡ w.scope) (none : checks (lost scope) ≡ Ok tt) where
-    behind_lost : checks (unread_fault y w start len) ≡ checks (when (not (there y w start len)) BadOperand)
-    behind_lost = ap checks (left_behind (lost w.scope) (operand_fault y (context_of w) (FilePart None start len)) tt tt (subst (λ k. checks (lost k) ≡ Ok tt) here none))
+    after_lost : checks (unread_fault y w start len) ≡ checks (when (not (there y w start len)) BadOperand)
+    after_lost = ap checks (left_after (lost w.scope) (operand_fault y (context_of w) (Incbin None start len)) tt tt (subst (λ k. checks (lost k) ≡ Ok tt) here none))
 
     -- a start that isn't constant
     pub unread_start : (e : AsmFault) → IsFound (optional_value y s start) (Err e) → Unless (is_memory e) (checks (unread_fault y w start len) ≡ Err e)
@@ -79,4 +79,4 @@ module _ (y : Symbols) (w : Cursor) (start len : Option Tree) (s : Context) (at 
 
     -- nothing is wrong
     pub unread_well : (v n : Option ℤ) → IsFound (optional_value y s start) (Ok v) → IsFound (optional_value y s len) (Ok n) → checks (unread_fault y w start len) ≡ Ok tt
-    unread_well v n first second = behind_lost ∙ ap (λ b. checks (when (not b) BadOperand)) (both v n first second)
+    unread_well v n first second = after_lost ∙ ap (λ b. checks (when (not b) BadOperand)) (both v n first second)

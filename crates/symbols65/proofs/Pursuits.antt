@@ -9,11 +9,11 @@ use Rattle.object65.specs.Form.{Form}
 use Rattle.ast65.specs.declared.fault.AsmFault.{AsmFault}
 use Rattle.ast65.specs.declared.fault.AsmFault.TheVariants.{Circular}
 use Rattle.symbols65.specs.declared.resolving.attempt.State.{State}
-use Rattle.symbols65.specs.declared.resolving.attempt.State.TheVariants.{Unknown, Waiting, Hangs, Found}
-use Rattle.symbols65.specs.declared.resolving.attempt.Stop.{Stop}
-use Rattle.symbols65.specs.declared.resolving.attempt.Stop.TheVariants.{Needs, Fault}
+use Rattle.symbols65.specs.declared.resolving.attempt.State.TheVariants.{Unknown, Waiting, BlockedOn, Found}
+use Rattle.symbols65.specs.declared.resolving.attempt.AttemptError.{AttemptError}
+use Rattle.symbols65.specs.declared.resolving.attempt.AttemptError.TheVariants.{Needs, Fault}
 use Rattle.semantics65.specs.Symbols.{Symbols}
-use Rattle.symbols65.specs.Resolving.{IsTable, KeepsFound, StaysFound, is_open, may_be_looked_for, unknown, AreHung, Comes, HangsOn, Leads, Reaches, tried_at, tried_last}
+use Rattle.symbols65.specs.Resolving.{IsTable, KeepsFound, StaysFound, is_open, may_be_looked_for, unknown, BlocksAreSound, EventuallyEquals, IsBlockedOn, InheritsErrors, IsSameOrBlockedOn, tried_at, tried_last}
 use Rattle.symbols65.specs.Views.{is_found}
 use Rattle.symbols65.proofs.Hanging.{extends_itself}
 use Rattle.base65.specs.Outcome.{Unless}
@@ -30,50 +30,50 @@ near_so r s x = grind (arith, common_steps)
 near_circular : (r : Result Form AsmFault) → Near ⊤ r (Err Circular) → r ≡ Err Circular
 near_circular r x = grind (arith, common_steps)
 
-pub leads_from : (c : ℕ) (table : Symbols) (known : ℕ → Option State) (v : Course) (a : Result Form Stop) (j : ℕ) → IsAttempt c table known v a → a ≡ Err (Needs j) → Leads table v j
+pub leads_from : (c : ℕ) (table : Symbols) (known : ℕ → Option State) (v : Course) (a : Result Form AttemptError) (j : ℕ) → IsAttempt c table known v a → a ≡ Err (Needs j) → InheritsErrors table v j
 leads_from c table known v a j t e = record {
   faults = λ z (n, h). (suc (c + n), λ k le. later z n h k le);
-  circular = λ k h. (let P : Result Form Stop → Type 0 = λ x. Agrees ⊤ (at_turn table k) x (v (suc k)) in near_circular (v (suc k)) (subst P e (t.ever k) Circular h));
+  circular = λ k h. (let P : Result Form AttemptError → Type 0 = λ x. Agrees ⊤ (at_turn table k) x (v (suc k)) in near_circular (v (suc k)) (subst P e (t.ever k) Circular h));
   starts = (t.lacks j e).starts;
 }
   where
     later : (z : AsmFault) (n : ℕ) → ((k : ℕ) → n ≤ k → constant_course table j k ≡ Err z) → (k : ℕ) → suc (c + n) ≤ k → v k ≡ Err z
     later z n h zero le = absurd (omega (arith, le))
-    later z n h (suc k) le = (let P : Result Form Stop → Type 0 = λ x. Agrees ⊥ (at_turn table k) x (v (suc k)) in near_so (v (suc k)) (Err z) (subst P e (t.later k (omega (arith, le))) z (h k (omega (arith, le)))))
+    later z n h (suc k) le = (let P : Result Form AttemptError → Type 0 = λ x. Agrees ⊥ (at_turn table k) x (v (suc k)) in near_so (v (suc k)) (Err z) (subst P e (t.later k (omega (arith, le))) z (h k (omega (arith, le)))))
 
 -- what comes to the faults of a constant comes to those to which that comes
-leads_over : (table : Symbols) (v : Course) (j k : ℕ) → Leads table v j → Leads table (constant_course table j) k → Leads table v k
+leads_over : (table : Symbols) (v : Course) (j k : ℕ) → InheritsErrors table v j → InheritsErrors table (constant_course table j) k → InheritsErrors table v k
 leads_over table v j k l m = record {
   faults = λ z comes. l.faults z (m.faults z comes);
   circular = λ n e. l.circular n (circular_before (constant_course table j) (constant_is table j) n (suc n) (omega arith) (m.circular n e));
   starts = m.starts;
 }
 
-pub leads_on : (table : Symbols) (v : Course) (j k : ℕ) → Leads table v j → Reaches table j k → Leads table v k
-leads_on table v j k l (inl e) = subst (Leads table v) e l
+pub leads_on : (table : Symbols) (v : Course) (j k : ℕ) → InheritsErrors table v j → IsSameOrBlockedOn table j k → InheritsErrors table v k
+leads_on table v j k l (inl e) = subst (InheritsErrors table v) e l
 leads_on table v j k l (inr h) = leads_over table v j k l (h table (extends_itself table))
 
-pub hangs_over : (y : Symbols) (i j k : ℕ) → HangsOn y i j → HangsOn y j k → HangsOn y i k
+pub hangs_over : (y : Symbols) (i j k : ℕ) → IsBlockedOn y i j → IsBlockedOn y j k → IsBlockedOn y i k
 hangs_over y i j k h g = λ z more. leads_over z (constant_course z i) j k (h z more) (g z more)
 
-pub reaches_over : (y : Symbols) (i j k : ℕ) → Reaches y i j → HangsOn y j k → Reaches y i k
-reaches_over y i j k (inl e) g = inr (subst (λ (q : ℕ). HangsOn y q k) (sym e) g)
+pub reaches_over : (y : Symbols) (i j k : ℕ) → IsSameOrBlockedOn y i j → IsBlockedOn y j k → IsSameOrBlockedOn y i k
+reaches_over y i j k (inl e) g = inr (subst (λ (q : ℕ). IsBlockedOn y q k) (sym e) g)
 reaches_over y i j k (inr h) g = inr (hangs_over y i j k h g)
 
-pub fault_from : (c : ℕ) (table : Symbols) (known : ℕ → Option State) (v : Course) (a : Result Form Stop) (z : AsmFault) → IsAttempt c table known v a → a ≡ Err (Fault z) → (k : ℕ) → c ≤ k → v (suc k) ≡ Err z
-fault_from c table known v a z t e k le = (let P : Result Form Stop → Type 0 = λ x. Agrees ⊥ (at_turn table k) x (v (suc k)) in near_so (v (suc k)) (Err z) (subst P e (t.later k le)))
+pub fault_from : (c : ℕ) (table : Symbols) (known : ℕ → Option State) (v : Course) (a : Result Form AttemptError) (z : AsmFault) → IsAttempt c table known v a → a ≡ Err (Fault z) → (k : ℕ) → c ≤ k → v (suc k) ≡ Err z
+fault_from c table known v a z t e k le = (let P : Result Form AttemptError → Type 0 = λ x. Agrees ⊥ (at_turn table k) x (v (suc k)) in near_so (v (suc k)) (Err z) (subst P e (t.later k le)))
 
-pub form_from : (c : ℕ) (table : Symbols) (known : ℕ → Option State) (v : Course) (a : Result Form Stop) (f : Form) → IsAttempt c table known v a → a ≡ Ok f → (k : ℕ) → c ≤ k → v (suc k) ≡ Ok f
-form_from c table known v a f t e k le = (let P : Result Form Stop → Type 0 = λ x. Agrees ⊥ (at_turn table k) x (v (suc k)) in near_so (v (suc k)) (Ok f) (subst P e (t.later k le)))
+pub form_from : (c : ℕ) (table : Symbols) (known : ℕ → Option State) (v : Course) (a : Result Form AttemptError) (f : Form) → IsAttempt c table known v a → a ≡ Ok f → (k : ℕ) → c ≤ k → v (suc k) ≡ Ok f
+form_from c table known v a f t e k le = (let P : Result Form AttemptError → Type 0 = λ x. Agrees ⊥ (at_turn table k) x (v (suc k)) in near_so (v (suc k)) (Ok f) (subst P e (t.later k le)))
 
 -- ---- Chains.
 
 -- the expression waits for the first, and so on
 abbrev pub IsChain : Symbols → Course → List ℕ → Type 0
 IsChain table v [] = ⊤
-IsChain table v (w ∷ ws) = Leads table v w × IsChain table (constant_course table w) ws
+IsChain table v (w ∷ ws) = InheritsErrors table v w × IsChain table (constant_course table w) ws
 
-chain_more : (table : Symbols) (v : Course) (ws : List ℕ) (j : ℕ) → IsChain table v ws → Leads table (last_course table v ws) j → IsChain table v (ws ++ j ∷ [])
+chain_more : (table : Symbols) (v : Course) (ws : List ℕ) (j : ℕ) → IsChain table v ws → InheritsErrors table (last_course table v ws) j → IsChain table v (ws ++ j ∷ [])
 chain_more table v [] j h l = (l, tt)
 chain_more table v (w ∷ ws) j (m, h) l = (m, chain_more table (constant_course table w) ws j h l)
 
@@ -85,7 +85,7 @@ last_of_more : (table : Symbols) (v : Course) (ws : List ℕ) (j : ℕ) → last
 last_of_more table v [] j = refl
 last_of_more table v (w ∷ ws) j = last_of_more table (constant_course table w) ws j
 
-chain_fault : (table : Symbols) (v : Course) (ws : List ℕ) (z : AsmFault) → IsChain table v ws → Comes (last_course table v ws) (Err z) → Comes v (Err z)
+chain_fault : (table : Symbols) (v : Course) (ws : List ℕ) (z : AsmFault) → IsChain table v ws → EventuallyEquals (last_course table v ws) (Err z) → EventuallyEquals v (Err z)
 chain_fault table v [] z h e = e
 chain_fault table v (w ∷ ws) z (l, h) e = l.faults z (chain_fault table (constant_course table w) ws z h e)
 
@@ -150,7 +150,7 @@ always : (table : Symbols) (j d : ℕ) → constant_course table j 0 ≡ Err Cir
 always table j d s h zero = s
 always table j d s h (suc k) = circular_before (constant_course table j) (constant_is table j) (suc k) (d + suc k) (omega arith) (h k (always table j d s h k))
 
-pub met_again : (table : Symbols) (v : Course) → IsCourse v → (ws : List ℕ) (j : ℕ) → IsChain table v ws → Leads table (last_course table v ws) j → Among j ws → (n : ℕ) → v (suc n) ≡ Err Circular
+pub met_again : (table : Symbols) (v : Course) → IsCourse v → (ws : List ℕ) (j : ℕ) → IsChain table v ws → InheritsErrors table (last_course table v ws) j → Among j ws → (n : ℕ) → v (suc n) ≡ Err Circular
 met_again table v s ws j h l m n =
     let (d, after) = among_after table v ws j h m in
     let ever = always table j d l.starts (λ k e. after (suc k) (l.circular k e)) in
@@ -174,7 +174,7 @@ pub record IsPursuit (table : Symbols) (states : List State) (v : Course) (ws : 
   pub inside : (j : ℕ) → Among j ws → j < length states
   pub waits : (j : ℕ) → Among j ws → slice_get states j ≡ Some Waiting
   pub once : AreOnce ws
-  pub hung : AreHung table states
+  pub hung : BlocksAreSound table states
 
 pub pursuit_starts : (table : Symbols) (states : List State) (v : Course) → IsTable table states → IsPursuit table states v []
 pursuit_starts table states v t = grind (arith, common_steps)
@@ -197,21 +197,21 @@ no_more states j f lt =
     omega (arith, change)
 
 -- what is put into a table and hangs on nothing leaves what hangs
-hung_set : (table : Symbols) (states : List State) (j : ℕ) (x : State) → j < length states → ((k : ℕ) → x ≡ Hangs k → ⊥) → AreHung table states → AreHung table (slice_set states j x)
+hung_set : (table : Symbols) (states : List State) (j : ℕ) (x : State) → j < length states → ((k : ℕ) → x ≡ BlockedOn k → ⊥) → BlocksAreSound table states → BlocksAreSound table (slice_set states j x)
 hung_set table states j x lt isnt h = λ i k e. by i k e (nat_eq i j) refl
   where
-    by : (i k : ℕ) → slice_get (slice_set states j x) i ≡ Some (Hangs k) → (b : Bool) → nat_eq i j ≡ b → HangsOn table i k
+    by : (i k : ℕ) → slice_get (slice_set states j x) i ≡ Some (BlockedOn k) → (b : Bool) → nat_eq i j ≡ b → IsBlockedOn table i k
     by i k e true b =
         let one : i ≡ j = grind (arith, nat_tests) in
         let now : slice_get (slice_set states j x) i ≡ Some x = ap (slice_get (slice_set states j x)) one ∙ get_same states j x lt in
-        let same : x ≡ Hangs k = (let both : Some x ≡ Some (Hangs k) = sym now ∙ e in cc) in
+        let same : x ≡ BlockedOn k = (let both : Some x ≡ Some (BlockedOn k) = sym now ∙ e in cc) in
         absurd (isnt k same)
     by i k e false b =
         let other : i ≢ j = grind (arith, nat_tests) in
         h i k (sym (get_other states i j x other) ∙ e)
 
 -- a constant is needed that is neither found nor waits
-pub pursuit_down : (table : Symbols) (states : List State) (v : Course) (ws : List ℕ) (j : ℕ) (p : IsPursuit table states v ws) → Leads table (last_course table v ws) j → may_be_looked_for (slice_get states j) ≡ true → IsPursuit table (slice_set states j Waiting) v (ws ++ j ∷ [])
+pub pursuit_down : (table : Symbols) (states : List State) (v : Course) (ws : List ℕ) (j : ℕ) (p : IsPursuit table states v ws) → InheritsErrors table (last_course table v ws) j → may_be_looked_for (slice_get states j) ≡ true → IsPursuit table (slice_set states j Waiting) v (ws ++ j ∷ [])
 pursuit_down table states v ws j p l e = record {
   turns = p.turns;
   long = (let long = p.long in grind (arith, common_steps));
@@ -314,7 +314,7 @@ pursuit_up table states v ws j f p e = record {
         rest (inr same) = let other : i ≢ j = grind (arith, nat_tests) in absurd (other same)
 
 -- a fault of the last that waits is the expression's
-pub pursuit_faults : (table : Symbols) (states : List State) (v : Course) (ws : List ℕ) (a : Result Form Stop) (z : AsmFault) (p : IsPursuit table states v ws) → IsAttempt p.turns table (slice_get states) (last_course table v ws) a → a ≡ Err (Fault z) → Comes v (Err z)
+pub pursuit_faults : (table : Symbols) (states : List State) (v : Course) (ws : List ℕ) (a : Result Form AttemptError) (z : AsmFault) (p : IsPursuit table states v ws) → IsAttempt p.turns table (slice_get states) (last_course table v ws) a → a ≡ Err (Fault z) → EventuallyEquals v (Err z)
 pursuit_faults table states v ws a z p t e = chain_fault table v ws z p.chain (suc p.turns, λ k le. later k le)
   where
     later : (k : ℕ) → suc p.turns ≤ k → last_course table v ws k ≡ Err z
@@ -322,22 +322,22 @@ pursuit_faults table states v ws a z p t e = chain_fault table v ws z p.chain (s
     later (suc k) le = fault_from p.turns table (slice_get states) (last_course table v ws) a z t e k (omega (arith, le))
 
 -- the last that waits leads to what it needs, and so to that on which this hangs
-pub pursuit_leads : (table : Symbols) (states : List State) (v : Course) (ws : List ℕ) (a : Result Form Stop) (i j : ℕ) (p : IsPursuit table states v ws) → IsAttempt p.turns table (slice_get states) (last_course table v ws) a → a ≡ Err (Needs i) → Reaches table i j → Leads table (last_course table v ws) j
+pub pursuit_leads : (table : Symbols) (states : List State) (v : Course) (ws : List ℕ) (a : Result Form AttemptError) (i j : ℕ) (p : IsPursuit table states v ws) → IsAttempt p.turns table (slice_get states) (last_course table v ws) a → a ≡ Err (Needs i) → IsSameOrBlockedOn table i j → InheritsErrors table (last_course table v ws) j
 pursuit_leads table states v ws a i j p t e reaches = leads_on table (last_course table v ws) i j (leads_from p.turns table (slice_get states) (last_course table v ws) a i t e) reaches
 
 -- what it leads to waits, where it may not be looked for
-pub pursuit_meets : (table : Symbols) (states : List State) (v : Course) → IsCourse v → (ws : List ℕ) (j : ℕ) (p : IsPursuit table states v ws) → Leads table (last_course table v ws) j → (is_found (slice_get states j) ≡ true → ⊥) → (o : Option State) → slice_get states j ≡ o → may_be_looked_for o ≡ false → v (suc (length table.definitions)) ≡ Err Circular
+pub pursuit_meets : (table : Symbols) (states : List State) (v : Course) → IsCourse v → (ws : List ℕ) (j : ℕ) (p : IsPursuit table states v ws) → InheritsErrors table (last_course table v ws) j → (is_found (slice_get states j) ≡ true → ⊥) → (o : Option State) → slice_get states j ≡ o → may_be_looked_for o ≡ false → v (suc (length table.definitions)) ≡ Err Circular
 pursuit_meets table states v s ws j p l unfound None q known = grind (arith, common_steps, common_steps, gets, slice_get_past)
 pursuit_meets table states v s ws j p l unfound (Some Unknown) q known = absurd cc
-pursuit_meets table states v s ws j p l unfound (Some (Hangs k)) q known = absurd cc
+pursuit_meets table states v s ws j p l unfound (Some (BlockedOn k)) q known = absurd cc
 pursuit_meets table states v s ws j p l unfound (Some Waiting) q known = met_again table v s ws j p.chain l (p.marked j q) (length table.definitions)
 pursuit_meets table states v s ws j p l unfound (Some (Found f)) q known = absurd (unfound (ap is_found q))
 
-pub pursuit_needs : (table : Symbols) (states : List State) (v : Course) (ws more : List ℕ) (j : ℕ) (p : IsPursuit table states v ws) → Leads table (last_course table v ws) j → may_be_looked_for (slice_get states j) ≡ true → more ≡ ws ++ j ∷ [] → IsPursuit table (slice_set states j Waiting) v more
+pub pursuit_needs : (table : Symbols) (states : List State) (v : Course) (ws more : List ℕ) (j : ℕ) (p : IsPursuit table states v ws) → InheritsErrors table (last_course table v ws) j → may_be_looked_for (slice_get states j) ≡ true → more ≡ ws ++ j ∷ [] → IsPursuit table (slice_set states j Waiting) v more
 pursuit_needs table states v ws more j p l q pushed = grind (arith, common_steps, pursuit_down)
 
 -- the expression's form is found
-pub pursuit_done : (table : Symbols) (states : List State) (v : Course) (ws : List ℕ) (a : Result Form Stop) (f : Form) (p : IsPursuit table states v ws) → IsAttempt p.turns table (slice_get states) (last_course table v ws) a → a ≡ Ok f → ws ≡ [] → v (suc (length table.definitions)) ≡ Ok f
+pub pursuit_done : (table : Symbols) (states : List State) (v : Course) (ws : List ℕ) (a : Result Form AttemptError) (f : Form) (p : IsPursuit table states v ws) → IsAttempt p.turns table (slice_get states) (last_course table v ws) a → a ≡ Ok f → ws ≡ [] → v (suc (length table.definitions)) ≡ Ok f
 pursuit_done table states v ws a f p t e q =
     let room = p.room in
     let P : List ℕ → Type 0 = λ z. last_course table v z (suc (length table.definitions)) ≡ Ok f in
@@ -349,12 +349,12 @@ pursuit_table table states v ws p q = pursuit_ends table states v (subst (IsPurs
 pub pursuit_inside : (table : Symbols) (states : List State) (v : Course) (ws others : List ℕ) (j : ℕ) → IsPursuit table states v ws → ws ≡ others ++ j ∷ [] → j < length states
 pursuit_inside table states v ws others j p q = p.inside j (subst (Among j) (sym q) (among_last j j others refl))
 
-pub pursuit_pops : (table : Symbols) (states : List State) (v : Course) (ws others : List ℕ) (first : Result Form Stop) (j : ℕ) (f : Form) → IsPursuit table states v ws → tried_last (slice_get states) table first ws ≡ Ok f → ws ≡ others ++ j ∷ [] → IsPursuit table (slice_set states j (Found f)) v others
+pub pursuit_pops : (table : Symbols) (states : List State) (v : Course) (ws others : List ℕ) (first : Result Form AttemptError) (j : ℕ) (f : Form) → IsPursuit table states v ws → tried_last (slice_get states) table first ws ≡ Ok f → ws ≡ others ++ j ∷ [] → IsPursuit table (slice_set states j (Found f)) v others
 pursuit_pops table states v ws others first j f p e q =
     let P : List ℕ → Type 0 = λ z. IsPursuit table states v z → tried_last (slice_get states) table first z ≡ Ok f → IsPursuit table (slice_set states j (Found f)) v others in
     subst P (sym q) (λ p e. pursuit_up table states v others j f p (sym (last_tried others first) ∙ e)) p e
   where
-    last_tried : (others : List ℕ) (first : Result Form Stop) → tried_last (slice_get states) table first (others ++ j ∷ []) ≡ tried_at (slice_get states) table j
+    last_tried : (others : List ℕ) (first : Result Form AttemptError) → tried_last (slice_get states) table first (others ++ j ∷ []) ≡ tried_at (slice_get states) table j
     last_tried [] first = refl
     last_tried (w ∷ ws) first = last_tried ws (tried_at (slice_get states) table w)
 

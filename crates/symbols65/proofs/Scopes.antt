@@ -11,7 +11,7 @@ use Rattle.std.specs.Prelude.{Result, codes, slice_get}
 use Rattle.std.proofs.lemmas.List.{append_assoc}
 use Rattle.semantics65.specs.declared.laid.Context.{Context}
 use Rattle.ast65.specs.declared.fault.AsmFault.{AsmFault}
-use Rattle.semantics65.specs.Symbols.{Symbols, Meaning, defined, named, Scope, first_found, joined, last_of, meaning_of, or_else, or_fault, outward_from, plain_meaning, scoped_meaning, scopes_from, scopes_of, enclosing, inside, scope_in, within}
+use Rattle.semantics65.specs.Symbols.{Symbols, Binding, definition_index, named, Scope, first_found, qualified_name, last_of, binding_of, or_else, or_fault, outward_from, plain_meaning, scoped_meaning, scopes_from, scopes_of, enclosing, nested_scope, scope_in, parent_scope}
 use Rattle.std.specs.List.{position_from}
 use Rattle.std.proofs.lemmas.Bool.Decides.{nat_tests}
 use Rattle.std.proofs.lemmas.Iterator.Adapters.{position_from-zero}
@@ -32,26 +32,26 @@ scopes_before [] n = refl
 scopes_before (m ∷ []) n = refl
 scopes_before (m ∷ k ∷ rest) n = ap (λ l. m ∷ l) (scopes_before (k ∷ rest) n)
 
-pub last_behind : (rest : List (List ℕ)) (n : List ℕ) → last_of (rest ++ n ∷ []) ≡ n
-last_behind [] n = refl
-last_behind (m ∷ []) n = refl
-last_behind (m ∷ k ∷ rest) n = last_behind (k ∷ rest) n
+pub last_after : (rest : List (List ℕ)) (n : List ℕ) → last_of (rest ++ n ∷ []) ≡ n
+last_after [] n = refl
+last_after (m ∷ []) n = refl
+last_after (m ∷ k ∷ rest) n = last_after (k ∷ rest) n
 
 -- the parts behind the first, as they are shown
-abbrev pub joined_behind : List (List ℕ) → List ℕ
-joined_behind [] = []
-joined_behind (n ∷ names) = codes "::" ++ n ++ joined_behind names
+abbrev pub joined_after : List (List ℕ) → List ℕ
+joined_after [] = []
+joined_after (n ∷ names) = codes "::" ++ n ++ joined_after names
 
-pub joined_first : (n : List ℕ) (names : List (List ℕ)) → joined (n ∷ names) ≡ n ++ joined_behind names
+pub joined_first : (n : List ℕ) (names : List (List ℕ)) → qualified_name (n ∷ names) ≡ n ++ joined_after names
 joined_first n [] = grind (arith, common_steps)
-joined_first n (m ∷ names) = append_assoc n (codes "::") (joined (m ∷ names)) ∙ ap (λ l. n ++ l) (ap (λ l. codes "::" ++ l) (joined_first m names) ∙ sym (append_assoc (codes "::") m (joined_behind names)))
+joined_first n (m ∷ names) = append_assoc n (codes "::") (qualified_name (m ∷ names)) ∙ ap (λ l. n ++ l) (ap (λ l. codes "::" ++ l) (joined_first m names) ∙ sym (append_assoc (codes "::") m (joined_after names)))
 
 -- what a name means where it stands, by its one part if it is plain
-abbrev pub name_meaning : Symbols → Context → Bool → List (List ℕ) → Option (List ℕ) → Result Meaning AsmFault
+abbrev pub name_meaning : Symbols → Context → Bool → List (List ℕ) → Option (List ℕ) → Result Binding AsmFault
 name_meaning y s global parts (Some n) = plain_meaning y s.scope n
 name_meaning y s global parts None = scoped_meaning y s global parts
 
-pub name_is : (y : Symbols) (s : Context) (global : Bool) (parts : List (List ℕ)) → meaning_of y s (name global parts) ≡ name_meaning y s global parts (plain_part global parts)
+pub name_is : (y : Symbols) (s : Context) (global : Bool) (parts : List (List ℕ)) → binding_of y s (name global parts) ≡ name_meaning y s global parts (plain_part global parts)
 name_is y s false [] = refl
 name_is y s false (n ∷ []) = refl
 name_is y s false (n ∷ m ∷ names) = refl
@@ -62,7 +62,7 @@ defined_first : (e : AsmFault) (o other : Option ℕ) → o ≡ defined_place (o
 defined_first e x other = grind (arith, common_steps)
 
 -- what a plain name means is defined where a scope from its own outward defines it
-pub defined_outward_at : (y : Symbols) (s : Context) (global : Bool) (parts : List (List ℕ)) (n : List ℕ) → plain_part global parts ≡ Some n → first_found (λ c. defined y (named c n)) (scopes_from y.scopes s.scope) ≡ defined_place (meaning_of y s (name global parts))
+pub defined_outward_at : (y : Symbols) (s : Context) (global : Bool) (parts : List (List ℕ)) (n : List ℕ) → plain_part global parts ≡ Some n → first_found (λ c. definition_index y (named c n)) (scopes_from y.scopes s.scope) ≡ defined_place (binding_of y s (name global parts))
 defined_outward_at y s false [] n e = absurd cc
 defined_outward_at y s false (m ∷ []) n e = grind (arith, common_steps, defined_first)
 defined_outward_at y s false (m ∷ k ∷ parts) n e = absurd cc
@@ -128,8 +128,8 @@ module _ (cs : List Scope) (opened s : ℕ) (n : List ℕ) where
   pub scope_before : (i : ℕ) → scope_in cs s n ≡ Some i → i ≤ opened → scope_in (take opened cs) s n ≡ Some i
   scope_before i e le = grind (arith, common_steps, position_before, nat_tests)
 
-  pub scope_behind : (i : ℕ) → scope_in cs s n ≡ Some i → opened < i → scope_in (take opened cs) s n ≡ None
-  scope_behind i e lt = grind (arith, common_steps, position_before, nat_tests)
+  pub scope_after : (i : ℕ) → scope_in cs s n ≡ Some i → opened < i → scope_in (take opened cs) s n ≡ None
+  scope_after i e lt = grind (arith, common_steps, position_before, nat_tests)
 
   pub no_scope : scope_in cs s n ≡ None → scope_in (take opened cs) s n ≡ None
   no_scope e = grind (arith, common_steps, position_before)
@@ -140,19 +140,19 @@ get_before [] (suc n) i lt = refl
 get_before (x ∷ xs) (suc n) zero lt = refl
 get_before (x ∷ xs) (suc n) (suc i) lt = get_before xs n i (omega arith)
 
-get_behind : {A : Type 0} (xs : List A) (n i : ℕ) → n ≤ i → slice_get (take n xs) i ≡ None
-get_behind xs zero i le = refl
-get_behind [] (suc n) i le = refl
-get_behind (x ∷ xs) (suc n) zero le = absurd (omega arith)
-get_behind (x ∷ xs) (suc n) (suc i) le = get_behind xs n i (omega arith)
+get_after : {A : Type 0} (xs : List A) (n i : ℕ) → n ≤ i → slice_get (take n xs) i ≡ None
+get_after xs zero i le = refl
+get_after [] (suc n) i le = refl
+get_after (x ∷ xs) (suc n) zero le = absurd (omega arith)
+get_after (x ∷ xs) (suc n) (suc i) le = get_after xs n i (omega arith)
 
 pub enclosing_before : (cs : List Scope) (opened s : ℕ) → s ≤ opened → enclosing (take opened cs) s ≡ enclosing cs s
 enclosing_before cs opened zero le = refl
-enclosing_before cs opened (suc i) le = ap within (get_before cs opened i (omega arith))
+enclosing_before cs opened (suc i) le = ap parent_scope (get_before cs opened i (omega arith))
 
-pub enclosing_behind : (cs : List Scope) (opened s : ℕ) → opened < s → enclosing (take opened cs) s ≡ zero
-enclosing_behind cs opened zero lt = absurd (omega arith)
-enclosing_behind cs opened (suc i) lt = ap within (get_behind cs opened i (omega arith))
+pub enclosing_after : (cs : List Scope) (opened s : ℕ) → opened < s → enclosing (take opened cs) s ≡ zero
+enclosing_after cs opened zero lt = absurd (omega arith)
+enclosing_after cs opened (suc i) lt = ap parent_scope (get_after cs opened i (omega arith))
 
-pub inside_none : (cs : List Scope) (names : List (List ℕ)) → inside cs names None ≡ None
+pub inside_none : (cs : List Scope) (names : List (List ℕ)) → nested_scope cs names None ≡ None
 inside_none cs x = grind (arith, common_steps)

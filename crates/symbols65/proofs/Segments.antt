@@ -10,8 +10,8 @@ use Rattle.semantics65.specs.declared.contents.Segment.{Segment}
 use Rattle.std.specs.Str.{bytes_eq}
 use Rattle.object65.specs.Objects.{section_limit}
 use Rattle.symbols65.specs.declared.cursor.Cursor.TheInside.{Inside}
-use Rattle.semantics65.specs.Layout.{grown, grown_at, place_of, segment_at}
-use Rattle.symbols65.specs.Inner.Cursors.{AreWithin, IsSoundCursor}
+use Rattle.semantics65.specs.Layout.{segment_after, grown_at, place_of, segment_at}
+use Rattle.symbols65.specs.Internal.Cursors.{AreWithin, IsSoundCursor}
 use Rattle.symbols65.proofs.Knowns.{written_over}
 use Rattle.ast65.proofs.Lists.{bytes_swap, position_mapped}
 use Rattle.semantics65.proofs.Segments.{all_more, all_same, grown_length, grown_names}
@@ -26,10 +26,10 @@ segment_or [] i g lt = absurd (omega arith)
 segment_or (h ∷ gs) zero g lt = refl
 segment_or (h ∷ gs) (suc i) g lt = segment_or gs i g (omega arith)
 
-pub grown_is : (gs : List Segment) (i count multiple : ℕ) → set gs i (grown count multiple (segment_at gs i)) ≡ grown_at gs i count multiple
-grown_is [] i count multiple = refl
-grown_is (g ∷ gs) zero count multiple = refl
-grown_is (g ∷ gs) (suc i) count multiple = ap (λ hs. g ∷ hs) (grown_is gs i count multiple)
+pub grown_is : (gs : List Segment) (i count alignment : ℕ) → set gs i (segment_after count alignment (segment_at gs i)) ≡ grown_at gs i count alignment
+grown_is [] i count alignment = refl
+grown_is (g ∷ gs) zero count alignment = refl
+grown_is (g ∷ gs) (suc i) count alignment = ap (λ hs. g ∷ hs) (grown_is gs i count alignment)
 
 -- ---- Names.
 
@@ -46,15 +46,15 @@ place_is n w e =
 
 -- ---- Ends.
 
-pub grown_within : (gs : List Segment) (i count multiple : ℕ) → (segment_at gs i).end + count ≤ section_limit → AreWithin gs → AreWithin (grown_at gs i count multiple)
-grown_within [] i count multiple le h = tt
-grown_within (g ∷ gs) zero count multiple le h = (le, h.1)
-grown_within (g ∷ gs) (suc i) count multiple le h = (h.0, grown_within gs i count multiple le h.1)
+pub grown_within : (gs : List Segment) (i count alignment : ℕ) → (segment_at gs i).end + count ≤ section_limit → AreWithin gs → AreWithin (grown_at gs i count alignment)
+grown_within [] i count alignment le h = tt
+grown_within (g ∷ gs) zero count alignment le h = (le, h.1)
+grown_within (g ∷ gs) (suc i) count alignment le h = (h.0, grown_within gs i count alignment le h.1)
 
 -- what is written over the segments, where it is they with one grown
-pub written_grown : (n : ℕ) (new held gs : List Segment) (i count multiple : ℕ) → held ≡ gs → length held ≡ n → length new ≡ length held → new ≡ grown_at held i count multiple → take n (new ++ drop (length new) gs) ≡ grown_at gs i count multiple
-written_grown n new held gs i count multiple value long same e =
-    written_over n new gs (same ∙ ap length value) (sym long ∙ ap length value) ∙ e ∙ ap (λ hs. grown_at hs i count multiple) value
+pub written_grown : (n : ℕ) (new held gs : List Segment) (i count alignment : ℕ) → held ≡ gs → length held ≡ n → length new ≡ length held → new ≡ grown_at held i count alignment → take n (new ++ drop (length new) gs) ≡ grown_at gs i count alignment
+written_grown n new held gs i count alignment value long same e =
+    written_over n new gs (same ∙ ap length value) (sym long ∙ ap length value) ∙ e ∙ ap (λ hs. grown_at hs i count alignment) value
 
 pub within_at : (gs : List Segment) (i : ℕ) → AreWithin gs → i < length gs → (segment_at gs i).end ≤ section_limit
 within_at [] i h lt = absurd (omega arith)
@@ -66,12 +66,12 @@ within_at (g ∷ gs) (suc i) h lt = within_at gs i h.1 (omega arith)
 pub sound_of : (v : Inside) (gs : List Segment) (i : ℕ) → v.segments.items ≡ gs → v.current ≡ i → i < length gs → AreWithin gs → map (λ k. k.items) v.names.keys ≡ map (λ (g : Segment). g.name) gs → AllByRecursion (λ k. k < length gs) v.kept.items → IsSoundCursor v
 sound_of v gs i e at lt within names kept = record { current = rw (e, at) lt; ends = rw e within; names = rw e names; kept = rw e kept }
 
-pub sound_grown : (w v : Inside) (count multiple : ℕ) → IsSoundCursor w → (segment_at w.segments.items w.current).end + count ≤ section_limit → v.segments.items ≡ grown_at w.segments.items w.current count multiple → v.current ≡ w.current → v.names ≡ w.names → v.kept ≡ w.kept → IsSoundCursor v
-sound_grown w v count multiple sound room e at names kept =
-    let gs = grown_at w.segments.items w.current count multiple in
-    let long = grown_length w.segments.items w.current count multiple in
-    sound_of v gs w.current e at (rw long sound.current) (grown_within w.segments.items w.current count multiple room sound.ends)
-    (rw names (sound.names ∙ sym (grown_names w.segments.items w.current count multiple))) (rw (kept, long) sound.kept)
+pub sound_grown : (w v : Inside) (count alignment : ℕ) → IsSoundCursor w → (segment_at w.segments.items w.current).end + count ≤ section_limit → v.segments.items ≡ grown_at w.segments.items w.current count alignment → v.current ≡ w.current → v.names ≡ w.names → v.kept ≡ w.kept → IsSoundCursor v
+sound_grown w v count alignment sound room e at names kept =
+    let gs = grown_at w.segments.items w.current count alignment in
+    let long = grown_length w.segments.items w.current count alignment in
+    sound_of v gs w.current e at (rw long sound.current) (grown_within w.segments.items w.current count alignment room sound.ends)
+    (rw names (sound.names ∙ sym (grown_names w.segments.items w.current count alignment))) (rw (kept, long) sound.kept)
 
 pub sound_begun : (w v : Inside) (n : List ℕ) (g : Segment) → IsSoundCursor w → g.name ≡ n → g.end ≡ 0 → v.segments.items ≡ w.segments.items ++ g ∷ [] → v.current ≡ length w.segments.items → v.kept ≡ w.kept → map (λ k. k.items) v.names.keys ≡ map (λ k. k.items) w.names.keys ++ n ∷ [] → IsSoundCursor v
 sound_begun w v n g sound name end e at kept names = grind (arith, common_steps, length-append, sound_of, all_more, map-append, all_same)

@@ -2,7 +2,7 @@
 use Rattle.std.proofs.lemmas.Grind.{common_steps}
 use Rattle.std.proofs.Common.{◌≡◌, ℕ, suc, ◌<◌, length, Option, Some, None, option_map, slice_get, Result, Ok, Err, refl, ap, ◌∙◌, arith}
 use Rattle.std.proofs.lemmas.Option.{slice_get_within}
-use Rattle.base65.specs.Outcome.{Gives}
+use Rattle.base65.specs.Outcome.{Refines}
 use Rattle.syntax65.specs.Trees.{Tree}
 use Rattle.object65.specs.Form.{Form}
 use Rattle.ast65.specs.declared.fault.AsmFault.{AsmFault}
@@ -10,16 +10,16 @@ use Rattle.ast65.specs.Faults.{is_memory}
 use Rattle.semantics65.specs.declared.laid.Context.{Context}
 use Rattle.semantics65.specs.Norms.{form_of_definition, norm, norm_of, Extends}
 use Rattle.semantics65.specs.Symbols as l
-use Rattle.symbols65.specs.declared.resolving.attempt.Source.TheVariants.{Finals}
+use Rattle.symbols65.specs.declared.resolving.attempt.FormSource.TheVariants.{Finals}
 use Rattle.symbols65.specs.declared.resolving.attempt.State.TheVariants.{Found}
-use Rattle.symbols65.specs.declared.resolving.attempt.Stop.{Stop}
-use Rattle.symbols65.specs.declared.resolving.attempt.Stop.TheVariants.{Needs, Fault}
+use Rattle.symbols65.specs.declared.resolving.attempt.AttemptError.{AttemptError}
+use Rattle.symbols65.specs.declared.resolving.attempt.AttemptError.TheVariants.{Needs, Fault}
 use Rattle.symbols65.specs.declared.table.symbols.Definition.{Definition}
-use Rattle.symbols65.specs.declared.table.symbols.Entry.{Entry}
+use Rattle.symbols65.specs.declared.table.symbols.InternedKey.{InternedKey}
 use Rattle.symbols65.specs.declared.table.symbols.Symbols.{Symbols}
 use Rattle.std.specs.Option.{option_and_then}
 use Rattle.std.specs.Result.{result_ok}
-use Rattle.symbols65.specs.Resolving.{FoundBy, lacks_memory, tried, Settles}
+use Rattle.symbols65.specs.Resolving.{FoundBy, lacks_memory, form_attempt, RefinesAttempt}
 use Rattle.symbols65.specs.Views.{known_by, table_of, words_of}
 use Rattle.symbols65.specs.Tables.{definition_in, table_without_imports}
 use Rattle.symbols65.proofs.Words.{get_mapped, get_stays}
@@ -43,7 +43,7 @@ module _ (t : Symbols) where
   pub final_in : (z : l.Symbols) → Extends (table_of t) z → (j : ℕ) (f : Form) → known_by t Finals j ≡ Some (Found f) → form_of_definition (norm (suc j) z) (slice_get z.definitions j) ≡ Ok f
   final_in z more j f h = by (slice_get t.definitions.entries j) refl h
     where
-      by : (o : Option (Entry × Definition)) → slice_get t.definitions.entries j ≡ o → option_and_then (λ (d : Definition). option_map Found d.form) (option_map (λ e. e.1) o) ≡ Some (Found f) → form_of_definition (norm (suc j) z) (slice_get z.definitions j) ≡ Ok f
+      by : (o : Option (InternedKey × Definition)) → slice_get t.definitions.entries j ≡ o → option_and_then (λ (d : Definition). option_map Found d.form) (option_map (λ e. e.1) o) ≡ Some (Found f) → form_of_definition (norm (suc j) z) (slice_get z.definitions j) ≡ Ok f
       by None is e = absurd cc
       by (Some e) is q =
           let own = has_form _ f (t.forms_final j e is f (kept_is e.1.form f q) z (without_imports t z more)) in
@@ -64,16 +64,16 @@ module _ (t : Symbols) where
   finals_found = λ j f h. final_among (table_of t) (extends_itself (table_of t)) (length (table_of t).definitions) j f (known_inside j f h) h
 
   -- an attempt with the final forms settles what it doesn't leave open
-  pub attempt_settles : (s : Context) (e : Tree) (r : Result Form Stop) → Gives lacks_memory (λ f. f) r (tried (known_by t Finals) (table_of t) s e) → Settles (norm_of (table_of t) s e) r
+  pub attempt_settles : (s : Context) (e : Tree) (r : Result Form AttemptError) → Refines lacks_memory (λ f. f) r (form_attempt (known_by t Finals) (table_of t) s e) → RefinesAttempt (norm_of (table_of t) s e) r
   attempt_settles s e r h = by r h
     where
       n : ℕ
       n = length (table_of t).definitions
 
-      a : Result Form Stop
-      a = tried (known_by t Finals) (table_of t) s e
+      a : Result Form AttemptError
+      a = form_attempt (known_by t Finals) (table_of t) s e
 
-      by : (r : Result Form Stop) → Gives lacks_memory (λ f. f) r a → Settles (norm_of (table_of t) s e) r
+      by : (r : Result Form AttemptError) → Refines lacks_memory (λ f. f) r a → RefinesAttempt (norm_of (table_of t) s e) r
       by (Ok f) q = form_from n (table_of t) (known_by t Finals) (expression_course (table_of t) s e) a f (attempt_first n (table_of t) (known_by t Finals) finals_found s e) q n (omega arith)
       by (Err (Fault z)) q = unless_more (is_memory z) (λ k. fault_from n (table_of t) (known_by t Finals) (expression_course (table_of t) s e) a z (attempt_first n (table_of t) (known_by t Finals) finals_found s e) k n (omega arith)) q
       by (Err (Needs j)) q = tt

@@ -5,8 +5,8 @@ use Rattle.syntax65.specs.Trees.{Tree, number, here, name, cheap, forward, backw
 use Rattle.syntax65.specs.declared.lexing.tokens.AddressSize.{AddressSize}
 use Rattle.syntax65.specs.declared.lexing.tokens.AddressSize.TheVariants as size
 use Rattle.semantics65.specs.declared.laid.Context.{Context}
-use Rattle.semantics65.specs.Symbols.{Meaning, meaning_of, Symbols}
-use Rattle.semantics65.specs.Norms.{constant_in, form_of_meaning, literal_in, folded, larger, norm, norm_of, size_by, size_of, size_of_meaning, size_of_value, takes_byte}
+use Rattle.semantics65.specs.Symbols.{Binding, binding_of, Symbols}
+use Rattle.semantics65.specs.Norms.{constant_in, form_of_meaning, literal_in, fold_result, larger, norm, norm_of, size_by, size_of, size_of_meaning, size_of_value, takes_byte}
 use Rattle.symbols65.specs.Resolving.{IsNumber, binary_form, plain, plain_in, prefix_form}
 use Rattle.std.proofs.lemmas.Grind.{common_steps}
 use Rattle.std.specs.Option.{option_and_then}
@@ -17,7 +17,7 @@ use Rattle.base65.specs.declared.values.Op2.{Op2}
 use Rattle.base65.specs.declared.values.Op2.TheVariants.{Add, Subtract}
 use Rattle.object65.specs.Form as form
 use Rattle.object65.specs.Form.{Form, lit, sec, imp, prefix, nodes}
-use Rattle.object65.specs.Folding.{fold1, fold2, fold_any, fold_difference, fold_sum, limited, node_limit}
+use Rattle.object65.specs.Folding.{fold1, fold2, fold_any, fold_difference, fold_sum, within_node_limit, node_limit}
 use Rattle.object65.specs.declared.folding.FormFault.{FormFault}
 use Rattle.object65.specs.declared.folding.FormFault.TheVariants as fault
 use Rattle.ast65.specs.declared.fault.AsmFault.{AsmFault}
@@ -33,28 +33,28 @@ number_size y s own e v h = by e (ap literal_in (h (length y.definitions) y s))
     by here k = absurd cc
     by (unary op e) k = ap (size_by (if takes_byte op then size.ZeroPage else size_of y s own e)) k
     by (binary op e f) k = ap (size_by (larger (size_of y s own e) (size_of y s own f))) k
-    by (name global parts) k = ap (size_by (size_of_meaning y (meaning_of y s (name global parts)))) k
-    by (cheap n) k = ap (size_by (size_of_meaning y (meaning_of y s (cheap n)))) k
-    by (forward n) k = ap (size_by (size_of_meaning y (meaning_of y s (forward n)))) k
-    by (backward n) k = ap (size_by (size_of_meaning y (meaning_of y s (backward n)))) k
+    by (name global parts) k = ap (size_by (size_of_meaning y (binding_of y s (name global parts)))) k
+    by (cheap n) k = ap (size_by (size_of_meaning y (binding_of y s (cheap n)))) k
+    by (forward n) k = ap (size_by (size_of_meaning y (binding_of y s (forward n)))) k
+    by (backward n) k = ap (size_by (size_of_meaning y (binding_of y s (backward n)))) k
 
 -- ---- Folding forms that are numbers or addresses, where others are missing, gives those of normal forms.
 
-folded_plain : (x : Result Form FormFault) → option_and_then plain (result_ok x) ≡ plain_in (folded x)
+folded_plain : (x : Result Form FormFault) → option_and_then plain (result_ok x) ≡ plain_in (fold_result x)
 folded_plain (Ok f) = refl
 folded_plain (Err fault.OutOfMemory) = refl
 folded_plain (Err fault.NoValue) = refl
 folded_plain (Err fault.TooLarge) = refl
 
 -- an operation that stays is no number and no address
-limited_plain : (f : Form) → plain f ≡ None → plain_in (folded (limited f)) ≡ None
+limited_plain : (f : Form) → plain f ≡ None → plain_in (fold_result (within_node_limit f)) ≡ None
 limited_plain f none = by (nat_le (nodes f) node_limit)
   where
-    by : (b : Bool) → plain_in (folded (if b then Ok f else Err fault.TooLarge)) ≡ None
+    by : (b : Bool) → plain_in (fold_result (if b then Ok f else Err fault.TooLarge)) ≡ None
     by true = none
     by false = refl
 
-any_mixed : (op : Op2) (f g : Form) → (plain f ≡ None) ⊎ (plain g ≡ None) → plain_in (folded (fold_any op f g)) ≡ None
+any_mixed : (op : Op2) (f g : Form) → (plain f ≡ None) ⊎ (plain g ≡ None) → plain_in (fold_result (fold_any op f g)) ≡ None
 any_mixed op (imp k) g h = limited_plain (form.binary op (imp k) g) refl
 any_mixed op (prefix o f) g h = limited_plain (form.binary op (prefix o f) g) refl
 any_mixed op (form.binary o f k) g h = limited_plain (form.binary op (form.binary o f k) g) refl
@@ -66,7 +66,7 @@ any_mixed op (lit v) (sec k a) h = limited_plain (form.binary op (lit v) (sec k 
 any_mixed op (lit v) (lit w) (inl e) = absurd cc
 any_mixed op (lit v) (lit w) (inr e) = absurd cc
 
-sum_mixed : (f g : Form) → (plain f ≡ None) ⊎ (plain g ≡ None) → plain_in (folded (fold_sum f g)) ≡ None
+sum_mixed : (f g : Form) → (plain f ≡ None) ⊎ (plain g ≡ None) → plain_in (fold_result (fold_sum f g)) ≡ None
 sum_mixed (lit v) (sec k a) (inl e) = absurd cc
 sum_mixed (lit v) (sec k a) (inr e) = absurd cc
 sum_mixed (sec k a) (lit v) (inl e) = absurd cc
@@ -83,7 +83,7 @@ sum_mixed (imp k) g h = any_mixed Add (imp k) g h
 sum_mixed (prefix o f) g h = any_mixed Add (prefix o f) g h
 sum_mixed (form.binary o f k) g h = any_mixed Add (form.binary o f k) g h
 
-difference_mixed : (f g : Form) → (plain f ≡ None) ⊎ (plain g ≡ None) → plain_in (folded (fold_difference f g)) ≡ None
+difference_mixed : (f g : Form) → (plain f ≡ None) ⊎ (plain g ≡ None) → plain_in (fold_result (fold_difference f g)) ≡ None
 difference_mixed (sec k a) (sec m b) (inl e) = absurd cc
 difference_mixed (sec k a) (sec m b) (inr e) = absurd cc
 difference_mixed (sec k a) (lit v) (inl e) = absurd cc
@@ -96,7 +96,7 @@ difference_mixed (imp k) g h = any_mixed Subtract (imp k) g h
 difference_mixed (prefix o f) g h = any_mixed Subtract (prefix o f) g h
 difference_mixed (form.binary o f k) g h = any_mixed Subtract (form.binary o f k) g h
 
-both_mixed : (op : Op2) (f g : Form) → (plain f ≡ None) ⊎ (plain g ≡ None) → plain_in (folded (fold2 op f g)) ≡ None
+both_mixed : (op : Op2) (f g : Form) → (plain f ≡ None) ⊎ (plain g ≡ None) → plain_in (fold_result (fold2 op f g)) ≡ None
 both_mixed x f g h = grind (arith, common_steps, sum_mixed, difference_mixed, any_mixed)
 
 plain_is : (f p : Form) → plain f ≡ Some p → f ≡ p
@@ -106,7 +106,7 @@ plain_is (imp k) p e = absurd cc
 plain_is (prefix o f) p e = absurd cc
 plain_is (form.binary o f g) p e = absurd cc
 
-pub prefix_plain : (op : Op1) (r : Result Form AsmFault) → option_and_then plain (prefix_form op (plain_in r)) ≡ plain_in (r >>= (λ f. folded (fold1 op f)))
+pub prefix_plain : (op : Op1) (r : Result Form AsmFault) → option_and_then plain (prefix_form op (plain_in r)) ≡ plain_in (r >>= (λ f. fold_result (fold1 op f)))
 prefix_plain op (Err e) = refl
 prefix_plain op (Ok (lit v)) = folded_plain (fold1 op (lit v))
 prefix_plain op (Ok (sec k a)) = folded_plain (fold1 op (sec k a))
@@ -114,7 +114,7 @@ prefix_plain op (Ok (imp k)) = grind (arith, common_steps, limited_plain)
 prefix_plain op (Ok (prefix o f)) = grind (arith, common_steps, limited_plain)
 prefix_plain op (Ok (form.binary o f g)) = grind (arith, common_steps, limited_plain)
 
-pub binary_plain : (op : Op2) (r s : Result Form AsmFault) → option_and_then plain (binary_form op (plain_in r) (plain_in s)) ≡ plain_in (r >>= (λ f. s >>= (λ g. folded (fold2 op f g))))
+pub binary_plain : (op : Op2) (r s : Result Form AsmFault) → option_and_then plain (binary_form op (plain_in r) (plain_in s)) ≡ plain_in (r >>= (λ f. s >>= (λ g. fold_result (fold2 op f g))))
 binary_plain op (Err e) s = refl
 binary_plain op (Ok f) (Err e) = ap (option_and_then plain) (left_alone (plain f))
   where
@@ -123,13 +123,13 @@ binary_plain op (Ok f) (Err e) = ap (option_and_then plain) (left_alone (plain f
     left_alone (Some p) = refl
 binary_plain op (Ok f) (Ok g) = by (plain f) (plain g) refl refl
   where
-    by : (o p : Option Form) → plain f ≡ o → plain g ≡ p → option_and_then plain (binary_form op o p) ≡ plain_in (folded (fold2 op f g))
+    by : (o p : Option Form) → plain f ≡ o → plain g ≡ p → option_and_then plain (binary_form op o p) ≡ plain_in (fold_result (fold2 op f g))
     by None p is at = sym (both_mixed op f g (inl is))
     by (Some q) None is at = sym (both_mixed op f g (inr at))
     by (Some q) (Some w) is at =
         folded_plain (fold2 op q w)
-        ∙ ap (λ (x : Form). plain_in (folded (fold2 op x w))) (sym (plain_is f q is))
-        ∙ ap (λ (x : Form). plain_in (folded (fold2 op f x))) (sym (plain_is g w at))
+        ∙ ap (λ (x : Form). plain_in (fold_result (fold2 op x w))) (sym (plain_is f q is))
+        ∙ ap (λ (x : Form). plain_in (fold_result (fold2 op f x))) (sym (plain_is g w at))
 
 -- ---- The values of forms that are numbers or addresses.
 
@@ -163,7 +163,7 @@ plain_again (Err e) = refl
 -- ---- Operands.
 
 -- an operand that means something has the form of that
-pub operand_norm : (y : Symbols) (s : Context) (e : Tree) (m : Meaning) → meaning_of y s e ≡ Ok m → norm_of y s e ≡ form_of_meaning (norm (length y.definitions) y) y m
+pub operand_norm : (y : Symbols) (s : Context) (e : Tree) (m : Binding) → binding_of y s e ≡ Ok m → norm_of y s e ≡ form_of_meaning (norm (length y.definitions) y) y m
 operand_norm y s (number v) m h = absurd cc
 operand_norm y s here m h = absurd cc
 operand_norm y s (unary op e) m h = absurd cc

@@ -8,13 +8,13 @@ use Rattle.object65.specs.Folding.{fold1}
 use Rattle.ast65.specs.declared.fault.AsmFault.{AsmFault}
 use Rattle.ast65.specs.declared.fault.AsmFault.TheVariants.{Circular}
 use Rattle.semantics65.specs.declared.laid.Context.{Context}
-use Rattle.semantics65.specs.Symbols.{Symbols, Definition, Meaning, meaning_of}
-use Rattle.semantics65.specs.Norms.{folded, form_by, form_of_value, form_of_definition, form_of_meaning, norm, norm_of}
+use Rattle.semantics65.specs.Symbols.{Symbols, Definition, Binding, binding_of}
+use Rattle.semantics65.specs.Norms.{fold_result, form_by, form_of_value, form_of_definition, form_of_meaning, norm, norm_of}
 use Rattle.std.proofs.Math.Path.{fun_ext}
 use Rattle.std.specs.Prelude.{sum_by}
 use Rattle.std.proofs.lemmas.Bool.Decides.{nat_tests}
 use Rattle.std.proofs.lemmas.List.Sums.{sum_by-cons}
-use Rattle.symbols65.specs.Resolving.{Comes}
+use Rattle.symbols65.specs.Resolving.{EventuallyEquals}
 
 -- ---- Normal forms at different numbers of turns.
 
@@ -32,23 +32,23 @@ known_form a b s h (name global parts) = h (name global parts)
 known_form a b s h (cheap n) = h (cheap n)
 known_form a b s h (forward n) = h (forward n)
 known_form a b s h (backward n) = h (backward n)
-known_form a b s h (unary op e) = known_then (form_by a s e) (form_by b s e) (λ f. folded (fold1 op f)) (λ f. folded (fold1 op f)) (known_form a b s h e) (λ x. inr refl)
+known_form a b s h (unary op e) = known_then (form_by a s e) (form_by b s e) (λ f. fold_result (fold1 op f)) (λ f. fold_result (fold1 op f)) (known_form a b s h e) (λ x. inr refl)
 known_form a b s h (binary op e g) = grind (arith, common_steps, (known_form a b s h e), (known_form a b s h g), known_then)
 
 pub known_definition : (a b : Context → Tree → Result Form AsmFault) → ((s : Context) (e : Tree) → NormCache (a s e) (b s e)) → (o : Option Definition) → NormCache (form_of_definition a o) (form_of_definition b o)
 known_definition a b h x = grind (arith, common_steps)
 
-known_meaning : (a b : Context → Tree → Result Form AsmFault) (table : Symbols) → ((s : Context) (e : Tree) → NormCache (a s e) (b s e)) → (m : Meaning) → NormCache (form_of_meaning a table m) (form_of_meaning b table m)
+known_meaning : (a b : Context → Tree → Result Form AsmFault) (table : Symbols) → ((s : Context) (e : Tree) → NormCache (a s e) (b s e)) → (m : Binding) → NormCache (form_of_meaning a table m) (form_of_meaning b table m)
 known_meaning a b table h x = grind (arith, common_steps, known_definition)
 
-known_result : (a b : Context → Tree → Result Form AsmFault) (table : Symbols) → ((s : Context) (e : Tree) → NormCache (a s e) (b s e)) → (m : Result Meaning AsmFault) → NormCache (m >>= form_of_meaning a table) (m >>= form_of_meaning b table)
+known_result : (a b : Context → Tree → Result Form AsmFault) (table : Symbols) → ((s : Context) (e : Tree) → NormCache (a s e) (b s e)) → (m : Result Binding AsmFault) → NormCache (m >>= form_of_meaning a table) (m >>= form_of_meaning b table)
 known_result a b table h x = grind (arith, common_steps, known_meaning)
 
 pub norm_known : (n : ℕ) (table : Symbols) (s : Context) (e : Tree) → NormCache (norm n table s e) (norm (suc n) table s e)
 norm_known zero table s e = inl refl
 norm_known (suc n) table s e =
-    known_form (λ t. meaning_of table s t >>= form_of_meaning (norm n table) table) (λ t. meaning_of table s t >>= form_of_meaning (norm (suc n) table) table) s
-    (λ t. known_result (norm n table) (norm (suc n) table) table (norm_known n table) (meaning_of table s t)) e
+    known_form (λ t. binding_of table s t >>= form_of_meaning (norm n table) table) (λ t. binding_of table s t >>= form_of_meaning (norm (suc n) table) table) s
+    (λ t. known_result (norm n table) (norm (suc n) table) table (norm_known n table) (binding_of table s t)) e
 
 -- ---- What is said so at more and more turns.
 
@@ -188,14 +188,14 @@ module _ (y : Symbols) where
           let (m, le_m, still) = rest (omega (arith, le, fewer_there, other)) in
           (m, omega (arith, le_m), still)
 
-  operand_still : (n : ℕ) → IsStill n → (m : Result Meaning AsmFault) → (m >>= form_of_meaning (norm n y) y) ≡ (m >>= form_of_meaning (norm (suc n) y) y)
+  operand_still : (n : ℕ) → IsStill n → (m : Result Binding AsmFault) → (m >>= form_of_meaning (norm n y) y) ≡ (m >>= form_of_meaning (norm (suc n) y) y)
   operand_still n h x = grind (arith, common_steps)
 
   form_still : (n : ℕ) → IsStill n → (s : Context) (e : Tree) → norm (suc n) y s e ≡ norm (suc (suc n)) y s e
   form_still n h s e =
-      let a : Tree → Result Form AsmFault = λ t. meaning_of y s t >>= form_of_meaning (norm n y) y in
-      let b : Tree → Result Form AsmFault = λ t. meaning_of y s t >>= form_of_meaning (norm (suc n) y) y in
-      let same : a ≡ b = fun_ext (λ t. operand_still n h (meaning_of y s t)) in
+      let a : Tree → Result Form AsmFault = λ t. binding_of y s t >>= form_of_meaning (norm n y) y in
+      let b : Tree → Result Form AsmFault = λ t. binding_of y s t >>= form_of_meaning (norm (suc n) y) y in
+      let same : a ≡ b = fun_ext (λ t. operand_still n h (binding_of y s t)) in
       ap (λ (o : Tree → Result Form AsmFault). form_by o s e) same
 
   value_still : (n : ℕ) → IsStill n → (o : Option Definition) → form_of_definition (norm (suc n) y) o ≡ form_of_definition (norm (suc (suc n)) y) o
@@ -216,7 +216,7 @@ module _ (y : Symbols) where
       form_still n h s e ∙ still_further d (suc n) (still_later n h) s e ∙ ap (λ (k : ℕ). norm (suc k) y s e) (sym same)
 
   -- what an expression comes to is its normal form
-  pub comes_to_norm : (s : Context) (e : Tree) (r : Result Form AsmFault) → Comes (expression_course y s e) r → norm_of y s e ≡ r
+  pub comes_to_norm : (s : Context) (e : Tree) (r : Result Form AsmFault) → EventuallyEquals (expression_course y s e) r → norm_of y s e ≡ r
   comes_to_norm s e r (n, h) =
       let whole : ℕ = length y.definitions in
       let (m, le, still) = still_somewhere whole 0 (at_most_all 0 y.definitions) in

@@ -11,12 +11,12 @@ use Rattle.std.specs.Str.{bytes_eq}
 use Rattle.std.proofs.lemmas.Slice.Eq.{bytes_eq-Decides}
 use Rattle.semantics65.specs.Symbols.{Key, Scope, named, cheap_in, unnamed_at, same_key, is_named}
 use Rattle.ast65.proofs.Lists.{bytes_swap, position_mapped, same_bytes}
-use Rattle.symbols65.specs.declared.table.symbols.Entry.{Entry}
-use Rattle.symbols65.specs.declared.table.symbols.Entry.TheVariants as entry
-use Rattle.symbols65.specs.declared.table.symbols.Opening.{Opening}
-use Rattle.symbols65.specs.declared.table.symbols.Opening.TheVariants as opening
+use Rattle.symbols65.specs.declared.table.symbols.InternedKey.{InternedKey}
+use Rattle.symbols65.specs.declared.table.symbols.InternedKey.TheVariants as entry
+use Rattle.symbols65.specs.declared.table.symbols.ScopeKey.{ScopeKey}
+use Rattle.symbols65.specs.declared.table.symbols.ScopeKey.TheVariants as opening
 use Rattle.symbols65.specs.declared.table.symbols.Definition.{Definition}
-use Rattle.symbols65.specs.Tables.{AreCounted, AreInnerKnown, AreNumbered, IsCounted, definition_in, entry_of, first_number, key_in, same_entry, same_opening, scope_by, scope_opened, word_at, word_of, word_opened, Begins}
+use Rattle.symbols65.specs.Tables.{AreCounted, AreInnerKnown, AreNumbered, IsCounted, definition_in, entry_of, first_number, key_in, same_entry, same_opening, scope_by, scope_opened, word_at, word_of, word_opened, IsPrefixOf}
 use Rattle.indexmap.specs.IndexSet.{insert_key}
 
 -- ---- Tests.
@@ -133,7 +133,7 @@ word_test ws n v h = same_test (is_number (position (bytes_eq n) ws) v) (bytes_e
 
 -- ---- Definitions.
 
-abbrev tests : Option Entry → Entry → Bool
+abbrev tests : Option InternedKey → InternedKey → Bool
 tests None k = false
 tests (Some q) k = same_entry q k
 
@@ -147,13 +147,13 @@ named_test s t v x = grind (arith, common_steps)
 cheap_test : (s t v : ℕ) (o : Option ℕ) → tests (option_map (entry.Cheap s) o) (entry.Cheap t v) ≡ (s == t && is_number o v)
 cheap_test s t v x = grind (arith, common_steps)
 
-other_named : (s : ℕ) (o : Option ℕ) (k : Entry) → ((w : ℕ) → same_entry (entry.Named s w) k ≡ false) → tests (option_map (entry.Named s) o) k ≡ false
+other_named : (s : ℕ) (o : Option ℕ) (k : InternedKey) → ((w : ℕ) → same_entry (entry.Named s w) k ≡ false) → tests (option_map (entry.Named s) o) k ≡ false
 other_named s x k h = grind (arith, common_steps)
 
-other_cheap : (s : ℕ) (o : Option ℕ) (k : Entry) → ((w : ℕ) → same_entry (entry.Cheap s w) k ≡ false) → tests (option_map (entry.Cheap s) o) k ≡ false
+other_cheap : (s : ℕ) (o : Option ℕ) (k : InternedKey) → ((w : ℕ) → same_entry (entry.Cheap s w) k ≡ false) → tests (option_map (entry.Cheap s) o) k ≡ false
 other_cheap s x k h = grind (arith, common_steps)
 
-abbrev opens : Option Opening → Opening → Bool
+abbrev opens : Option ScopeKey → ScopeKey → Bool
 opens None k = false
 opens (Some q) k = same_opening q k
 
@@ -163,16 +163,16 @@ opened_test s t v x = grind (arith, common_steps)
 other_opened : (s t v : ℕ) (o : Option ℕ) → opens (option_map (opening.Named s) o) (opening.Nameless t v) ≡ false
 other_opened s t v x = grind (arith, common_steps)
 
-abbrev pub place_of_opening : List (Opening × Bool) → Option Opening → Option ℕ
+abbrev pub place_of_opening : List (ScopeKey × Bool) → Option ScopeKey → Option ℕ
 place_of_opening ss None = None
 place_of_opening ss (Some k) = position (same_opening k) (keys_of ss)
 
-abbrev pub place_of_entry : List (Entry × Definition) → Option Entry → Option ℕ
+abbrev pub place_of_entry : List (InternedKey × Definition) → Option InternedKey → Option ℕ
 place_of_entry es None = None
 place_of_entry es (Some k) = position (same_entry k) (keys_of es)
 
 module _ (ws : List (List ℕ)) where
-  entry_test : (q : Key) (k : Entry) → first_number ws (word_of k) ≡ word_of k → tests (entry_of ws q) k ≡ same_key (key_in ws k) q
+  entry_test : (q : Key) (k : InternedKey) → first_number ws (word_of k) ≡ word_of k → tests (entry_of ws q) k ≡ same_key (key_in ws k) q
   entry_test (named s n) (entry.Named t v) h = named_test s t v (position (bytes_eq n) ws) ∙ ap (λ b. b && is_number (position (bytes_eq n) ws) v) (swapped s t) ∙ ap (λ b. t == s && b) (word_test ws n v h)
   entry_test (named s n) (entry.Cheap t v) h = other_named s (position (bytes_eq n) ws) (entry.Cheap t v) (λ w. refl)
   entry_test (named s n) (entry.Unnamed c) h = other_named s (position (bytes_eq n) ws) (entry.Unnamed c) (λ w. refl)
@@ -192,30 +192,30 @@ module _ (ws : List (List ℕ)) where
   keys_position p es = position_mapped p (λ e. e.0) es
 
   -- what is found by the number of its name is what the table defines
-  pub finds : (es : List (Entry × Definition)) (q : Key) → AreNumbered word_of ws (keys_of es) → place_of_entry es (entry_of ws q) ≡ position (λ d. same_key d.key q) (map (definition_in ws) es)
+  pub finds : (es : List (InternedKey × Definition)) (q : Key) → AreNumbered word_of ws (keys_of es) → place_of_entry es (entry_of ws q) ≡ position (λ d. same_key d.key q) (map (definition_in ws) es)
   finds es q h = by (entry_of ws q) refl ∙ sym (position_mapped (λ d. same_key d.key q) (definition_in ws) es)
     where
-      by : (o : Option Entry) → entry_of ws q ≡ o → place_of_entry es o ≡ position (λ e. same_key (key_in ws e.0) q) es
+      by : (o : Option InternedKey) → entry_of ws q ≡ o → place_of_entry es o ≡ position (λ e. same_key (key_in ws e.0) q) es
       by None is = sym (position_none (λ e. same_key (key_in ws e.0) q) es (λ i e at. sym (entry_test q e.0 (h i e.0 (keys_get es i e at))) ∙ ap (λ o. tests o e.0) is))
       by (Some k) is = keys_position (same_entry k) es ∙ position_same (λ e. same_entry k e.0) (λ e. same_key (key_in ws e.0) q) es (λ i e at. sym (ap (λ o. tests o e.0) is) ∙ entry_test q e.0 (h i e.0 (keys_get es i e at)))
 
   -- no unnamed label has a count that is no machine's number
-  pub never_counted : (es : List (Entry × Definition)) (count : ℕ) → AreNumbered word_of ws (keys_of es) → AreCounted (keys_of es) → 2 ^ 64 ≤ count → position (λ d. same_key d.key (unnamed_at count)) (map (definition_in ws) es) ≡ None
+  pub never_counted : (es : List (InternedKey × Definition)) (count : ℕ) → AreNumbered word_of ws (keys_of es) → AreCounted (keys_of es) → 2 ^ 64 ≤ count → position (λ d. same_key d.key (unnamed_at count)) (map (definition_in ws) es) ≡ None
   never_counted es count h counted le = sym (finds es (unnamed_at count) h) ∙ position_none (same_entry (entry.Unnamed count)) (keys_of es) (λ i k at. differs k (counted i k at))
     where
-      differs : (k : Entry) → IsCounted k → same_entry (entry.Unnamed count) k ≡ false
+      differs : (k : InternedKey) → IsCounted k → same_entry (entry.Unnamed count) k ≡ false
       differs (entry.Named t v) own = refl
       differs (entry.Cheap t v) own = refl
       differs (entry.Unnamed d) own = (let lt = own d refl in grind (arith, nat_tests, lt, le))
 
   -- no scope but the global one defines a word of which none is noted
-  pub never_inner : (es : List (Entry × Definition)) (inner : List Bool) (w : ℕ) → AreNumbered word_of ws (keys_of es) → AreInnerKnown (keys_of es) inner → (slice_get inner w ≡ Some true → ⊥) → (scope : ℕ) (n : List ℕ) → position (bytes_eq n) ws ≡ Some w → position (λ d. same_key d.key (named (suc scope) n)) (map (definition_in ws) es) ≡ None
+  pub never_inner : (es : List (InternedKey × Definition)) (inner : List Bool) (w : ℕ) → AreNumbered word_of ws (keys_of es) → AreInnerKnown (keys_of es) inner → (slice_get inner w ≡ Some true → ⊥) → (scope : ℕ) (n : List ℕ) → position (bytes_eq n) ws ≡ Some w → position (λ d. same_key d.key (named (suc scope) n)) (map (definition_in ws) es) ≡ None
   never_inner es inner w h known none scope n at =
       sym (finds es (named (suc scope) n) h)
       ∙ ap (λ o. place_of_entry es (option_map (entry.Named (suc scope)) o)) at
       ∙ position_none (same_entry (entry.Named (suc scope) w)) (keys_of es) (λ i k here. differs k (λ is. none (known i k here scope w is)))
     where
-      differs : (k : Entry) → (k ≡ entry.Named (suc scope) w → ⊥) → same_entry (entry.Named (suc scope) w) k ≡ false
+      differs : (k : InternedKey) → (k ≡ entry.Named (suc scope) w → ⊥) → same_entry (entry.Named (suc scope) w) k ≡ false
       differs (entry.Named t v) other = by ((suc scope == t) && (w == v)) refl
         where
           by : (b : Bool) → ((suc scope == t) && (w == v)) ≡ b → ((suc scope == t) && (w == v)) ≡ false
@@ -229,18 +229,18 @@ module _ (ws : List (List ℕ)) where
 
   -- ---- Scopes.
 
-  opening_test : (s : ℕ) (n : List ℕ) (k : Opening) (is_proc : Bool) → first_number ws (word_opened k) ≡ word_opened k → opens (option_map (opening.Named s) (position (bytes_eq n) ws)) k ≡ ((scope_by ws k is_proc).within == s && is_named n (scope_by ws k is_proc).name)
+  opening_test : (s : ℕ) (n : List ℕ) (k : ScopeKey) (is_proc : Bool) → first_number ws (word_opened k) ≡ word_opened k → opens (option_map (opening.Named s) (position (bytes_eq n) ws)) k ≡ ((scope_by ws k is_proc).within == s && is_named n (scope_by ws k is_proc).name)
   opening_test s n x is_proc h = grind (arith, common_steps, opened_test, swapped, word_test, other_opened, and_false)
 
   -- what is found by the number of its name is what the table opened
-  pub finds_opened : (ss : List (Opening × Bool)) (s : ℕ) (n : List ℕ) → AreNumbered word_opened ws (keys_of ss) →
+  pub finds_opened : (ss : List (ScopeKey × Bool)) (s : ℕ) (n : List ℕ) → AreNumbered word_opened ws (keys_of ss) →
       place_of_opening ss (option_map (opening.Named s) (position (bytes_eq n) ws)) ≡ position (λ c. c.within == s && is_named n c.name) (map (scope_opened ws) ss)
   finds_opened ss s n h = by (option_map (opening.Named s) (position (bytes_eq n) ws)) refl ∙ sym (position_mapped is_it (scope_opened ws) ss)
     where
       is_it : Scope → Bool
       is_it c = c.within == s && is_named n c.name
 
-      by : (o : Option Opening) → option_map (opening.Named s) (position (bytes_eq n) ws) ≡ o → place_of_opening ss o ≡ position (λ e. is_it (scope_opened ws e)) ss
+      by : (o : Option ScopeKey) → option_map (opening.Named s) (position (bytes_eq n) ws) ≡ o → place_of_opening ss o ≡ position (λ e. is_it (scope_opened ws e)) ss
       by None is = sym (position_none (λ e. is_it (scope_opened ws e)) ss (λ i e at. sym (opening_test s n e.0 e.1 (h i e.0 (keys_get ss i e at))) ∙ ap (λ o. opens o e.0) is))
       by (Some k) is = keys_position (same_opening k) ss ∙ position_same (λ e. same_opening k e.0) (λ e. is_it (scope_opened ws e)) ss (λ i e at. sym (ap (λ o. opens o e.0) is) ∙ opening_test s n e.0 e.1 (h i e.0 (keys_get ss i e at)))
 
@@ -276,10 +276,10 @@ module _ {K : Type 0} (f : K → List ℕ) where
   number_mapped n [] = refl
   number_mapped n (k ∷ ks) = ap (λ m. cond (not (bytes_eq n (f k))) (1 + m) 0) (number_mapped n ks)
 
-pub one_begins : (ks : List (List ℕ)) (n : List ℕ) → Begins ks (with_one ks n)
+pub one_begins : (ks : List (List ℕ)) (n : List ℕ) → IsPrefixOf ks (with_one ks n)
 one_begins ks n = by (list_any (λ k. bytes_eq n k) ks)
   where
-    by : (b : Bool) → Begins ks (if b then ks else ks ++ n ∷ [])
+    by : (b : Bool) → IsPrefixOf ks (if b then ks else ks ++ n ∷ [])
     by true = ([], sym (append-nil ks))
     by false = (n ∷ [], refl)
 

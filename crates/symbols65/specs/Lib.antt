@@ -1,4 +1,4 @@
-pub mod Inner
+pub mod Internal
 pub mod Measuring
 pub mod Resolving
 pub mod Tables

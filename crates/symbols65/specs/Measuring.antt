@@ -4,20 +4,20 @@ use Rattle.semantics65.specs.Layout as layout
 use Rattle.std.specs.List.{AllByRecursion}
 use Rattle.std.specs.Option.{unwrap_or}
 use Rattle.object65.specs.Objects.{section_limit}
-use Rattle.semantics65.specs.Layout.{context_of, current_behind, kept_behind, opens_scope, scope_behind, segments_behind, multiple_of, own_size, size_stated, defined_twice, file_limit, first_fault, is_open, is_part, left_from, line_fault, lost_scopes, opened_twice, operand_fault, optional_tree, or_then, placing_faults, scope_name, stands_outside, trees_of, when, unless_fault}
+use Rattle.semantics65.specs.Layout.{context_of, current_after, kept_after, opens_scope, scope_after, segments_after, multiple_of, own_size, size_stated, defined_twice, file_limit, first_fault, is_open, is_part, left_from, line_fault, lost_scopes, opened_twice, operand_fault, optional_tree, or_then, placing_faults, scope_name, stands_outside, trees_of, when, unless_fault}
 use Rattle.ast65.specs.declared.language.Statement.{Statement}
 use Rattle.ast65.specs.declared.language.Statement.TheVariants as statement
-use Rattle.ast65.specs.declared.language.Statement.TheVariants.{Label, OpenProc, OpenScope, UnnamedLabel, FilePart}
+use Rattle.ast65.specs.declared.language.Statement.TheVariants.{Label, OpenProc, OpenScope, UnnamedLabel, Incbin}
 use Rattle.semantics65.specs.Symbols.{enclosing, Scope, Symbols, opens_region, is_unnamed, key_defined}
-use Rattle.base65.specs.Outcome.{Gives, Unless}
+use Rattle.base65.specs.Outcome.{Refines, Unless}
 use Rattle.syntax65.specs.Trees.{Tree}
 use Rattle.ast65.specs.declared.fault.AsmFault.{AsmFault}
 use Rattle.ast65.specs.declared.fault.AsmFault.TheVariants.{BadOperand, BadPart, NotUnderstood, SectionTooLarge}
 use Rattle.ast65.specs.Faults.{is_memory}
 use Rattle.semantics65.specs.declared.laid.Context.{Context}
-use Rattle.semantics65.specs.Norms.{counted, length_of, settled_of}
-use Rattle.symbols65.specs.declared.measuring.Before.{Before}
-use Rattle.symbols65.specs.declared.measuring.Measured.{Measured}
+use Rattle.semantics65.specs.Norms.{byte_count, length_of, settled_of}
+use Rattle.symbols65.specs.declared.measuring.LineState.{LineState}
+use Rattle.symbols65.specs.declared.measuring.StatementLayout.{StatementLayout}
 use Rattle.symbols65.specs.Views.{table_of}
 
 -- ---- What is counted.
@@ -60,30 +60,30 @@ pub record HasNumbers (y : Symbols) (w : layout.Cursor) : Type 0 where
 -- ---- What stands behind a statement, by what it places.
 
 -- of so many bytes, which aligns its section to a multiple
-abbrev pub advanced : Symbols → layout.Cursor → Statement → (count multiple : ℕ) → layout.Cursor
-advanced y w x count multiple = record {
-  scope = scope_behind y w x;
+abbrev pub cursor_with_bytes : Symbols → layout.Cursor → Statement → (count alignment : ℕ) → layout.Cursor
+cursor_with_bytes y w x count alignment = record {
+  scope = scope_after y w x;
   opened = if opens_scope x then w.opened + 1 else w.opened;
   region = if opens_region x then w.region + 1 else w.region;
   unnamed = if is_unnamed x then w.unnamed + 1 else w.unnamed;
-  segments = segments_behind w.segments w.current count multiple x;
-  current = current_behind w x;
-  kept = kept_behind w x;
+  segments = segments_after w.segments w.current count alignment x;
+  current = current_after w x;
+  kept = kept_after w x;
 }
 
 -- ---- What is found of a statement at its line, in the parts in which the code finds it.
 
-abbrev pub measure_of : Symbols → layout.Cursor → Statement → Measured
+abbrev pub measure_of : Symbols → layout.Cursor → Statement → StatementLayout
 measure_of y w x = record {
   length = length_of y (context_of w) (own_size w) x;
   size = size_stated y (context_of w) (own_size w) x;
-  multiple = multiple_of y (context_of w) x;
+  alignment = multiple_of y (context_of w) x;
   settled = settled_of y (context_of w) (own_size w) x;
 }
 
 -- that, or the first fault of the statement
-abbrev pub measured : Symbols → layout.Cursor → Statement → Result Measured AsmFault
-measured y w x = unless_fault (line_fault y w x) (measure_of y w x)
+abbrev pub layout_result : Symbols → layout.Cursor → Statement → Result StatementLayout AsmFault
+layout_result y w x = unless_fault (line_fault y w x) (measure_of y w x)
 
 -- ---- Faults in their groups.
 
@@ -95,21 +95,21 @@ naming_fault y s x =
     (or_then (opened_twice y.scopes s.scope (scope_name x)) (defined_twice y (key_defined s x))))
 
 -- what a statement whose names are understood comes to, or its first fault of those
-abbrev pub placed : Symbols → layout.Cursor → Statement → Result Measured AsmFault
-placed y w x = unless_fault (first_fault (placing_faults y w x)) (measure_of y w x)
+abbrev pub layout_or_error : Symbols → layout.Cursor → Statement → Result StatementLayout AsmFault
+layout_or_error y w x = unless_fault (first_fault (placing_faults y w x)) (measure_of y w x)
 
 -- a statement is refused for this fault, and for nothing else but want of memory
-abbrev pub Checks : Result (Unit {0}) AsmFault → Option AsmFault → Type 0
-Checks result fault = Gives is_memory (λ u. u) result (unless_fault fault tt)
+abbrev pub ChecksStatement : Result (Unit {0}) AsmFault → Option AsmFault → Type 0
+ChecksStatement result fault = Refines is_memory (λ u. u) result (unless_fault fault tt)
 
 -- what a statement places, where its names are understood, or its first fault
-abbrev pub Places : Before → Result Measured AsmFault → Statement → Type 0
-Places before result x =
-    Gives is_memory (λ m. m) result (placed (table_of before.symbols.now) before.cursor.now x)
+abbrev pub LaysOutStatement : LineState → Result StatementLayout AsmFault → Statement → Type 0
+LaysOutStatement before result x =
+    Refines is_memory (λ m. m) result (layout_or_error (table_of before.symbols.now) before.cursor.now x)
 
 -- so many bytes, if the section has room for them
-abbrev pub fitted : layout.Cursor → ℕ → Result ℕ AsmFault
-fitted w count =
+abbrev pub count_if_it_fits : layout.Cursor → ℕ → Result ℕ AsmFault
+count_if_it_fits w count =
     unless_fault (when (nat_lt section_limit ((context_of w).offset + count)) SectionTooLarge) count
 
 -- ---- Parts of files.
@@ -124,7 +124,7 @@ IsFound value (Err e) =
 abbrev pub unread_fault : Symbols → layout.Cursor → Option Tree → Option Tree → Option AsmFault
 unread_fault y w start len =
     or_then (lost_scopes y.scopes w.scope (optional_tree start ++ optional_tree len))
-    (operand_fault y (context_of w) (FilePart None start len))
+    (operand_fault y (context_of w) (Incbin None start len))
 
 -- a place among so many, or behind the last one
 abbrev pub is_within : ℕ → ℤ → Bool
@@ -132,9 +132,9 @@ is_within count (pos n) = nat_le n count
 is_within count (negsuc n) = false
 
 -- whether a file of so many bytes has a part, and the part's start and length
-abbrev pub ranged : ℕ → Option ℤ → Option ℤ → Result (ℕ × ℕ) AsmFault
-ranged count start len =
+abbrev pub range_in_file : ℕ → Option ℤ → Option ℤ → Result (ℕ × ℕ) AsmFault
+range_in_file count start len =
     let from : Option ℤ = Some (unwrap_or start (pos 0)) in
     let more : Option ℤ = Some (unwrap_or len (left_from count from)) in
     unless_fault (when (not (nat_le count file_limit && is_part count from more)) BadPart)
-    (counted from, counted more)
+    (byte_count from, byte_count more)

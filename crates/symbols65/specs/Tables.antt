@@ -8,10 +8,10 @@ use Rattle.semantics65.specs.Symbols as l
 use Rattle.semantics65.specs.Symbols.{Scope, named, cheap_in, unnamed_at}
 use Rattle.symbols65.specs.declared.table.symbols.Key as code
 use Rattle.symbols65.specs.declared.table.symbols.Key.TheVariants as key
-use Rattle.symbols65.specs.declared.table.symbols.Entry.{Entry}
-use Rattle.symbols65.specs.declared.table.symbols.Entry.TheVariants as entry
-use Rattle.symbols65.specs.declared.table.symbols.Opening.{Opening}
-use Rattle.symbols65.specs.declared.table.symbols.Opening.TheVariants as opening
+use Rattle.symbols65.specs.declared.table.symbols.InternedKey.{InternedKey}
+use Rattle.symbols65.specs.declared.table.symbols.InternedKey.TheVariants as entry
+use Rattle.symbols65.specs.declared.table.symbols.ScopeKey.{ScopeKey}
+use Rattle.symbols65.specs.declared.table.symbols.ScopeKey.TheVariants as opening
 use Rattle.symbols65.specs.declared.table.symbols.Definition.{Definition}
 use Rattle.semantics65.specs.Norms.{Extends, form_of_value, norm}
 
@@ -30,12 +30,12 @@ abbrev pub first_number : List (List ℕ) → Option ℕ → Option ℕ
 first_number ws None = None
 first_number ws (Some w) = position (bytes_eq (word_at ws w)) ws
 
-abbrev pub word_of : Entry → Option ℕ
+abbrev pub word_of : InternedKey → Option ℕ
 word_of (entry.Named scope w) = Some w
 word_of (entry.Cheap region w) = Some w
 word_of (entry.Unnamed count) = None
 
-abbrev pub word_opened : Opening → Option ℕ
+abbrev pub word_opened : ScopeKey → Option ℕ
 word_opened (opening.Named within w) = Some w
 word_opened (opening.Nameless within number) = None
 
@@ -44,39 +44,39 @@ abbrev pub AreNumbered : {K : Type 0} → (K → Option ℕ) → List (List ℕ)
 AreNumbered {K} word ws ks = (i : ℕ) (k : K) → slice_get ks i ≡ Some k → first_number ws (word k) ≡ word k
 
 -- a scope without a name has its place as its number
-abbrev pub AreDistinct : List Opening → Type 0
+abbrev pub AreDistinct : List ScopeKey → Type 0
 AreDistinct ks = (i within number : ℕ) → slice_get ks i ≡ Some (opening.Nameless within number) → number ≡ i
 
 -- the count of an unnamed label is a machine's number
-abbrev pub IsCounted : Entry → Type 0
+abbrev pub IsCounted : InternedKey → Type 0
 IsCounted k = (count : ℕ) → k ≡ entry.Unnamed count → count < 2 ^ 64
 
-abbrev pub AreCounted : List Entry → Type 0
-AreCounted ks = (i : ℕ) (k : Entry) → slice_get ks i ≡ Some k → IsCounted k
+abbrev pub AreCounted : List InternedKey → Type 0
+AreCounted ks = (i : ℕ) (k : InternedKey) → slice_get ks i ≡ Some k → IsCounted k
 
 -- the opening has this number if it has no name
-abbrev pub HasNumber : ℕ → Opening → Type 0
+abbrev pub HasNumber : ℕ → ScopeKey → Type 0
 HasNumber i k = (within number : ℕ) → k ≡ opening.Nameless within number → number ≡ i
 
 -- that a scope other than the global one defines a word is noted with the word
-abbrev pub IsInnerKnown : List Bool → Entry → Type 0
+abbrev pub IsInnerKnown : List Bool → InternedKey → Type 0
 IsInnerKnown inner k = (scope w : ℕ) → k ≡ entry.Named (suc scope) w → slice_get inner w ≡ Some true
 
-abbrev pub AreInnerKnown : List Entry → List Bool → Type 0
-AreInnerKnown ks inner = (i : ℕ) (k : Entry) → slice_get ks i ≡ Some k → IsInnerKnown inner k
+abbrev pub AreInnerKnown : List InternedKey → List Bool → Type 0
+AreInnerKnown ks inner = (i : ℕ) (k : InternedKey) → slice_get ks i ≡ Some k → IsInnerKnown inner k
 
 -- the second list begins with the first
-abbrev pub Begins : {A : Type 0} → List A → List A → Type 0
-Begins {A} xs ys = (later : List A) × (ys ≡ xs ++ later)
+abbrev pub IsPrefixOf : {A : Type 0} → List A → List A → Type 0
+IsPrefixOf {A} xs ys = (later : List A) × (ys ≡ xs ++ later)
 
 -- the opening of a scope, perhaps of a name
-abbrev pub IsOpening : List (List ℕ) → ℕ → ℕ → Option (List ℕ) → Opening → Type 0
+abbrev pub IsOpening : List (List ℕ) → ℕ → ℕ → Option (List ℕ) → ScopeKey → Type 0
 IsOpening ws count within None k = k ≡ opening.Nameless within count
 IsOpening ws count within (Some n) k = option_map (opening.Named within) (position (bytes_eq n) ws) ≡ Some k
 
 -- ---- Definitions and scopes.
 
-abbrev pub key_in : List (List ℕ) → Entry → l.Key
+abbrev pub key_in : List (List ℕ) → InternedKey → l.Key
 key_in ws (entry.Named scope w) = named scope (word_at ws w)
 key_in ws (entry.Cheap region w) = cheap_in region (word_at ws w)
 key_in ws (entry.Unnamed count) = unnamed_at count
@@ -84,18 +84,18 @@ key_in ws (entry.Unnamed count) = unnamed_at count
 abbrev pub definition_seen : l.Key → Definition → l.Definition
 definition_seen k d = record { key = k; value = d.value; context = d.context; size = d.size }
 
-abbrev pub definition_in : List (List ℕ) → Entry × Definition → l.Definition
+abbrev pub definition_in : List (List ℕ) → InternedKey × Definition → l.Definition
 definition_in ws e = definition_seen (key_in ws e.0) e.1
 
-abbrev pub scope_by : List (List ℕ) → Opening → Bool → Scope
+abbrev pub scope_by : List (List ℕ) → ScopeKey → Bool → Scope
 scope_by ws (opening.Named within w) is_proc = record { within = within; name = Some (word_at ws w); is_proc = is_proc }
 scope_by ws (opening.Nameless within number) is_proc = record { within = within; name = None; is_proc = is_proc }
 
-abbrev pub scope_opened : List (List ℕ) → Opening × Bool → Scope
+abbrev pub scope_opened : List (List ℕ) → ScopeKey × Bool → Scope
 scope_opened ws s = scope_by ws s.0 s.1
 
 -- the table of these parts, but for imports
-abbrev pub table_without_imports : List (List ℕ) → List (Entry × Definition) → List (Opening × Bool) → l.Symbols
+abbrev pub table_without_imports : List (List ℕ) → List (InternedKey × Definition) → List (ScopeKey × Bool) → l.Symbols
 table_without_imports ws es ss = record { definitions = map (definition_in ws) es; scopes = map (scope_opened ws) ss; imports = []; zero_page = [] }
 
 -- the form that is kept with what is defined at a place is final: it has this form whatever statements follow
@@ -103,27 +103,27 @@ abbrev pub KeepsFinal : l.Symbols → ℕ → l.Definition → Option Form → T
 KeepsFinal y j d kept = (f : Form) → kept ≡ Some f → (z : l.Symbols) → Extends y z → result_ok (form_of_value (norm (suc j) z) d.context d.value) ≡ Some f
 
 -- each form that is kept is final
-abbrev pub AreFinal : List (List ℕ) → List (Entry × Definition) → List (Opening × Bool) → Type 0
-AreFinal ws es ss = (j : ℕ) (e : Entry × Definition) → slice_get es j ≡ Some e → KeepsFinal (table_without_imports ws es ss) j (definition_in ws e) e.1.form
+abbrev pub AreFinal : List (List ℕ) → List (InternedKey × Definition) → List (ScopeKey × Bool) → Type 0
+AreFinal ws es ss = (j : ℕ) (e : InternedKey × Definition) → slice_get es j ≡ Some e → KeepsFinal (table_without_imports ws es ss) j (definition_in ws e) e.1.form
 
-pub AreFinal-prop : (ws : List (List ℕ)) (es : List (Entry × Definition)) (ss : List (Opening × Bool)) → IsProp (AreFinal ws es ss)
+pub AreFinal-prop : (ws : List (List ℕ)) (es : List (InternedKey × Definition)) (ss : List (ScopeKey × Bool)) → IsProp (AreFinal ws es ss)
 AreFinal-prop ws es ss = λ p q i j e at f is z more. Coded-set (coded_option form_code) _ _ (p j e at f is z more) (q j e at f is z more) i
 
 -- ---- How keys are looked up.
 
-abbrev pub same_entry : Entry → Entry → Bool
+abbrev pub same_entry : InternedKey → InternedKey → Bool
 same_entry (entry.Named s w) (entry.Named t v) = s == t && w == v
 same_entry (entry.Cheap s w) (entry.Cheap t v) = s == t && w == v
 same_entry (entry.Unnamed c) (entry.Unnamed d) = c == d
 same_entry _ _ = false
 
-abbrev pub same_opening : Opening → Opening → Bool
+abbrev pub same_opening : ScopeKey → ScopeKey → Bool
 same_opening (opening.Named s w) (opening.Named t v) = s == t && w == v
 same_opening (opening.Nameless s w) (opening.Nameless t v) = s == t && w == v
 same_opening _ _ = false
 
 -- the entry of a key, where its name is a word
-abbrev pub entry_of : List (List ℕ) → l.Key → Option Entry
+abbrev pub entry_of : List (List ℕ) → l.Key → Option InternedKey
 entry_of ws (named scope n) = option_map (entry.Named scope) (position (bytes_eq n) ws)
 entry_of ws (cheap_in region n) = option_map (entry.Cheap region) (position (bytes_eq n) ws)
 entry_of ws (unnamed_at count) = Some (entry.Unnamed count)

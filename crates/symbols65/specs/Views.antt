@@ -7,8 +7,8 @@ use Rattle.semantics65.specs.Symbols.{Definition, Scope, unnamed_at, with_new}
 use Rattle.symbols65.specs.Tables.{key_in, table_without_imports}
 use Rattle.symbols65.specs.declared.resolving.attempt.State.{State}
 use Rattle.symbols65.specs.declared.resolving.attempt.State.TheVariants.{Found, Unknown}
-use Rattle.symbols65.specs.declared.resolving.attempt.Source.{Source}
-use Rattle.symbols65.specs.declared.resolving.attempt.Source.TheVariants as source
+use Rattle.symbols65.specs.declared.resolving.attempt.FormSource.{FormSource}
+use Rattle.symbols65.specs.declared.resolving.attempt.FormSource.TheVariants as source
 use Rattle.symbols65.specs.declared.table.symbols.Symbols.{Symbols}
 
 -- each name once
@@ -42,7 +42,7 @@ with_names y is_zero_page names =
 -- ---- By what the forms of constants are known.
 
 -- the final form that is kept with a definition, or what a table has
-abbrev pub known_by : Symbols → Source → ℕ → Option State
+abbrev pub known_by : Symbols → FormSource → ℕ → Option State
 known_by t source.Finals j =
     option_and_then (λ d. option_map Found d.form) (option_map (λ e. e.1) (slice_get t.definitions.entries j))
 known_by t (source.Table states) j = slice_get states.now j

@@ -3,17 +3,17 @@
 ghost use Rattle.std.specs.Prelude.{◌≡◌, ◌+◌, ◌<◌, ◌≤◌, length, OnOk, IfOk, None, ◌++◌, ◌∷◌, [], if◌then◌else◌};
 ghost use Rattle.object65.specs.Objects.{section_limit};
 ghost use Rattle.semantics65.specs.Symbols.{is_unnamed, opens_region, Symbols as Table};
-ghost use Rattle.semantics65.specs.Layout.{current_behind, first_size, grown_at, is_kept, kept_behind, last_kept, named_segments, new_segment, opens_scope, or_last, place_of, rest_kept, scope_behind, segment_at, segments_behind, context_of, start};
+ghost use Rattle.semantics65.specs.Layout.{current_after, first_size, grown_at, is_kept, kept_after, last_kept, named_segments, new_segment, opens_scope, or_last, place_of, rest_kept, scope_after, segment_at, segments_after, context_of, start};
 ghost use Rattle.syntax65.specs.declared.instructions.names.Mnemonic.{Mnemonic};
 ghost use Rattle.ast65.specs.declared.language.Operand.{Operand};
 ghost use Rattle.ast65.specs.declared.language.Statement.TheVariants.{Instruction};
 ghost use Rattle.symbols65.specs.Views.{table_of};
-ghost use Rattle.symbols65.specs.Measuring.{advanced, HasNumbers};
+ghost use Rattle.symbols65.specs.Measuring.{cursor_with_bytes, HasNumbers};
 
-use crate::measuring::Measured;
+use crate::measuring::StatementLayout;
 use crate::table::Symbols;
 use ast65::Statement;
-use base65::Sequence;
+use base65::ListVec;
 use indexmap::IndexSet;
 use object65::format::SECTION_LIMIT;
 use semantics65::{Context, GLOBAL_SCOPE, Segment};
@@ -47,7 +47,7 @@ impl Model for Cursor {
 
     ghost Value = { layout.Cursor };
 
-    ghost use Rattle.symbols65.specs.Inner.Cursors.{cursor_of, IsSoundCursor};
+    ghost use Rattle.symbols65.specs.Internal.Cursors.{cursor_of, IsSoundCursor};
 
     ghost view = { cursor_of };
 
@@ -90,7 +90,7 @@ impl Cursor {
     }
 
     /// Whether a segment was kept to go back to.
-    pub fn has_kept(&self) -> bool
+    pub fn has_pushed(&self) -> bool
         ensures { result ≡ is_kept self.now.kept }
     {
         !self.kept.is_empty()
@@ -126,20 +126,20 @@ impl Cursor {
     }
 
     /// How many bytes the section has room for.
-    pub fn room(&self) -> u32
+    pub fn remaining_bytes(&self) -> u32
         ensures { (context_of self.now).offset + result ≡ section_limit }
     {
         SECTION_LIMIT - self.segment().end
     }
 
     /// Moves the end of the section in which statements stand.
-    fn grow(&mut self, count: u32, multiple: u32)
+    fn grow(&mut self, count: u32, alignment: u32)
         requires { (context_of self.old).offset + count ≤ section_limit }
         ensures { self.new ≡ record self.old {
-          segments = grown_at self.old.segments self.old.current count multiple;
+          segments = grown_at self.old.segments self.old.current count alignment;
         } }
     {
-        grow(&mut self.segments, self.current as usize, count, multiple);
+        grow(&mut self.segments, self.current as usize, count, alignment);
     }
 
     /// Begins a segment, in which the next statement stands.
@@ -193,7 +193,7 @@ impl Cursor {
 
     /// Keeps the place of the segment in which statements stand.
     #[inline(never)]
-    fn keep(&mut self) -> Result<(), AllocError>
+    fn push_segment(&mut self) -> Result<(), AllocError>
         ensures { OnOk result (self.new ≡ record self.old {
           kept = self.old.current ∷ self.old.kept;
         }) }
@@ -203,7 +203,7 @@ impl Cursor {
     }
 
     /// Goes back to the segment that was kept last.
-    fn go_back(&mut self)
+    fn pop_segment(&mut self)
         ensures { self.new ≡ record self.old {
           current = last_kept self.old.current self.old.kept;
           kept = rest_kept self.old.kept;
@@ -220,30 +220,30 @@ impl Cursor {
         alloc: Global,
         statement: &Statement,
         count: u32,
-        multiple: u32,
+        alignment: u32,
     ) -> Result<(), AllocError>
         requires few { length self.old.segments < 4294967295 }
         requires room { (context_of self.old).offset + count ≤ section_limit }
         ensures { OnOk result (self.new ≡ record self.old {
-          segments = segments_behind self.old.segments self.old.current count multiple
+          segments = segments_after self.old.segments self.old.current count alignment
               statement.now;
-          current = current_behind self.old statement.now;
-          kept = kept_behind self.old statement.now;
+          current = current_after self.old statement.now;
+          kept = kept_after self.old statement.now;
         }) }
     {
         match statement {
             Statement::Segment { name, size } => self.select(alloc, name.as_slice(), *size),
             Statement::PushSegment => {
-                self.grow(count, multiple);
-                self.keep()
+                self.grow(count, alignment);
+                self.push_segment()
             }
             Statement::PopSegment => {
-                self.grow(count, multiple);
-                self.go_back();
+                self.grow(count, alignment);
+                self.pop_segment();
                 Ok(())
             }
             _ => {
-                self.grow(count, multiple);
+                self.grow(count, alignment);
                 Ok(())
             }
         }
@@ -253,7 +253,7 @@ impl Cursor {
     pub fn advance_by(&mut self, count: u32)
         requires { (context_of self.old).offset + count ≤ section_limit }
         ensures { (y : Table) (m : Mnemonic) (operand : Operand) → self.new
-            ≡ advanced y self.old (Instruction m operand) count 1 }
+            ≡ cursor_with_bytes y self.old (Instruction m operand) count 1 }
     {
         self.grow(count, 1);
     }
@@ -264,22 +264,22 @@ impl Cursor {
         alloc: Global,
         symbols: &Symbols,
         statement: &Statement,
-        measure: Measured,
+        measure: StatementLayout,
     ) -> Result<(), AllocError>
         requires room { (context_of self.old).offset + measure.length ≤ section_limit }
         requires numbers { HasNumbers (table_of symbols.now) self.old }
-        ensures { OnOk result (self.new ≡ advanced (table_of symbols.now)
-            self.old statement.now measure.length measure.multiple) }
+        ensures { OnOk result (self.new ≡ cursor_with_bytes (table_of symbols.now)
+            self.old statement.now measure.length measure.alignment) }
     {
         self.count_openings(symbols, statement);
-        self.move_on(alloc, statement, measure.length, measure.multiple)
+        self.move_on(alloc, statement, measure.length, measure.alignment)
     }
 
     /// Goes on behind a statement in the scopes, the regions and the unnamed labels.
     fn count_openings(&mut self, symbols: &Symbols, statement: &Statement)
         requires { HasNumbers (table_of symbols.now) self.old }
         ensures { self.new ≡ record self.old {
-          scope = scope_behind (table_of symbols.now) self.old
+          scope = scope_after (table_of symbols.now) self.old
               statement.now;
           opened = (if opens_scope statement.now then self.old.opened + 1
               else self.old.opened);
@@ -310,14 +310,14 @@ impl Cursor {
 }
 
 /// Moves the end of a segment's section.
-fn grow(segments: &mut [Segment], place: usize, count: u32, multiple: u32)
+fn grow(segments: &mut [Segment], place: usize, count: u32, alignment: u32)
     requires place { place < length segments.old }
     requires end { (segment_at segments.old place).end + count ≤ section_limit }
-    ensures { segments.new ≡ grown_at segments.old place count multiple }
+    ensures { segments.new ≡ grown_at segments.old place count alignment }
 {
     let segment = &mut segments[place];
     segment.end += count;
-    segment.align = segment.align.max(multiple);
+    segment.align = segment.align.max(alignment);
 }
 
 /// A new segment. Its size is absolute where none is given, but for ZEROPAGE.
@@ -329,7 +329,7 @@ fn segment_of(alloc: Global, name: &[u8], size: Option<AddressSize>) -> Result<S
         None if name == b"ZEROPAGE".as_slice() => AddressSize::ZeroPage,
         None => AddressSize::Absolute,
     };
-    let name = Sequence::from_vec(Vec::from_slice(alloc, name)?);
+    let name = ListVec::from_vec(Vec::from_slice(alloc, name)?);
     Ok(Segment {
         name,
         size,

@@ -3,16 +3,18 @@
 //! first fault there.
 #![tactic(auto)]
 
+pub mod constants;
 mod cursor;
-pub mod knowing;
 mod measuring;
 mod resolving;
 mod table;
 
 pub use cursor::Cursor;
-pub use measuring::{Before, Measured, asks_section, check_unread, measure, measure_instruction};
+pub use measuring::{
+    LineState, StatementLayout, check_unread, lay_out_statement, measure_instruction, needs_section,
+};
 pub use resolving::{
-    Meaning, NormCache, State, defined_norm, definition_of, meaning_of, norm, operand_form,
+    Binding, NormCache, State, binding_of, defined_norm, definition_of, norm, operand_form,
     plain_part, scope_of, scopes_in, shown, stable_form,
 };
-pub use table::{Definition, Entry, Key, Opening, Symbols, define};
+pub use table::{Definition, InternedKey, Key, ScopeKey, Symbols, define};

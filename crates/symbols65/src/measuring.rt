@@ -6,46 +6,46 @@ mod rooms;
 mod trees;
 
 ghost use Rattle.std.specs.Prelude.{◌≡◌, ◌+◌, ◌≤◌, false, nat_lt, IfOk, OnOk};
-ghost use Rattle.base65.specs.Outcome.{Gives};
+ghost use Rattle.base65.specs.Outcome.{Refines};
 ghost use Rattle.object65.specs.Objects.{section_limit};
 ghost use Rattle.ast65.specs.Faults.{is_memory};
-ghost use Rattle.semantics65.specs.declared.laid.Settled.TheVariants.{Unsettled};
+ghost use Rattle.semantics65.specs.declared.laid.EncodingChoice.TheVariants.{Undecided};
 ghost use Rattle.ast65.specs.declared.language.Statement.TheVariants.{Instruction};
 ghost use Rattle.semantics65.specs.Layout.{own_size, context_of};
 ghost use Rattle.symbols65.specs.Resolving.{IsTable};
 ghost use Rattle.symbols65.specs.Views.{table_of};
-ghost use Rattle.symbols65.specs.Measuring.{Checks, fitted, measured, naming_fault};
+ghost use Rattle.symbols65.specs.Measuring.{ChecksStatement, count_if_it_fits, layout_result, naming_fault};
 
 pub use self::bytes::check_unread;
 use self::bytes::instruction;
-pub use self::kinds::asks_section;
+pub use self::kinds::needs_section;
 use self::kinds::{check_defined, check_opened, check_outside, place};
 use self::trees::{check_operand, check_trees};
 use crate::cursor::Cursor;
 use crate::resolving::NormCache;
 use crate::table::Symbols;
 use ast65::{AsmFault, Operand, Statement};
-use semantics65::{Context, Settled};
+use semantics65::{Context, EncodingChoice};
 use std::alloc::Global;
 use syntax65::{AddressSize, Mnemonic};
 
 /// What stands before a statement: the symbol table of those before it, and where it stands itself.
 #[derive(Clone, Copy)]
-pub struct Before<'a> {
+pub struct LineState<'a> {
     pub symbols: &'a Symbols,
     pub cursor: &'a Cursor,
 }
 
 /// What a statement places and defines.
 #[derive(Clone, Copy)]
-pub struct Measured {
+pub struct StatementLayout {
     /// How many bytes it places.
     pub length: u32,
     /// The address size of what it defines.
     pub size: AddressSize,
     /// The multiple to which it aligns its section.
-    pub multiple: u32,
-    pub settled: Settled,
+    pub alignment: u32,
+    pub settled: EncodingChoice,
 }
 
 /// Refuses a statement for the names and scopes in it.
@@ -55,7 +55,7 @@ fn check_naming(
     context: Context,
     statement: &Statement,
 ) -> Result<(), AsmFault>
-    ensures { Checks result (naming_fault (table_of symbols.now) context statement.now) }
+    ensures { ChecksStatement result (naming_fault (table_of symbols.now) context statement.now) }
 {
     let scope = context.scope as usize;
     check_outside(scope, statement)?;
@@ -67,9 +67,9 @@ fn check_naming(
 /// So many bytes, if the section has room for them.
 #[tactic(auto, using(crate::proofs::Measures::same_test))]
 fn fit(cursor: &Cursor, length: usize) -> Result<u32, AsmFault>
-    ensures { result ≡ fitted cursor.now length }
+    ensures { result ≡ count_if_it_fits cursor.now length }
 {
-    let room = cursor.room();
+    let room = cursor.remaining_bytes();
     if length > room as usize {
         return Err(AsmFault::SectionTooLarge);
     }
@@ -77,31 +77,31 @@ fn fit(cursor: &Cursor, length: usize) -> Result<u32, AsmFault>
 }
 
 /// What a statement without bytes places.
-fn nothing(cursor: &Cursor) -> Measured
+fn nothing(cursor: &Cursor) -> StatementLayout
     ensures room { nat_lt section_limit
         ((context_of cursor.now).offset + 0) ≡ false }
     ensures length { result.length ≡ 0 }
     ensures size { result.size ≡ own_size cursor.now }
-    ensures multiple { result.multiple ≡ 1 }
-    ensures settled { result.settled ≡ Unsettled }
+    ensures alignment { result.alignment ≡ 1 }
+    ensures settled { result.settled ≡ Undecided }
 {
-    Measured {
+    StatementLayout {
         length: 0,
         size: cursor.segment().size,
-        multiple: 1,
-        settled: Settled::Unsettled,
+        alignment: 1,
+        settled: EncodingChoice::Undecided,
     }
 }
 
 /// What a statement places behind others and what it defines, or its first fault there.
-pub fn measure(
+pub fn lay_out_statement(
     alloc: Global,
-    before: Before<'_>,
+    before: LineState<'_>,
     known: &mut NormCache,
     statement: &Statement,
-) -> Result<Measured, AsmFault>
+) -> Result<StatementLayout, AsmFault>
     requires table { IsTable (table_of before.symbols.now) known.old.states.items }
-    ensures measured { Gives is_memory (λ m. m) result (measured
+    ensures measured { Refines is_memory (λ m. m) result (layout_result
         (table_of before.entry.symbols.now) before.entry.cursor.now
         statement.now) }
     ensures room { IfOk result (λ m.
@@ -116,13 +116,13 @@ pub fn measure(
 /// The same of an instruction, which most statements are.
 pub fn measure_instruction(
     alloc: Global,
-    before: Before<'_>,
+    before: LineState<'_>,
     known: &mut NormCache,
     mnemonic: Mnemonic,
     operand: &Operand,
-) -> Result<Measured, AsmFault>
+) -> Result<StatementLayout, AsmFault>
     requires table { IsTable (table_of before.symbols.now) known.old.states.items }
-    ensures measured { Gives is_memory (λ m. m) result (measured
+    ensures measured { Refines is_memory (λ m. m) result (layout_result
         (table_of before.entry.symbols.now) before.entry.cursor.now
         (Instruction mnemonic operand.now)) }
     ensures room { IfOk result (λ m.

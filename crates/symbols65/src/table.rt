@@ -10,26 +10,30 @@ ghost use Rattle.std.specs.Option.{option_map};
 ghost use Rattle.std.specs.Str.{bytes_eq};
 ghost use Rattle.indexmap.specs.IndexMap.{keys, index_map_len};
 ghost use Rattle.semantics65.specs.Layout.{opened_twice};
-ghost use Rattle.semantics65.specs.Symbols.{with_new, enclosing, scope_in, within, defined, imported, named};
-ghost use Rattle.symbols65.specs.Tables.{Begins, HasNumber, IsOpening, first_number, same_opening, scope_by, word_opened, KeepsFinal, definition_seen, entry_of, key_of, same_entry};
+ghost use Rattle.semantics65.specs.Symbols.{with_new, enclosing, scope_in, parent_scope, definition_index, import_index, named};
+ghost use Rattle.symbols65.specs.Tables.{IsPrefixOf, HasNumber, IsOpening, first_number, same_opening, scope_by, word_opened, KeepsFinal, definition_seen, entry_of, key_of, same_entry};
 ghost use Rattle.symbols65.specs.Views.{table_of, with_names, with_scope, words_of, key_at};
 ghost use Rattle.semantics65.specs.Norms.{is_zero_page_name};
 ghost use Rattle.symbols65.specs.Resolving.{IsUnknownName};
 
-use base65::{Seed, Sequence};
+use base65::{ListVec, Seed};
 pub use defining::define;
 use indexmap::{IndexMap, IndexSet};
 use smallvec::SmallVec;
 use std::alloc::{AllocError, Global};
-pub use symbols::{Definition, Entry, Key, Opening, Symbols};
-use words::{Spelled, Word};
+pub use symbols::{Definition, InternedKey, Key, ScopeKey, Symbols};
+use words::{InternedName, NameQuery};
 
 /// The number of a name, which is put in where it is new.
-fn intern(alloc: Global, words: &mut IndexSet<Word, Seed>, name: &[u8]) -> Result<usize, AllocError>
-    ensures more { Begins (map (λ k. k.items) words.old.keys) (map (λ k. k.items) words.new.keys) }
+fn intern(
+    alloc: Global,
+    words: &mut IndexSet<InternedName, Seed>,
+    name: &[u8],
+) -> Result<usize, AllocError>
+    ensures more { IsPrefixOf (map (λ k. k.items) words.old.keys) (map (λ k. k.items) words.new.keys) }
     ensures number { IfOk result (λ w. position (bytes_eq name.now) (map (λ k. k.items) words.new.keys) ≡ Some w) }
 {
-    match words.get_index_of(Spelled(name)) {
+    match words.get_index_of(NameQuery(name)) {
         Some(word) => Ok(word),
         None => {
             let (word, _) = words.insert_full(SmallVec::from_slice(alloc, name)?)?;
@@ -40,8 +44,8 @@ fn intern(alloc: Global, words: &mut IndexSet<Word, Seed>, name: &[u8]) -> Resul
 
 /// Adds a scope behind all others, where there is none by its opening.
 fn push_scope(
-    scopes: &mut IndexMap<Opening, bool, Seed>,
-    opening: Opening,
+    scopes: &mut IndexMap<ScopeKey, bool, Seed>,
+    opening: ScopeKey,
     is_proc: bool,
 ) -> Result<(), AllocError>
     requires { position (same_opening opening) (keys scopes.old) ≡ None }
@@ -58,7 +62,7 @@ fn push_scope(
 fn add_names(
     alloc: Global,
     known: &mut IndexSet<Vec<u8>, Seed>,
-    names: &[Sequence<u8>],
+    names: &[ListVec<u8>],
 ) -> Result<(), AllocError>
     ensures { OnOk result (map (λ k. k.items) known.new.keys ≡ with_new (map (λ k. k.items) known.old.keys) names.now) }
 {
@@ -73,28 +77,28 @@ impl Symbols {
     pub fn word(&self, name: &[u8]) -> Option<usize>
         ensures { result ≡ position (bytes_eq name.now) (words_of self.now) }
     {
-        self.words.get_index_of(Spelled(name))
+        self.words.get_index_of(NameQuery(name))
     }
 
-    fn entry(&self, key: Key<'_>) -> Option<Entry>
+    fn entry(&self, key: Key<'_>) -> Option<InternedKey>
         ensures { result ≡ entry_of (words_of self.now) (key_of key.entry) }
     {
         match key {
             Key::Named { scope, name } => {
                 let word = self.word(name)?;
-                Some(Entry::Named { scope, word })
+                Some(InternedKey::Named { scope, word })
             }
             Key::Cheap { region, name } => {
                 let word = self.word(name)?;
-                Some(Entry::Cheap { region, word })
+                Some(InternedKey::Cheap { region, word })
             }
-            Key::Unnamed(count) => Some(Entry::Unnamed(count)),
+            Key::Unnamed(count) => Some(InternedKey::Unnamed(count)),
         }
     }
 
     /// Whether a scope other than the global one may define a word.
     pub fn is_inner(&self, word: usize) -> bool
-        ensures { result ≡ false → (scope : ℕ) (n : List ℕ) → position (bytes_eq n) (words_of self.now) ≡ Some word → defined (table_of self.now) (named (suc scope) n) ≡ None }
+        ensures { result ≡ false → (scope : ℕ) (n : List ℕ) → position (bytes_eq n) (words_of self.now) ≡ Some word → definition_index (table_of self.now) (named (suc scope) n) ≡ None }
     {
         match self.inner.get(word) {
             Some(is_inner) => *is_inner,
@@ -104,12 +108,12 @@ impl Symbols {
 
     /// The place of the definition of a word in a scope.
     pub fn defined_in(&self, scope: usize, word: usize) -> Option<usize>
-        ensures { (n : List ℕ) → position (bytes_eq n) (words_of self.now) ≡ Some word → result ≡ defined (table_of self.now) (named scope n) }
+        ensures { (n : List ℕ) → position (bytes_eq n) (words_of self.now) ≡ Some word → result ≡ definition_index (table_of self.now) (named scope n) }
     {
-        self.place_of(Entry::Named { scope, word })
+        self.place_of(InternedKey::Named { scope, word })
     }
 
-    pub fn place_of(&self, entry: Entry) -> Option<usize>
+    pub fn place_of(&self, entry: InternedKey) -> Option<usize>
         ensures { result ≡ position (same_entry entry) (keys self.now.definitions) }
     {
         self.definitions.get_index_of(&entry)
@@ -117,7 +121,7 @@ impl Symbols {
 
     /// The place of the definition of a key.
     pub fn defined(&self, key: Key<'_>) -> Option<usize>
-        ensures { result ≡ defined (table_of self.now) (key_of key.entry) }
+        ensures { result ≡ definition_index (table_of self.now) (key_of key.entry) }
     {
         match self.entry(key) {
             Some(entry) => self.place_of(entry),
@@ -132,7 +136,7 @@ impl Symbols {
         self.word(name).is_none() && self.imported(name).is_none()
     }
 
-    pub fn place_opened(&self, opening: Opening) -> Option<usize>
+    pub fn place_opened(&self, opening: ScopeKey) -> Option<usize>
         ensures place { result ≡ position (same_opening opening) (keys self.now.scopes) }
         ensures within { IfSome result (λ i. i < index_map_len self.now.scopes) }
     {
@@ -141,10 +145,10 @@ impl Symbols {
 
     /// The scope of a name that was opened directly in a scope.
     pub fn scope_in(&self, within: usize, name: &[u8]) -> Option<usize>
-        ensures { result ≡ scope_in (table_of self.now).scopes within name.now }
+        ensures { result ≡ scope_in (table_of self.now).scopes parent_scope name.now }
     {
         match self.word(name) {
-            Some(word) => match self.place_opened(Opening::Named { within, word }) {
+            Some(word) => match self.place_opened(ScopeKey::Named { within, word }) {
                 Some(place) if place < self.scopes.len() => Some(place + 1),
                 _ => None,
             },
@@ -171,11 +175,11 @@ impl Symbols {
 
     /// The scope in which the scope at a place was opened.
     fn within(&self, place: usize) -> usize
-        ensures { result ≡ within (slice_get (table_of self.now).scopes place) }
+        ensures { result ≡ parent_scope (slice_get (table_of self.now).scopes place) }
     {
         match self.scopes.get_index(place) {
-            Some((Opening::Named { within, word: _ }, _)) => *within,
-            Some((Opening::Nameless { within, number: _ }, _)) => *within,
+            Some((ScopeKey::Named { within, word: _ }, _)) => *within,
+            Some((ScopeKey::Nameless { within, number: _ }, _)) => *within,
             None => 0,
         }
     }
@@ -194,7 +198,7 @@ impl Symbols {
 
     /// The place of a name among the imports.
     pub fn imported(&self, name: &[u8]) -> Option<usize>
-        ensures { result ≡ imported (table_of self.now) name.now }
+        ensures { result ≡ import_index (table_of self.now) name.now }
     {
         self.imports.get_index_of(name)
     }
@@ -222,25 +226,25 @@ impl Symbols {
         alloc: Global,
         within: usize,
         name: Option<&[u8]>,
-    ) -> Result<Opening, AllocError>
+    ) -> Result<ScopeKey, AllocError>
         ensures table { table_of self.new ≡ table_of self.old }
         ensures scopes { self.new.scopes ≡ self.old.scopes }
-        ensures opening { IfOk result (λ k. IsOpening (words_of self.new) (length self.new.scopes.entries) within (option_map (λ n. n.now) name.entry) k) }
+        ensures opening { IfOk result (λ k. IsOpening (words_of self.new) (length self.new.scopes.entries) parent_scope (option_map (λ n. n.now) name.entry) k) }
     {
         match name {
             Some(name) => {
                 let word = self.number(alloc, name)?;
-                Ok(Opening::Named { within, word })
+                Ok(ScopeKey::Named { within, word })
             }
             None => {
                 let number = self.scopes.len();
-                Ok(Opening::Nameless { within, number })
+                Ok(ScopeKey::Nameless { within, number })
             }
         }
     }
 
     /// Adds a scope behind all others, where there is none by this opening.
-    fn put_scope(&mut self, opening: Opening, is_proc: bool) -> Result<(), AllocError>
+    fn put_scope(&mut self, opening: ScopeKey, is_proc: bool) -> Result<(), AllocError>
         requires number { first_number (words_of self.old) (word_opened opening) ≡ word_opened opening }
         requires distinct { HasNumber (length self.old.scopes.entries) opening }
         ensures { OnOk result (position (same_opening opening) (keys self.old.scopes) ≡ None → table_of self.new ≡ with_scope (table_of self.old) (scope_by (words_of self.old) opening is_proc)) }
@@ -259,7 +263,7 @@ impl Symbols {
         name: Option<&[u8]>,
         is_proc: bool,
     ) -> Result<(), AllocError>
-        ensures { OnOk result (opened_twice (table_of self.old).scopes within (option_map (λ n. n.now) name.entry) ≡ None → table_of self.new ≡ with_scope (table_of self.old) (record { within = within; name = option_map (λ n. n.now) name.entry; is_proc = is_proc })) }
+        ensures { OnOk result (opened_twice (table_of self.old).scopes parent_scope (option_map (λ n. n.now) name.entry) ≡ None → table_of self.new ≡ with_scope (table_of self.old) (record { within = parent_scope; name = option_map (λ n. n.now) name.entry; is_proc = is_proc })) }
     {
         let opening = self.enter_opening(alloc, within, name)?;
         self.put_scope(opening, is_proc)
@@ -269,7 +273,7 @@ impl Symbols {
     pub fn import(
         &mut self,
         alloc: Global,
-        names: &[Sequence<u8>],
+        names: &[ListVec<u8>],
         is_zero_page: bool,
     ) -> Result<(), AllocError>
         ensures { OnOk result (table_of self.new ≡ with_names (table_of self.old) is_zero_page names.now) }

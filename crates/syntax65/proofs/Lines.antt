@@ -4,10 +4,10 @@ use Rattle.std.proofs.Common.{◌≡◌, ℕ, ◌+◌, ◌≤◌, Bool, true, fa
 use Rattle.std.proofs.lemmas.List.{take-append-drop}
 use Rattle.std.specs.List.{prefix_len}
 use Rattle.std.specs.Prelude.{Err}
-use Rattle.syntax65.specs.Forms.{is_blank, Begins, FaultAt}
-use Rattle.syntax65.specs.Faults.{is_lex_outside}
+use Rattle.syntax65.specs.Forms.{is_blank, BeginsWithClass, FaultAt}
+use Rattle.syntax65.specs.Faults.{is_lex_system_error}
 use Rattle.base65.specs.Outcome.{Unless}
-use Rattle.syntax65.specs.Tokens.{IsCutOff, Lexeme, after_blanks, Reads, IsRead}
+use Rattle.syntax65.specs.Tokens.{IsCutOff, Lexeme, after_blanks, HasTokens, IsRead}
 use Rattle.syntax65.specs.declared.lexing.places.Class.TheVariants.{Blank}
 use Rattle.syntax65.specs.declared.lexing.tokens.LexFault.{LexFault}
 
@@ -15,22 +15,22 @@ abbrev FirstFails : (ℕ → Bool) → List ℕ → Type 0
 FirstFails p [] = Unit {0}
 FirstFails p (x ∷ xs) = p x ≡ false
 
-behind_step : (p : ℕ → Bool) (x : ℕ) (xs : List ℕ) (b : Bool) → p x ≡ b → FirstFails p (drop (prefix_len p xs) xs) → FirstFails p (drop (cond b (1 + prefix_len p xs) 0) (x ∷ xs))
-behind_step p x xs true e h = grind (arith, common_steps)
-behind_step p x xs false e h = e
+after_step : (p : ℕ → Bool) (x : ℕ) (xs : List ℕ) (b : Bool) → p x ≡ b → FirstFails p (drop (prefix_len p xs) xs) → FirstFails p (drop (cond b (1 + prefix_len p xs) 0) (x ∷ xs))
+after_step p x xs true e h = grind (arith, common_steps)
+after_step p x xs false e h = e
 
-behind : (p : ℕ → Bool) (xs : List ℕ) → FirstFails p (drop (prefix_len p xs) xs)
-behind p [] = tt
-behind p (x ∷ xs) = behind_step p x xs (p x) refl (behind p xs)
+following : (p : ℕ → Bool) (xs : List ℕ) → FirstFails p (drop (prefix_len p xs) xs)
+following p [] = tt
+following p (x ∷ xs) = after_step p x xs (p x) refl (following p xs)
 
-no_blank : (here : List ℕ) → FirstFails is_blank here → Begins Blank here → ⊥
+no_blank : (here : List ℕ) → FirstFails is_blank here → BeginsWithClass Blank here → ⊥
 no_blank x h b = grind (arith, common_steps)
 
 -- no blank stands behind the blanks
-pub no_blank_behind : (line : List ℕ) → Begins Blank (after_blanks line) → ⊥
-no_blank_behind line = no_blank (after_blanks line) (behind is_blank line)
+pub no_blank_after : (line : List ℕ) → BeginsWithClass Blank (after_blanks line) → ⊥
+no_blank_after line = no_blank (after_blanks line) (following is_blank line)
 
-pub refuse : (first : Bool) (line here : List ℕ) (ts : List Lexeme) (fault : LexFault) → length line ≤ 4096 → FaultAt first here fault → Reads true line ts (Some fault) → Unless (is_lex_outside fault) (IsRead line (Err fault))
+pub refuse : (first : Bool) (line here : List ℕ) (ts : List Lexeme) (fault : LexFault) → length line ≤ 4096 → FaultAt first here fault → HasTokens true line ts (Some fault) → Unless (is_lex_system_error fault) (IsRead line (Err fault))
 refuse first line here ts x short h reads = grind (arith, common_steps)
 
 -- a token that stands behind blanks is cut off
@@ -40,5 +40,5 @@ cut_off rest here text left n e front back =
     let whole : after_blanks rest ≡ text ++ left = sym e ∙ sym (take-append-drop n here) ∙ rw (front, back) refl in
     (take k rest, sym (take-append-drop k rest) ∙ ap (λ l. take k rest ++ l) whole)
 
-pub read_behind : (line rest left : List ℕ) (a b : Bool) (ts : List Lexeme) (t : Lexeme) → ((us : List Lexeme) (end : Option LexFault) → Reads a rest us end → Reads true line (ts ++ us) end) → ((us : List Lexeme) (end : Option LexFault) → Reads b left us end → Reads a rest (t ∷ us) end) → (us : List Lexeme) (end : Option LexFault) → Reads b left us end → Reads true line ((ts ++ t ∷ []) ++ us) end
-read_behind line rest left a b ts t so_far next us end h = rw append_assoc (so_far (t ∷ us) end (next us end h))
+pub read_after : (line rest left : List ℕ) (a b : Bool) (ts : List Lexeme) (t : Lexeme) → ((us : List Lexeme) (end : Option LexFault) → HasTokens a rest us end → HasTokens true line (ts ++ us) end) → ((us : List Lexeme) (end : Option LexFault) → HasTokens b left us end → HasTokens a rest (t ∷ us) end) → (us : List Lexeme) (end : Option LexFault) → HasTokens b left us end → HasTokens true line ((ts ++ t ∷ []) ++ us) end
+read_after line rest left a b ts t so_far next us end h = rw append_assoc (so_far (t ∷ us) end (next us end h))

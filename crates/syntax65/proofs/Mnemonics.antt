@@ -9,7 +9,7 @@ use Rattle.std.specs.Char.{to_ascii_lowercase}
 use Rattle.std.specs.Str.{str_eq_ignore_ascii_case}
 use Rattle.std.proofs.lemmas.List.{length-map}
 use Rattle.std.specs.Cmp.Lexicographic.{pointwise, same_text, other_text}
-use Rattle.syntax65.specs.Mnemonics.{Spells, name_of, mnemonic_of}
+use Rattle.syntax65.specs.Mnemonics.{SpellsMnemonic, name_of, mnemonic_of}
 use Rattle.syntax65.specs.Forms.{IsFound}
 
 -- ---- The list of all mnemonics leaves none out.
@@ -86,10 +86,10 @@ test_of_same false xs ys e h = absurd (other_text xs ys e h)
 abbrev is_spelled : List ℕ → Mnemonic → Bool
 is_spelled bytes m = str_eq_ignore_ascii_case bytes (name_of m)
 
-spells_from_test : (bytes : List ℕ) (m : Mnemonic) → is_spelled bytes m ≡ true → Spells bytes m
+spells_from_test : (bytes : List ℕ) (m : Mnemonic) → is_spelled bytes m ≡ true → SpellsMnemonic bytes m
 spells_from_test bytes m e = same_text _ _ (sym e) ∙ lower_name m
 
-test_from_spells : (bytes : List ℕ) (m : Mnemonic) → Spells bytes m → is_spelled bytes m ≡ true
+test_from_spells : (bytes : List ℕ) (m : Mnemonic) → SpellsMnemonic bytes m → is_spelled bytes m ≡ true
 test_from_spells bytes m h = test_of_same _ _ _ refl (h ∙ sym (lower_name m))
 
 first_step : (p : Mnemonic → Bool) (m : Mnemonic) (rest : Option Mnemonic) (b : Bool) → p m ≡ b → MatchOption rest (Unit {0}) (λ n. p n ≡ true) → MatchOption (cond b (Some m) rest) (Unit {0}) (λ n. p n ≡ true)
@@ -111,23 +111,23 @@ none_passes p [] i d e lt = absurd (omega arith)
 none_passes p (x ∷ xs) zero d e lt = (none_step p x xs (p x) refl e).0
 none_passes p (x ∷ xs) (suc i) d e lt = none_passes p xs i d (none_step p x xs (p x) refl e).1 (omega arith)
 
-both : (r : Option Mnemonic) (bytes : List ℕ) → r ≡ find (is_spelled bytes) ALL → IsFound (Spells bytes) r
+both : (r : Option Mnemonic) (bytes : List ℕ) → r ≡ find (is_spelled bytes) ALL → IsFound (SpellsMnemonic bytes) r
 both None bytes e = grind (arith, common_steps, place_of, none_passes, test_from_spells)
 both (Some m) bytes e = spells_from_test bytes m (subst (λ (r : Option Mnemonic). MatchOption r (Unit {0}) (λ n. is_spelled bytes n ≡ true)) (sym e) (found_passes (is_spelled bytes) ALL))
 
 -- a mnemonic is found exactly where the bytes spell it
-pub spelled_both_ways : (bytes : List ℕ) → IsFound (Spells bytes) (mnemonic_of bytes)
+pub spelled_both_ways : (bytes : List ℕ) → IsFound (SpellsMnemonic bytes) (mnemonic_of bytes)
 unfolding mnemonic_of
 spelled_both_ways bytes = both (mnemonic_of bytes) bytes refl
 
-one_spelled : (r q : Option Mnemonic) (bytes : List ℕ) → IsFound (Spells bytes) r → IsFound (Spells bytes) q → r ≡ q
+one_spelled : (r q : Option Mnemonic) (bytes : List ℕ) → IsFound (SpellsMnemonic bytes) r → IsFound (SpellsMnemonic bytes) q → r ≡ q
 one_spelled x y bytes h k = grind (arith, common_steps)
 
 -- what the bytes spell is found
-pub is_found : (r : Option Mnemonic) (bytes : List ℕ) → IsFound (Spells bytes) r → r ≡ mnemonic_of bytes
+pub is_found : (r : Option Mnemonic) (bytes : List ℕ) → IsFound (SpellsMnemonic bytes) r → r ≡ mnemonic_of bytes
 is_found r bytes h = one_spelled r (mnemonic_of bytes) bytes h (spelled_both_ways bytes)
 
-spelled_by_name : (r : Option Mnemonic) (bytes : List ℕ) → IsFound (λ m. map to_ascii_lowercase bytes ≡ name_of m) r → IsFound (Spells bytes) r
+spelled_by_name : (r : Option Mnemonic) (bytes : List ℕ) → IsFound (λ m. map to_ascii_lowercase bytes ≡ name_of m) r → IsFound (SpellsMnemonic bytes) r
 spelled_by_name x bytes h = grind (arith, common_steps)
 
 -- the mnemonic of three letters is found

@@ -11,7 +11,7 @@ use Rattle.base65.proofs.Digit.{digits_from, next_digit}
 use Rattle.syntax65.specs.Forms.{number_of, plain_number_of, is_word}
 use Rattle.std.proofs.lemmas.List.Folds.{length-prefix_len}
 use Rattle.std.proofs.lemmas.List.Sums.{prefix_len_passes, prefix_len_stops}
-use Rattle.syntax65.specs.Inner.Places.{AreDigitsAhead, IsPlainNumber}
+use Rattle.syntax65.specs.Internal.Places.{AreDigitsAhead, IsPlainNumber}
 
 -- ---- What the rest of some digits makes of the value so far.
 

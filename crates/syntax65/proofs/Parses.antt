@@ -4,11 +4,11 @@ use Rattle.std.proofs.Common.{◌≡◌, ◌≢◌, ℕ, zero, suc, ◌+◌, ◌
 use Rattle.std.specs.Prelude.{slice_get, option_and_then, Ok, Err}
 use Rattle.std.specs.Option.{option_map_or}
 use Rattle.syntax65.specs.Tokens.{Lexeme}
-use Rattle.syntax65.specs.Expressions.{level_of, opening_at, binary_at, binary_of, text_at, leaf_of, is_close, closes_at, Parts, Phrase, a_leaf, a_name, a_global, prefixed, enclosed, of_level, joined, negated, NoOperator, Stops, no_operand, no_name, no_global, too_deep, in_prefixed, in_enclosed, not_closed, in_first, in_next, negation_too_deep, in_negated, IsParsed}
+use Rattle.syntax65.specs.Expressions.{level_of, opening_at, binary_at, binary_of, text_at, leaf_of, is_close, closes_at, HasParts, Phrase, a_leaf, a_name, a_global, prefixed, enclosed, of_level, joined, negated, NoOperator, PhraseFailsAt, no_operand, no_name, no_global, too_deep, in_prefixed, in_enclosed, not_closed, in_first, in_next, negation_too_deep, in_negated, IsParsed}
 use Rattle.syntax65.specs.Trees.{Tree, name, unary, binary}
 use Rattle.base65.specs.declared.values.Op1.TheVariants.{Not}
-use Rattle.syntax65.specs.declared.expressions.words.Opening.{Opening}
-use Rattle.syntax65.specs.declared.expressions.words.Opening.TheVariants.{Name, Negation}
+use Rattle.syntax65.specs.declared.expressions.words.OperandStart.{OperandStart}
+use Rattle.syntax65.specs.declared.expressions.words.OperandStart.TheVariants.{Name, Negation}
 use Rattle.syntax65.specs.declared.expressions.words.ExprFault.{ExprFault}
 use Rattle.syntax65.specs.declared.expressions.words.ExprFault.TheVariants.{OperandExpected, ParenthesisExpected}
 use Rattle.syntax65.proofs.Phrases.{low_level}
@@ -20,10 +20,10 @@ close_token x h = grind (arith, common_steps)
 close_quiet : (ts : List Lexeme) (n j : ℕ) → closes_at ts j ≡ true → NoOperator ts n j
 close_quiet ts n j h = λ op at. (let none : binary_at ts j ≡ None = close_token (slice_get ts j) h in absurd (cc))
 
-parts_begin : (ts : List Lexeme) (i j : ℕ) (p : List (List ℕ)) → Parts ts i j p → opening_at ts i ≡ Name
+parts_begin : (ts : List Lexeme) (i j : ℕ) (p : List (List ℕ)) → HasParts ts i j p → opening_at ts i ≡ Name
 parts_begin ts x y z u = grind (arith, common_steps)
 
-leaf_is_plain : (o : Opening) (text : List ℕ) (t : Tree) → leaf_of o text ≡ Some t → o ≢ Negation
+leaf_is_plain : (o : OperandStart) (text : List ℕ) (t : Tree) → leaf_of o text ≡ Some t → o ≢ Negation
 leaf_is_plain o text t h e = let none : leaf_of o text ≡ None = ap (λ x. leaf_of x text) e in cc
 
 -- only a negation begins with one
@@ -100,7 +100,7 @@ whole ts _ _ _ _ _ (negated room i j t h p) =
 abbrev Lost : List Lexeme → ℕ → ℕ → ℕ → ExprFault → Type 0
 Lost ts room n i f = (n ≤ 5 → Run ts (level_at room n i) (Err f)) × (n ≡ 6 → Run ts (whole_at room i) (Err f))
 
-lost : (ts : List Lexeme) (room n i k : ℕ) (f : ExprFault) → Stops ts room n i k f → Lost ts room n i f
+lost : (ts : List Lexeme) (room n i k : ℕ) (f : ExprFault) → PhraseFailsAt ts room n i k f → Lost ts room n i f
 lost ts _ _ _ _ _ (no_operand room i h) = (λ le. r_none room i h, λ e. absurd (omega arith))
 lost ts _ _ _ _ _ (no_name room i k h l) = (λ le. r_name room i (Err OperandExpected) (Err OperandExpected) h (refl, (k, l)) refl, λ e. absurd (omega arith))
 lost ts _ _ _ _ _ (no_global room i k h l) = (λ le. r_global room i (Err OperandExpected) (Err OperandExpected) h (refl, (k, l)) refl, λ e. absurd (omega arith))

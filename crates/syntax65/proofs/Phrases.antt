@@ -4,15 +4,15 @@ use Rattle.std.proofs.Common.{◌≡◌, ◌≢◌, ℕ, zero, suc, ◌+◌, ◌
 use Rattle.std.specs.Prelude.{Result, Err}
 use Rattle.syntax65.specs.Tokens.{Lexeme}
 use Rattle.syntax65.specs.Trees.{Tree, name, unary, binary}
-use Rattle.syntax65.specs.Expressions.{level_of, opening_at, binary_at, text_at, leaf_of, closes_at, Parts, last_part, next_part, Phrase, a_leaf, a_name, a_global, prefixed, enclosed, of_level, joined, negated, NoOperator, BeginsOperand, OpensLevel, Stops, no_operand, no_name, no_global, too_deep, in_prefixed, in_enclosed, not_closed, in_first, in_next, negation_too_deep, in_negated, AreNames, IsLevel, IsPhrase}
-use Rattle.syntax65.specs.Faults.{is_expr_outside}
+use Rattle.syntax65.specs.Expressions.{level_of, opening_at, binary_at, text_at, leaf_of, closes_at, HasParts, last_part, next_part, Phrase, a_leaf, a_name, a_global, prefixed, enclosed, of_level, joined, negated, NoOperator, BeginsOperand, OpensLevel, PhraseFailsAt, no_operand, no_name, no_global, too_deep, in_prefixed, in_enclosed, not_closed, in_first, in_next, negation_too_deep, in_negated, AreNames, IsLevel, IsPhrase}
+use Rattle.syntax65.specs.Faults.{is_expr_system_error}
 use Rattle.base65.specs.Outcome.{Unless}
-use Rattle.base65.specs.Relations.{Answers}
+use Rattle.base65.specs.Relations.{RefinesRel}
 use Rattle.base65.specs.declared.values.Op1.{Op1}
 use Rattle.base65.specs.declared.values.Op1.TheVariants.{Not}
 use Rattle.base65.specs.declared.values.Op2.{Op2}
-use Rattle.syntax65.specs.declared.expressions.words.Opening.{Opening}
-use Rattle.syntax65.specs.declared.expressions.words.Opening.TheVariants.{Name, Scope, Prefix, Parenthesis, Negation}
+use Rattle.syntax65.specs.declared.expressions.words.OperandStart.{OperandStart}
+use Rattle.syntax65.specs.declared.expressions.words.OperandStart.TheVariants.{Name, Scope, Prefix, Parenthesis, Negation}
 use Rattle.syntax65.specs.declared.expressions.words.ExprFault.{ExprFault}
 use Rattle.syntax65.specs.declared.expressions.words.ExprFault.TheVariants.{OutOfMemory, OperandExpected, ParenthesisExpected, TooDeep}
 
@@ -24,14 +24,14 @@ level_zero ts j op h = level_pos op
 
 -- names
 
-pub last_name : (ts : List Lexeme) (at i : ℕ) (parts new : List (List ℕ)) (text : List ℕ) → ((j : ℕ) (rest : List (List ℕ)) → Parts ts i j rest → Parts ts at j (parts ++ rest)) → opening_at ts i ≡ Name → (opening_at ts (i + 1) ≡ Scope → ⊥) → text ≡ text_at ts i → new ≡ parts ++ text ∷ [] → Parts ts at (i + 1) new
+pub last_name : (ts : List Lexeme) (at i : ℕ) (parts new : List (List ℕ)) (text : List ℕ) → ((j : ℕ) (rest : List (List ℕ)) → HasParts ts i j rest → HasParts ts at j (parts ++ rest)) → opening_at ts i ≡ Name → (opening_at ts (i + 1) ≡ Scope → ⊥) → text ≡ text_at ts i → new ≡ parts ++ text ∷ [] → HasParts ts at (i + 1) new
 last_name ts at i parts new text so_far h stop same made =
-    let reads : Parts ts at (i + 1) (parts ++ text_at ts i ∷ []) = so_far (i + 1) (text_at ts i ∷ []) (last_part i h stop) in
+    let reads : HasParts ts at (i + 1) (parts ++ text_at ts i ∷ []) = so_far (i + 1) (text_at ts i ∷ []) (last_part i h stop) in
     rw (made, same) reads
 
-pub next_name : (ts : List Lexeme) (at i : ℕ) (parts new : List (List ℕ)) (text : List ℕ) → ((j : ℕ) (rest : List (List ℕ)) → Parts ts i j rest → Parts ts at j (parts ++ rest)) → opening_at ts i ≡ Name → opening_at ts (i + 1) ≡ Scope → text ≡ text_at ts i → new ≡ parts ++ text ∷ [] → (j : ℕ) (rest : List (List ℕ)) → Parts ts (i + 2) j rest → Parts ts at j (new ++ rest)
+pub next_name : (ts : List Lexeme) (at i : ℕ) (parts new : List (List ℕ)) (text : List ℕ) → ((j : ℕ) (rest : List (List ℕ)) → HasParts ts i j rest → HasParts ts at j (parts ++ rest)) → opening_at ts i ≡ Name → opening_at ts (i + 1) ≡ Scope → text ≡ text_at ts i → new ≡ parts ++ text ∷ [] → (j : ℕ) (rest : List (List ℕ)) → HasParts ts (i + 2) j rest → HasParts ts at j (new ++ rest)
 next_name ts at i parts new text so_far h scope same made j rest more =
-    let reads : Parts ts at j (parts ++ (text_at ts i ∷ rest)) = so_far j (text_at ts i ∷ rest) (next_part i j rest h scope more) in
+    let reads : HasParts ts at j (parts ++ (text_at ts i ∷ rest)) = so_far j (text_at ts i ∷ rest) (next_part i j rest h scope more) in
     let e : new ++ rest ≡ parts ++ (text_at ts i ∷ rest) = rw (made, same) (append_assoc parts (text_at ts i ∷ []) rest) in
     rw e reads
 
@@ -40,13 +40,13 @@ next_name ts at i parts new text so_far h scope same made j rest more =
 pub leaf_phrase : (ts : List Lexeme) (room i : ℕ) (t : Tree) → leaf_of (opening_at ts i) (text_at ts i) ≡ Some t → IsPhrase ts room 0 i (i + 1) t
 leaf_phrase ts room i t h = record { phrase = a_leaf room i t h; ends = level_zero ts (i + 1) }
 
-pub name_phrase : (ts : List Lexeme) (room i j : ℕ) (parts : List (List ℕ)) → Parts ts i j parts → IsPhrase ts room 0 i j (name false parts)
+pub name_phrase : (ts : List Lexeme) (room i j : ℕ) (parts : List (List ℕ)) → HasParts ts i j parts → IsPhrase ts room 0 i j (name false parts)
 name_phrase ts room i j parts h = record { phrase = a_name room i j parts h; ends = level_zero ts j }
 
 pub plain_phrase : (ts : List Lexeme) (room i : ℕ) → opening_at ts i ≡ Name → opening_at ts (i + 1) ≢ Scope → IsPhrase ts room 0 i (i + 1) (name false (text_at ts i ∷ []))
 plain_phrase ts room i named alone = name_phrase ts room i (i + 1) (text_at ts i ∷ []) (last_part i named alone)
 
-pub global_phrase : (ts : List Lexeme) (room i j : ℕ) (parts : List (List ℕ)) → opening_at ts i ≡ Scope → Parts ts (i + 1) j parts → IsPhrase ts room 0 i j (name true parts)
+pub global_phrase : (ts : List Lexeme) (room i j : ℕ) (parts : List (List ℕ)) → opening_at ts i ≡ Scope → HasParts ts (i + 1) j parts → IsPhrase ts room 0 i j (name true parts)
 global_phrase ts room i j parts h p = record { phrase = a_global room i j parts h p; ends = level_zero ts j }
 
 pub prefixed_phrase : (ts : List Lexeme) (room i j : ℕ) (op : Op1) (t u : Tree) → 0 < room → opening_at ts i ≡ Prefix op → u ≡ unary op t → IsPhrase ts (room - 1) 0 (i + 1) j t → IsPhrase ts room 0 i j u
@@ -84,13 +84,13 @@ whole_phrase ts room i j t p = record { phrase = of_level room 5 i j t p.phrase;
 
 -- why there is no phrase, unless memory ran out
 abbrev pub IsStop : List Lexeme → (room n i : ℕ) → ExprFault → Type 0
-IsStop ts room n i f = Unless (is_expr_outside f) (IsLevel ts room n i (Err f))
+IsStop ts room n i f = Unless (is_expr_system_error f) (IsLevel ts room n i (Err f))
 
 abbrev pub IsMissing : List Lexeme → ℕ → ExprFault → Type 0
-IsMissing ts i f = Unless (is_expr_outside f) (AreNames ts i (Err f))
+IsMissing ts i f = Unless (is_expr_system_error f) (AreNames ts i (Err f))
 
 -- a stop inside is a stop of the whole
-lift_stop : (ts : List Lexeme) (room n i room' n' i' : ℕ) (f : ExprFault) → ((k : ℕ) (g : ExprFault) → Stops ts room n i k g → Stops ts room' n' i' k g) → IsStop ts room n i f → IsStop ts room' n' i' f
+lift_stop : (ts : List Lexeme) (room n i room' n' i' : ℕ) (f : ExprFault) → ((k : ℕ) (g : ExprFault) → PhraseFailsAt ts room n i k g → PhraseFailsAt ts room' n' i' k g) → IsStop ts room n i f → IsStop ts room' n' i' f
 lift_stop ts room n i room' n' i' x up h = grind (arith, common_steps)
 
 pub name_stop : (ts : List Lexeme) (room i : ℕ) (f : ExprFault) → opening_at ts i ≡ Name → IsMissing ts i f → IsStop ts room 0 i f
@@ -108,22 +108,22 @@ global_stop ts room i TooDeep h s = absurd (cc s.0)
 pub prefixed_stop : (ts : List Lexeme) (room i : ℕ) (op : Op1) (f : ExprFault) → 0 < room → opening_at ts i ≡ Prefix op → IsStop ts (room - 1) 0 (i + 1) f → IsStop ts room 0 i f
 prefixed_stop ts room i op f pos h s =
     let r : (room - 1) + 1 ≡ room = omega arith in
-    lift_stop ts (room - 1) 0 (i + 1) room 0 i f (λ k g w. subst (λ (m : ℕ). Stops ts m 0 i k g) r (in_prefixed (room - 1) i k op g h w)) s
+    lift_stop ts (room - 1) 0 (i + 1) room 0 i f (λ k g w. subst (λ (m : ℕ). PhraseFailsAt ts m 0 i k g) r (in_prefixed (room - 1) i k op g h w)) s
 
 pub negated_stop : (ts : List Lexeme) (room i : ℕ) (f : ExprFault) → 0 < room → opening_at ts i ≡ Negation → IsStop ts (room - 1) 6 (i + 1) f → IsStop ts room 6 i f
 negated_stop ts room i f pos h s =
     let r : (room - 1) + 1 ≡ room = omega arith in
-    lift_stop ts (room - 1) 6 (i + 1) room 6 i f (λ k g w. subst (λ (m : ℕ). Stops ts m 6 i k g) r (in_negated (room - 1) i k g h w)) s
+    lift_stop ts (room - 1) 6 (i + 1) room 6 i f (λ k g w. subst (λ (m : ℕ). PhraseFailsAt ts m 6 i k g) r (in_negated (room - 1) i k g h w)) s
 
 pub enclosed_stop : (ts : List Lexeme) (room i : ℕ) (f : ExprFault) → 0 < room → opening_at ts i ≡ Parenthesis → IsStop ts (room - 1) 6 (i + 1) f → IsStop ts room 0 i f
 enclosed_stop ts room i f pos h s =
     let r : (room - 1) + 1 ≡ room = omega arith in
-    lift_stop ts (room - 1) 6 (i + 1) room 0 i f (λ k g w. subst (λ (m : ℕ). Stops ts m 0 i k g) r (in_enclosed (room - 1) i k g h w)) s
+    lift_stop ts (room - 1) 6 (i + 1) room 0 i f (λ k g w. subst (λ (m : ℕ). PhraseFailsAt ts m 0 i k g) r (in_enclosed (room - 1) i k g h w)) s
 
 pub open_stop : (ts : List Lexeme) (room i j : ℕ) (t : Tree) → 0 < room → opening_at ts i ≡ Parenthesis → IsPhrase ts (room - 1) 6 (i + 1) j t → closes_at ts j ≡ false → IsStop ts room 0 i ParenthesisExpected
 open_stop ts room i j t pos h inner close =
     let r : (room - 1) + 1 ≡ room = omega arith in
-    (j, subst (λ (m : ℕ). Stops ts m 0 i j ParenthesisExpected) r (not_closed (room - 1) i j t h inner.phrase inner.ends close))
+    (j, subst (λ (m : ℕ). PhraseFailsAt ts m 0 i j ParenthesisExpected) r (not_closed (room - 1) i j t h inner.phrase inner.ends close))
 
 pub deep_prefix : (ts : List Lexeme) (room i : ℕ) (op : Op1) → room ≡ 0 → opening_at ts i ≡ Prefix op → IsStop ts room 0 i TooDeep
 deep_prefix ts room i op r h = rw r (i, too_deep i (subst OpensLevel (sym h) tt))
@@ -134,10 +134,10 @@ deep_open ts room i r h = rw r (i, too_deep i (subst OpensLevel (sym h) tt))
 pub deep_negation : (ts : List Lexeme) (room i : ℕ) → room ≡ 0 → opening_at ts i ≡ Negation → IsStop ts room 6 i TooDeep
 deep_negation ts room i r h = rw r (i, negation_too_deep i h)
 
-none_begins : (o : Opening) (text : List ℕ) → leaf_of o text ≡ None → o ≢ Name → o ≢ Scope → ((op : Op1) → o ≢ Prefix op) → o ≢ Parenthesis → BeginsOperand o → ⊥
+none_begins : (o : OperandStart) (text : List ℕ) → leaf_of o text ≡ None → o ≢ Name → o ≢ Scope → ((op : Op1) → o ≢ Prefix op) → o ≢ Parenthesis → BeginsOperand o → ⊥
 none_begins x text e a b c d h = grind (arith, common_steps)
 
-pub bad_operand : (ts : List Lexeme) (room i : ℕ) (o : Opening) → o ≡ opening_at ts i → leaf_of o (text_at ts i) ≡ None → o ≢ Name → o ≢ Scope → ((op : Op1) → o ≢ Prefix op) → o ≢ Parenthesis → IsStop ts room 0 i OperandExpected
+pub bad_operand : (ts : List Lexeme) (room i : ℕ) (o : OperandStart) → o ≡ opening_at ts i → leaf_of o (text_at ts i) ≡ None → o ≢ Name → o ≢ Scope → ((op : Op1) → o ≢ Prefix op) → o ≢ Parenthesis → IsStop ts room 0 i OperandExpected
 bad_operand ts room i o e n a b c d = (i, no_operand room i (λ h. none_begins o (text_at ts i) n a b c d (subst BeginsOperand (sym e) h)))
 
 -- the levels
@@ -145,7 +145,7 @@ bad_operand ts room i o e n a b c d = (i, no_operand room i (λ h. none_begins o
 first_stop : (ts : List Lexeme) (room n i : ℕ) (f : ExprFault) → 0 < n → n ≤ 5 → IsStop ts room (n - 1) i f → IsStop ts room n i f
 first_stop ts room n i f pos low s =
     let r : (n - 1) + 1 ≡ n = omega arith in
-    lift_stop ts room (n - 1) i room n i f (λ k g w. subst (λ (m : ℕ). Stops ts room m i k g) r (in_first room (n - 1) i k g (λ e. absurd (omega arith)) w)) s
+    lift_stop ts room (n - 1) i room n i f (λ k g w. subst (λ (m : ℕ). PhraseFailsAt ts room m i k g) r (in_first room (n - 1) i k g (λ e. absurd (omega arith)) w)) s
 
 pub whole_stop : (ts : List Lexeme) (room i : ℕ) (f : ExprFault) → opening_at ts i ≢ Negation → IsStop ts room 5 i f → IsStop ts room 6 i f
 whole_stop ts room i f h s = lift_stop ts room 5 i room 6 i f (λ k g w. in_first room 5 i k g (λ e. h) w) s
@@ -153,7 +153,7 @@ whole_stop ts room i f h s = lift_stop ts room 5 i room 6 i f (λ k g w. in_firs
 next_stop : (ts : List Lexeme) (room n i j : ℕ) (op : Op2) (t : Tree) (f : ExprFault) → 0 < n → Phrase ts room n i j t → binary_at ts j ≡ Some op → level_of op ≡ n → IsStop ts room (n - 1) (j + 1) f → IsStop ts room n i f
 next_stop ts room n i j op t f pos left at level s =
     let r : (n - 1) + 1 ≡ n = omega arith in
-    lift_stop ts room (n - 1) (j + 1) room n i f (λ k g w. subst (λ (m : ℕ). Stops ts room m i k g) r
+    lift_stop ts room (n - 1) (j + 1) room n i f (λ k g w. subst (λ (m : ℕ). PhraseFailsAt ts room m i k g) r
     (in_next room (n - 1) i j k op t g (rw r left) at (level ∙ sym r) w)) s
 
 joined_phrase : (ts : List Lexeme) (room n i j k : ℕ) (op : Op2) (t u t' u' : Tree) → 0 < n → Phrase ts room n i j t → binary_at ts j ≡ Some op → level_of op ≡ n → IsPhrase ts room (n - 1) (j + 1) k u → t' ≡ t → u' ≡ u → Phrase ts room n i k (binary op t' u')
@@ -210,8 +210,8 @@ joined_part ts room n m i j k op t u t' u' p at level le right same_left same_ri
 pub whole_part : (ts : List Lexeme) (room n i j : ℕ) (t : Tree) → IsPart ts room n i j t → NoOperator ts n j → IsPhrase ts room n i j t
 whole_part ts room n i j t p none = record { phrase = raised ts room p.own n i j t p.most p.phrase; ends = none }
 
-pub whole_result : (ts : List Lexeme) (room i : ℕ) (r : Result (Tree × ℕ) ExprFault) → opening_at ts i ≢ Negation → Answers is_expr_outside (λ x. x) r (IsLevel ts room 5 i) → Answers is_expr_outside (λ x. x) r (IsLevel ts room 6 i)
+pub whole_result : (ts : List Lexeme) (room i : ℕ) (r : Result (Tree × ℕ) ExprFault) → opening_at ts i ≢ Negation → RefinesRel is_expr_system_error (λ x. x) r (IsLevel ts room 5 i) → RefinesRel is_expr_system_error (λ x. x) r (IsLevel ts room 6 i)
 whole_result ts room i x h p = grind (arith, common_steps, whole_phrase, whole_stop)
 
-pub leaf_made : (ts : List Lexeme) (i : ℕ) (o : Opening) (text : List ℕ) (made : Option Tree) → o ≡ opening_at ts i → text ≡ text_at ts i → made ≡ leaf_of o text → leaf_of (opening_at ts i) (text_at ts i) ≡ made
+pub leaf_made : (ts : List Lexeme) (i : ℕ) (o : OperandStart) (text : List ℕ) (made : Option Tree) → o ≡ opening_at ts i → text ≡ text_at ts i → made ≡ leaf_of o text → leaf_of (opening_at ts i) (text_at ts i) ≡ made
 leaf_made ts i o text made a b e = sym (e ∙ ap (λ p. leaf_of p text) a ∙ ap (leaf_of (opening_at ts i)) b)

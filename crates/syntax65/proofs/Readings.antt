@@ -2,14 +2,14 @@
 use Rattle.std.proofs.lemmas.Grind.{common_steps}
 use Rattle.std.proofs.Common.{◌≡◌, ◌⊎◌, ℕ, zero, suc, ◌<◌, ◌≤◌, Bool, true, false, List, [], ◌∷◌, length, take, drop, Option, Some, None, refl, sym, ap, subst, ◌∙◌, arith}
 use Rattle.std.specs.Prelude.{Result, Ok, Err}
-use Rattle.syntax65.specs.Forms.{number_of, IsForm, Stands, IsLongest, IsToken, name_in, HasValue, FaultAt}
-use Rattle.syntax65.specs.Tokens.{Lexeme, after_blanks, IsEnd, Ends, Reads, IsRead}
+use Rattle.syntax65.specs.Forms.{number_of, IsForm, TokenMatchesAt, IsLongest, IsToken, name_in, HasValue, FaultAt}
+use Rattle.syntax65.specs.Tokens.{Lexeme, after_blanks, IsEnd, EndsTokens, HasTokens, IsRead}
 use Rattle.syntax65.specs.declared.lexing.places.Class.{Class}
 use Rattle.syntax65.specs.declared.lexing.tokens.TokenKind.{TokenKind}
 use Rattle.syntax65.specs.declared.lexing.tokens.TokenKind.TheVariants.{Number}
 use Rattle.syntax65.specs.declared.lexing.tokens.LexFault.{LexFault}
 use Rattle.syntax65.specs.declared.lexing.tokens.LexFault.TheVariants.{OutOfMemory, BadCharacter, BadNumber, StringNotClosed, LineTooLong, NameTooLong}
-use Rattle.syntax65.proofs.Fronts.{Behind, behind}
+use Rattle.syntax65.proofs.Fronts.{Following, following}
 use Rattle.syntax65.proofs.OneKind.{bare, one_form, one_kind, one_length}
 
 -- a name is in a text of this form, whatever it carries
@@ -31,10 +31,10 @@ value_clash first j v m n here h g value none =
     let e = one_length first j (Number v) m n here h g in
     bare_number j v (take n here) (same_text first j (Number v) m n here h g) (subst (λ (i : ℕ). HasValue j (take i here)) e value) none
 
-at_end : (first : Bool) (k : TokenKind) (n : ℕ) (here : List ℕ) → Stands first k n here → IsEnd here → ⊥
+at_end : (first : Bool) (k : TokenKind) (n : ℕ) (here : List ℕ) → TokenMatchesAt first k n here → IsEnd here → ⊥
 at_end first k zero here h e = h.form
 at_end first k (suc n) [] h e = let le : suc n ≤ length {A = ℕ} [] = h.room in omega arith
-at_end first k (suc n) (b ∷ bs) h e = subst (λ (c : Class). Behind c k (take n bs)) e (behind k b (take n bs) h.form)
+at_end first k (suc n) (b ∷ bs) h e = subst (λ (c : Class). Following c k (take n bs)) e (following k b (take n bs) h.form)
 
 -- where a token stands, the line neither ends nor fails
 token_fault : (first : Bool) (k : TokenKind) (n : ℕ) (here : List ℕ) (fault : LexFault) → IsToken first k n here → FaultAt first here fault → ⊥
@@ -45,7 +45,7 @@ token_fault first k n here StringNotClosed t f = f.0 k n t.longest.stands
 token_fault first k n here LineTooLong t f = f
 token_fault first k n here NameTooLong t f = name_clash first k f.0 n f.1 here t.longest f.2 t.short f.3
 
-token_end : (first : Bool) (k : TokenKind) (n : ℕ) (here : List ℕ) (end : Option LexFault) → IsToken first k n here → Ends first end here → ⊥
+token_end : (first : Bool) (k : TokenKind) (n : ℕ) (here : List ℕ) (end : Option LexFault) → IsToken first k n here → EndsTokens first end here → ⊥
 token_end first k n here x t e = grind (arith, common_steps, at_end, token_fault)
 
 number_is_no_name : (v : ℕ) (k : TokenKind) (text : List ℕ) → bare (Number v) ≡ bare k → 200 < length (name_in k text) → ⊥
@@ -73,7 +73,7 @@ one_fault first here NameTooLong BadNumber h g = absurd (number_is_no_name g.0 h
 one_fault first here NameTooLong StringNotClosed h g = absurd (g.0 h.0 h.1 h.2.stands)
 one_fault first here NameTooLong NameTooLong h g = refl
 
-one_end : (first : Bool) (here : List ℕ) (e f : Option LexFault) → Ends first e here → Ends first f here → e ≡ f
+one_end : (first : Bool) (here : List ℕ) (e f : Option LexFault) → EndsTokens first e here → EndsTokens first f here → e ≡ f
 one_end first here None None h g = refl
 one_end first here None (Some f) h g = absurd (g.0 h)
 one_end first here (Some e) None h g = absurd (h.0 g)
@@ -83,7 +83,7 @@ same_lexeme : (t u : Lexeme) → t.0 ≡ u.0 → t.1 ≡ u.1 → t ≡ u
 same_lexeme t u p q = λ i. (p i, q i)
 
 abbrev AtMostOne : Bool → List ℕ → List Lexeme → List Lexeme → Option LexFault → Option LexFault → Type 0
-AtMostOne first line ts us e f = Reads first line ts e → Reads first line us f → (ts ≡ us) × (e ≡ f)
+AtMostOne first line ts us e f = HasTokens first line ts e → HasTokens first line us f → (ts ≡ us) × (e ≡ f)
 
 pub one_list : (first : Bool) (line : List ℕ) (ts us : List Lexeme) (e f : Option LexFault) → AtMostOne first line ts us e f
 one_list first line [] [] e f h g = (refl, one_end first (after_blanks line) e f h g)
@@ -94,13 +94,13 @@ one_list first line (t ∷ ts) (u ∷ us) e f h g =
     let size : length t.1 ≡ length u.1 = one_length first t.0 u.0 (length t.1) (length u.1) here h.1.longest g.1.longest in
     let text : t.1 ≡ u.1 = h.0 ∙ ap (λ n. take n here) size ∙ sym g.0 in
     let kind : t.0 ≡ u.0 = one_kind t.0 u.0 (take (length u.1) here) (subst (λ (n : ℕ). IsForm t.0 (take n here)) size h.1.longest.stands.form) (subst (λ (n : ℕ). HasValue t.0 (take n here)) size h.1.value) g.1.longest.stands.form g.1.value in
-    let rest : Reads false (drop (length u.1) here) ts e = subst (λ (n : ℕ). Reads false (drop n here) ts e) size h.2 in
+    let rest : HasTokens false (drop (length u.1) here) ts e = subst (λ (n : ℕ). HasTokens false (drop n here) ts e) size h.2 in
     let more = one_list false (drop (length u.1) here) ts us e f rest g.2 in
     let head : t ≡ u = same_lexeme t u kind text in
     (cc (more.0, head), more.1)
 
 abbrev Failed : List ℕ → LexFault → Type 0
-Failed line fault = (length line ≤ 4096) × ((ts : List Lexeme) × Reads true line ts (Some fault))
+Failed line fault = (length line ≤ 4096) × ((ts : List Lexeme) × HasTokens true line ts (Some fault))
 
 -- a line too long, or a fault in it
 failed : (line : List ℕ) (fault : LexFault) → IsRead line (Err fault) → ((fault ≡ LineTooLong) × (4096 < length line)) ⊎ Failed line fault

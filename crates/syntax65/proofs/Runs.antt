@@ -5,12 +5,12 @@ use Rattle.std.specs.Prelude.{Result, Ok, Err, ⊤, ◌==◌, if◌then◌else�
 use Rattle.base65.specs.Outcome.{◌>>=◌}
 use Rattle.syntax65.specs.Tokens.{Lexeme}
 use Rattle.syntax65.specs.Trees.{Tree, name, unary, binary}
-use Rattle.syntax65.specs.Expressions.{AreNames, level_of, opening_at, binary_at, text_at, leaf_of, closes_at, Parts, last_part, next_part, LacksPart, no_part, behind_part, NoOperator, BeginsOperand, OpensLevel}
+use Rattle.syntax65.specs.Expressions.{AreNames, level_of, opening_at, binary_at, text_at, leaf_of, closes_at, HasParts, last_part, next_part, LacksPart, no_part, after_part, NoOperator, BeginsOperand, OpensLevel}
 use Rattle.base65.specs.declared.values.Op1.{Op1}
 use Rattle.base65.specs.declared.values.Op1.TheVariants.{Not}
 use Rattle.base65.specs.declared.values.Op2.{Op2}
-use Rattle.syntax65.specs.declared.expressions.words.Opening.{Opening}
-use Rattle.syntax65.specs.declared.expressions.words.Opening.TheVariants.{Name, Scope, Prefix, Parenthesis, Negation, Nothing}
+use Rattle.syntax65.specs.declared.expressions.words.OperandStart.{OperandStart}
+use Rattle.syntax65.specs.declared.expressions.words.OperandStart.TheVariants.{Name, Scope, Prefix, Parenthesis, Negation, Nothing}
 use Rattle.syntax65.specs.declared.expressions.words.ExprFault.{ExprFault}
 use Rattle.syntax65.specs.declared.expressions.words.ExprFault.TheVariants.{OperandExpected, ParenthesisExpected, TooDeep}
 
@@ -57,7 +57,7 @@ ByParenthesis ts zero i r = r ≡ Err TooDeep
 ByParenthesis ts (suc room) i r = (q : Answer) × Run ts (whole_at room (i + 1)) q × (r ≡ (q >>= closed ts))
 
 -- what a reading of an operand has to be, by how it begins
-abbrev ByOpening : List Lexeme → ℕ → ℕ → Opening → Answer → Type 0
+abbrev ByOpening : List Lexeme → ℕ → ℕ → OperandStart → Answer → Type 0
 ByOpening ts room i Name r = (q : Result (List (List ℕ) × ℕ) ExprFault) × AreNames ts i q × (r ≡ (q >>= named false))
 ByOpening ts room i Scope r = (q : Result (List (List ℕ) × ℕ) ExprFault) × AreNames ts (i + 1) q × (r ≡ (q >>= named true))
 ByOpening ts room i (Prefix op) r = ByPrefix ts room i op r
@@ -86,7 +86,7 @@ abbrev Negated : List Lexeme → ℕ → ℕ → Answer → Type 0
 Negated ts zero i r = r ≡ Err TooDeep
 Negated ts (suc room) i r = (q : Answer) × Run ts (whole_at room (i + 1)) q × (r ≡ (q >>= operated Not))
 
-abbrev ByNegation : List Lexeme → ℕ → ℕ → Opening → Answer → Type 0
+abbrev ByNegation : List Lexeme → ℕ → ℕ → OperandStart → Answer → Type 0
 ByNegation ts room i Negation r = Negated ts room i r
 ByNegation ts room i _ r = Run ts (level_at room 5 i) r
 
@@ -97,13 +97,13 @@ ByMode ts (rest_at room zero t j) r = ⊤
 ByMode ts (rest_at room (suc n) t j) r = ByOperator ts room n t j (binary_at ts j) r
 ByMode ts (whole_at room i) r = ByNegation ts room i (opening_at ts i) r
 
-leaf_by : (ts : List Lexeme) (room i : ℕ) (o : Opening) (t : Tree) → leaf_of o (text_at ts i) ≡ Some t → ByOpening ts room i o (Ok (t, i + 1))
+leaf_by : (ts : List Lexeme) (room i : ℕ) (o : OperandStart) (t : Tree) → leaf_of o (text_at ts i) ≡ Some t → ByOpening ts room i o (Ok (t, i + 1))
 leaf_by ts room i x t h = grind (arith, common_steps)
 
-none_by : (ts : List Lexeme) (room i : ℕ) (o : Opening) → (BeginsOperand o → ⊥) → ByOpening ts room i o (Err OperandExpected)
+none_by : (ts : List Lexeme) (room i : ℕ) (o : OperandStart) → (BeginsOperand o → ⊥) → ByOpening ts room i o (Err OperandExpected)
 none_by ts room i x h = grind (arith, common_steps)
 
-deep_by : (ts : List Lexeme) (i : ℕ) (o : Opening) → OpensLevel o → ByOpening ts 0 i o (Err TooDeep)
+deep_by : (ts : List Lexeme) (i : ℕ) (o : OperandStart) → OpensLevel o → ByOpening ts 0 i o (Err TooDeep)
 deep_by ts i x h = grind (arith, common_steps)
 
 end_by : (ts : List Lexeme) (room n j : ℕ) (t : Tree) (o : Option Op2) → ((op : Op2) → o ≡ Some op → suc n < level_of op) → ByOperator ts room n t j o (Ok (t, j))
@@ -112,29 +112,29 @@ end_by ts room n j t x h = grind (arith, common_steps)
 next_by : (ts : List Lexeme) (room n j : ℕ) (op : Op2) (t : Tree) (r : Answer) → binary_at ts j ≡ Some op → level_of op ≡ suc n → ByTest ts room n op t j true r → ByOperator ts room n t j (binary_at ts j) r
 next_by ts room n j op t r at level h = grind (arith, common_steps)
 
-plain_by : (ts : List Lexeme) (room i : ℕ) (o : Opening) (r : Answer) → o ≢ Negation → Run ts (level_at room 5 i) r → ByNegation ts room i o r
+plain_by : (ts : List Lexeme) (room i : ℕ) (o : OperandStart) (r : Answer) → o ≢ Negation → Run ts (level_at room 5 i) r → ByNegation ts room i o r
 plain_by ts room i x r h p = grind (arith, common_steps)
 
 invert : (ts : List Lexeme) (m : Mode) (r : Answer) → Run ts m r → ByMode ts m r
 invert ts _ _ (r_leaf room i t h) = leaf_by ts room i (opening_at ts i) t h
-invert ts _ _ (r_name room i q r h n e) = subst (λ (o : Opening). ByOpening ts room i o r) (sym h) (q, n, e)
-invert ts _ _ (r_global room i q r h n e) = subst (λ (o : Opening). ByOpening ts room i o r) (sym h) (q, n, e)
+invert ts _ _ (r_name room i q r h n e) = subst (λ (o : OperandStart). ByOpening ts room i o r) (sym h) (q, n, e)
+invert ts _ _ (r_global room i q r h n e) = subst (λ (o : OperandStart). ByOpening ts room i o r) (sym h) (q, n, e)
 invert ts _ _ (r_none room i h) = none_by ts room i (opening_at ts i) h
 invert ts _ _ (r_deep i h) = deep_by ts i (opening_at ts i) h
-invert ts _ _ (r_prefix room i op q r h p e) = subst (λ (o : Opening). ByOpening ts (suc room) i o r) (sym h) (q, p, e)
-invert ts _ _ (r_enclosed room i q r h p e) = subst (λ (o : Opening). ByOpening ts (suc room) i o r) (sym h) (q, p, e)
+invert ts _ _ (r_prefix room i op q r h p e) = subst (λ (o : OperandStart). ByOpening ts (suc room) i o r) (sym h) (q, p, e)
+invert ts _ _ (r_enclosed room i q r h p e) = subst (λ (o : OperandStart). ByOpening ts (suc room) i o r) (sym h) (q, p, e)
 invert ts _ _ (r_first room n i x r p d) = (Ok x, p, d)
 invert ts _ _ (r_lost room n i f p) = (Err f, p, refl)
 invert ts _ _ (r_end room n j t h) = end_by ts room n j t (binary_at ts j) h
 invert ts _ _ (r_next room n j op t x r at level p d) = next_by ts room n j op t r at level (Ok x, p, d)
 invert ts _ _ (r_next_lost room n j op t f at level p) = next_by ts room n j op t (Err f) at level (Err f, p, refl)
 invert ts _ _ (r_plain room i r h p) = plain_by ts room i (opening_at ts i) r h p
-invert ts _ _ (r_negated room i q r h p e) = subst (λ (o : Opening). ByNegation ts (suc room) i o r) (sym h) (q, p, e)
-invert ts _ _ (r_negation_deep i h) = subst (λ (o : Opening). ByNegation ts 0 i o (Err TooDeep)) (sym h) refl
+invert ts _ _ (r_negated room i q r h p e) = subst (λ (o : OperandStart). ByNegation ts (suc room) i o r) (sym h) (q, p, e)
+invert ts _ _ (r_negation_deep i h) = subst (λ (o : OperandStart). ByNegation ts 0 i o (Err TooDeep)) (sym h) refl
 
 -- Names
 
-parts_one : (ts : List Lexeme) (i j i' j' : ℕ) (p p' : List (List ℕ)) → Parts ts i j p → Parts ts i' j' p' → i ≡ i' → (p ≡ p') × (j ≡ j')
+parts_one : (ts : List Lexeme) (i j i' j' : ℕ) (p p' : List (List ℕ)) → HasParts ts i j p → HasParts ts i' j' p' → i ≡ i' → (p ≡ p') × (j ≡ j')
 parts_one ts _ _ _ _ _ _ (last_part i h stop) (last_part i' h' stop') e = (ap (λ x. text_at ts x ∷ []) e, ap (λ x. x + 1) e)
 parts_one ts _ _ _ _ _ _ (last_part i h stop) (next_part i' j' p' h' scope' n') e = absurd (stop (ap (λ x. opening_at ts (x + 1)) e ∙ scope'))
 parts_one ts _ _ _ _ _ _ (next_part i j p h scope n) (last_part i' h' stop') e = absurd (stop' (ap (λ x. opening_at ts (x + 1)) (sym e) ∙ scope))
@@ -143,11 +143,11 @@ parts_one ts _ _ _ _ _ _ (next_part i j p h scope n) (next_part i' j' p' h' scop
     let text : text_at ts i ≡ text_at ts i' = ap (text_at ts) e in
     (cc (rest.0, text), rest.1)
 
-parts_lack : (ts : List Lexeme) (i j i' k : ℕ) (p : List (List ℕ)) → Parts ts i j p → LacksPart ts i' k → i ≡ i' → ⊥
+parts_lack : (ts : List Lexeme) (i j i' k : ℕ) (p : List (List ℕ)) → HasParts ts i j p → LacksPart ts i' k → i ≡ i' → ⊥
 parts_lack ts _ _ _ _ _ (last_part i h stop) (no_part i' none) e = none (ap (opening_at ts) (sym e) ∙ h)
-parts_lack ts _ _ _ _ _ (last_part i h stop) (behind_part i' k h' scope' n') e = stop (ap (λ x. opening_at ts (x + 1)) e ∙ scope')
+parts_lack ts _ _ _ _ _ (last_part i h stop) (after_part i' k h' scope' n') e = stop (ap (λ x. opening_at ts (x + 1)) e ∙ scope')
 parts_lack ts _ _ _ _ _ (next_part i j p h scope n) (no_part i' none) e = none (ap (opening_at ts) (sym e) ∙ h)
-parts_lack ts _ _ _ _ _ (next_part i j p h scope n) (behind_part i' k h' scope' n') e = parts_lack ts (i + 2) j (i' + 2) k p n n' (ap (λ x. x + 2) e)
+parts_lack ts _ _ _ _ _ (next_part i j p h scope n) (after_part i' k h' scope' n') e = parts_lack ts (i + 2) j (i' + 2) k p n n' (ap (λ x. x + 2) e)
 
 same_names : (x y : List (List ℕ) × ℕ) → (x.0 ≡ y.0) × (x.1 ≡ y.1) → x ≡ y
 same_names x y p = λ i. (p.0 i, p.1 i)
@@ -157,13 +157,13 @@ names_one ts i x y h g = grind (arith, common_steps, same_names, parts_one, part
 
 -- One answer
 
-leaf_one : (ts : List Lexeme) (room i : ℕ) (o : Opening) (t : Tree) (s : Answer) → leaf_of o (text_at ts i) ≡ Some t → ByOpening ts room i o s → Ok (t, i + 1) ≡ s
+leaf_one : (ts : List Lexeme) (room i : ℕ) (o : OperandStart) (t : Tree) (s : Answer) → leaf_of o (text_at ts i) ≡ Some t → ByOpening ts room i o s → Ok (t, i + 1) ≡ s
 leaf_one ts room i x t s h b = grind (arith, common_steps)
 
-none_one : (ts : List Lexeme) (room i : ℕ) (o : Opening) (s : Answer) → (BeginsOperand o → ⊥) → ByOpening ts room i o s → Err OperandExpected ≡ s
+none_one : (ts : List Lexeme) (room i : ℕ) (o : OperandStart) (s : Answer) → (BeginsOperand o → ⊥) → ByOpening ts room i o s → Err OperandExpected ≡ s
 none_one ts room i x s h b = grind (arith, common_steps)
 
-deep_one : (ts : List Lexeme) (i : ℕ) (o : Opening) (s : Answer) → OpensLevel o → ByOpening ts 0 i o s → Err TooDeep ≡ s
+deep_one : (ts : List Lexeme) (i : ℕ) (o : OperandStart) (s : Answer) → OpensLevel o → ByOpening ts 0 i o s → Err TooDeep ≡ s
 deep_one ts i x s h b = grind (arith, common_steps)
 
 end_one : (ts : List Lexeme) (room n j : ℕ) (t : Tree) (o : Option Op2) (s : Answer) → ((op : Op2) → o ≡ Some op → suc n < level_of op) → ByOperator ts room n t j o s → Ok (t, j) ≡ s
@@ -172,25 +172,25 @@ end_one ts room n j t x s h b = grind (arith, common_steps)
 next_of : (ts : List Lexeme) (room n j : ℕ) (op : Op2) (t : Tree) (s : Answer) → binary_at ts j ≡ Some op → level_of op ≡ suc n → ByOperator ts room n t j (binary_at ts j) s → ByTest ts room n op t j true s
 next_of ts room n j op t s at level h = grind (arith, common_steps)
 
-plain_of : (ts : List Lexeme) (room i : ℕ) (o : Opening) (s : Answer) → o ≢ Negation → ByNegation ts room i o s → Run ts (level_at room 5 i) s
+plain_of : (ts : List Lexeme) (room i : ℕ) (o : OperandStart) (s : Answer) → o ≢ Negation → ByNegation ts room i o s → Run ts (level_at room 5 i) s
 plain_of ts room i x s h p = grind (arith, common_steps)
 
 -- from one state there is one answer
 pub one_answer : (ts : List Lexeme) (m : Mode) (r s : Answer) → Run ts m r → Run ts m s → r ≡ s
 one_answer ts _ _ s (r_leaf room i t h) d = leaf_one ts room i (opening_at ts i) t s h (invert ts (level_at room 0 i) s d)
 one_answer ts _ _ s (r_name room i q r h n e) d =
-    let v : ByOpening ts room i Name s = subst (λ (o : Opening). ByOpening ts room i o s) h (invert ts (level_at room 0 i) s d) in
+    let v : ByOpening ts room i Name s = subst (λ (o : OperandStart). ByOpening ts room i o s) h (invert ts (level_at room 0 i) s d) in
     e ∙ ap (λ x. x >>= named false) (names_one ts i q v.0 n v.1) ∙ sym v.2
 one_answer ts _ _ s (r_global room i q r h n e) d =
-    let v : ByOpening ts room i Scope s = subst (λ (o : Opening). ByOpening ts room i o s) h (invert ts (level_at room 0 i) s d) in
+    let v : ByOpening ts room i Scope s = subst (λ (o : OperandStart). ByOpening ts room i o s) h (invert ts (level_at room 0 i) s d) in
     e ∙ ap (λ x. x >>= named true) (names_one ts (i + 1) q v.0 n v.1) ∙ sym v.2
 one_answer ts _ _ s (r_none room i h) d = none_one ts room i (opening_at ts i) s h (invert ts (level_at room 0 i) s d)
 one_answer ts _ _ s (r_deep i h) d = deep_one ts i (opening_at ts i) s h (invert ts (level_at 0 0 i) s d)
 one_answer ts _ _ s (r_prefix room i op q r h p e) d =
-    let v : ByOpening ts (suc room) i (Prefix op) s = subst (λ (o : Opening). ByOpening ts (suc room) i o s) h (invert ts (level_at (suc room) 0 i) s d) in
+    let v : ByOpening ts (suc room) i (Prefix op) s = subst (λ (o : OperandStart). ByOpening ts (suc room) i o s) h (invert ts (level_at (suc room) 0 i) s d) in
     e ∙ ap (λ x. x >>= operated op) (one_answer ts (level_at room 0 (i + 1)) q v.0 p v.1) ∙ sym v.2
 one_answer ts _ _ s (r_enclosed room i q r h p e) d =
-    let v : ByOpening ts (suc room) i Parenthesis s = subst (λ (o : Opening). ByOpening ts (suc room) i o s) h (invert ts (level_at (suc room) 0 i) s d) in
+    let v : ByOpening ts (suc room) i Parenthesis s = subst (λ (o : OperandStart). ByOpening ts (suc room) i o s) h (invert ts (level_at (suc room) 0 i) s d) in
     e ∙ ap (λ x. x >>= closed ts) (one_answer ts (whole_at room (i + 1)) q v.0 p v.1) ∙ sym v.2
 one_answer ts _ _ s (r_first room n i x r p g) d =
     let v = invert ts (level_at room (suc n) i) s d in
@@ -214,8 +214,8 @@ one_answer ts _ _ s (r_next_lost room n j op t f at level p) d =
 one_answer ts _ _ s (r_plain room i r h p) d =
     one_answer ts (level_at room 5 i) r s p (plain_of ts room i (opening_at ts i) s h (invert ts (whole_at room i) s d))
 one_answer ts _ _ s (r_negated room i q r h p e) d =
-    let v : ByNegation ts (suc room) i Negation s = subst (λ (o : Opening). ByNegation ts (suc room) i o s) h (invert ts (whole_at (suc room) i) s d) in
+    let v : ByNegation ts (suc room) i Negation s = subst (λ (o : OperandStart). ByNegation ts (suc room) i o s) h (invert ts (whole_at (suc room) i) s d) in
     e ∙ ap (λ x. x >>= operated Not) (one_answer ts (whole_at room (i + 1)) q v.0 p v.1) ∙ sym v.2
 one_answer ts _ _ s (r_negation_deep i h) d =
-    let v : s ≡ Err TooDeep = subst (λ (o : Opening). ByNegation ts 0 i o s) h (invert ts (whole_at 0 i) s d) in
+    let v : s ≡ Err TooDeep = subst (λ (o : OperandStart). ByNegation ts 0 i o s) h (invert ts (whole_at 0 i) s d) in
     sym v

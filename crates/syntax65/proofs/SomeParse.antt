@@ -3,15 +3,15 @@ use Rattle.std.proofs.Common.{◌≡◌, ◌≢◌, inl, inr, ℕ, zero, suc, �
 use Rattle.std.specs.Prelude.{Result, Ok, Err, ⊤}
 use Rattle.syntax65.specs.Tokens.{Lexeme}
 use Rattle.syntax65.specs.Trees.{Tree, number, here, name, cheap, forward, backward, unary, binary}
-use Rattle.syntax65.specs.Expressions.{AreNames, level_of, opening_at, binary_at, text_at, leaf_of, closes_at, Parts, last_part, next_part, no_part, behind_part, Phrase, a_leaf, a_name, a_global, prefixed, enclosed, of_level, joined, negated, NoOperator, Stops, BeginsOperand, OpensLevel, no_operand, no_name, no_global, too_deep, in_prefixed, in_enclosed, not_closed, in_first, in_next, negation_too_deep, in_negated, IsLevel, IsPhrase}
-use Rattle.base65.specs.Own.{IsOwn}
-use Rattle.syntax65.specs.Faults.{is_expr_outside}
-use Rattle.syntax65.specs.Laws.{SomeParseLaw}
+use Rattle.syntax65.specs.Expressions.{AreNames, level_of, opening_at, binary_at, text_at, leaf_of, closes_at, HasParts, last_part, next_part, no_part, after_part, Phrase, a_leaf, a_name, a_global, prefixed, enclosed, of_level, joined, negated, NoOperator, PhraseFailsAt, BeginsOperand, OpensLevel, no_operand, no_name, no_global, too_deep, in_prefixed, in_enclosed, not_closed, in_first, in_next, negation_too_deep, in_negated, IsLevel, IsPhrase}
+use Rattle.base65.specs.SystemErrors.{IsNoSystemError}
+use Rattle.syntax65.specs.Faults.{is_expr_system_error}
+use Rattle.syntax65.specs.Laws.{ParseExists}
 use Rattle.base65.specs.declared.values.Op1.{Op1}
 use Rattle.base65.specs.declared.values.Op1.TheVariants.{Not}
 use Rattle.base65.specs.declared.values.Op2.{Op2}
-use Rattle.syntax65.specs.declared.expressions.words.Opening.{Opening}
-use Rattle.syntax65.specs.declared.expressions.words.Opening.TheVariants.{Number, Here, Cheap, Forward, Backward, Name, Scope, Prefix, Parenthesis, Negation, Nothing}
+use Rattle.syntax65.specs.declared.expressions.words.OperandStart.{OperandStart}
+use Rattle.syntax65.specs.declared.expressions.words.OperandStart.TheVariants.{Number, Here, Cheap, Forward, Backward, Name, Scope, Prefix, Parenthesis, Negation, Nothing}
 use Rattle.syntax65.specs.declared.expressions.words.ExprFault.{ExprFault}
 use Rattle.syntax65.specs.declared.expressions.words.ExprFault.TheVariants.{OperandExpected, ParenthesisExpected, TooDeep}
 use Rattle.syntax65.proofs.Phrases.{level_zero, whole_phrase}
@@ -19,15 +19,15 @@ use Rattle.syntax65.proofs.SomeReading.{Decided, is_same}
 
 -- ---- What a token is told by.
 
-is_name : (o : Opening) → Decided (o ≡ Name)
+is_name : (o : OperandStart) → Decided (o ≡ Name)
 is_name Name = inl refl
 is_name _ = inr (λ e. cc)
 
-is_scope : (o : Opening) → Decided (o ≡ Scope)
+is_scope : (o : OperandStart) → Decided (o ≡ Scope)
 is_scope Scope = inl refl
 is_scope _ = inr (λ e. cc)
 
-is_negation : (o : Opening) → Decided (o ≡ Negation)
+is_negation : (o : OperandStart) → Decided (o ≡ Negation)
 is_negation Negation = inl refl
 is_negation _ = inr (λ e. cc)
 
@@ -48,7 +48,7 @@ HasNames ts i = (q : Result (List (List ℕ) × ℕ) ExprFault) × AreNames ts i
 
 more_names : (ts : List Lexeme) (i : ℕ) → opening_at ts i ≡ Name → opening_at ts (i + 1) ≡ Scope → (q : Result (List (List ℕ) × ℕ) ExprFault) → AreNames ts (i + 2) q → HasNames ts i
 more_names ts i h scope (Ok x) n = (Ok (text_at ts i ∷ x.0, x.1), next_part i x.1 x.0 h scope n)
-more_names ts i h scope (Err f) n = (Err OperandExpected, (refl, (n.1.0, behind_part i n.1.0 h scope n.1.1)))
+more_names ts i h scope (Err f) n = (Err OperandExpected, (refl, (n.1.0, after_part i n.1.0 h scope n.1.1)))
 
 names_from : (size : ℕ) (ts : List Lexeme) (i : ℕ) → length ts ≤ size + i → HasNames ts i
 names_from zero ts i le = by (is_name (opening_at ts i))
@@ -68,7 +68,7 @@ names_at ts i = names_from (length ts) ts i (omega arith)
 
 -- ---- Phrases go on.
 
-parts_go_on : (ts : List Lexeme) (i j : ℕ) (p : List (List ℕ)) → Parts ts i j p → i < j
+parts_go_on : (ts : List Lexeme) (i j : ℕ) (p : List (List ℕ)) → HasParts ts i j p → i < j
 parts_go_on ts _ _ _ (last_part i h stop) = omega arith
 parts_go_on ts _ _ _ (next_part i j p h scope n) = omega (arith, parts_go_on ts (i + 2) j p n)
 
@@ -95,10 +95,10 @@ abbrev Inside : List Lexeme → ℕ → Type 0
 Inside ts zero = ⊤
 Inside ts (suc room) = (i : ℕ) → HasLevel ts room 0 i × HasLevel ts room 6 i
 
-leaf : (ts : List Lexeme) (room i : ℕ) (o : Opening) (t : Tree) → opening_at ts i ≡ o → leaf_of o (text_at ts i) ≡ Some t → HasLevel ts room 0 i
+leaf : (ts : List Lexeme) (room i : ℕ) (o : OperandStart) (t : Tree) → opening_at ts i ≡ o → leaf_of o (text_at ts i) ≡ Some t → HasLevel ts room 0 i
 leaf ts room i o t e h = (Ok (t, i + 1), record { phrase = a_leaf room i t (ap (λ p. leaf_of p (text_at ts i)) e ∙ h); ends = level_zero ts (i + 1) })
 
-nothing : (ts : List Lexeme) (room i : ℕ) (o : Opening) → opening_at ts i ≡ o → (BeginsOperand o → ⊥) → HasLevel ts room 0 i
+nothing : (ts : List Lexeme) (room i : ℕ) (o : OperandStart) → opening_at ts i ≡ o → (BeginsOperand o → ⊥) → HasLevel ts room 0 i
 nothing ts room i o e never = (Err OperandExpected, (i, no_operand room i (λ h. never (subst BeginsOperand e h))))
 
 one_name : (ts : List Lexeme) (room i : ℕ) → opening_at ts i ≡ Name → (q : Result (List (List ℕ) × ℕ) ExprFault) → AreNames ts i q → HasLevel ts room 0 i
@@ -112,31 +112,31 @@ global_name ts room i h (Err f) n = (Err OperandExpected, (n.1.0, no_global room
 one_more : (room : ℕ) → room + 1 ≡ suc room
 one_more room = omega arith
 
-behind_prefix : (ts : List Lexeme) (room i : ℕ) (op : Op1) → opening_at ts i ≡ Prefix op → (r : Answer) → IsLevel ts room 0 (i + 1) r → HasLevel ts (room + 1) 0 i
-behind_prefix ts room i op e (Ok x) p = (Ok (unary op x.0, x.1), record { phrase = prefixed room i x.1 op x.0 e p.phrase; ends = p.ends })
-behind_prefix ts room i op e (Err f) (k, s) = (Err f, (k, in_prefixed room i k op f e s))
+following_prefix : (ts : List Lexeme) (room i : ℕ) (op : Op1) → opening_at ts i ≡ Prefix op → (r : Answer) → IsLevel ts room 0 (i + 1) r → HasLevel ts (room + 1) 0 i
+following_prefix ts room i op e (Ok x) p = (Ok (unary op x.0, x.1), record { phrase = prefixed room i x.1 op x.0 e p.phrase; ends = p.ends })
+following_prefix ts room i op e (Err f) (k, s) = (Err f, (k, in_prefixed room i k op f e s))
 
 by_prefix : (ts : List Lexeme) (room i : ℕ) (op : Op1) → opening_at ts i ≡ Prefix op → Inside ts room → HasLevel ts room 0 i
 by_prefix ts zero i op e inside = (Err TooDeep, (i, too_deep i (subst OpensLevel (sym e) tt)))
 by_prefix ts (suc room) i op e inside =
     let r = (inside (i + 1)).0 in
-    subst (λ (m : ℕ). HasLevel ts m 0 i) (one_more room) (behind_prefix ts room i op e r.0 r.1)
+    subst (λ (m : ℕ). HasLevel ts m 0 i) (one_more room) (following_prefix ts room i op e r.0 r.1)
 
 closed : (ts : List Lexeme) (room i j : ℕ) (t : Tree) → opening_at ts i ≡ Parenthesis → IsPhrase ts room 6 (i + 1) j t → (b : Bool) → closes_at ts j ≡ b → HasLevel ts (room + 1) 0 i
 closed ts room i j t e p true c = (Ok (t, j + 1), record { phrase = enclosed room i j t e p.phrase c; ends = level_zero ts (j + 1) })
 closed ts room i j t e p false c = (Err ParenthesisExpected, (j, not_closed room i j t e p.phrase p.ends c))
 
-behind_parenthesis : (ts : List Lexeme) (room i : ℕ) → opening_at ts i ≡ Parenthesis → (r : Answer) → IsLevel ts room 6 (i + 1) r → HasLevel ts (room + 1) 0 i
-behind_parenthesis ts room i e (Ok x) p = closed ts room i x.1 x.0 e p (closes_at ts x.1) refl
-behind_parenthesis ts room i e (Err f) (k, s) = (Err f, (k, in_enclosed room i k f e s))
+after_parenthesis : (ts : List Lexeme) (room i : ℕ) → opening_at ts i ≡ Parenthesis → (r : Answer) → IsLevel ts room 6 (i + 1) r → HasLevel ts (room + 1) 0 i
+after_parenthesis ts room i e (Ok x) p = closed ts room i x.1 x.0 e p (closes_at ts x.1) refl
+after_parenthesis ts room i e (Err f) (k, s) = (Err f, (k, in_enclosed room i k f e s))
 
 by_parenthesis : (ts : List Lexeme) (room i : ℕ) → opening_at ts i ≡ Parenthesis → Inside ts room → HasLevel ts room 0 i
 by_parenthesis ts zero i e inside = (Err TooDeep, (i, too_deep i (subst OpensLevel (sym e) tt)))
 by_parenthesis ts (suc room) i e inside =
     let r = (inside (i + 1)).1 in
-    subst (λ (m : ℕ). HasLevel ts m 0 i) (one_more room) (behind_parenthesis ts room i e r.0 r.1)
+    subst (λ (m : ℕ). HasLevel ts m 0 i) (one_more room) (after_parenthesis ts room i e r.0 r.1)
 
-by_opening : (ts : List Lexeme) (room i : ℕ) → Inside ts room → (o : Opening) → opening_at ts i ≡ o → HasLevel ts room 0 i
+by_opening : (ts : List Lexeme) (room i : ℕ) → Inside ts room → (o : OperandStart) → opening_at ts i ≡ o → HasLevel ts room 0 i
 by_opening ts room i inside (Number v) e = leaf ts room i (Number v) (number v) e refl
 by_opening ts room i inside Here e = leaf ts room i Here here e refl
 by_opening ts room i inside Cheap e = leaf ts room i Cheap (cheap (text_at ts i)) e refl
@@ -208,15 +208,15 @@ levels ts room inside (suc n) le i = subst (λ (m : ℕ). HasLevel ts room m i) 
 
 -- ---- Whole expressions.
 
-behind_negation : (ts : List Lexeme) (room i : ℕ) → opening_at ts i ≡ Negation → (r : Answer) → IsLevel ts room 6 (i + 1) r → HasLevel ts (room + 1) 6 i
-behind_negation ts room i e (Ok x) p = (Ok (unary Not x.0, x.1), record { phrase = negated room i x.1 x.0 e p.phrase; ends = p.ends })
-behind_negation ts room i e (Err f) (k, s) = (Err f, (k, in_negated room i k f e s))
+after_negation : (ts : List Lexeme) (room i : ℕ) → opening_at ts i ≡ Negation → (r : Answer) → IsLevel ts room 6 (i + 1) r → HasLevel ts (room + 1) 6 i
+after_negation ts room i e (Ok x) p = (Ok (unary Not x.0, x.1), record { phrase = negated room i x.1 x.0 e p.phrase; ends = p.ends })
+after_negation ts room i e (Err f) (k, s) = (Err f, (k, in_negated room i k f e s))
 
 by_negation : (ts : List Lexeme) (room i : ℕ) → opening_at ts i ≡ Negation → Inside ts room → HasLevel ts room 6 i
 by_negation ts zero i e inside = (Err TooDeep, (i, negation_too_deep i e))
 by_negation ts (suc room) i e inside =
     let r = (inside (i + 1)).1 in
-    subst (λ (m : ℕ). HasLevel ts m 6 i) (one_more room) (behind_negation ts room i e r.0 r.1)
+    subst (λ (m : ℕ). HasLevel ts m 6 i) (one_more room) (after_negation ts room i e r.0 r.1)
 
 plain : (ts : List Lexeme) (room i : ℕ) → opening_at ts i ≢ Negation → (r : Answer) → IsLevel ts room 5 i r → HasLevel ts room 6 i
 plain ts room i never (Ok x) p = (Ok x, whole_phrase ts room i x.1 x.0 p)
@@ -234,7 +234,7 @@ inside_of ts zero = tt
 inside_of ts (suc room) = λ i. (levels ts room (inside_of ts room) 0 (omega arith) i, whole ts room (inside_of ts room) i)
 
 -- no stop is want of memory
-stops_own : (ts : List Lexeme) (room n i k : ℕ) (f : ExprFault) → Stops ts room n i k f → is_expr_outside f ≡ false
+stops_own : (ts : List Lexeme) (room n i k : ℕ) (f : ExprFault) → PhraseFailsAt ts room n i k f → is_expr_system_error f ≡ false
 stops_own ts _ _ _ _ _ (no_operand room i h) = refl
 stops_own ts _ _ _ _ _ (no_name room i k h l) = refl
 stops_own ts _ _ _ _ _ (no_global room i k h l) = refl
@@ -247,9 +247,9 @@ stops_own ts _ _ _ _ _ (in_next room n i j k op t f p at level s) = stops_own ts
 stops_own ts _ _ _ _ _ (negation_too_deep i h) = refl
 stops_own ts _ _ _ _ _ (in_negated room i k f h s) = stops_own ts room 6 (i + 1) k f s
 
-level_own : (ts : List Lexeme) (room n i : ℕ) (r : Answer) → IsLevel ts room n i r → IsOwn is_expr_outside r
+level_own : (ts : List Lexeme) (room n i : ℕ) (r : Answer) → IsLevel ts room n i r → IsNoSystemError is_expr_system_error r
 level_own ts room n i (Ok x) p = tt
 level_own ts room n i (Err f) (k, s) = stops_own ts room n i k f s
 
-pub some_parse : SomeParseLaw
+pub some_parse : ParseExists
 some_parse ts = let r = whole ts 64 (inside_of ts 64) 0 in (r.0, r.1, level_own ts 64 6 0 r.0 r.1)

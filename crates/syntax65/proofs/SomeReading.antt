@@ -7,22 +7,22 @@ use Rattle.std.specs.Str.{bytes_eq}
 use Rattle.std.proofs.lemmas.Bool.Decides.{nat_tests}
 use Rattle.std.proofs.lemmas.List.{length-take-le, length-drop}
 use Rattle.std.proofs.lemmas.Slice.Eq.{bytes_eq-Decides}
-use Rattle.syntax65.specs.Forms.{class_of, is_blank, is_word, AllWord, IsName, IsRunOf, ClosesText, IsSizeLetter, spelling, IsForm, NotColonOrEqual, MayStand, Stands, IsLongest, NoForm, name_in, number_of, IsToken, Begins, FaultAt}
-use Rattle.syntax65.specs.Tokens.{Lexeme, after_blanks, IsEnd, IsNext, Reads, IsRead}
-use Rattle.base65.specs.Own.{IsOwn}
-use Rattle.syntax65.specs.Faults.{is_lex_outside}
-use Rattle.syntax65.specs.Laws.{SomeNextLaw, SomeReadingLaw}
+use Rattle.syntax65.specs.Forms.{class_of, is_blank, is_word, AllWord, IsName, IsRunOf, ClosesText, IsSizeLetter, spelling, IsForm, NotColonOrEqual, MayStand, TokenMatchesAt, IsLongest, NoForm, name_in, number_of, IsToken, BeginsWithClass, FaultAt}
+use Rattle.syntax65.specs.Tokens.{Lexeme, after_blanks, IsEnd, IsNextToken, HasTokens, IsRead}
+use Rattle.base65.specs.SystemErrors.{IsNoSystemError}
+use Rattle.syntax65.specs.Faults.{is_lex_system_error}
+use Rattle.syntax65.specs.Laws.{NextTokenExists, LexingExists}
 use Rattle.syntax65.specs.declared.lexing.places.Class.{Class}
 use Rattle.syntax65.specs.declared.lexing.places.Class.TheVariants.{Letter, Digit, Radix, At, Dot, Apostrophe, Quote, Colon, Semicolon, Blank, Other}
 use Rattle.syntax65.specs.declared.lexing.tokens.AddressSize.{AddressSize}
 use Rattle.syntax65.specs.declared.lexing.tokens.AddressSize.TheVariants.{ZeroPage, Absolute}
-use Rattle.syntax65.specs.declared.lexing.tokens.Mark.{Mark}
+use Rattle.syntax65.specs.declared.lexing.tokens.Punctuation.{Punctuation}
 use Rattle.syntax65.specs.declared.lexing.tokens.Token.{Token}
 use Rattle.syntax65.specs.declared.lexing.tokens.TokenKind.{TokenKind}
-use Rattle.syntax65.specs.declared.lexing.tokens.TokenKind.TheVariants.{Identifier, CheapName, Directive, Number, Character, Text, Unnamed, SizePrefix, Symbol}
+use Rattle.syntax65.specs.declared.lexing.tokens.TokenKind.TheVariants.{Identifier, CheapName, Directive, Number, Character, StringLiteral, Unnamed, SizePrefix, Symbol}
 use Rattle.syntax65.specs.declared.lexing.tokens.LexFault.{LexFault}
 use Rattle.syntax65.specs.declared.lexing.tokens.LexFault.TheVariants.{OutOfMemory, BadCharacter, BadNumber, StringNotClosed, LineTooLong, NameTooLong}
-use Rattle.syntax65.proofs.Fronts.{Behind, behind, empty, eqb_is}
+use Rattle.syntax65.proofs.Fronts.{Following, following, empty, eqb_is}
 use Rattle.syntax65.proofs.OneKind.{bare, mark_of, one_form, spelled_back}
 
 -- ---- What holds or doesn't.
@@ -96,22 +96,22 @@ size_letter_of b = by (one_of (is_same b 122) (is_same b 90)) (one_of (is_same b
 abbrev HasForm : List ℕ → Type 0
 HasForm text = ((k : TokenKind) × IsForm k text) ⊎ ((k : TokenKind) → IsForm k text → ⊥)
 
-mark_form : (text : List ℕ) → ((m : Mark) × (text ≡ spelling m)) ⊎ ((m : Mark) → text ≡ spelling m → ⊥)
+mark_form : (text : List ℕ) → ((m : Punctuation) × (text ≡ spelling m)) ⊎ ((m : Punctuation) → text ≡ spelling m → ⊥)
 mark_form text = by (same_bytes text (spelling (mark_of text)))
   where
-    by : Decided (text ≡ spelling (mark_of text)) → ((m : Mark) × (text ≡ spelling m)) ⊎ ((m : Mark) → text ≡ spelling m → ⊥)
+    by : Decided (text ≡ spelling (mark_of text)) → ((m : Punctuation) × (text ≡ spelling m)) ⊎ ((m : Punctuation) → text ≡ spelling m → ⊥)
     by (inl e) = inl (mark_of text, e)
     by (inr n) = inr (λ m e. n (e ∙ ap spelling (sym (ap mark_of e ∙ spelled_back m))))
 
 module _ (b : ℕ) (bs : List ℕ) where
   -- nothing that may stand behind a first byte of its class does
-  none_behind : (c : Class) → class_of b ≡ c → ((k : TokenKind) → IsForm k (b ∷ bs) → Behind c k bs → ⊥) → HasForm (b ∷ bs)
-  none_behind c e none = inr (λ k h. none k h (subst (λ (d : Class). Behind d k bs) e (behind k b bs h)))
+  none_after : (c : Class) → class_of b ≡ c → ((k : TokenKind) → IsForm k (b ∷ bs) → Following c k bs → ⊥) → HasForm (b ∷ bs)
+  none_after c e none = inr (λ k h. none k h (subst (λ (d : Class). Following d k bs) e (following k b bs h)))
 
   of_letter : class_of b ≡ Letter → HasForm (b ∷ bs)
   of_letter e = by (is_true (list_all is_word bs)) (same_bytes bs (58 ∷ [])) (size_letter_of b)
     where
-      never : (AllWord bs → ⊥) → (((s : AddressSize) → IsSizeLetter s b → ⊥) ⊎ (bs ≡ 58 ∷ [] → ⊥)) → (k : TokenKind) → IsForm k (b ∷ bs) → Behind Letter k bs → ⊥
+      never : (AllWord bs → ⊥) → (((s : AddressSize) → IsSizeLetter s b → ⊥) ⊎ (bs ≡ 58 ∷ [] → ⊥)) → (k : TokenKind) → IsForm k (b ∷ bs) → Following Letter k bs → ⊥
       never no_word no_prefix Identifier h w = no_word w
       never no_word (inl none) (SizePrefix s) h w = none s h.0
       never no_word (inr none) (SizePrefix s) h w = none w
@@ -120,63 +120,63 @@ module _ (b : ℕ) (bs : List ℕ) where
       by : Decided (AllWord bs) → Decided (bs ≡ 58 ∷ []) → (((s : AddressSize) × IsSizeLetter s b) ⊎ ((s : AddressSize) → IsSizeLetter s b → ⊥)) → HasForm (b ∷ bs)
       by (inl w) p s = inl (Identifier, (e, w))
       by (inr n) (inl p) (inl s) = inl (SizePrefix s.0, (s.1, p))
-      by (inr n) (inl p) (inr m) = none_behind Letter e (never n (inl m))
-      by (inr n) (inr m) s = none_behind Letter e (never n (inr m))
+      by (inr n) (inl p) (inr m) = none_after Letter e (never n (inl m))
+      by (inr n) (inr m) s = none_after Letter e (never n (inr m))
 
   of_digit : class_of b ≡ Digit → HasForm (b ∷ bs)
   of_digit e = by (is_true (list_all is_word bs))
     where
-      never : (AllWord bs → ⊥) → (k : TokenKind) → IsForm k (b ∷ bs) → Behind Digit k bs → ⊥
+      never : (AllWord bs → ⊥) → (k : TokenKind) → IsForm k (b ∷ bs) → Following Digit k bs → ⊥
       never none (Number v) h w = none w
       never none _ h w = w
 
       by : Decided (AllWord bs) → HasForm (b ∷ bs)
       by (inl w) = inl (Number 0, (rw e tt, w))
-      by (inr n) = none_behind Digit e (never n)
+      by (inr n) = none_after Digit e (never n)
 
   of_radix : class_of b ≡ Radix → HasForm (b ∷ bs)
   of_radix e = by (is_true (list_all is_word bs))
     where
-      never : (AllWord bs → ⊥) → (k : TokenKind) → IsForm k (b ∷ bs) → Behind Radix k bs → ⊥
+      never : (AllWord bs → ⊥) → (k : TokenKind) → IsForm k (b ∷ bs) → Following Radix k bs → ⊥
       never none (Number v) h w = none w
       never none _ h w = w
 
       by : Decided (AllWord bs) → HasForm (b ∷ bs)
       by (inl w) = inl (Number 0, (rw e tt, w))
-      by (inr n) = none_behind Radix e (never n)
+      by (inr n) = none_after Radix e (never n)
 
   of_at : class_of b ≡ At → HasForm (b ∷ bs)
   of_at e = by (is_name bs)
     where
-      never : (IsName bs → ⊥) → (k : TokenKind) → IsForm k (b ∷ bs) → Behind At k bs → ⊥
+      never : (IsName bs → ⊥) → (k : TokenKind) → IsForm k (b ∷ bs) → Following At k bs → ⊥
       never none CheapName h w = none w
       never none _ h w = w
 
       by : Decided (IsName bs) → HasForm (b ∷ bs)
       by (inl w) = inl (CheapName, (e, w))
-      by (inr n) = none_behind At e (never n)
+      by (inr n) = none_after At e (never n)
 
   of_dot : class_of b ≡ Dot → HasForm (b ∷ bs)
   of_dot e = by (is_name bs)
     where
-      never : (IsName bs → ⊥) → (k : TokenKind) → IsForm k (b ∷ bs) → Behind Dot k bs → ⊥
+      never : (IsName bs → ⊥) → (k : TokenKind) → IsForm k (b ∷ bs) → Following Dot k bs → ⊥
       never none Directive h w = none w
       never none _ h w = w
 
       by : Decided (IsName bs) → HasForm (b ∷ bs)
       by (inl w) = inl (Directive, (e, w))
-      by (inr n) = none_behind Dot e (never n)
+      by (inr n) = none_after Dot e (never n)
 
   of_quote : class_of b ≡ Quote → HasForm (b ∷ bs)
   of_quote e = by (closes bs)
     where
-      never : (ClosesText bs → ⊥) → (k : TokenKind) → IsForm k (b ∷ bs) → Behind Quote k bs → ⊥
-      never none Text h w = none w
+      never : (ClosesText bs → ⊥) → (k : TokenKind) → IsForm k (b ∷ bs) → Following Quote k bs → ⊥
+      never none StringLiteral h w = none w
       never none _ h w = w
 
       by : Decided (ClosesText bs) → HasForm (b ∷ bs)
-      by (inl w) = inl (Text, (e, w))
-      by (inr n) = none_behind Quote e (never n)
+      by (inl w) = inl (StringLiteral, (e, w))
+      by (inr n) = none_after Quote e (never n)
 
   of_apostrophe : class_of b ≡ Apostrophe → HasForm (b ∷ bs)
   of_apostrophe e = by (character bs)
@@ -189,37 +189,37 @@ module _ (b : ℕ) (bs : List ℕ) where
           then (inl h) = inl (c, ap (λ ys. c ∷ ys) h)
           then (inr n) = inr (λ d h. n (cc))
 
-      never : ((c : ℕ) → bs ≡ c ∷ 39 ∷ [] → ⊥) → (k : TokenKind) → IsForm k (b ∷ bs) → Behind Apostrophe k bs → ⊥
+      never : ((c : ℕ) → bs ≡ c ∷ 39 ∷ [] → ⊥) → (k : TokenKind) → IsForm k (b ∷ bs) → Following Apostrophe k bs → ⊥
       never none (Character c) h w = none c w
       never none _ h w = w
 
       by : (((c : ℕ) × (bs ≡ c ∷ 39 ∷ [])) ⊎ ((c : ℕ) → bs ≡ c ∷ 39 ∷ [] → ⊥)) → HasForm (b ∷ bs)
       by (inl w) = inl (Character w.0, (e, w.1))
-      by (inr n) = none_behind Apostrophe e (never n)
+      by (inr n) = none_after Apostrophe e (never n)
 
   of_colon : class_of b ≡ Colon → HasForm (b ∷ bs)
   of_colon e = by (one_of (is_run 43 bs) (is_run 45 bs)) (mark_form (b ∷ bs))
     where
-      never : (IsRunOf 43 bs ⊎ IsRunOf 45 bs → ⊥) → ((m : Mark) → b ∷ bs ≡ spelling m → ⊥) → (k : TokenKind) → IsForm k (b ∷ bs) → Behind Colon k bs → ⊥
+      never : (IsRunOf 43 bs ⊎ IsRunOf 45 bs → ⊥) → ((m : Punctuation) → b ∷ bs ≡ spelling m → ⊥) → (k : TokenKind) → IsForm k (b ∷ bs) → Following Colon k bs → ⊥
       never no_run no_mark Unnamed h w = no_run w
       never no_run no_mark (Symbol m) h w = no_mark m h
       never no_run no_mark _ h w = w
 
-      by : Decided (IsRunOf 43 bs ⊎ IsRunOf 45 bs) → (((m : Mark) × (b ∷ bs ≡ spelling m)) ⊎ ((m : Mark) → b ∷ bs ≡ spelling m → ⊥)) → HasForm (b ∷ bs)
+      by : Decided (IsRunOf 43 bs ⊎ IsRunOf 45 bs) → (((m : Punctuation) × (b ∷ bs ≡ spelling m)) ⊎ ((m : Punctuation) → b ∷ bs ≡ spelling m → ⊥)) → HasForm (b ∷ bs)
       by (inl w) m = inl (Unnamed, (e, w))
       by (inr n) (inl m) = inl (Symbol m.0, m.1)
-      by (inr n) (inr m) = none_behind Colon e (never n m)
+      by (inr n) (inr m) = none_after Colon e (never n m)
 
   of_other : class_of b ≡ Other → HasForm (b ∷ bs)
   of_other e = by (mark_form (b ∷ bs))
     where
-      never : ((m : Mark) → b ∷ bs ≡ spelling m → ⊥) → (k : TokenKind) → IsForm k (b ∷ bs) → Behind Other k bs → ⊥
+      never : ((m : Punctuation) → b ∷ bs ≡ spelling m → ⊥) → (k : TokenKind) → IsForm k (b ∷ bs) → Following Other k bs → ⊥
       never no_mark (Symbol m) h w = no_mark m h
       never no_mark _ h w = w
 
-      by : (((m : Mark) × (b ∷ bs ≡ spelling m)) ⊎ ((m : Mark) → b ∷ bs ≡ spelling m → ⊥)) → HasForm (b ∷ bs)
+      by : (((m : Punctuation) × (b ∷ bs ≡ spelling m)) ⊎ ((m : Punctuation) → b ∷ bs ≡ spelling m → ⊥)) → HasForm (b ∷ bs)
       by (inl m) = inl (Symbol m.0, m.1)
-      by (inr m) = none_behind Other e (never m)
+      by (inr m) = none_after Other e (never m)
 
   of_class : (c : Class) → class_of b ≡ c → HasForm (b ∷ bs)
   of_class Letter e = of_letter e
@@ -230,8 +230,8 @@ module _ (b : ℕ) (bs : List ℕ) where
   of_class Apostrophe e = of_apostrophe e
   of_class Quote e = of_quote e
   of_class Colon e = of_colon e
-  of_class Semicolon e = none_behind Semicolon e (λ k h w. w)
-  of_class Blank e = none_behind Blank e (λ k h w. w)
+  of_class Semicolon e = none_after Semicolon e (λ k h w. w)
+  of_class Blank e = none_after Blank e (λ k h w. w)
   of_class Other e = of_other e
 
 form_of : (text : List ℕ) → HasForm text
@@ -257,7 +257,7 @@ same_stand : (first : Bool) (j k : TokenKind) (bs : List ℕ) → bare j ≡ bar
 same_stand first j k bs e h = grind (arith, common_steps)
 
 abbrev StandsAny : Bool → ℕ → List ℕ → Type 0
-StandsAny first n here = ((k : TokenKind) × Stands first k n here) ⊎ ((k : TokenKind) → Stands first k n here → ⊥)
+StandsAny first n here = ((k : TokenKind) × TokenMatchesAt first k n here) ⊎ ((k : TokenKind) → TokenMatchesAt first k n here → ⊥)
 
 stands_any : (first : Bool) (n : ℕ) (here : List ℕ) → n ≤ length here → StandsAny first n here
 stands_any first n here le = by (form_of (take n here))
@@ -274,20 +274,20 @@ abbrev Longest : Bool → List ℕ → Type 0
 Longest first here = ((k : TokenKind) × (n : ℕ) × IsLongest first k n here) ⊎ NoForm first here
 
 abbrev NoneAbove : Bool → ℕ → List ℕ → Type 0
-NoneAbove first n here = (j : TokenKind) (m : ℕ) → n < m → Stands first j m here → ⊥
+NoneAbove first n here = (j : TokenKind) (m : ℕ) → n < m → TokenMatchesAt first j m here → ⊥
 
 search_down : (first : Bool) (here : List ℕ) (n : ℕ) → n ≤ length here → NoneAbove first n here → Longest first here
 search_down first here zero le above = inr (elim_size)
   where
-    elim_size : (k : TokenKind) (n : ℕ) → Stands first k n here → ⊥
+    elim_size : (k : TokenKind) (n : ℕ) → TokenMatchesAt first k n here → ⊥
     elim_size k zero s = empty first k here s
     elim_size k (suc n) s = above k (suc n) (omega arith) s
 search_down first here (suc n) le above = by (stands_any first (suc n) here le) (search_down first here n (omega arith))
   where
-    below : ((k : TokenKind) → Stands first k (suc n) here → ⊥) → NoneAbove first n here
+    below : ((k : TokenKind) → TokenMatchesAt first k (suc n) here → ⊥) → NoneAbove first n here
     below none j m lt s =
         either (eqb m (suc n))
-        (λ e. none j (subst (λ (i : ℕ). Stands first j i here) (eqb_is m (suc n) e) s))
+        (λ e. none j (subst (λ (i : ℕ). TokenMatchesAt first j i here) (eqb_is m (suc n) e) s))
         (λ e. above j m (grind (arith, nat_tests)) s)
 
     by : StandsAny first (suc n) here → (NoneAbove first n here → Longest first here) → Longest first here
@@ -302,7 +302,7 @@ longest_at first here = search_down first here (length here) (omega arith) (λ j
 abbrev TokenOrFault : Bool → List ℕ → Type 0
 TokenOrFault first here = ((k : TokenKind) × (n : ℕ) × IsToken first k n here) ⊎ ((fault : LexFault) × FaultAt first here fault)
 
-begins_quote : (here : List ℕ) → Decided (Begins Quote here)
+begins_quote : (here : List ℕ) → Decided (BeginsWithClass Quote here)
 begins_quote [] = inr (λ h. h)
 begins_quote (b ∷ bs) = same_class (class_of b) Quote
 
@@ -334,7 +334,7 @@ of_longest first here Identifier n l = named first here Identifier n l (λ short
 of_longest first here CheapName n l = named first here CheapName n l (λ short. record { longest = l; short = short; value = tt })
 of_longest first here Directive n l = named first here Directive n l (λ short. record { longest = l; short = short; value = tt })
 of_longest first here (Character c) n l = named first here (Character c) n l (λ short. record { longest = l; short = short; value = tt })
-of_longest first here Text n l = named first here Text n l (λ short. record { longest = l; short = short; value = tt })
+of_longest first here StringLiteral n l = named first here StringLiteral n l (λ short. record { longest = l; short = short; value = tt })
 of_longest first here Unnamed n l = named first here Unnamed n l (λ short. record { longest = l; short = short; value = tt })
 of_longest first here (SizePrefix s) n l = named first here (SizePrefix s) n l (λ short. record { longest = l; short = short; value = tt })
 of_longest first here (Symbol m) n l = named first here (Symbol m) n l (λ short. record { longest = l; short = short; value = tt })
@@ -342,7 +342,7 @@ of_longest first here (Symbol m) n l = named first here (Symbol m) n l (λ short
 token_or_fault : (first : Bool) (here : List ℕ) → TokenOrFault first here
 token_or_fault first here = by (longest_at first here) (begins_quote here)
   where
-    by : Longest first here → Decided (Begins Quote here) → TokenOrFault first here
+    by : Longest first here → Decided (BeginsWithClass Quote here) → TokenOrFault first here
     by (inl l) q = of_longest first here l.0 l.1 l.2
     by (inr none) (inl q) = inr (StringNotClosed, (none, q))
     by (inr none) (inr no_quote) = inr (BadCharacter, (none, no_quote))
@@ -354,14 +354,14 @@ is_end [] = inl tt
 is_end (b ∷ bs) = same_class (class_of b) Semicolon
 
 abbrev IsReadFrom : Bool → List ℕ → Type 0
-IsReadFrom first line = (ts : List Lexeme) × (end : Option LexFault) × Reads first line ts end
+IsReadFrom first line = (ts : List Lexeme) × (end : Option LexFault) × HasTokens first line ts end
 
 token_size : (first : Bool) (k : TokenKind) (n : ℕ) (here : List ℕ) → IsToken first k n here → 0 < n
 token_size first k zero here t = absurd (empty first k here t.longest.stands)
 token_size first k (suc n) here t = omega arith
 
-token_behind : (first : Bool) (line : List ℕ) (k : TokenKind) (n : ℕ) → IsToken first k n (after_blanks line) → IsReadFrom false (drop n (after_blanks line)) → IsReadFrom first line
-token_behind first line k n t rest =
+token_after : (first : Bool) (line : List ℕ) (k : TokenKind) (n : ℕ) → IsToken first k n (after_blanks line) → IsReadFrom false (drop n (after_blanks line)) → IsReadFrom first line
+token_after first line k n t rest =
     let here : List ℕ = after_blanks line in
     let room = t.longest.stands.room in
     let size : n ≡ length (take n here) = sym (length-take-le n here room) in (
@@ -370,7 +370,7 @@ token_behind first line k n t rest =
       (
         ap (λ m. take m here) size,
         subst (λ (m : ℕ). IsToken first k m here) size t,
-        subst (λ (m : ℕ). Reads false (drop m here) rest.0 rest.1) size rest.2,
+        subst (λ (m : ℕ). HasTokens false (drop m here) rest.0 rest.1) size rest.2,
       ),
     )
 
@@ -388,10 +388,10 @@ read_from (suc size) first line le = by (is_end (after_blanks line)) (token_or_f
     by : Decided (IsEnd (after_blanks line)) → TokenOrFault first (after_blanks line) → ((n : ℕ) → length (drop n (after_blanks line)) ≤ size → IsReadFrom false (drop n (after_blanks line))) → IsReadFrom first line
     by (inl e) t more = ([], None, e)
     by (inr never) (inr f) more = ([], Some f.0, (never, f.1))
-    by (inr never) (inl t) more = token_behind first line t.0 t.1 t.2 (more t.1 (shorter first line t.0 t.1 size le t.2))
+    by (inr never) (inl t) more = token_after first line t.0 t.1 t.2 (more t.1 (shorter first line t.0 t.1 size le t.2))
 
 -- no fault of a place is want of memory, or that the line is too long
-fault_stands : (first : Bool) (line : List ℕ) (ts : List Lexeme) (fault : LexFault) → Reads first line ts (Some fault) → (fault ≡ OutOfMemory) ⊎ (fault ≡ LineTooLong) → ⊥
+fault_stands : (first : Bool) (line : List ℕ) (ts : List Lexeme) (fault : LexFault) → HasTokens first line ts (Some fault) → (fault ≡ OutOfMemory) ⊎ (fault ≡ LineTooLong) → ⊥
 fault_stands first line [] OutOfMemory h e = h.1
 fault_stands first line [] LineTooLong h e = h.1
 fault_stands first line [] fault h (inl e) = cc
@@ -399,9 +399,9 @@ fault_stands first line [] fault h (inr e) = cc
 fault_stands first line (t ∷ ts) fault h e = fault_stands false (drop (length t.1) (after_blanks line)) ts fault h.2 e
 
 abbrev HasReading : List ℕ → Type 0
-HasReading line = (r : Result (List Lexeme) LexFault) × IsRead line r × IsOwn is_lex_outside r
+HasReading line = (r : Result (List Lexeme) LexFault) × IsRead line r × IsNoSystemError is_lex_system_error r
 
-lost : (line : List ℕ) → length line ≤ 4096 → (ts : List Lexeme) (fault : LexFault) → Reads true line ts (Some fault) → HasReading line
+lost : (line : List ℕ) → length line ≤ 4096 → (ts : List Lexeme) (fault : LexFault) → HasTokens true line ts (Some fault) → HasReading line
 lost line le ts OutOfMemory h = absurd (fault_stands true line ts OutOfMemory h (inl refl))
 lost line le ts LineTooLong h = absurd (fault_stands true line ts LineTooLong h (inr refl))
 lost line le ts BadCharacter h = (Err BadCharacter, (le, (ts, h)), refl)
@@ -409,11 +409,11 @@ lost line le ts BadNumber h = (Err BadNumber, (le, (ts, h)), refl)
 lost line le ts StringNotClosed h = (Err StringNotClosed, (le, (ts, h)), refl)
 lost line le ts NameTooLong h = (Err NameTooLong, (le, (ts, h)), refl)
 
-read_whole : (line : List ℕ) → length line ≤ 4096 → (ts : List Lexeme) (end : Option LexFault) → Reads true line ts end → HasReading line
+read_whole : (line : List ℕ) → length line ≤ 4096 → (ts : List Lexeme) (end : Option LexFault) → HasTokens true line ts end → HasReading line
 read_whole line le ts None h = (Ok ts, (le, h), tt)
 read_whole line le ts (Some fault) h = lost line le ts fault h
 
-pub some_reading : SomeReadingLaw
+pub some_reading : LexingExists
 some_reading line =
     either (nat_le (length line) 4096)
     (λ e. (let r = read_from (length line) true line (omega arith) in read_whole line (grind (arith, nat_tests)) r.0 r.1 r.2))
@@ -422,7 +422,7 @@ some_reading line =
 -- ---- The next token of what is left of a line.
 
 abbrev HasNext : Bool → List ℕ → Type 0
-HasNext first rest = (r : Result (Option Token) LexFault) × (after : Bool) × (left : List ℕ) × IsNext first rest r after left × IsOwn is_lex_outside r
+HasNext first rest = (r : Result (Option Token) LexFault) × (after : Bool) × (left : List ℕ) × IsNextToken first rest r after left × IsNoSystemError is_lex_system_error r
 
 token_of : TokenKind → List ℕ → Token
 token_of k text = record { kind = k; text = record { ref_ptr = (0, 0); now = text } }
@@ -439,16 +439,16 @@ next_token first rest k n t =
       λ us end more. (
         ap (λ m. take m here) size,
         subst (λ (m : ℕ). IsToken first k m here) size t,
-        subst (λ (m : ℕ). Reads false (drop m here) us end) size more,
+        subst (λ (m : ℕ). HasTokens false (drop m here) us end) size more,
       ),
       tt,
     )
 
-fault_own : (first : Bool) (here : List ℕ) (fault : LexFault) → FaultAt first here fault → is_lex_outside fault ≡ false
+fault_own : (first : Bool) (here : List ℕ) (fault : LexFault) → FaultAt first here fault → is_lex_system_error fault ≡ false
 fault_own first here OutOfMemory h = absurd h
 fault_own first here _ h = refl
 
-pub some_next : SomeNextLaw
+pub some_next : NextTokenExists
 some_next first rest = by (is_end (after_blanks rest)) (token_or_fault first (after_blanks rest))
   where
     by : Decided (IsEnd (after_blanks rest)) → TokenOrFault first (after_blanks rest) → HasNext first rest

@@ -3,15 +3,15 @@ use Rattle.std.specs.Prelude.{ℕ, ◌-◌, ◌==◌, ◌&&◌, ◌||◌, Bool, 
 use Rattle.std.specs.Option.{option_map_or}
 use Rattle.std.specs.Str.{str_eq_ignore_ascii_case}
 use Rattle.syntax65.specs.Mnemonics.{mnemonic_of}
-use Rattle.syntax65.specs.declared.lexing.tokens.Mark.{Mark}
-use Rattle.syntax65.specs.declared.lexing.tokens.Mark.TheVariants as mark
+use Rattle.syntax65.specs.declared.lexing.tokens.Punctuation.{Punctuation}
+use Rattle.syntax65.specs.declared.lexing.tokens.Punctuation.TheVariants as mark
 use Rattle.syntax65.specs.declared.lexing.tokens.TokenKind.{TokenKind}
 use Rattle.syntax65.specs.declared.lexing.tokens.TokenKind.TheVariants as token
 use Rattle.base65.specs.declared.values.Op1.TheVariants as one
 use Rattle.base65.specs.declared.values.Op2.{Op2}
 use Rattle.base65.specs.declared.values.Op2.TheVariants.{Multiply, Divide, Modulo, BitAnd, BitXor, ShiftLeft, ShiftRight, Add, Subtract, BitOr, Equal, NotEqual, Less, Greater, LessOrEqual, GreaterOrEqual, And, Xor, Or}
-use Rattle.syntax65.specs.declared.expressions.words.Opening.{Opening}
-use Rattle.syntax65.specs.declared.expressions.words.Opening.TheVariants.{Number, Here, Cheap, Forward, Backward, Name, Scope, Prefix, Parenthesis, Negation, Nothing}
+use Rattle.syntax65.specs.declared.expressions.words.OperandStart.{OperandStart}
+use Rattle.syntax65.specs.declared.expressions.words.OperandStart.TheVariants.{Number, Here, Cheap, Forward, Backward, Name, Scope, Prefix, Parenthesis, Negation, Nothing}
 use Rattle.syntax65.specs.Tokens.{Lexeme}
 use Rattle.syntax65.specs.Trees.{Tree, number, here, name, cheap, forward, backward, unary, binary}
 use Rattle.base65.specs.declared.values.Op1.{Op1}
@@ -30,10 +30,10 @@ abbrev pub is_reserved : List ℕ → Bool
 is_reserved text = is_register text || is_some (mnemonic_of text)
 
 -- one `+` or `-` is the first label
-abbrev pub unnamed : List ℕ → Opening
-unnamed text = if nat_lt 0 (length text - 1) && (slice_index text 1 == 43) then Forward (length text - 1) else Backward (length text - 1)
+abbrev pub unnamed_start : List ℕ → OperandStart
+unnamed_start text = if nat_lt 0 (length text - 1) && (slice_index text 1 == 43) then Forward (length text - 1) else Backward (length text - 1)
 
-abbrev pub opening_of_mark : Mark → Opening
+abbrev pub opening_of_mark : Punctuation → OperandStart
 opening_of_mark mark.Star = Here
 opening_of_mark mark.Scope = Scope
 opening_of_mark mark.OpenParenthesis = Parenthesis
@@ -46,7 +46,7 @@ opening_of_mark mark.Greater = Prefix one.HighByte
 opening_of_mark mark.Caret = Prefix one.BankByte
 opening_of_mark _ = Nothing
 
-abbrev pub opening_of_word : List ℕ → Opening
+abbrev pub opening_of_word : List ℕ → OperandStart
 opening_of_word text =
     if str_eq_ignore_ascii_case text (codes ".bitnot") then Prefix one.BitNot
     else (if str_eq_ignore_ascii_case text (codes ".lobyte") then Prefix one.LowByte
@@ -55,17 +55,17 @@ opening_of_word text =
     else (if str_eq_ignore_ascii_case text (codes ".not") then Negation else Nothing))))
 
 -- how a token of this kind can begin an operand
-abbrev pub opening_of : TokenKind → List ℕ → Opening
+abbrev pub opening_of : TokenKind → List ℕ → OperandStart
 opening_of token.Identifier text = if is_reserved text then Nothing else Name
 opening_of token.CheapName text = Cheap
 opening_of token.Directive text = opening_of_word text
 opening_of (token.Number v) text = Number v
 opening_of (token.Character c) text = Number c
-opening_of token.Unnamed text = unnamed text
+opening_of token.Unnamed text = unnamed_start text
 opening_of (token.Symbol m) text = opening_of_mark m
 opening_of _ text = Nothing
 
-abbrev pub binary_of_mark : Mark → Option Op2
+abbrev pub binary_of_mark : Punctuation → Option Op2
 binary_of_mark mark.Star = Some Multiply
 binary_of_mark mark.Slash = Some Divide
 binary_of_mark mark.Ampersand = Some BitAnd
@@ -81,8 +81,8 @@ binary_of_mark mark.Less = Some Less
 binary_of_mark mark.Greater = Some Greater
 binary_of_mark mark.LessOrEqual = Some LessOrEqual
 binary_of_mark mark.GreaterOrEqual = Some GreaterOrEqual
-binary_of_mark mark.BothTrue = Some And
-binary_of_mark mark.EitherTrue = Some Or
+binary_of_mark mark.AndAnd = Some And
+binary_of_mark mark.OrOr = Some Or
 binary_of_mark _ = None
 
 abbrev pub binary_of_word : List ℕ → Option Op2
@@ -128,7 +128,7 @@ level_of Or = 5
 -- ---- The phrases of the expression grammar, by places in a list of tokens.
 
 -- how the token at a place can begin an operand
-abbrev pub opening_at : List Lexeme → ℕ → Opening
+abbrev pub opening_at : List Lexeme → ℕ → OperandStart
 opening_at ts i = option_map_or (λ t. opening_of t.0 t.1) (slice_get ts i) Nothing
 
 -- the operator for two operands at a place
@@ -147,7 +147,7 @@ abbrev pub closes_at : List Lexeme → ℕ → Bool
 closes_at ts i = option_map_or (λ t. is_close t.0) (slice_get ts i) false
 
 -- the operand of one token
-abbrev pub leaf_of : Opening → List ℕ → Option Tree
+abbrev pub leaf_of : OperandStart → List ℕ → Option Tree
 leaf_of (Number v) text = Some (number v)
 leaf_of Here text = Some here
 leaf_of Cheap text = Some (cheap text)
@@ -156,21 +156,21 @@ leaf_of (Backward n) text = Some (backward n)
 leaf_of _ text = None
 
 -- names with `::` between them, as far as these go on
-pub data Parts (ts : List Lexeme) : (i j : ℕ) → List (List ℕ) → Type 0 where
-  last_part : (i : ℕ) → opening_at ts i ≡ Name → opening_at ts (i + 1) ≢ Scope → Parts ts i (i + 1) (text_at ts i ∷ [])
-  next_part : (i j : ℕ) (parts : List (List ℕ)) → opening_at ts i ≡ Name → opening_at ts (i + 1) ≡ Scope → Parts ts (i + 2) j parts → Parts ts i j (text_at ts i ∷ parts)
+pub data HasParts (ts : List Lexeme) : (i j : ℕ) → List (List ℕ) → Type 0 where
+  last_part : (i : ℕ) → opening_at ts i ≡ Name → opening_at ts (i + 1) ≢ Scope → HasParts ts i (i + 1) (text_at ts i ∷ [])
+  next_part : (i j : ℕ) (parts : List (List ℕ)) → opening_at ts i ≡ Name → opening_at ts (i + 1) ≡ Scope → HasParts ts (i + 2) j parts → HasParts ts i j (text_at ts i ∷ parts)
 
 -- a name is missing at k
 pub data LacksPart (ts : List Lexeme) : (i k : ℕ) → Type 0 where
   no_part : (i : ℕ) → opening_at ts i ≢ Name → LacksPart ts i i
-  behind_part : (i k : ℕ) → opening_at ts i ≡ Name → opening_at ts (i + 1) ≡ Scope → LacksPart ts (i + 2) k → LacksPart ts i k
+  after_part : (i k : ℕ) → opening_at ts i ≡ Name → opening_at ts (i + 1) ≡ Scope → LacksPart ts (i + 2) k → LacksPart ts i k
 
 -- The tokens from i up to j are a phrase of level n, with room for so many levels inside. Level 0 has the
 -- prefix operators, 1 to 5 the operators for two operands, and 6 the negation.
 pub data Phrase (ts : List Lexeme) : (room n i j : ℕ) → Tree → Type 0 where
   a_leaf : (room i : ℕ) (t : Tree) → leaf_of (opening_at ts i) (text_at ts i) ≡ Some t → Phrase ts room 0 i (i + 1) t
-  a_name : (room i j : ℕ) (parts : List (List ℕ)) → Parts ts i j parts → Phrase ts room 0 i j (name false parts)
-  a_global : (room i j : ℕ) (parts : List (List ℕ)) → opening_at ts i ≡ Scope → Parts ts (i + 1) j parts → Phrase ts room 0 i j (name true parts)
+  a_name : (room i j : ℕ) (parts : List (List ℕ)) → HasParts ts i j parts → Phrase ts room 0 i j (name false parts)
+  a_global : (room i j : ℕ) (parts : List (List ℕ)) → opening_at ts i ≡ Scope → HasParts ts (i + 1) j parts → Phrase ts room 0 i j (name true parts)
   prefixed : (room i j : ℕ) (op : Op1) (t : Tree) → opening_at ts i ≡ Prefix op → Phrase ts room 0 (i + 1) j t → Phrase ts (room + 1) 0 i j (unary op t)
   enclosed : (room i j : ℕ) (t : Tree) → opening_at ts i ≡ Parenthesis → Phrase ts room 6 (i + 1) j t → closes_at ts j ≡ true → Phrase ts (room + 1) 0 i (j + 1) t
   of_level : (room n i j : ℕ) (t : Tree) → Phrase ts room n i j t → Phrase ts room (n + 1) i j t
@@ -181,29 +181,29 @@ pub data Phrase (ts : List Lexeme) : (room n i j : ℕ) → Tree → Type 0 wher
 abbrev pub NoOperator : List Lexeme → ℕ → ℕ → Type 0
 NoOperator ts n j = (op : Op2) → binary_at ts j ≡ Some op → n < level_of op
 
-abbrev pub BeginsOperand : Opening → Type 0
+abbrev pub BeginsOperand : OperandStart → Type 0
 BeginsOperand Negation = ⊥
 BeginsOperand Nothing = ⊥
 BeginsOperand _ = ⊤
 
-abbrev pub OpensLevel : Opening → Type 0
+abbrev pub OpensLevel : OperandStart → Type 0
 OpensLevel (Prefix op) = ⊤
 OpensLevel Parenthesis = ⊤
 OpensLevel _ = ⊥
 
 -- a phrase of level n that begins at i can't go on at k
-pub data Stops (ts : List Lexeme) : (room n i k : ℕ) → ExprFault → Type 0 where
-  no_operand : (room i : ℕ) → (BeginsOperand (opening_at ts i) → ⊥) → Stops ts room 0 i i OperandExpected
-  no_name : (room i k : ℕ) → opening_at ts i ≡ Name → LacksPart ts i k → Stops ts room 0 i k OperandExpected
-  no_global : (room i k : ℕ) → opening_at ts i ≡ Scope → LacksPart ts (i + 1) k → Stops ts room 0 i k OperandExpected
-  too_deep : (i : ℕ) → OpensLevel (opening_at ts i) → Stops ts 0 0 i i TooDeep
-  in_prefixed : (room i k : ℕ) (op : Op1) (f : ExprFault) → opening_at ts i ≡ Prefix op → Stops ts room 0 (i + 1) k f → Stops ts (room + 1) 0 i k f
-  in_enclosed : (room i k : ℕ) (f : ExprFault) → opening_at ts i ≡ Parenthesis → Stops ts room 6 (i + 1) k f → Stops ts (room + 1) 0 i k f
-  not_closed : (room i j : ℕ) (t : Tree) → opening_at ts i ≡ Parenthesis → Phrase ts room 6 (i + 1) j t → NoOperator ts 6 j → closes_at ts j ≡ false → Stops ts (room + 1) 0 i j ParenthesisExpected
-  in_first : (room n i k : ℕ) (f : ExprFault) → (n ≡ 5 → opening_at ts i ≢ Negation) → Stops ts room n i k f → Stops ts room (n + 1) i k f
-  in_next : (room n i j k : ℕ) (op : Op2) (t : Tree) (f : ExprFault) → Phrase ts room (n + 1) i j t → binary_at ts j ≡ Some op → level_of op ≡ n + 1 → Stops ts room n (j + 1) k f → Stops ts room (n + 1) i k f
-  negation_too_deep : (i : ℕ) → opening_at ts i ≡ Negation → Stops ts 0 6 i i TooDeep
-  in_negated : (room i k : ℕ) (f : ExprFault) → opening_at ts i ≡ Negation → Stops ts room 6 (i + 1) k f → Stops ts (room + 1) 6 i k f
+pub data PhraseFailsAt (ts : List Lexeme) : (room n i k : ℕ) → ExprFault → Type 0 where
+  no_operand : (room i : ℕ) → (BeginsOperand (opening_at ts i) → ⊥) → PhraseFailsAt ts room 0 i i OperandExpected
+  no_name : (room i k : ℕ) → opening_at ts i ≡ Name → LacksPart ts i k → PhraseFailsAt ts room 0 i k OperandExpected
+  no_global : (room i k : ℕ) → opening_at ts i ≡ Scope → LacksPart ts (i + 1) k → PhraseFailsAt ts room 0 i k OperandExpected
+  too_deep : (i : ℕ) → OpensLevel (opening_at ts i) → PhraseFailsAt ts 0 0 i i TooDeep
+  in_prefixed : (room i k : ℕ) (op : Op1) (f : ExprFault) → opening_at ts i ≡ Prefix op → PhraseFailsAt ts room 0 (i + 1) k f → PhraseFailsAt ts (room + 1) 0 i k f
+  in_enclosed : (room i k : ℕ) (f : ExprFault) → opening_at ts i ≡ Parenthesis → PhraseFailsAt ts room 6 (i + 1) k f → PhraseFailsAt ts (room + 1) 0 i k f
+  not_closed : (room i j : ℕ) (t : Tree) → opening_at ts i ≡ Parenthesis → Phrase ts room 6 (i + 1) j t → NoOperator ts 6 j → closes_at ts j ≡ false → PhraseFailsAt ts (room + 1) 0 i j ParenthesisExpected
+  in_first : (room n i k : ℕ) (f : ExprFault) → (n ≡ 5 → opening_at ts i ≢ Negation) → PhraseFailsAt ts room n i k f → PhraseFailsAt ts room (n + 1) i k f
+  in_next : (room n i j k : ℕ) (op : Op2) (t : Tree) (f : ExprFault) → Phrase ts room (n + 1) i j t → binary_at ts j ≡ Some op → level_of op ≡ n + 1 → PhraseFailsAt ts room n (j + 1) k f → PhraseFailsAt ts room (n + 1) i k f
+  negation_too_deep : (i : ℕ) → opening_at ts i ≡ Negation → PhraseFailsAt ts 0 6 i i TooDeep
+  in_negated : (room i k : ℕ) (f : ExprFault) → opening_at ts i ≡ Negation → PhraseFailsAt ts room 6 (i + 1) k f → PhraseFailsAt ts (room + 1) 6 i k f
 
 -- a phrase that no operator follows
 pub record IsPhrase (ts : List Lexeme) (room n i j : ℕ) (t : Tree) : Type 0 where
@@ -213,7 +213,7 @@ pub record IsPhrase (ts : List Lexeme) (room n i j : ℕ) (t : Tree) : Type 0 wh
 -- what the tokens from i on are read as: a phrase of level n that no operator follows, or the first fault
 abbrev pub IsLevel : List Lexeme → (room n i : ℕ) → Result (Tree × ℕ) ExprFault → Type 0
 IsLevel ts room n i (Ok x) = IsPhrase ts room n i x.1 x.0
-IsLevel ts room n i (Err f) = (k : ℕ) × Stops ts room n i k f
+IsLevel ts room n i (Err f) = (k : ℕ) × PhraseFailsAt ts room n i k f
 
 -- what the tokens at the front are read as: an expression and how many tokens it has, or their first fault
 abbrev pub IsParsed : List Lexeme → Result (Tree × ℕ) ExprFault → Type 0
@@ -221,5 +221,5 @@ IsParsed ts r = IsLevel ts 64 6 0 r
 
 -- names with `::` between them from i on, or that one is missing
 abbrev pub AreNames : List Lexeme → ℕ → Result (List (List ℕ) × ℕ) ExprFault → Type 0
-AreNames ts i (Ok x) = Parts ts i x.1 x.0
+AreNames ts i (Ok x) = HasParts ts i x.1 x.0
 AreNames ts i (Err f) = (f ≡ OperandExpected) × ((k : ℕ) × LacksPart ts i k)

@@ -20,9 +20,9 @@ lex_fault_words lex.LineTooLong = codes "line too long"
 lex_fault_words lex.NameTooLong = codes "name too long"
 
 -- whether the fault comes from outside: from memory
-abbrev pub is_lex_outside : LexFault → Bool
-is_lex_outside lex.OutOfMemory = true
-is_lex_outside _ = false
+abbrev pub is_lex_system_error : LexFault → Bool
+is_lex_system_error lex.OutOfMemory = true
+is_lex_system_error _ = false
 
 abbrev pub expr_fault_words : ExprFault → List ℕ
 expr_fault_words expr.OutOfMemory = codes "out of memory"
@@ -30,9 +30,9 @@ expr_fault_words expr.OperandExpected = codes "operand expected"
 expr_fault_words expr.ParenthesisExpected = codes "parenthesis expected"
 expr_fault_words expr.TooDeep = codes "nested too deep"
 
-abbrev pub is_expr_outside : ExprFault → Bool
-is_expr_outside expr.OutOfMemory = true
-is_expr_outside _ = false
+abbrev pub is_expr_system_error : ExprFault → Bool
+is_expr_system_error expr.OutOfMemory = true
+is_expr_system_error _ = false
 
 -- ---- The faults of expansion: their words, and which of them come from outside.
 
@@ -58,10 +58,10 @@ expand_words NotUnderstood = codes "directive not understood"
 expand_words LineTooLong = codes "replaced line too long"
 
 -- memory ran out or the store failed
-abbrev pub is_outside : ExpandFault → Bool
-is_outside OutOfMemory = true
-is_outside FileError = true
-is_outside _ = false
+abbrev pub is_system_error : ExpandFault → Bool
+is_system_error OutOfMemory = true
+is_system_error FileError = true
+is_system_error _ = false
 
 -- the store failed
 abbrev pub is_failure : ExpandFault → Bool

@@ -7,10 +7,10 @@ use Rattle.std.specs.List.{list_all}
 use Rattle.base65.specs.Digit.{digits}
 use Rattle.syntax65.specs.declared.lexing.tokens.AddressSize.{AddressSize}
 use Rattle.syntax65.specs.declared.lexing.tokens.AddressSize.TheVariants.{ZeroPage, Absolute}
-use Rattle.syntax65.specs.declared.lexing.tokens.Mark.{Mark}
-use Rattle.syntax65.specs.declared.lexing.tokens.Mark.TheVariants.{Scope, Define, NotEqual, LessOrEqual, GreaterOrEqual, ShiftLeft, ShiftRight, BothTrue, EitherTrue, Colon as ColonMark, Plus, Minus, Star, Slash, Ampersand, Bar, Caret, Tilde, Less, Greater, Equal, Exclamation, OpenParenthesis, CloseParenthesis, Hash, Comma, OpenBrace, CloseBrace}
+use Rattle.syntax65.specs.declared.lexing.tokens.Punctuation.{Punctuation}
+use Rattle.syntax65.specs.declared.lexing.tokens.Punctuation.TheVariants.{Scope, Define, NotEqual, LessOrEqual, GreaterOrEqual, ShiftLeft, ShiftRight, AndAnd, OrOr, Colon as ColonMark, Plus, Minus, Star, Slash, Ampersand, Bar, Caret, Tilde, Less, Greater, Equal, Exclamation, OpenParenthesis, CloseParenthesis, Hash, Comma, OpenBrace, CloseBrace}
 use Rattle.syntax65.specs.declared.lexing.tokens.TokenKind.{TokenKind}
-use Rattle.syntax65.specs.declared.lexing.tokens.TokenKind.TheVariants.{Identifier, CheapName, Directive, Number, Character, Text, Unnamed, SizePrefix, Symbol}
+use Rattle.syntax65.specs.declared.lexing.tokens.TokenKind.TheVariants.{Identifier, CheapName, Directive, Number, Character, StringLiteral, Unnamed, SizePrefix, Symbol}
 use Rattle.syntax65.specs.declared.lexing.tokens.LexFault.{LexFault}
 use Rattle.syntax65.specs.declared.lexing.tokens.LexFault.TheVariants.{OutOfMemory, BadCharacter, BadNumber, StringNotClosed, LineTooLong, NameTooLong}
 
@@ -101,7 +101,7 @@ abbrev pub IsSizeLetter : AddressSize → ℕ → Type 0
 IsSizeLetter ZeroPage b = (b ≡ 122) ⊎ (b ≡ 90)
 IsSizeLetter Absolute b = (b ≡ 97) ⊎ (b ≡ 65)
 
-abbrev pub spelling : Mark → List ℕ
+abbrev pub spelling : Punctuation → List ℕ
 spelling Scope = codes "::"
 spelling Define = codes ":="
 spelling NotEqual = codes "<>"
@@ -109,8 +109,8 @@ spelling LessOrEqual = codes "<="
 spelling GreaterOrEqual = codes ">="
 spelling ShiftLeft = codes "<<"
 spelling ShiftRight = codes ">>"
-spelling BothTrue = codes "&&"
-spelling EitherTrue = codes "||"
+spelling AndAnd = codes "&&"
+spelling OrOr = codes "||"
 spelling ColonMark = codes ":"
 spelling Plus = codes "+"
 spelling Minus = codes "-"
@@ -144,7 +144,7 @@ IsForm CheapName (b ∷ bs) = (class_of b ≡ At) × IsName bs
 IsForm Directive (b ∷ bs) = (class_of b ≡ Dot) × IsName bs
 IsForm (Number v) (b ∷ bs) = StartsNumber (class_of b) × AllWord bs
 IsForm (Character c) (b ∷ bs) = (class_of b ≡ Apostrophe) × (bs ≡ c ∷ 39 ∷ [])
-IsForm Text (b ∷ bs) = (class_of b ≡ Quote) × ClosesText bs
+IsForm StringLiteral (b ∷ bs) = (class_of b ≡ Quote) × ClosesText bs
 IsForm Unnamed (b ∷ bs) = (class_of b ≡ Colon) × (IsRunOf 43 bs ⊎ IsRunOf 45 bs)
 IsForm (SizePrefix s) (b ∷ bs) = IsSizeLetter s b × (bs ≡ 58 ∷ [])
 IsForm (Symbol m) (b ∷ bs) = b ∷ bs ≡ spelling m
@@ -156,23 +156,23 @@ NotColonOrEqual (b ∷ bs) = (b ≢ 58) × (b ≢ 61)
 
 -- a size prefix isn't the line's first token, and neither `:` nor `=` stands right behind it
 abbrev pub MayStand : Bool → TokenKind → List ℕ → Type 0
-MayStand first (SizePrefix s) behind = (first ≡ false) × NotColonOrEqual behind
-MayStand first _ behind = ⊤
+MayStand first (SizePrefix s) following = (first ≡ false) × NotColonOrEqual following
+MayStand first _ following = ⊤
 
 -- the first n bytes are a text of this form that may stand here
-pub record Stands (first : Bool) (k : TokenKind) (n : ℕ) (here : List ℕ) : Type 0 where
+pub record TokenMatchesAt (first : Bool) (k : TokenKind) (n : ℕ) (here : List ℕ) : Type 0 where
   pub room : n ≤ length here
   pub form : IsForm k (take n here)
   pub allowed : MayStand first k (drop n here)
 
 -- and no longer one stands here
 pub record IsLongest (first : Bool) (k : TokenKind) (n : ℕ) (here : List ℕ) : Type 0 where
-  pub stands : Stands first k n here
-  pub longest : (j : TokenKind) (m : ℕ) → n < m → Stands first j m here → ⊥
+  pub stands : TokenMatchesAt first k n here
+  pub longest : (j : TokenKind) (m : ℕ) → n < m → TokenMatchesAt first j m here → ⊥
 
 -- nothing of any form stands here
 abbrev pub NoForm : Bool → List ℕ → Type 0
-NoForm first here = (k : TokenKind) (n : ℕ) → Stands first k n here → ⊥
+NoForm first here = (k : TokenKind) (n : ℕ) → TokenMatchesAt first k n here → ⊥
 
 -- the name in a text, without its `@` or `.`
 abbrev pub name_in : TokenKind → List ℕ → List ℕ
@@ -191,15 +191,15 @@ pub record IsToken (first : Bool) (k : TokenKind) (n : ℕ) (here : List ℕ) : 
   pub short : length (name_in k (take n here)) ≤ 200
   pub value : HasValue k (take n here)
 
-abbrev pub Begins : Class → List ℕ → Type 0
-Begins c [] = ⊥
-Begins c (b ∷ bs) = class_of b ≡ c
+abbrev pub BeginsWithClass : Class → List ℕ → Type 0
+BeginsWithClass c [] = ⊥
+BeginsWithClass c (b ∷ bs) = class_of b ≡ c
 
 -- no token stands here, and why
 abbrev pub FaultAt : Bool → List ℕ → LexFault → Type 0
 FaultAt first here OutOfMemory = ⊥
-FaultAt first here BadCharacter = NoForm first here × (Begins Quote here → ⊥)
+FaultAt first here BadCharacter = NoForm first here × (BeginsWithClass Quote here → ⊥)
 FaultAt first here BadNumber = (v n : ℕ) × IsLongest first (Number v) n here × (number_of (take n here) ≡ None)
-FaultAt first here StringNotClosed = NoForm first here × Begins Quote here
+FaultAt first here StringNotClosed = NoForm first here × BeginsWithClass Quote here
 FaultAt first here LineTooLong = ⊥
 FaultAt first here NameTooLong = (k : TokenKind) × (n : ℕ) × IsLongest first k n here × (200 < length (name_in k (take n here)))

@@ -66,8 +66,8 @@ name_of Txs = codes "txs"
 name_of Tya = codes "tya"
 
 -- the bytes are the name, in either case
-abbrev pub Spells : List ℕ → Mnemonic → Type 0
-Spells bytes m = map to_ascii_lowercase bytes ≡ name_of m
+abbrev pub SpellsMnemonic : List ℕ → Mnemonic → Type 0
+SpellsMnemonic bytes m = map to_ascii_lowercase bytes ≡ name_of m
 
 -- the mnemonic that the bytes spell
 unfoldable pub mnemonic_of : List ℕ → Option Mnemonic

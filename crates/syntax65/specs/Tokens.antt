@@ -8,8 +8,8 @@ use Rattle.syntax65.specs.declared.lexing.tokens.TokenKind.{TokenKind}
 use Rattle.syntax65.specs.declared.lexing.tokens.Token.{Token}
 use Rattle.syntax65.specs.declared.lexing.tokens.LexFault.{LexFault}
 use Rattle.syntax65.specs.declared.lexing.tokens.LexFault.TheVariants.{LineTooLong}
-use Rattle.base65.specs.Relations.{Answers}
-use Rattle.syntax65.specs.Faults.{is_lex_outside}
+use Rattle.base65.specs.Relations.{RefinesRel}
+use Rattle.syntax65.specs.Faults.{is_lex_system_error}
 use Rattle.syntax65.specs.declared.lexing.lines.Lexer.{Lexer}
 use Rattle.syntax65.specs.declared.lexing.lines.LineFront.{LineFront}
 use Rattle.syntax65.specs.declared.lexing.lines.LineTokens.{LineTokens}
@@ -33,23 +33,23 @@ IsEnd [] = ⊤
 IsEnd (b ∷ bs) = class_of b ≡ Semicolon
 
 -- how the tokens end: with the line, or at a place where no token stands
-abbrev pub Ends : Bool → Option LexFault → List ℕ → Type 0
-Ends first None here = IsEnd here
-Ends first (Some fault) here = (IsEnd here → ⊥) × FaultAt first here fault
+abbrev pub EndsTokens : Bool → Option LexFault → List ℕ → Type 0
+EndsTokens first None here = IsEnd here
+EndsTokens first (Some fault) here = (IsEnd here → ⊥) × FaultAt first here fault
 
 -- these tokens stand in the line one behind the other, and then it ends so
-abbrev pub Reads : Bool → List ℕ → List Lexeme → Option LexFault → Type 0
-Reads first line [] end = Ends first end (after_blanks line)
-Reads first line (t ∷ ts) end =
+abbrev pub HasTokens : Bool → List ℕ → List Lexeme → Option LexFault → Type 0
+HasTokens first line [] end = EndsTokens first end (after_blanks line)
+HasTokens first line (t ∷ ts) end =
     (t.1 ≡ take (length t.1) (after_blanks line))
     × IsToken first t.0 (length t.1) (after_blanks line)
-    × Reads false (drop (length t.1) (after_blanks line)) ts end
+    × HasTokens false (drop (length t.1) (after_blanks line)) ts end
 
 -- what a line is read as: its tokens, or its first fault
 abbrev pub IsRead : List ℕ → Result (List Lexeme) LexFault → Type 0
-IsRead line (Ok ts) = (length line ≤ 4096) × Reads true line ts None
+IsRead line (Ok ts) = (length line ≤ 4096) × HasTokens true line ts None
 IsRead line (Err LineTooLong) = 4096 < length line
-IsRead line (Err fault) = (length line ≤ 4096) × ((ts : List Lexeme) × Reads true line ts (Some fault))
+IsRead line (Err fault) = (length line ≤ 4096) × ((ts : List Lexeme) × HasTokens true line ts (Some fault))
 
 abbrev pub lexemes : List Token → List Lexeme
 lexemes ts = map lexeme_of ts
@@ -57,10 +57,10 @@ lexemes ts = map lexeme_of ts
 -- ---- A line that is read token by token.
 
 -- the first token of what is left of a line, its end, or why no token stands there; and what is left behind it
-abbrev pub IsNext : Bool → List ℕ → Result (Option Token) LexFault → Bool → List ℕ → Type 0
-IsNext first rest (Ok None) after left = Reads first rest [] None
-IsNext first rest (Ok (Some t)) after left = (us : List Lexeme) (end : Option LexFault) → Reads after left us end → Reads first rest (lexeme_of t ∷ us) end
-IsNext first rest (Err fault) after left = Reads first rest [] (Some fault)
+abbrev pub IsNextToken : Bool → List ℕ → Result (Option Token) LexFault → Bool → List ℕ → Type 0
+IsNextToken first rest (Ok None) after left = HasTokens first rest [] None
+IsNextToken first rest (Ok (Some t)) after left = (us : List Lexeme) (end : Option LexFault) → HasTokens after left us end → HasTokens first rest (lexeme_of t ∷ us) end
+IsNextToken first rest (Err fault) after left = HasTokens first rest [] (Some fault)
 
 -- what is left of a line begins with blanks or nothing, and this text; and what is left behind it
 abbrev pub IsCutOff : List ℕ → List ℕ → List ℕ → Type 0
@@ -71,8 +71,8 @@ IsCutOff rest text left = (blanks : List ℕ) × (rest ≡ blanks ++ (text ++ le
 abbrev pub ReadsOn : {A : Type 0} → Lexer → List Lexeme → Result A LexFault → (A → List Lexeme) → Type 0
 ReadsOn l before r view =
     (line : List ℕ) → length line ≤ 4096 →
-    ((us : List Lexeme) (end : Option LexFault) → Reads l.first l.rest.now us end → Reads true line (before ++ us) end) →
-    Answers is_lex_outside view r (IsRead line)
+    ((us : List Lexeme) (end : Option LexFault) → HasTokens l.first l.rest.now us end → HasTokens true line (before ++ us) end) →
+    RefinesRel is_lex_system_error view r (IsRead line)
 
 -- ---- What a line begins with, once it is read whole.
 
@@ -82,8 +82,8 @@ IsFront ts f = (option_map lexeme_of f.first ≡ slice_get ts 0) × (option_map 
 
 -- ---- The tokens that are held of a line.
 
-abbrev pub held : LineTokens → List Lexeme
-held t = lexemes (option_map_or (λ many. many.items) t.many (take t.few.count t.few.room))
+abbrev pub stored_lexemes : LineTokens → List Lexeme
+stored_lexemes t = lexemes (option_map_or (λ many. many.items) t.many (take t.few.count t.few.room))
 
 -- none yet, and a few have room
 abbrev pub HoldsNothing : LineTokens → Type 0

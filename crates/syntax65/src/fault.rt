@@ -5,7 +5,7 @@ ghost use Rattle.syntax65.specs.declared.fault.ExpandFault.TheVariants.{FileErro
 ghost use Rattle.syntax65.specs.Faults.{fault_of_lexing, fault_of_parsing, fault_of_store};
 
 use crate::{ExprFault, LexFault};
-use base65::{Sequence, StoreFault};
+use base65::{ListVec, StoreFault};
 use std::alloc::{AllocError, AllocFailed};
 use std::error::Error;
 use std::fmt;
@@ -37,7 +37,7 @@ pub enum ExpandFault {
     CountOutOfRange,
     FileTooLong,
     /// The text of an `.error`.
-    Error(Sequence<u8>),
+    Error(ListVec<u8>),
     /// A directive isn't understood.
     NotUnderstood,
     /// A line has too many tokens once names are replaced.

@@ -7,11 +7,12 @@ mod fault;
 mod instructions;
 pub mod laws;
 mod lexing;
-mod place;
+mod source_location;
 mod spelling;
 
 pub use base65::{
-    MemStore, Op1, Op2, Sequence, Store, StoreFault, Text, apply1, apply2, read_front, read_full,
+    ListVec, MemStore, Op1, Op2, PathString, Store, StoreFault, apply1, apply2, read_front,
+    read_full,
 };
 pub use expressions::{
     Expr, ExprFault, ExprKind, Identifier, MAX_DEPTH, Name, Operands, is_reserved, read_expr,
@@ -19,7 +20,7 @@ pub use expressions::{
 pub use fault::ExpandFault;
 pub use instructions::{Mnemonic, Mode, mnemonic, opcode};
 pub use lexing::{
-    AddressSize, LexFault, Lexer, LineFront, LineTokens, MAX_LINE, MAX_NAME, Mark, Token,
+    AddressSize, LexFault, Lexer, LineFront, LineTokens, MAX_LINE, MAX_NAME, Punctuation, Token,
     TokenKind, line_front, line_tokens,
 };
-pub use place::{MAX_FILE, Place};
+pub use source_location::{MAX_FILE, SourceLocation};

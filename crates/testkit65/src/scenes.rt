@@ -53,13 +53,13 @@ fn lines_of(alloc: Global, lines: &str) -> Result<Vec<u8>, AllocError> {
 
 /// What a run has to say on each stream, and whether it fails.
 #[derive(Drop)]
-struct Saying {
+struct ExpectedOutput {
     out: Vec<u8>,
     err: Vec<u8>,
     fails: bool,
 }
 
-impl Saying {
+impl ExpectedOutput {
     fn add(&mut self, line: &str) -> Result<(), AllocError> {
         let is_error = line.contains(": Error: ");
         self.fails = self.fails || is_error;
@@ -74,8 +74,8 @@ impl Saying {
 }
 
 /// What a run says that says these lines; nothing where there are none.
-fn saying_of(alloc: Global, lines: Option<&str>) -> Result<Saying, AllocError> {
-    let mut saying = Saying {
+fn saying_of(alloc: Global, lines: Option<&str>) -> Result<ExpectedOutput, AllocError> {
+    let mut saying = ExpectedOutput {
         out: Vec::new(alloc),
         err: Vec::new(alloc),
         fails: false,

@@ -4,7 +4,7 @@
 
 mod calls;
 
-use base65::{MemStore, Sequence};
+use base65::{ListVec, MemStore};
 use calls::{are_right, is_right};
 use expand65::{Expander, Options};
 use library65::Library;
@@ -39,7 +39,7 @@ fn make_values(alloc: Global) -> Option<Values> {
     let mut store = MemStore::new(alloc);
     store.put("a.s", b"nop").ok()?;
     let options = Options {
-        include: Sequence::new(alloc),
+        include: ListVec::new(alloc),
     };
     let expander = Expander::open(alloc, &mut store, "a.s", &options).ok()?;
     let script = read_script(alloc, SCRIPT).ok()?;

@@ -23,7 +23,7 @@ fn links_byte_by_byte(rt: HostRuntime) -> Result<(), Fail> {
 fn names_each_failure(rt: HostRuntime) -> Result<(), Fail> {
     let mut met = false;
     for k in 0..64 {
-        let mut store = FailsOnce::behind(rt.alloc(), files(rt.alloc(), O1, S1)?, Some(k));
+        let mut store = FailsOnce::following(rt.alloc(), files(rt.alloc(), O1, S1)?, Some(k));
         let ran = run_on(rt.alloc(), &mut store, &LINK);
         if !store.failed {
             // Two reads of the script, four at least of the object (whether it is a library, its head, and two in which
@@ -49,7 +49,7 @@ fn names_each_failure(rt: HostRuntime) -> Result<(), Fail> {
 /// Whether each call that fails is named, the library's or the object's file, up to the run that meets no failure.
 fn names_all_failures(alloc: Global, words: &[&str]) -> Result<bool, AllocError> {
     for k in 0..64 {
-        let mut store = FailsOnce::behind(alloc, library(alloc)?, Some(k));
+        let mut store = FailsOnce::following(alloc, library(alloc)?, Some(k));
         let ran = run_on(alloc, &mut store, words);
         if !store.failed {
             return Ok(ran.status == Status::Success && ran.err.is_empty() && k > 5);
@@ -101,7 +101,7 @@ fn reads_and_writes_once(rt: HostRuntime) -> Result<(), Fail> {
 fn stops_within_the_names(rt: HostRuntime) -> Result<(), Fail> {
     for k in 0..5 {
         let mut store = library(rt.alloc())?;
-        let mut out = Stopping::behind(rt.alloc(), k, true);
+        let mut out = Stopping::following(rt.alloc(), k, true);
         let mut err = Vec::new(rt.alloc());
         let words = ["bin65", "ar65", "t", "l.lib"];
         let status = run(rt.alloc(), &words, &mut store, &mut out, &mut err);
@@ -118,7 +118,7 @@ fn stops_with_its_stream(rt: HostRuntime) -> Result<(), Fail> {
         let mut store = MemStore::new(rt.alloc());
         store.put("a.o", O1)?;
         let mut out = Vec::new(rt.alloc());
-        let mut err = Stopping::behind(rt.alloc(), k, true);
+        let mut err = Stopping::following(rt.alloc(), k, true);
         let status = run(rt.alloc(), &LINK, &mut store, &mut out, &mut err);
         assert_eq!(rt; status, Status::Failure);
         assert!(rt; out.is_empty());
@@ -132,7 +132,7 @@ const LINK_WITH_MAP: [&str; 7] = ["bin65", "ld65", "-C", "s.cfg", "-m", "a.map",
 
 /// A script and an object, of which each writing takes one byte and the call behind so many others fails.
 fn written_by_bytes(alloc: Global, left: u64) -> Result<FailsOnce, AllocError> {
-    Ok(FailsOnce::behind(alloc, files(alloc, O1, S1)?, Some(left)).by_bytes())
+    Ok(FailsOnce::following(alloc, files(alloc, O1, S1)?, Some(left)).by_bytes())
 }
 
 /// How many calls a link with a map makes before it creates its output.
@@ -169,10 +169,10 @@ const ONE_MEMBER: &[u8] =
     b"R65l\x01\x01\0\0\0\x03a.o\x1a\0\0\0\0\0\0\0\0\0\0\0R65o\x01\x02\x09\0\x03\0\0\0\0CODE\x03\x03\0\xa9\0\x60\x08\0\0";
 
 #[test]
-fn stops_behind_two_bytes(rt: HostRuntime) -> Result<(), Fail> {
+fn stops_after_two_bytes(rt: HostRuntime) -> Result<(), Fail> {
     let mut store = MemStore::new(rt.alloc());
     store.put("l.lib", ONE_MEMBER)?;
-    let mut out = Stopping::behind(rt.alloc(), 2, true);
+    let mut out = Stopping::following(rt.alloc(), 2, true);
     let mut err = Vec::new(rt.alloc());
     let words = ["bin65", "ar65", "t", "l.lib"];
     let status = run(rt.alloc(), &words, &mut store, &mut out, &mut err);

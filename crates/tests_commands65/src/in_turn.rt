@@ -2,7 +2,7 @@
 //! compared with what the same run leaves where nothing fails.
 
 use crate::stores::{FailsOnce, Stopping};
-use base65::{MemStore, Text};
+use base65::{MemStore, PathString};
 use std::alloc::{AllocError, Global};
 use std::test::Fail;
 use testkit65::{RUNS, Ran, is_right, parts_of, run_on, words_of};
@@ -12,15 +12,15 @@ use tools65::{Status, run};
 const MAX_FILE: u64 = 16_777_216;
 
 /// Adds a name to those that are kept, where it isn't there.
-fn add_name(alloc: Global, names: &mut Vec<Text>, name: &str) -> Result<(), AllocError> {
+fn add_name(alloc: Global, names: &mut Vec<PathString>, name: &str) -> Result<(), AllocError> {
     if !names.iter().any(|it| it.as_str() == name) {
-        names.push(Text::copy_of(alloc, name)?)?;
+        names.push(PathString::copy_of(alloc, name)?)?;
     }
     Ok(())
 }
 
 /// The names of files that a scene's rows name.
-fn names_of(alloc: Global, scene: &str) -> Result<Vec<Text>, AllocError> {
+fn names_of(alloc: Global, scene: &str) -> Result<Vec<PathString>, AllocError> {
     let mut names = Vec::new(alloc);
     for row in scene.lines() {
         let (verb, row) = row.split_once(' ').unwrap_or((row, ""));
@@ -33,7 +33,7 @@ fn names_of(alloc: Global, scene: &str) -> Result<Vec<Text>, AllocError> {
 }
 
 /// A copy of a store's files of these names.
-fn copy_of(alloc: Global, files: &MemStore, names: &[Text]) -> Result<MemStore, AllocError> {
+fn copy_of(alloc: Global, files: &MemStore, names: &[PathString]) -> Result<MemStore, AllocError> {
     let mut copy = MemStore::new(alloc);
     for name in names {
         if let Some(file) = files.get(name.as_str()) {
@@ -44,7 +44,7 @@ fn copy_of(alloc: Global, files: &MemStore, names: &[Text]) -> Result<MemStore, 
 }
 
 /// Whether one list of names begins with another.
-fn begins_with(names: &[Text], front: &[Text]) -> bool {
+fn begins_with(names: &[PathString], front: &[PathString]) -> bool {
     front.len() <= names.len()
         && front
             .iter()
@@ -80,7 +80,7 @@ fn is_line(alloc: Global, place: &str, file: &str, line: usize) -> Result<bool, 
 #[derive(Drop)]
 struct Plain<'a> {
     words: Vec<&'a str>,
-    names: Vec<Text>,
+    names: Vec<PathString>,
     before: MemStore,
     ran: Ran,
     store: FailsOnce,
@@ -90,12 +90,12 @@ struct Plain<'a> {
 fn plain_run<'a>(
     alloc: Global,
     files: &MemStore,
-    mut names: Vec<Text>,
+    mut names: Vec<PathString>,
     words: &'a str,
 ) -> Result<Plain<'a>, AllocError> {
     let words = words_of(alloc, words)?;
     let before = copy_of(alloc, files, names.as_slice())?;
-    let mut store = FailsOnce::behind(alloc, copy_of(alloc, files, names.as_slice())?, None);
+    let mut store = FailsOnce::following(alloc, copy_of(alloc, files, names.as_slice())?, None);
     let ran = run_on(alloc, &mut store, words.as_slice());
     for name in store.created.iter() {
         add_name(alloc, &mut names, name.as_str())?;
@@ -249,7 +249,7 @@ impl Plain<'_> {
     fn fail_in_turn(&self, alloc: Global) -> Result<Option<u64>, AllocError> {
         for k in 0..1000 {
             let files = copy_of(alloc, &self.before, self.names.as_slice())?;
-            let mut store = FailsOnce::behind(alloc, files, Some(k));
+            let mut store = FailsOnce::following(alloc, files, Some(k));
             let ran = run_on(alloc, &mut store, self.words.as_slice());
             if !self.is_ended(alloc, &ran, &store)? {
                 return Ok(None);
@@ -264,7 +264,7 @@ impl Plain<'_> {
     /// Whether a run whose standard output stops behind so many bytes ends as it has to.
     fn stops_output(&self, alloc: Global, left: usize, fails: bool) -> Result<bool, AllocError> {
         let mut store = copy_of(alloc, &self.before, self.names.as_slice())?;
-        let mut out = Stopping::behind(alloc, left, fails);
+        let mut out = Stopping::following(alloc, left, fails);
         let mut err = Vec::new(alloc);
         let status = run(alloc, self.words.as_slice(), &mut store, &mut out, &mut err);
         let text = self.ran.out.as_slice();
@@ -280,7 +280,7 @@ impl Plain<'_> {
     /// Whether a run whose standard error stops behind so many bytes ends as it has to.
     fn stops_errors(&self, alloc: Global, left: usize, fails: bool) -> Result<bool, AllocError> {
         let mut store = copy_of(alloc, &self.before, self.names.as_slice())?;
-        let mut err = Stopping::behind(alloc, left, fails);
+        let mut err = Stopping::following(alloc, left, fails);
         let mut out = Vec::new(alloc);
         let status = run(alloc, self.words.as_slice(), &mut store, &mut out, &mut err);
         let text = self.ran.err.as_slice();
@@ -324,9 +324,9 @@ impl Plain<'_> {
 fn names_behind(
     alloc: Global,
     files: &MemStore,
-    names: Vec<Text>,
+    names: Vec<PathString>,
     row: &str,
-) -> Result<Option<Vec<Text>>, AllocError> {
+) -> Result<Option<Vec<PathString>>, AllocError> {
     let (words, _) = parts_of(row.strip_prefix("$ ").unwrap_or(row));
     let plain = plain_run(alloc, files, names, words)?;
     let mut copy = copy_of(alloc, files, plain.names.as_slice())?;
@@ -345,7 +345,7 @@ fn first_wrong_of(alloc: Global, scene: &'static str) -> Result<Option<&'static 
     for row in scene.lines() {
         if row.starts_with("$ ") {
             match names_behind(alloc, &files, names, row)? {
-                Some(behind) => names = behind,
+                Some(following) => names = following,
                 None => return Ok(Some(row)),
             }
         }

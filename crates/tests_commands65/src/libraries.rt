@@ -198,7 +198,7 @@ impl Store for Counting {
 
     ghost failures = { λ _. 0 };
 
-    ghost blamed = { λ _. None };
+    ghost last_failure = { λ _. None };
 
     fn read_at(&mut self, name: &str, at: u64, buf: &mut [u8]) -> Result<usize, StoreFault> {
         let n = self.files.read_at(name, at, buf)?;

@@ -1,15 +1,15 @@
 //! Command lines on their own.
 
-use base65::{MemStore, Sequence};
+use base65::{ListVec, MemStore};
 use std::alloc::{AllocError, Global};
 use std::test::Fail;
 use testkit65::{O1, Ran, S1, files, is_quiet};
 use tools65::{
-    AssembleLine, Define, Line, LinkLine, Operation, Status, Stream, print, read_line, run_line,
+    AssembleArgs, Define, Line, LinkArgs, Operation, Status, Stream, print, read_line, run_line,
     write_file,
 };
 
-fn is_link(line: &LinkLine<'_>) -> bool {
+fn is_link(line: &LinkArgs<'_>) -> bool {
     line.script == "s.cfg"
         && line.output == Some("image")
         && line.map == Some("map")
@@ -20,7 +20,7 @@ fn is_define(define: &Define<'_>, name: &[u8], value: u32) -> bool {
     define.name == name && define.value == value
 }
 
-fn is_assembling(line: &AssembleLine<'_>) -> bool {
+fn is_assembling(line: &AssembleArgs<'_>) -> bool {
     let is_defined = match line.defines.as_slice() {
         [first, second, third] => {
             is_define(first, b"one", 255)
@@ -94,10 +94,10 @@ fn run_over(alloc: Global, store: &mut MemStore, line: &Line<'_>) -> Ran {
 
 /// Assembles `a.s` to `b.o`.
 fn assembled(alloc: Global, store: &mut MemStore) -> Ran {
-    let line = Line::Assemble(AssembleLine {
+    let line = Line::Assemble(AssembleArgs {
         output: Some("b.o"),
-        include: Sequence::new(alloc),
-        defines: Sequence::new(alloc),
+        include: ListVec::new(alloc),
+        defines: ListVec::new(alloc),
         source: "a.s",
     });
     run_over(alloc, store, &line)
@@ -105,10 +105,10 @@ fn assembled(alloc: Global, store: &mut MemStore) -> Ran {
 
 /// Links `a.o` and `b.o`, with a map.
 fn linked(alloc: Global, store: &mut MemStore) -> Result<Ran, AllocError> {
-    let mut inputs = Sequence::new(alloc);
+    let mut inputs = ListVec::new(alloc);
     inputs.push("a.o")?;
     inputs.push("b.o")?;
-    let line = Line::Link(LinkLine {
+    let line = Line::Link(LinkArgs {
         script: "s.cfg",
         output: None,
         map: Some("map"),

@@ -1,12 +1,12 @@
 //! Stores and writers that give little or fail.
 
 ghost use Rattle.std.specs.Prelude.{Some, ◌≡◌, ◌≤◌, Bool, true, false, if◌then◌else◌, None, IfOk, OnErr};
-ghost use Rattle.base65.specs.Store.{last_count};
+ghost use Rattle.base65.specs.Store.{max_failures};
 ghost use Rattle.std.proofs.Common.{rules};
 ghost use Rattle.std.specs.Option.{ForSome, option_map};
 ghost use Rattle.std.specs.Bool.{OnTrue, OnFalse};
 
-use base65::{MemStore, Store, StoreFault, Text};
+use base65::{MemStore, PathString, Store, StoreFault};
 use std::alloc::{AllocError, Global};
 use std::io;
 use std::io::{ErrorKind, Write};
@@ -22,7 +22,7 @@ impl Store for ByteByByte {
 
     ghost failures = { λ _. 0 };
 
-    ghost blamed = { λ _. None };
+    ghost last_failure = { λ _. None };
 
     fn read_at(&mut self, name: &str, at: u64, buf: &mut [u8]) -> Result<usize, StoreFault> {
         let most = buf.len().min(1);
@@ -54,7 +54,7 @@ impl Store for Counting {
 
     ghost failures = { λ _. 0 };
 
-    ghost blamed = { λ _. None };
+    ghost last_failure = { λ _. None };
 
     fn read_at(&mut self, name: &str, at: u64, buf: &mut [u8]) -> Result<usize, StoreFault> {
         let n = self.files.read_at(name, at, buf)?;
@@ -83,7 +83,7 @@ impl Store for Filling {
 
     ghost failures = { λ _. 0 };
 
-    ghost blamed = { λ _. None };
+    ghost last_failure = { λ _. None };
 
     fn read_at(&mut self, _name: &str, _at: u64, buf: &mut [u8]) -> Result<usize, StoreFault> {
         for byte in buf.iter_mut() {
@@ -112,15 +112,15 @@ pub struct FailsOnce {
     by_bytes: bool,
     left: Option<u64>,
     pub failed: bool,
-    pub asked: Option<Text>,
+    pub asked: Option<PathString>,
     pub at: Option<u64>,
-    pub created: Vec<Text>,
+    pub created: Vec<PathString>,
     ghost once: { ForSome left (λ _. failed ≡ false) },
 }
 
 impl FailsOnce {
     /// Files of which no call fails, or the one behind so many others.
-    pub fn behind(alloc: Global, files: MemStore, left: Option<u64>) -> FailsOnce {
+    pub fn following(alloc: Global, files: MemStore, left: Option<u64>) -> FailsOnce {
         FailsOnce {
             alloc,
             files,
@@ -156,7 +156,7 @@ impl FailsOnce {
     {
         match self.left {
             Some(0) => {
-                let name = Text::copy_of(self.alloc, name)?;
+                let name = PathString::copy_of(self.alloc, name)?;
                 self.left = None;
                 self.failed = true;
                 self.asked = Some(name);
@@ -185,7 +185,7 @@ impl Store for FailsOnce {
 
     ghost failures = { λ s. if s.failed then 1 else 0 };
 
-    ghost blamed = { λ s. option_map (λ name. record { name = name; at = s.at }) s.asked };
+    ghost last_failure = { λ s. option_map (λ name. record { name = name; at = s.at }) s.asked };
 
     fn read_at(&mut self, name: &str, at: u64, buf: &mut [u8]) -> Result<usize, StoreFault> {
         if self.fails(name, Some(at))? {
@@ -198,7 +198,7 @@ impl Store for FailsOnce {
         if self.fails(name, None)? {
             return Err(StoreFault::FileError);
         }
-        self.created.push(Text::copy_of(self.alloc, name)?)?;
+        self.created.push(PathString::copy_of(self.alloc, name)?)?;
         self.files.create(name)
     }
 
@@ -213,7 +213,7 @@ impl Store for FailsOnce {
         self.files.append(name, piece)
     }
 
-    ghost counted = { λ s. elim s.failed as (λ (b : Bool). (if b then 1 else 0) ≤ last_count) [ true ↦ Prim.search rules | false ↦ Prim.search rules ] };
+    ghost counted = { λ s. elim s.failed as (λ (b : Bool). (if b then 1 else 0) ≤ max_failures) [ true ↦ Prim.search rules | false ↦ Prim.search rules ] };
 }
 
 /// A writer that stops behind so many bytes: it fails, or takes none of what is left. Asked again it takes all, and keeps
@@ -229,7 +229,7 @@ pub struct Stopping {
 
 impl Stopping {
     /// A writer that fails behind so many bytes, or takes no more.
-    pub fn behind(alloc: Global, left: usize, fails: bool) -> Stopping {
+    pub fn following(alloc: Global, left: usize, fails: bool) -> Stopping {
         Stopping {
             taken: Vec::new(alloc),
             left,

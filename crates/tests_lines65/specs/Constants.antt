@@ -4,7 +4,7 @@ use Rattle.syntax65.specs.Trees.{Tree, number, unary, binary}
 use Rattle.base65.specs.Values.{value1, value2}
 use Rattle.base65.specs.declared.values.Op1.{Op1}
 use Rattle.base65.specs.declared.values.Op2.{Op2}
-use Rattle.expand65.specs.State.{Meaning}
+use Rattle.expand65.specs.State.{EnvironmentView}
 
 abbrev pub of_one : Op1 → Option ℤ → Option ℤ
 of_one op None = None
@@ -21,5 +21,5 @@ value_of (binary op t u) = of_two op (value_of t) (value_of u)
 value_of _ = None
 
 -- all names are defined, or none
-abbrev pub meaning_of : Bool → Meaning
+abbrev pub meaning_of : Bool → EnvironmentView
 meaning_of all = record { value = value_of; defined = λ is_global parts. all }

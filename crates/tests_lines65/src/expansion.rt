@@ -4,7 +4,7 @@ mod at_hand;
 mod files;
 mod values;
 
-use base65::{MemStore, Sequence, Store, Text};
+use base65::{ListVec, MemStore, PathString, Store};
 use expand65::{ExpandFault, Expander, Options, Statement};
 use std::alloc::{AllocError, Global};
 use std::test::Fail;
@@ -139,8 +139,8 @@ fn spell_all<S: Store>(
 
 /// A folder in which included files are looked for.
 fn in_folder(alloc: Global, folder: &str) -> Result<Options, AllocError> {
-    let mut include = Sequence::new(alloc);
-    include.push(Text::copy_of(alloc, folder)?)?;
+    let mut include = ListVec::new(alloc);
+    include.push(PathString::copy_of(alloc, folder)?)?;
     Ok(Options { include })
 }
 

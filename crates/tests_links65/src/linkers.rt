@@ -81,7 +81,7 @@ pub fn records_of(alloc: Global, bytes: &[u8]) -> Result<Vec<Record>, ObjectFaul
 }
 
 /// How many values were taken behind each record of a module, which is open.
-pub fn pending_behind(
+pub fn pending_after(
     alloc: Global,
     linker: &mut Linker,
     records: &[Record],
@@ -115,7 +115,7 @@ pub fn feed_records(
     bytes: &[u8],
 ) -> Result<Vec<usize>, LinkFault> {
     let records = records_of(alloc, bytes)?;
-    pending_behind(alloc, linker, records.as_slice())
+    pending_after(alloc, linker, records.as_slice())
 }
 
 /// Feeds the jump; whether its value is taken with its record.
@@ -184,7 +184,7 @@ fn tells(linker: &Linker, open: &[u8], defined: &[u8]) -> Result<bool, LinkFault
 }
 
 /// Whether names are open in order of first reference until something gives them; a weak name gives nothing here.
-fn tells_behind(alloc: Global, linker: &mut Linker) -> Result<bool, LinkFault> {
+fn tells_after(alloc: Global, linker: &mut Linker) -> Result<bool, LinkFault> {
     let first = tells(linker, b"s", b"e")?;
     feed(alloc, linker, b"gewf", b"h", None)?;
     let second = tells(linker, b"sgwf", b"eh")?;
@@ -195,7 +195,7 @@ fn tells_behind(alloc: Global, linker: &mut Linker) -> Result<bool, LinkFault> {
 /// The same of a new linker.
 fn tells_in_turn(alloc: Global) -> Result<bool, LinkFault> {
     let mut linker = linker_by(alloc, SYMBOLS)?;
-    tells_behind(alloc, &mut linker)
+    tells_after(alloc, &mut linker)
 }
 
 #[test]

@@ -7,7 +7,7 @@ mod versions;
 
 ghost use Rattle.std.specs.Prelude.{◌≡◌, IfOk, None, true};
 ghost use Rattle.std.proofs.Common.{rules};
-ghost use Rattle.object65.specs.Objects.{is_good_object};
+ghost use Rattle.object65.specs.Objects.{is_well_formed_object};
 
 use arrayvec::ArrayVec;
 use base65::{MemStore, Store, StoreFault};
@@ -26,7 +26,7 @@ const TWO_LITERALS: &[u8] =
 
 /// Reads these bytes as a file.
 fn read(alloc: Global, bytes: &[u8]) -> Result<Object, ObjectFault>
-    ensures { IfOk result (λ o. is_good_object o ≡ true) }
+    ensures { IfOk result (λ o. is_well_formed_object o ≡ true) }
 {
     let mut store = MemStore::new(alloc);
     store.put("a.o", bytes)?;
@@ -140,7 +140,7 @@ impl Store for Endless {
 
     ghost failures = { λ _. 0 };
 
-    ghost blamed = { λ _. None };
+    ghost last_failure = { λ _. None };
 
     fn read_at(&mut self, _name: &str, at: u64, buf: &mut [u8]) -> Result<usize, StoreFault> {
         for byte in buf.iter_mut() {
@@ -165,7 +165,7 @@ impl Store for Endless {
 }
 
 #[test]
-fn stops_behind_the_largest_file(rt: HostRuntime) -> Result<(), Fail> {
+fn stops_after_the_largest_file(rt: HostRuntime) -> Result<(), Fail> {
     let mut store = Endless;
     let found = read_record(&mut store, "a.o", 1, 1_073_741_800, 2_000_000_000);
     assert!(rt; matches!(found, Err(ObjectFault::BadSize)));

@@ -5,7 +5,7 @@ mod files;
 mod places;
 mod scripts;
 
-use base65::Sequence;
+use base65::ListVec;
 use script65::{PlaceFault, Placement, Script, SegmentNeed, place, read_script};
 use std::alloc::{AllocError, Global};
 use std::test::Fail;
@@ -31,7 +31,7 @@ fn placed(
     let mut needs = Vec::new(alloc);
     for (name, size) in sizes {
         needs.push(SegmentNeed {
-            name: Sequence::copy_of(alloc, name.as_bytes())?,
+            name: ListVec::copy_of(alloc, name.as_bytes())?,
             size: *size,
             align: 1,
         })?;

@@ -2,9 +2,9 @@
 
 mod stores;
 
-use asm65::{AsmJob, AsmRefusal, Define, assemble};
+use asm65::{AsmJob, Define, Diagnostic, assemble};
 use ast65::AsmFault;
-use base65::{MemStore, Text};
+use base65::{MemStore, PathString};
 use expand65::ExpandFault;
 use object65::write_object;
 use std::alloc::{AllocError, Global};
@@ -63,7 +63,7 @@ const FILES: [(&str, &[u8]); 6] = [
 ];
 
 /// A refusal in words.
-fn in_words(alloc: Global, refusal: &AsmRefusal) -> Result<String, AllocError> {
+fn in_words(alloc: Global, refusal: &Diagnostic) -> Result<String, AllocError> {
     let fault = refusal.fault.to_string(alloc)?;
     let fault = fault.as_str();
     if refusal.line == 0 {
@@ -129,7 +129,7 @@ fn rows(rt: HostRuntime) -> Result<(), Fail> {
     for (name, bytes) in FILES {
         store.put(name, bytes)?;
     }
-    let folders = [Text::copy_of(rt.alloc(), "d")?];
+    let folders = [PathString::copy_of(rt.alloc(), "d")?];
     let job = AsmJob {
         source: "b.s",
         include: &folders,
@@ -224,7 +224,7 @@ fn exported_again(rt: HostRuntime) -> Result<(), Fail> {
     let mut store = MemStore::new(rt.alloc());
     store.put("m.s", b".export v\nv = 1\n.include \"x.inc\"")?;
     store.put(inner.as_str(), b".export v")?;
-    let folders = [Text::copy_of(rt.alloc(), folder.as_str())?];
+    let folders = [PathString::copy_of(rt.alloc(), folder.as_str())?];
     let job = AsmJob {
         source: "m.s",
         include: &folders,

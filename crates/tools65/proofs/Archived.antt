@@ -10,8 +10,8 @@ use Rattle.object65.specs.Reading.{file_limit}
 use Rattle.object65.specs.Spelling.{IsObject, object_bytes}
 use Rattle.library65.specs.declared.contents.Contents.{Contents}
 use Rattle.library65.specs.declared.fault.LibraryFault.{LibraryFault}
-use Rattle.library65.specs.Libraries.{checked, member_names, replaced, with_member, written}
-use Rattle.library65.specs.Spelling.{are_member_names, IsStock, Member}
+use Rattle.library65.specs.Libraries.{member_contents, member_names, with_new_member, with_member, bytes_within_limit}
+use Rattle.library65.specs.Spelling.{are_member_names, IsMemberList, Member}
 use Rattle.library65.specs.Reading.{in_file}
 use Rattle.library65.proofs.Edits.{checked_good, with_good}
 use Rattle.library65.proofs.Read.{library_loaded, stock_law}
@@ -20,13 +20,13 @@ use Rattle.base65.specs.declared.output.OutputFile.{OutputFile}
 use Rattle.ast65.specs.Faults.{is_memory}
 use Rattle.semantics65.specs.Module as asm
 use Rattle.sources65.specs.Reading.{IsOutcome}
-use Rattle.semantics65.specs.Module.{PlacedFault}
+use Rattle.semantics65.specs.Module.{LocatedFault}
 use Rattle.cli65.specs.declared.line.Operation.{Operation}
 use Rattle.cli65.specs.Line.{Archiving, Assembling}
 use Rattle.cli65.specs.Messages.{memory_line}
 use Rattle.whole65.proofs.SameValues.{bind_ok}
 use Rattle.ar65.specs.declared.archiving.Archived.TheVariants as archived
-use Rattle.ar65.specs.Librarian.{as_file, as_library, begun, done, member_name, replaced_by, rewritten, with_file, with_files}
+use Rattle.ar65.specs.Librarian.{as_file, as_library, library_or_empty, done, member_name, replaced_by, rewritten_library, with_file, with_files}
 use Rattle.output65.specs.declared.outcome.Outcome.{Outcome}
 use Rattle.output65.specs.declared.outcome.Status.TheVariants.{Failure, Success}
 use Rattle.tools65.specs.Assembling.{asm_message, job_in}
@@ -61,17 +61,17 @@ module _ (sources : List Source) where
     names : are_member_names (member_names ms) ≡ true
     all : AllByRecursion (λ p. IsSourceObject sources p.1) ms
 
-  put : (ms ns : List Member) (name bytes : List ℕ) → IsSourceObject sources bytes → AreSources ms → replaced ms name bytes ≡ Ok ns → AreSources ns
-  unfolding replaced
+  put : (ms ns : List Member) (name bytes : List ℕ) → IsSourceObject sources bytes → AreSources ms → with_new_member ms name bytes ≡ Ok ns → AreSources ns
+  unfolding with_new_member
   put ms ns name bytes one are h =
-      let (c, good, made) = bind_ok (checked name bytes) (λ (d : Contents). Ok (with_member ms name bytes)) ns h in
+      let (c, good, made) = bind_ok (member_contents name bytes) (λ (d : Contents). Ok (with_member ms name bytes)) ns h in
       let same : with_member ms name bytes ≡ ns = ok_same (with_member ms name bytes) ns made in
       subst (λ (ks : List Member). AreSources ks) same (record {
         names = with_good ms name bytes (checked_good name bytes c good) are.names;
         all = with_all (IsSourceObject sources) ms name bytes are.all one;
       })
 
-  put_file : (file : Option (List ℕ)) (name : List ℕ) (ms ns : List Member) → IfSome file (IsSourceObject sources) → AreSources ms → in_file file (replaced ms name) ≡ Ok ns → AreSources ns
+  put_file : (file : Option (List ℕ)) (name : List ℕ) (ms ns : List Member) → IfSome file (IsSourceObject sources) → AreSources ms → in_file file (with_new_member ms name) ≡ Ok ns → AreSources ns
   put_file None name ms ns one are h = absurd cc
   put_file (Some bytes) name ms ns one are h = put ms ns name bytes one are h
 
@@ -81,7 +81,7 @@ module _ (sources : List Source) where
       let (ks, one, rest) = bind_ok (as_file k (with_file m ms file)) (λ (ks : List Member). with_files m ks (k + 1) files) ns h in
       put_files m ks ns (k + 1) files all.1 (put_file (get m file) (member_name file) ms ks all.0 are (of_file k (with_file m ms file) ks one)) rest
 
-  begin : (file : Option (List ℕ)) (ms : List Member) → IfSome file (IsSourceLibrary sources) → begun file ≡ Ok ms → AreSources ms
+  begin : (file : Option (List ℕ)) (ms : List Member) → IfSome file (IsSourceLibrary sources) → library_or_empty file ≡ Ok ms → AreSources ms
   begin None ms is h = subst (λ (ks : List Member). AreSources ks) (ok_same [] ms h) (record { names = refl; all = tt })
   begin (Some bytes) ms (ks, is, all) h =
       let same : ks ≡ ms = ok_same ks ms (sym (library_loaded bytes ks is) ∙ h) in
@@ -93,19 +93,19 @@ module _ (sources : List Source) where
       let (x, one, w) = all.0 in
       ((w.object, written_object x p.1 w), objects_of ms all.1)
 
-  anew : (ms : List Member) (bytes : List ℕ) → AreSources ms → as_library (rewritten ms) ≡ Ok (archived.Library bytes) → IsSourceLibrary sources bytes
+  anew : (ms : List Member) (bytes : List ℕ) → AreSources ms → as_library (rewritten_library ms) ≡ Ok (archived.Library bytes) → IsSourceLibrary sources bytes
   anew ms bytes are h =
-      let made = bind_ok (written ms) (λ (bs : List ℕ). Ok (archived.Library bs)) (archived.Library bytes) (of_library (rewritten ms) (archived.Library bytes) h) in
+      let made = bind_ok (bytes_within_limit ms) (λ (bs : List ℕ). Ok (archived.Library bs)) (archived.Library bytes) (of_library (rewritten_library ms) (archived.Library bytes) h) in
       let same : made.0 ≡ bytes = cc (made.2) in
-      let stock : IsStock ms = record { names = are.names; objects = objects_of ms are.all } in
+      let stock : IsMemberList ms = record { names = are.names; objects = objects_of ms are.all } in
       (ms, written_is ms bytes stock (made.1 ∙ ap (λ (b : List ℕ). Ok b) same), are.all)
 
   by_replacing : (m : Files) (a : Archiving) (bytes : List ℕ) → IfSome (get m a.library) (IsSourceLibrary sources) → AllByRecursion (λ file. IfSome (get m file) (IsSourceObject sources)) a.files → replaced_by m a ≡ Ok (archived.Library bytes) → IsSourceLibrary sources bytes
   unfolding replaced_by
   by_replacing m a bytes old files h =
-      let (ms, first, next) = bind_ok (as_library (begun (get m a.library))) _ _ h in
+      let (ms, first, next) = bind_ok (as_library (library_or_empty (get m a.library))) _ _ h in
       let (ns, second, last) = bind_ok (with_files m ms 0 a.files) _ _ next in
-      let are = begin (get m a.library) ms old (of_library (begun (get m a.library)) ms first) in
+      let are = begin (get m a.library) ms old (of_library (library_or_empty (get m a.library)) ms first) in
       anew ns bytes (put_files m ms ns 0 a.files files are second) last
 
 pub archived_sources : ArchivedSourcesLaw
@@ -117,7 +117,7 @@ archived_sources sources m a bytes op old files h =
 not_well : Failure ≡ Success → ⊥
 not_well e = cc
 
-refused_fails : (source out err : List ℕ) (e : PlacedFault) → (refused_with source out err e).status ≡ Failure
+refused_fails : (source out err : List ℕ) (e : LocatedFault) → (refused_with source out err e).status ≡ Failure
 refused_fails source out err e = by (is_memory e.fault)
   where
     by : (b : Bool) → (if b then failing (memory_line source) else record { out = out; err = err ++ asm_message source e; outputs = []; status = Failure }).status ≡ Failure
@@ -134,7 +134,7 @@ named_file x name bytes is = by (length name == 0)
     by true = tt
     by false = (is, tt)
 
-object_file : (a : Assembling) (m : Files) (o : Outcome) (z : asm.Outcome) (r : Result Object PlacedFault) → IsOutcome m (job_in a) z → z.result ≡ r → AssemblesWith a z.out z.err r o → o.status ≡ Success → AllByRecursion (IsFileOf (source_in a m)) o.outputs
+object_file : (a : Assembling) (m : Files) (o : Outcome) (z : asm.Outcome) (r : Result Object LocatedFault) → IsOutcome m (job_in a) z → z.result ≡ r → AssemblesWith a z.out z.err r o → o.status ≡ Success → AllByRecursion (IsFileOf (source_in a m)) o.outputs
 object_file a m o z (Err e) is found h well =
     absurd (not_well (sym (ap (λ (x : Outcome). x.status) h ∙ refused_fails a.source z.out z.err e) ∙ well))
 object_file a m o z (Ok k) is found (fits, name, named, same) well =

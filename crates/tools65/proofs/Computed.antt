@@ -2,66 +2,66 @@
 use Rattle.std.proofs.Common.{◌≡◌, ◌∙◌, ◌⊎◌, inl, inr, ℕ, List, [], ◌++◌, Bool, true, false, Option, Some, None, Result, Ok, Err, refl, sym, ap, subst, map}
 use Rattle.std.specs.Prelude.{IfErr, IfOk, IfSome, ◌||◌}
 use Rattle.std.specs.Result.{IsErrAnd}
-use Rattle.base65.specs.Outcome.{Finds, Gives, Unless}
-use Rattle.base65.specs.Store.{Asks, Blamed, Files, HasFailed, PassesBy}
+use Rattle.base65.specs.Outcome.{RefinesProp, Refines, Unless}
+use Rattle.base65.specs.Store.{FailsAtLastCount, LastFailure, Files, HasFailed, PropagatesIoErrors}
 use Rattle.object65.specs.declared.object.Object.{Object}
 use Rattle.ast65.specs.Faults.{is_memory as is_asm_memory}
 use Rattle.sources65.specs.Reading.{IsOutcome, Define, Job}
-use Rattle.semantics65.specs.Module.{PlacedFault}
-use Rattle.asm65.specs.Assembly.{has_failed, in_places, is_outside_refusal, placed_of}
-use Rattle.asm65.specs.Failing.{Stops}
-use Rattle.asm65.specs.declared.texts.AsmRefusal.{AsmRefusal}
-use Rattle.cli65.specs.Line.{Archiving, Assembling, Linking, Says, archive, assemble, link}
+use Rattle.semantics65.specs.Module.{LocatedFault}
+use Rattle.asm65.specs.Assembly.{has_failed, in_places, is_diagnostic_system_error, placed_of}
+use Rattle.asm65.specs.Failing.{StoreFailureStops}
+use Rattle.asm65.specs.declared.texts.Diagnostic.{Diagnostic}
+use Rattle.cli65.specs.Line.{Archiving, Assembling, Linking, CommandView, archive, assemble, link}
 use Rattle.cli65.specs.Messages.{memory_line}
 use Rattle.link65.specs.declared.linking.Linked.{Linked}
 use Rattle.ld65.specs.Linkage.{IsLinked}
-use Rattle.ld65.specs.Naming.{IsOfLine, Names}
-use Rattle.ld65.specs.Refusals.{is_failure, is_memory, is_outside, memory_message, refusal_message}
-use Rattle.ld65.specs.declared.refusal.Refusal.{Refusal}
+use Rattle.ld65.specs.Naming.{IsOfLine, NamesFailure}
+use Rattle.ld65.specs.Faults.{is_failure, is_memory, is_system_error, memory_message, error_message}
+use Rattle.ld65.specs.declared.fault.LinkCommandFault.{LinkCommandFault}
 use Rattle.ar65.specs.Librarian.{archived_of}
 use Rattle.ar65.specs.Naming.{IsOfLine as IsOfArchive}
-use Rattle.ar65.specs.Refusals.{is_failure as is_archive_failure, is_memory as is_archive_memory, is_outside as is_archive_outside, refusal_message as archive_message}
+use Rattle.ar65.specs.Faults.{is_failure as is_archive_failure, is_memory as is_archive_memory, is_system_error as is_archive_system_error, error_message as archive_message}
 use Rattle.ar65.specs.declared.archiving.Archived.{Archived}
-use Rattle.ar65.specs.declared.refusal.Refusal.{Refusal as ArchiveRefusal}
+use Rattle.ar65.specs.declared.fault.ArchiveFault.{ArchiveFault as ArchiveRefusal}
 use Rattle.output65.specs.Outputs.{failing}
 use Rattle.output65.specs.declared.outcome.Outcome.{Outcome}
 use Rattle.output65.specs.declared.outcome.Status.TheVariants.{Failure}
 use Rattle.tools65.specs.Archives.{archive_outcome}
 use Rattle.tools65.specs.Assembling.{asm_message, define_in, job_in}
-use Rattle.tools65.specs.Command.{AssemblesWith, DoesLine, line_memory, outcome_of, refused_with}
+use Rattle.tools65.specs.Command.{AssemblesWith, IsOutcomeOfCommand, line_memory, outcome_of, refused_with}
 use Rattle.tools65.specs.Failing.{refusing}
-use Rattle.tools65.specs.Inner.Computing.{Computes, Refuses}
+use Rattle.tools65.specs.Internal.Computing.{ComputesOutcome, OnlyReports}
 
 -- A command, whose answers come to outcomes of a line: to no more than the words of want of memory where memory ran out, and to
 -- why it stopped where a call of the store failed.
-module _ {A E : Type 0} (line : Says) (is_memory is_failure : E → Bool)
-    (Is : Files → Result A E → Type 0) (Comes : Result A E → Outcome → Type 0) (Stopped : Files → Blamed → E → Type 0)
-    (does : (m : Files) (r : Result A E) (o : Outcome) → Is m r → Comes r o → DoesLine line m o)
+module _ {A E : Type 0} (line : CommandView) (is_memory is_failure : E → Bool)
+    (Is : Files → Result A E → Type 0) (Comes : Result A E → Outcome → Type 0) (Stopped : Files → LastFailure → E → Type 0)
+    (does : (m : Files) (r : Result A E) (o : Outcome) → Is m r → Comes r o → IsOutcomeOfCommand line m o)
     (by_memory : (e : E) (o : Outcome) → is_memory e ≡ true → Comes (Err e) o → o ≡ failing (line_memory line))
-    (by_failure : (m : Files) (blamed : Blamed) (e : E) (o : Outcome) → is_failure e ≡ true → Stopped m blamed e → Comes (Err e) o → Refuses line m blamed o)
+    (by_failure : (m : Files) (last_failure : LastFailure) (e : E) (o : Outcome) → is_failure e ≡ true → Stopped m last_failure e → Comes (Err e) o → OnlyReports line m last_failure o)
     (fails : (e : E) (o : Outcome) → Comes (Err e) o → o.status ≡ Failure) where
   -- what was found, where no call of the store failed
-  found : (m : Files) (r : Result A E) (o : Outcome) → Finds (λ e. is_memory e || is_failure e) (Is m) r → IfErr r (λ e. is_failure e ≡ true → ⊥) → Comes r o → DoesLine line m o ⊎ (o ≡ failing (line_memory line))
+  found : (m : Files) (r : Result A E) (o : Outcome) → RefinesProp (λ e. is_memory e || is_failure e) (Is m) r → IfErr r (λ e. is_failure e ≡ true → ⊥) → Comes r o → IsOutcomeOfCommand line m o ⊎ (o ≡ failing (line_memory line))
   found m (Ok x) o h none comes = inl (does m (Ok x) o h comes)
   found m (Err e) o h none comes = by_cause (is_memory e) (is_failure e) refl refl h
     where
-      by_cause : (a b : Bool) → is_memory e ≡ a → is_failure e ≡ b → Unless (a || b) (Is m (Err e)) → DoesLine line m o ⊎ (o ≡ failing (line_memory line))
+      by_cause : (a b : Bool) → is_memory e ≡ a → is_failure e ≡ b → Unless (a || b) (Is m (Err e)) → IsOutcomeOfCommand line m o ⊎ (o ≡ failing (line_memory line))
       by_cause true b p q u = inr (by_memory e o p comes)
       by_cause false true p q u = absurd (none q)
       by_cause false false p q u = inl (does m (Err e) o u comes)
 
-  no_failure : (fo fm : ℕ) (r : Result A E) → PassesBy is_failure fo fm r → (HasFailed fo fm → ⊥) → IfErr r (λ e. is_failure e ≡ true → ⊥)
+  no_failure : (fo fm : ℕ) (r : Result A E) → PropagatesIoErrors is_failure fo fm r → (HasFailed fo fm → ⊥) → IfErr r (λ e. is_failure e ≡ true → ⊥)
   no_failure fo fm (Ok x) p none = tt
   no_failure fo fm (Err e) p none = λ h. none (p.cause h)
 
   -- what is said of a refusal from outside
-  refused : (m : Files) (blamed : Blamed) (r : Result A E) (o : Outcome) → IsErrAnd r (λ e. (is_memory e || is_failure e) ≡ true) → IfErr r (λ e. is_failure e ≡ true → Stopped m blamed e) → Comes r o → Refuses line m blamed o
-  refused m blamed (Ok x) o outside stopped comes = absurd outside
-  refused m blamed (Err e) o outside stopped comes = by (is_memory e) (is_failure e) refl refl outside
+  refused : (m : Files) (last_failure : LastFailure) (r : Result A E) (o : Outcome) → IsErrAnd r (λ e. (is_memory e || is_failure e) ≡ true) → IfErr r (λ e. is_failure e ≡ true → Stopped m last_failure e) → Comes r o → OnlyReports line m last_failure o
+  refused m last_failure (Ok x) o outside stopped comes = absurd outside
+  refused m last_failure (Err e) o outside stopped comes = by (is_memory e) (is_failure e) refl refl outside
     where
-      by : (a b : Bool) → is_memory e ≡ a → is_failure e ≡ b → (a || b) ≡ true → Refuses line m blamed o
+      by : (a b : Bool) → is_memory e ≡ a → is_failure e ≡ b → (a || b) ≡ true → OnlyReports line m last_failure o
       by true b p q h = ([], line_memory line, inr (refl, refl), by_memory e o p comes)
-      by false true p q h = by_failure m blamed e o q (stopped q) comes
+      by false true p q h = by_failure m last_failure e o q (stopped q) comes
       by false false p q h = absurd cc
 
   from_outside : (r : Result A E) → IsErrAnd r (λ e. is_failure e ≡ true) → IsErrAnd r (λ e. (is_memory e || is_failure e) ≡ true)
@@ -72,23 +72,23 @@ module _ {A E : Type 0} (line : Says) (is_memory is_failure : E → Bool)
       by true = refl
       by false = h
 
-  outside : (fo fm : ℕ) (r : Result A E) → PassesBy is_failure fo fm r → Asks (λ e. is_memory e || is_failure e) fo r → HasFailed fo fm → IsErrAnd r (λ e. (is_memory e || is_failure e) ≡ true)
+  outside : (fo fm : ℕ) (r : Result A E) → PropagatesIoErrors is_failure fo fm r → FailsAtLastCount (λ e. is_memory e || is_failure e) fo r → HasFailed fo fm → IsErrAnd r (λ e. (is_memory e || is_failure e) ≡ true)
   outside fo fm r count asks (inl rose) = from_outside r (count.told rose)
   outside fo fm r count asks (inr last) = asks last
 
-  computed : (m : Files) (fo fm : ℕ) (blamed : Blamed) (r : Result A E) (o : Outcome) → PassesBy is_failure fo fm r → Asks (λ e. is_memory e || is_failure e) fo r → IfErr r (λ e. is_failure e ≡ true → Stopped m blamed e) → Finds (λ e. is_memory e || is_failure e) (Is m) r → Comes r o → Computes line m blamed fo fm o
-  computed m fo fm blamed r o count asks stopped finds comes = record {
+  computed : (m : Files) (fo fm : ℕ) (last_failure : LastFailure) (r : Result A E) (o : Outcome) → PropagatesIoErrors is_failure fo fm r → FailsAtLastCount (λ e. is_memory e || is_failure e) fo r → IfErr r (λ e. is_failure e ≡ true → Stopped m last_failure e) → RefinesProp (λ e. is_memory e || is_failure e) (Is m) r → Comes r o → ComputesOutcome line m last_failure fo fm o
+  computed m fo fm last_failure r o count asks stopped finds comes = record {
     done = λ none. found m r o finds (no_failure fo fm r count none) comes;
-    failed = λ some. refused m blamed r o (outside fo fm r count asks some) stopped comes;
+    failed = λ some. refused m last_failure r o (outside fo fm r count asks some) stopped comes;
   }
 
   -- what is computed, unless memory runs out
-  pub computes : {F : Type 0} (known : Option Files) (fo fm : ℕ) (blamed : Blamed) (r : Result A E) (q : Result Outcome F) → PassesBy is_failure fo fm r → Asks (λ e. is_memory e || is_failure e) fo r → IfSome known (λ m. IfErr r (λ e. is_failure e ≡ true → Stopped m blamed e)) → IfSome known (λ m. Finds (λ e. is_memory e || is_failure e) (Is m) r) → IfOk q (Comes r) → IfSome known (λ m. IfOk q (Computes line m blamed fo fm))
-  computes None fo fm blamed r q count asks stopped finds comes = tt
-  computes (Some m) fo fm blamed r (Ok o) count asks stopped finds comes = computed m fo fm blamed r o count asks stopped finds comes
-  computes (Some m) fo fm blamed r (Err f) count asks stopped finds comes = tt
+  pub computes : {F : Type 0} (known : Option Files) (fo fm : ℕ) (last_failure : LastFailure) (r : Result A E) (q : Result Outcome F) → PropagatesIoErrors is_failure fo fm r → FailsAtLastCount (λ e. is_memory e || is_failure e) fo r → IfSome known (λ m. IfErr r (λ e. is_failure e ≡ true → Stopped m last_failure e)) → IfSome known (λ m. RefinesProp (λ e. is_memory e || is_failure e) (Is m) r) → IfOk q (Comes r) → IfSome known (λ m. IfOk q (ComputesOutcome line m last_failure fo fm))
+  computes None fo fm last_failure r q count asks stopped finds comes = tt
+  computes (Some m) fo fm last_failure r (Ok o) count asks stopped finds comes = computed m fo fm last_failure r o count asks stopped finds comes
+  computes (Some m) fo fm last_failure r (Err f) count asks stopped finds comes = tt
 
-  pub fails_so : {F : Type 0} (fo fm : ℕ) (r : Result A E) (q : Result Outcome F) → PassesBy is_failure fo fm r → Asks (λ e. is_memory e || is_failure e) fo r → IfOk q (Comes r) → HasFailed fo fm → IfOk q (λ o. o.status ≡ Failure)
+  pub fails_so : {F : Type 0} (fo fm : ℕ) (r : Result A E) (q : Result Outcome F) → PropagatesIoErrors is_failure fo fm r → FailsAtLastCount (λ e. is_memory e || is_failure e) fo r → IfOk q (Comes r) → HasFailed fo fm → IfOk q (λ o. o.status ≡ Failure)
   fails_so fo fm r (Err f) count asks comes some = tt
   fails_so fo fm r (Ok o) count asks comes some = by r comes (outside fo fm r count asks some)
     where
@@ -99,35 +99,35 @@ module _ {A E : Type 0} (line : Says) (is_memory is_failure : E → Bool)
 -- ---- A link.
 
 module _ (l : Linking) where
-  abbrev LinkStops : Files → Blamed → Refusal → Type 0
+  abbrev LinkStops : Files → LastFailure → LinkCommandFault → Type 0
   LinkStops m b e = IsOfLine (Some m) b l e
 
-  link_does : (m : Files) (r : Result Linked Refusal) (o : Outcome) → IsLinked m l r → o ≡ outcome_of l r → DoesLine (link l) m o
+  link_does : (m : Files) (r : Result Linked LinkCommandFault) (o : Outcome) → IsLinked m l r → o ≡ outcome_of l r → IsOutcomeOfCommand (link l) m o
   link_does m r o is comes = (r, is, comes)
 
-  link_memory : (e : Refusal) (o : Outcome) → is_memory e ≡ true → o ≡ outcome_of l (Err e) → o ≡ failing memory_message
+  link_memory : (e : LinkCommandFault) (o : Outcome) → is_memory e ≡ true → o ≡ outcome_of l (Err e) → o ≡ failing memory_message
   link_memory e o h is = is ∙ by_memory
     where
       by_memory : outcome_of l (Err e) ≡ failing memory_message
       by_memory = rw h refl
 
-  link_failure : (m : Files) (b : Blamed) (e : Refusal) (o : Outcome) → is_failure e ≡ true → LinkStops m b e → o ≡ outcome_of l (Err e) → Refuses (link l) m b o
-  link_failure m b e o failed is_of is = ([], refusal_message l e, inl (e, failed, is_of, refl, refl), is)
+  link_failure : (m : Files) (b : LastFailure) (e : LinkCommandFault) (o : Outcome) → is_failure e ≡ true → LinkStops m b e → o ≡ outcome_of l (Err e) → OnlyReports (link l) m b o
+  link_failure m b e o failed is_of is = ([], error_message l e, inl (e, failed, is_of, refl, refl), is)
 
-  link_fails : (e : Refusal) (o : Outcome) → o ≡ outcome_of l (Err e) → o.status ≡ Failure
+  link_fails : (e : LinkCommandFault) (o : Outcome) → o ≡ outcome_of l (Err e) → o.status ≡ Failure
   link_fails e o is = ap (λ (x : Outcome). x.status) is
 
   -- what a refusal names, where the files are known
-  of_known : (known : Option Files) (r : Result Linked Refusal) (b : Blamed) → IfErr r (Names (IsOfLine known b l)) → IfSome known (λ m. IfErr r (λ e. is_failure e ≡ true → LinkStops m b e))
+  of_known : (known : Option Files) (r : Result Linked LinkCommandFault) (b : LastFailure) → IfErr r (NamesFailure (IsOfLine known b l)) → IfSome known (λ m. IfErr r (λ e. is_failure e ≡ true → LinkStops m b e))
   of_known None r b named = tt
   of_known (Some m) r b named = named
 
-  pub computes_link : {F : Type 0} (known : Option Files) (fo fm : ℕ) (b : Blamed) (r : Result Linked Refusal) (q : Result Outcome F) → PassesBy is_failure fo fm r → Asks is_outside fo r → IfErr r (Names (IsOfLine known b l)) → IfSome known (λ m. Finds is_outside (IsLinked m l) r) → IfOk q (λ o. o ≡ outcome_of l r) → IfSome known (λ m. IfOk q (Computes (link l) m b fo fm))
+  pub computes_link : {F : Type 0} (known : Option Files) (fo fm : ℕ) (b : LastFailure) (r : Result Linked LinkCommandFault) (q : Result Outcome F) → PropagatesIoErrors is_failure fo fm r → FailsAtLastCount is_system_error fo r → IfErr r (NamesFailure (IsOfLine known b l)) → IfSome known (λ m. RefinesProp is_system_error (IsLinked m l) r) → IfOk q (λ o. o ≡ outcome_of l r) → IfSome known (λ m. IfOk q (ComputesOutcome (link l) m b fo fm))
   computes_link known fo fm b r q count asks named finds comes =
       computes (link l) is_memory is_failure (λ m. IsLinked m l) (λ r o. o ≡ outcome_of l r) LinkStops link_does link_memory link_failure link_fails
       known fo fm b r q count asks (of_known known r b named) finds comes
 
-  pub link_fails_so : {F : Type 0} (fo fm : ℕ) (r : Result Linked Refusal) (q : Result Outcome F) → PassesBy is_failure fo fm r → Asks is_outside fo r → IfOk q (λ o. o ≡ outcome_of l r) → HasFailed fo fm → IfOk q (λ o. o.status ≡ Failure)
+  pub link_fails_so : {F : Type 0} (fo fm : ℕ) (r : Result Linked LinkCommandFault) (q : Result Outcome F) → PropagatesIoErrors is_failure fo fm r → FailsAtLastCount is_system_error fo r → IfOk q (λ o. o ≡ outcome_of l r) → HasFailed fo fm → IfOk q (λ o. o.status ≡ Failure)
   link_fails_so =
       fails_so (link l) is_memory is_failure (λ m. IsLinked m l) (λ r o. o ≡ outcome_of l r) LinkStops link_does link_memory link_failure link_fails
 
@@ -138,10 +138,10 @@ module _ (a : Archiving) where
   abbrev IsArchived : Files → Result Archived ArchiveRefusal → Type 0
   IsArchived m r = archived_of m a ≡ r
 
-  abbrev ArchiveStops : Files → Blamed → ArchiveRefusal → Type 0
+  abbrev ArchiveStops : Files → LastFailure → ArchiveRefusal → Type 0
   ArchiveStops m b e = IsOfArchive b a e
 
-  archive_does : (m : Files) (r : Result Archived ArchiveRefusal) (o : Outcome) → IsArchived m r → o ≡ archive_outcome a r → DoesLine (archive a) m o
+  archive_does : (m : Files) (r : Result Archived ArchiveRefusal) (o : Outcome) → IsArchived m r → o ≡ archive_outcome a r → IsOutcomeOfCommand (archive a) m o
   archive_does m r o is comes = comes ∙ ap (archive_outcome a) (sym is)
 
   archive_memory : (e : ArchiveRefusal) (o : Outcome) → is_archive_memory e ≡ true → o ≡ archive_outcome a (Err e) → o ≡ failing (memory_line a.library)
@@ -150,13 +150,13 @@ module _ (a : Archiving) where
       by_memory : archive_outcome a (Err e) ≡ failing (memory_line a.library)
       by_memory = rw h refl
 
-  archive_failure : (m : Files) (b : Blamed) (e : ArchiveRefusal) (o : Outcome) → is_archive_failure e ≡ true → ArchiveStops m b e → o ≡ archive_outcome a (Err e) → Refuses (archive a) m b o
+  archive_failure : (m : Files) (b : LastFailure) (e : ArchiveRefusal) (o : Outcome) → is_archive_failure e ≡ true → ArchiveStops m b e → o ≡ archive_outcome a (Err e) → OnlyReports (archive a) m b o
   archive_failure m b e o failed is_of is = ([], archive_message a e, inl (e, failed, is_of, refl, refl), is)
 
   archive_fails : (e : ArchiveRefusal) (o : Outcome) → o ≡ archive_outcome a (Err e) → o.status ≡ Failure
   archive_fails e o is = ap (λ (x : Outcome). x.status) is
 
-  archived_found : (known : Option Files) (r : Result Archived ArchiveRefusal) → IfSome known (λ m. Gives is_archive_outside (λ x. x) r (archived_of m a)) → IfSome known (λ m. Finds is_archive_outside (IsArchived m) r)
+  archived_found : (known : Option Files) (r : Result Archived ArchiveRefusal) → IfSome known (λ m. Refines is_archive_system_error (λ x. x) r (archived_of m a)) → IfSome known (λ m. RefinesProp is_archive_system_error (IsArchived m) r)
   archived_found None r h = tt
   archived_found (Some m) (Ok x) h = h
   archived_found (Some m) (Err e) h = h
@@ -166,12 +166,12 @@ module _ (a : Archiving) where
   whatever None P h = tt
   whatever (Some m) P h = h
 
-  pub computes_archive : {F : Type 0} (known : Option Files) (fo fm : ℕ) (b : Blamed) (r : Result Archived ArchiveRefusal) (q : Result Outcome F) → PassesBy is_archive_failure fo fm r → Asks is_archive_outside fo r → IfErr r (λ e. is_archive_failure e ≡ true → IsOfArchive b a e) → IfSome known (λ m. Gives is_archive_outside (λ x. x) r (archived_of m a)) → IfOk q (λ o. o ≡ archive_outcome a r) → IfSome known (λ m. IfOk q (Computes (archive a) m b fo fm))
+  pub computes_archive : {F : Type 0} (known : Option Files) (fo fm : ℕ) (b : LastFailure) (r : Result Archived ArchiveRefusal) (q : Result Outcome F) → PropagatesIoErrors is_archive_failure fo fm r → FailsAtLastCount is_archive_system_error fo r → IfErr r (λ e. is_archive_failure e ≡ true → IsOfArchive b a e) → IfSome known (λ m. Refines is_archive_system_error (λ x. x) r (archived_of m a)) → IfOk q (λ o. o ≡ archive_outcome a r) → IfSome known (λ m. IfOk q (ComputesOutcome (archive a) m b fo fm))
   computes_archive known fo fm b r q count asks named gives comes =
       computes (archive a) is_archive_memory is_archive_failure IsArchived (λ r o. o ≡ archive_outcome a r) ArchiveStops archive_does archive_memory archive_failure archive_fails
       known fo fm b r q count asks (whatever known _ named) (archived_found known r gives) comes
 
-  pub archive_fails_so : {F : Type 0} (fo fm : ℕ) (r : Result Archived ArchiveRefusal) (q : Result Outcome F) → PassesBy is_archive_failure fo fm r → Asks is_archive_outside fo r → IfOk q (λ o. o ≡ archive_outcome a r) → HasFailed fo fm → IfOk q (λ o. o.status ≡ Failure)
+  pub archive_fails_so : {F : Type 0} (fo fm : ℕ) (r : Result Archived ArchiveRefusal) (q : Result Outcome F) → PropagatesIoErrors is_archive_failure fo fm r → FailsAtLastCount is_archive_system_error fo r → IfOk q (λ o. o ≡ archive_outcome a r) → HasFailed fo fm → IfOk q (λ o. o.status ≡ Failure)
   archive_fails_so =
       fails_so (archive a) is_archive_memory is_archive_failure IsArchived (λ r o. o ≡ archive_outcome a r) ArchiveStops archive_does archive_memory archive_failure archive_fails
 
@@ -185,48 +185,48 @@ same_job a include defines h k = ap (λ (i : List (List ℕ)). job_with a i defi
     job_with b i d = record { source = b.source; include = i; defines = d }
 
 module _ (a : Assembling) (out err : List ℕ) where
-  abbrev Made : Result Object AsmRefusal → Outcome → Type 0
+  abbrev Made : Result Object Diagnostic → Outcome → Type 0
   Made r o = AssemblesWith a out err (in_places r) o
 
-  abbrev IsMade : Job → Files → Result Object AsmRefusal → Type 0
+  abbrev IsMade : Job → Files → Result Object Diagnostic → Type 0
   IsMade j m r = IsOutcome m j (record { result = in_places r; out = out; err = err })
 
-  abbrev MakingStops : Job → Files → Blamed → AsmRefusal → Type 0
-  MakingStops j m b e = Stops m b j (placed_of e) out err
+  abbrev MakingStops : Job → Files → LastFailure → Diagnostic → Type 0
+  MakingStops j m b e = StoreFailureStops m b j (placed_of e) out err
 
-  made_does : (m : Files) (r : Result Object AsmRefusal) (o : Outcome) → IsMade (job_in a) m r → Made r o → DoesLine (assemble a) m o
+  made_does : (m : Files) (r : Result Object Diagnostic) (o : Outcome) → IsMade (job_in a) m r → Made r o → IsOutcomeOfCommand (assemble a) m o
   made_does m r o is comes = (record { result = in_places r; out = out; err = err }, is, comes)
 
-  made_memory : (e : AsmRefusal) (o : Outcome) → is_asm_memory e.fault ≡ true → Made (Err e) o → o ≡ failing (memory_line a.source)
+  made_memory : (e : Diagnostic) (o : Outcome) → is_asm_memory e.fault ≡ true → Made (Err e) o → o ≡ failing (memory_line a.source)
   made_memory e o h is = is ∙ by_memory
     where
       by_memory : refused_with a.source out err (placed_of e) ≡ failing (memory_line a.source)
       by_memory = rw h refl
 
-  made_failure : (m : Files) (b : Blamed) (e : AsmRefusal) (o : Outcome) → has_failed e ≡ true → MakingStops (job_in a) m b e → Made (Err e) o → Refuses (assemble a) m b o
+  made_failure : (m : Files) (b : LastFailure) (e : Diagnostic) (o : Outcome) → has_failed e ≡ true → MakingStops (job_in a) m b e → Made (Err e) o → OnlyReports (assemble a) m b o
   made_failure m b e o failed stops is = by_memory (is_asm_memory e.fault) refl
     where
-      by_memory : (c : Bool) → is_asm_memory e.fault ≡ c → Refuses (assemble a) m b o
+      by_memory : (c : Bool) → is_asm_memory e.fault ≡ c → OnlyReports (assemble a) m b o
       by_memory true h = ([], memory_line a.source, inr (refl, refl), made_memory e o h is)
       by_memory false h =
           let text : List ℕ = err ++ asm_message a.source (placed_of e) in
           let said : refused_with a.source out err (placed_of e) ≡ refusing out text = rw h refl in
           (out, text, inl (placed_of e, err, failed, stops, refl), is ∙ said)
 
-  made_fails : (e : AsmRefusal) (o : Outcome) → Made (Err e) o → o.status ≡ Failure
+  made_fails : (e : Diagnostic) (o : Outcome) → Made (Err e) o → o.status ≡ Failure
   made_fails e o is = ap (λ (x : Outcome). x.status) is ∙ refused_status (placed_of e) (is_asm_memory e.fault) refl
     where
-      refused_status : (e : PlacedFault) (b : Bool) → is_asm_memory e.fault ≡ b → (refused_with a.source out err e).status ≡ Failure
+      refused_status : (e : LocatedFault) (b : Bool) → is_asm_memory e.fault ≡ b → (refused_with a.source out err e).status ≡ Failure
       refused_status e true h = rw h refl
       refused_status e false h = rw h refl
 
-  pub computes_assembly : {F : Type 0} (known : Option Files) (fo fm : ℕ) (b : Blamed) (j : Job) (r : Result Object AsmRefusal) (q : Result Outcome F) → j ≡ job_in a → PassesBy has_failed fo fm r → Asks is_outside_refusal fo r → IfSome known (λ m. IfErr r (λ e. has_failed e ≡ true → Stops m b j (placed_of e) out err)) → IfSome known (λ m. Finds is_outside_refusal (IsMade j m) r) → IfOk q (Made r) → IfSome known (λ m. IfOk q (Computes (assemble a) m b fo fm))
+  pub computes_assembly : {F : Type 0} (known : Option Files) (fo fm : ℕ) (b : LastFailure) (j : Job) (r : Result Object Diagnostic) (q : Result Outcome F) → j ≡ job_in a → PropagatesIoErrors has_failed fo fm r → FailsAtLastCount is_diagnostic_system_error fo r → IfSome known (λ m. IfErr r (λ e. has_failed e ≡ true → StoreFailureStops m b j (placed_of e) out err)) → IfSome known (λ m. RefinesProp is_diagnostic_system_error (IsMade j m) r) → IfOk q (Made r) → IfSome known (λ m. IfOk q (ComputesOutcome (assemble a) m b fo fm))
   computes_assembly known fo fm b j r q same count asks stopped finds comes =
       computes (assemble a) (λ e. is_asm_memory e.fault) has_failed (IsMade (job_in a)) Made (MakingStops (job_in a)) made_does made_memory made_failure made_fails
       known fo fm b r q count asks
-      (subst (λ (k : Job). IfSome known (λ m. IfErr r (λ e. has_failed e ≡ true → Stops m b k (placed_of e) out err))) same stopped)
-      (subst (λ (k : Job). IfSome known (λ m. Finds is_outside_refusal (IsMade k m) r)) same finds) comes
+      (subst (λ (k : Job). IfSome known (λ m. IfErr r (λ e. has_failed e ≡ true → StoreFailureStops m b k (placed_of e) out err))) same stopped)
+      (subst (λ (k : Job). IfSome known (λ m. RefinesProp is_diagnostic_system_error (IsMade k m) r)) same finds) comes
 
-  pub assembly_fails_so : {F : Type 0} (fo fm : ℕ) (r : Result Object AsmRefusal) (q : Result Outcome F) → PassesBy has_failed fo fm r → Asks is_outside_refusal fo r → IfOk q (Made r) → HasFailed fo fm → IfOk q (λ o. o.status ≡ Failure)
+  pub assembly_fails_so : {F : Type 0} (fo fm : ℕ) (r : Result Object Diagnostic) (q : Result Outcome F) → PropagatesIoErrors has_failed fo fm r → FailsAtLastCount is_diagnostic_system_error fo r → IfOk q (Made r) → HasFailed fo fm → IfOk q (λ o. o.status ≡ Failure)
   assembly_fails_so =
       fails_so (assemble a) (λ e. is_asm_memory e.fault) has_failed (IsMade (job_in a)) Made (MakingStops (job_in a)) made_does made_memory made_failure made_fails

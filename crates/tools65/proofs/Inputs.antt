@@ -9,14 +9,14 @@ use Rattle.std.proofs.lemmas.Slice.Eq.{bytes_eq-Decides}
 use Rattle.base65.specs.Store.{Files}
 use Rattle.object65.specs.declared.object.Export.{Export}
 use Rattle.object65.specs.declared.object.Object.{Object}
-use Rattle.object65.specs.Objects.{is_good_object}
-use Rattle.object65.specs.Reading.{file_limit, in_file, room, object_at}
+use Rattle.object65.specs.Objects.{is_well_formed_object}
+use Rattle.object65.specs.Reading.{file_limit, in_file, bytes_before, object_at}
 use Rattle.object65.specs.Spelling.{IsObject, object_bytes}
 use Rattle.object65.specs.Versions.{IsEitherVersion}
 use Rattle.object65.proofs.Spellings.{no_prefix, object_is_read}
 use Rattle.object65.proofs.Versions.{version_law}
 use Rattle.library65.specs.declared.index.Entry.{Entry}
-use Rattle.library65.specs.Libraries.{agrees, are_same, contents_from}
+use Rattle.library65.specs.Libraries.{has_index_names, are_same, contents_from}
 use Rattle.library65.specs.Reading.{index_at, in_file as in_library}
 use Rattle.library65.specs.Spelling.{AreMembers as AreStored, IsLibrary, Member, index_bytes}
 use Rattle.library65.proofs.Again.{index_again}
@@ -26,16 +26,16 @@ use Rattle.semantics65.specs.Layout.{Layout}
 use Rattle.semantics65.specs.Numbering.{object_with}
 use Rattle.semantics65.specs.Symbols.{symbols_of}
 use Rattle.semantics65.specs.Module as asm
-use Rattle.semantics65.specs.Module.{PlacedFault}
+use Rattle.semantics65.specs.Module.{LocatedFault}
 use Rattle.sources65.specs.Reading.{Job, IsOutcome}
 use Rattle.sources65.proofs.SoundContents.{sound_contents}
 use Rattle.sources65.proofs.SoundSources.{sound_layout}
 use Rattle.emit65.proofs.GoodObjects.{good_object}
 use Rattle.link65.specs.Names.{given_names, open_names}
 use Rattle.link65.specs.Programs.{Module, program_of}
-use Rattle.link65.specs.Standing.{module_of}
+use Rattle.link65.specs.Representation.{module_of}
 use Rattle.whole65.proofs.SameValues.{bind_ok}
-use Rattle.ld65.specs.Linkage.{ByKind, chosen, chosen_at, file_input, is_library, is_library_in, member_input, member_module, no_limit}
+use Rattle.ld65.specs.Linkage.{ByKind, selected_entries, chosen_at, file_input, is_library, is_library_in, member_input, member_module, no_limit}
 use Rattle.tools65.specs.Inputs.{SourcesSelectedLaw, WrittenInputLaw, WrittenMemberLaw, WrittenObjectLaw}
 use Rattle.tools65.specs.OneProgram.{AreInputOf, AreMembers, AreObjectsOf, AreSelected, AreTaken, IsModuleOf, IsObjectOf, Source}
 use Rattle.tools65.specs.Written.{IsOneOf, IsSourceInput, IsSourceObject, IsWrittenOf}
@@ -44,23 +44,23 @@ use Rattle.library65.proofs.SomeSelection.{some_selection}
 
 -- ---- The object of a source is one of the grammar.
 
-answered : (y : Layout) (f : Option PlacedFault) (o : Object) → (asm.outcome_of y f).result ≡ Ok o → asm.object_of y ≡ Ok o
+answered : (y : Layout) (f : Option LocatedFault) (o : Object) → (asm.outcome_of y f).result ≡ Ok o → asm.object_of y ≡ Ok o
 answered y None o h = h
 answered y (Some e) o h = absurd (ok_err o e (sym h))
 
-good_source : (m : Files) (job : Job) (a : asm.Outcome) (o : Object) → IsOutcome m job a → a.result ≡ Ok o → is_good_object o ≡ true
+good_source : (m : Files) (job : Job) (a : asm.Outcome) (o : Object) → IsOutcome m job a → a.result ≡ Ok o → is_well_formed_object o ≡ true
 good_source m job a o (r, laid, same) is =
-    let y : Layout = r.behind in
+    let y : Layout = r.following in
     let found : asm.object_of y ≡ Ok o = answered y r.fault o (sym (ap (λ (z : asm.Outcome). z.result) same) ∙ is) in
     let z = symbols_of y.laid in
-    let (cs, there, made) = bind_ok (asm.ending_of y.laid).found (λ (cs : List Content). Ok (object_with y.cursor.segments z.imports cs)) o found in
+    let (cs, there, made) = bind_ok (asm.module_resolution y.laid).found (λ (cs : List Content). Ok (object_with y.cursor.segments z.imports cs)) o found in
     let good = good_object y.cursor.segments z.imports cs (sound_contents y cs (sound_layout m job r laid) there) in
-    subst (λ (k : Object). is_good_object k ≡ true) (ok_same (object_with y.cursor.segments z.imports cs) o made) good
+    subst (λ (k : Object). is_well_formed_object k ≡ true) (ok_same (object_with y.cursor.segments z.imports cs) o made) good
 
 -- of version 1 too
-either_good : (o p : Object) → is_good_object o ≡ true → IsEitherVersion o p → is_good_object p ≡ true
-either_good o p good (inl same) = subst (λ (k : Object). is_good_object k ≡ true) (sym same) good
-either_good o p good (inr same) = subst (λ (k : Object). is_good_object k ≡ true) (sym same) ((version_law o).0 good)
+either_good : (o p : Object) → is_well_formed_object o ≡ true → IsEitherVersion o p → is_well_formed_object p ≡ true
+either_good o p good (inl same) = subst (λ (k : Object). is_well_formed_object k ≡ true) (sym same) good
+either_good o p good (inr same) = subst (λ (k : Object). is_well_formed_object k ≡ true) (sym same) ((version_law o).0 good)
 
 pub written_object : WrittenObjectLaw
 written_object x bytes w = record {
@@ -77,13 +77,13 @@ source_module x bytes name w = (w.outcome, w.made, w.assembled, w.result, w.vers
 
 -- ---- A file.
 
-whole_room : (bytes : List ℕ) → length bytes ≤ file_limit → room bytes 0 no_limit ≡ bytes
+whole_room : (bytes : List ℕ) → length bytes ≤ file_limit → bytes_before bytes 0 no_limit ≡ bytes
 whole_room bytes short = take_all (no_limit - 0) bytes (omega arith)
 
 file_read : (bytes : List ℕ) (o : Object) → length bytes ≤ file_limit → IsObject bytes o → object_at 0 no_limit bytes ≡ Ok o
 file_read bytes o short is =
-    let all : room bytes 0 no_limit ≡ bytes = whole_room bytes short in
-    let fits : 0 + length (room bytes 0 no_limit) ≤ file_limit = omega (arith, short, ap (length {A = ℕ}) all) in
+    let all : bytes_before bytes 0 no_limit ≡ bytes = whole_room bytes short in
+    let fits : 0 + length (bytes_before bytes 0 no_limit) ≤ file_limit = omega (arith, short, ap (length {A = ℕ}) all) in
     object_is_read bytes 0 no_limit o fits (subst (λ (bs : List ℕ). IsObject bs o) (sym all) is)
 
 no_library : (o : Object) → is_library (object_bytes o) ≡ false
@@ -114,13 +114,13 @@ same_names (n ∷ ns) = and (bytes_eq n n) (are_same ns ns) ((bytes_eq-Decides n
 abbrev exported : Object → List (List ℕ)
 exported o = map (λ (x : Export). x.name) o.exports
 
-agreeing : (e : Entry) (o : Object) → e.exports ≡ exported o → e.imports ≡ o.imports → agrees e (contents_from o) ≡ true
+agreeing : (e : Entry) (o : Object) → e.exports ≡ exported o → e.imports ≡ o.imports → has_index_names e (contents_from o) ≡ true
 agreeing e o exports imports =
     and (are_same e.exports (exported o)) (are_same e.imports o.imports)
     (ap (λ (ns : List (List ℕ)). are_same ns (exported o)) exports ∙ same_names (exported o))
     (ap (λ (ns : List (List ℕ)). are_same ns o.imports) imports ∙ same_names o.imports)
 
-member_room : (bytes : List ℕ) (at size : ℕ) → room bytes at (at + size) ≡ take size (drop at bytes)
+member_room : (bytes : List ℕ) (at size : ℕ) → bytes_before bytes at (at + size) ≡ take size (drop at bytes)
 member_room bytes at size = let n : at + size - at ≡ size = omega arith in ap (λ k. take k (drop at bytes)) n
 
 piece_within : (bytes : List ℕ) (at size : ℕ) → 0 < length (take size (drop at bytes)) → at + length (take size (drop at bytes)) ≤ length bytes
@@ -128,10 +128,10 @@ piece_within bytes at size some = omega (arith, some, length-take size (drop at 
 
 member_read : (bytes piece : List ℕ) (at size : ℕ) (o : Object) → length bytes ≤ file_limit → piece ≡ take size (drop at bytes) → IsObject piece o → object_at at (at + size) bytes ≡ Ok o
 member_read bytes piece at size o short same is =
-    let all : piece ≡ room bytes at (at + size) = same ∙ sym (member_room bytes at size) in
+    let all : piece ≡ bytes_before bytes at (at + size) = same ∙ sym (member_room bytes at size) in
     let some : 0 < length (take size (drop at bytes)) = subst (λ (bs : List ℕ). 0 < length bs) (sym is.spelled ∙ same) (some_bytes o) in
     let within = piece_within bytes at size some in
-    let fits : at + length (room bytes at (at + size)) ≤ file_limit = omega (arith, within, short, ap (length {A = ℕ}) (member_room bytes at size)) in
+    let fits : at + length (bytes_before bytes at (at + size)) ≤ file_limit = omega (arith, within, short, ap (length {A = ℕ}) (member_room bytes at size)) in
     object_is_read bytes at (at + size) o fits (subst (λ (bs : List ℕ). IsObject bs o) all is)
 
 pub written_member : WrittenMemberLaw
@@ -159,9 +159,9 @@ one_chosen P [] place all = tt
 one_chosen P (e ∷ es) zero all = (all.0, tt)
 one_chosen P (e ∷ es) (suc place) all = one_chosen P es place all.1
 
-all_chosen : (P : Entry → Type 0) (es : List Entry) (places : List ℕ) → AllByRecursion P es → AllByRecursion P (chosen es places)
+all_chosen : (P : Entry → Type 0) (es : List Entry) (places : List ℕ) → AllByRecursion P es → AllByRecursion P (selected_entries es places)
 all_chosen P es [] all = tt
-all_chosen P es (place ∷ places) all = append_all P (chosen_at es place) (chosen es places) (one_chosen P es place all) (all_chosen P es places all)
+all_chosen P es (place ∷ places) all = append_all P (chosen_at es place) (selected_entries es places) (one_chosen P es place all) (all_chosen P es places all)
 
 objects_append : (xs ys : List Source) (ms ns : List Module) → AreObjectsOf xs ms → AreObjectsOf ys ns → AreObjectsOf (xs ++ ys) (ms ++ ns)
 objects_append [] ys [] ns f g = g
@@ -210,7 +210,7 @@ module _ (sources : List Source) (m : Files) where
         let index = ap (λ (f : Option (List ℕ)). in_library f index_at) there ∙ index_again bytes es is.is_index in
         let selected = some_selection es wanted defined in
         let stored = all_stored library bytes es ps there is.is_index.limit is.members all in
-        let own = members_given library (chosen es selected.0) (all_chosen (HasSource library) es selected.0 stored) in
+        let own = members_given library (selected_entries es selected.0) (all_chosen (HasSource library) es selected.0 stored) in
         let taken : AreTaken s m before library own.modules = (es, selected.0, index, selected.1, own.are) in
         record {
           modules = own.modules;

@@ -2,7 +2,7 @@
 use Rattle.std.proofs.Common.{◌≡◌, ◌∙◌, ℕ, ◌+◌, List, [], ◌∷◌, Bool, true, false, Result, Ok, Err, sym, ap, subst}
 use Rattle.std.specs.FinMap.{get}
 use Rattle.std.specs.Prelude.{Option, Some}
-use Rattle.base65.specs.Outcome.{First}
+use Rattle.base65.specs.Outcome.{AndThen}
 use Rattle.base65.proofs.Outcome.{first_once}
 use Rattle.base65.specs.Store.{Files}
 use Rattle.script65.proofs.OneReading.{one_reading}
@@ -18,56 +18,56 @@ use Rattle.link65.specs.Programs.{Module, program_of}
 use Rattle.link65.specs.declared.fault.LinkFault.{LinkFault}
 use Rattle.link65.specs.declared.linking.Linked.{Linked}
 use Rattle.cli65.specs.Line.{Linking}
-use Rattle.ld65.specs.declared.refusal.Refusal.{Refusal}
-use Rattle.ld65.specs.declared.refusal.Refusal.TheVariants as refusal
-use Rattle.ld65.specs.Linkage.{AreInputs, AreNeeded, ByKind, IsInput, IsInputLink, IsLibraryInput, IsLinked, IsLinkedBy, LinksTo, as_library, as_refusal, as_script, chosen, index_in, is_library_in, output_of, text_of, with_file, with_members}
+use Rattle.ld65.specs.declared.fault.LinkCommandFault.{LinkCommandFault}
+use Rattle.ld65.specs.declared.fault.LinkCommandFault.TheVariants as refusal
+use Rattle.ld65.specs.Linkage.{AreInputs, AreNeeded, ByKind, IsInput, IsInputLink, IsLibraryInput, IsLinked, IsLinkedBy, LinksTo, as_library, as_refusal, as_script, selected_entries, index_in, is_library_in, output_of, text_of, with_file, with_members}
 use Rattle.tools65.proofs.Selected.{ok_err, ok_same}
 
 -- ---- The modules of inputs.
 
 module _ (s : Script) (m : Files) where
-  needed_once : (before : List Module) (library : List ℕ) (es : List Entry) (r t : Result (List Module) Refusal) → AreNeeded s m library before es r → AreNeeded s m library before es t → r ≡ t
+  needed_once : (before : List Module) (library : List ℕ) (es : List Entry) (r t : Result (List Module) LinkCommandFault) → AreNeeded s m library before es r → AreNeeded s m library before es t → r ≡ t
   needed_once before library es r t h k =
       let same : h.0 ≡ k.0 = one_selection es (open_names s (program_of before)) (given_names s (program_of before)) h.0 k.0 h.1 k.1 in
-      h.2 ∙ ap (λ (places : List ℕ). with_members s m library before (chosen es places)) same ∙ sym k.2
+      h.2 ∙ ap (λ (places : List ℕ). with_members s m library before (selected_entries es places)) same ∙ sym k.2
 
-  library_once : (k : ℕ) (before : List Module) (library : List ℕ) (r t : Result (List Module) Refusal) → IsLibraryInput s m k before library r → IsLibraryInput s m k before library t → r ≡ t
+  library_once : (k : ℕ) (before : List Module) (library : List ℕ) (r t : Result (List Module) LinkCommandFault) → IsLibraryInput s m k before library r → IsLibraryInput s m k before library t → r ≡ t
   library_once k before library r t = first_once (as_library k (index_in m library)) (AreNeeded s m library before) r t (λ es. needed_once before library es r t)
 
-  kind_once : (b : Bool) (k : ℕ) (before : List Module) (name : List ℕ) (r t : Result (List Module) Refusal) → ByKind b (IsLibraryInput s m k before name r) (r ≡ with_file s m k before name) → ByKind b (IsLibraryInput s m k before name t) (t ≡ with_file s m k before name) → r ≡ t
+  kind_once : (b : Bool) (k : ℕ) (before : List Module) (name : List ℕ) (r t : Result (List Module) LinkCommandFault) → ByKind b (IsLibraryInput s m k before name r) (r ≡ with_file s m k before name) → ByKind b (IsLibraryInput s m k before name t) (t ≡ with_file s m k before name) → r ≡ t
   kind_once true k before name r t h j = library_once k before name r t h j
   kind_once false k before name r t h j = h ∙ sym j
 
-  input_once : (k : ℕ) (before : List Module) (name : List ℕ) (r t : Result (List Module) Refusal) → IsInput s m k before name r → IsInput s m k before name t → r ≡ t
+  input_once : (k : ℕ) (before : List Module) (name : List ℕ) (r t : Result (List Module) LinkCommandFault) → IsInput s m k before name r → IsInput s m k before name t → r ≡ t
   input_once k before name r t h j = kind_once (is_library_in m name) k before name r t h j
 
-  pub inputs_once : (k : ℕ) (before : List Module) (names : List (List ℕ)) (r t : Result (List Module) Refusal) → AreInputs s m k before names r → AreInputs s m k before names t → r ≡ t
+  pub inputs_once : (k : ℕ) (before : List Module) (names : List (List ℕ)) (r t : Result (List Module) LinkCommandFault) → AreInputs s m k before names r → AreInputs s m k before names t → r ≡ t
   inputs_once k before [] r t h j = h ∙ sym j
   inputs_once k before (name ∷ names) r t h j =
       let same : h.0 ≡ j.0 = input_once k before name h.0 j.0 h.1 j.1 in
-      let next : List Module → Result (List Module) Refusal → Type 0 = λ ms. AreInputs s m (k + 1) ms names in
-      let there : First j.0 next r = subst (λ (q : Result (List Module) Refusal). First q next r) same h.2 in
+      let next : List Module → Result (List Module) LinkCommandFault → Type 0 = λ ms. AreInputs s m (k + 1) ms names in
+      let there : AndThen j.0 next r = subst (λ (q : Result (List Module) LinkCommandFault). AndThen q next r) same h.2 in
       first_once j.0 next r t (λ ms. inputs_once (k + 1) ms names r t) there j.2
 
 -- ---- The link of a line whose script is this one.
 
 module _ (l : Linking) (m : Files) (s : Script) (text : List ℕ) (file : get m l.script ≡ Some text) (script : IsScript text (Ok s)) where
-  by_script : (r : Result Linked Refusal) → IsLinked m l r → IsLinkedBy m l s r
+  by_script : (r : Result Linked LinkCommandFault) → IsLinked m l r → IsLinkedBy m l s r
   by_script r h =
-      let there : First (text_of (Some text)) (λ text u. (q : Result Script ScriptFault) × IsScript text q × First (as_script q) (IsLinkedBy m l) u) r =
-      subst (λ (f : Option (List ℕ)). First (text_of f) (λ text u. (q : Result Script ScriptFault) × IsScript text q × First (as_script q) (IsLinkedBy m l) u) r) file h in
+      let there : AndThen (text_of (Some text)) (λ text u. (q : Result Script ScriptFault) × IsScript text q × AndThen (as_script q) (IsLinkedBy m l) u) r =
+      subst (λ (f : Option (List ℕ)). AndThen (text_of f) (λ text u. (q : Result Script ScriptFault) × IsScript text q × AndThen (as_script q) (IsLinkedBy m l) u) r) file h in
       let same : there.0 ≡ Ok s = one_reading text there.0 (Ok s) there.1 script in
-      subst (λ (q : Result Script ScriptFault). First (as_script q) (IsLinkedBy m l) r) same there.2
+      subst (λ (q : Result Script ScriptFault). AndThen (as_script q) (IsLinkedBy m l) r) same there.2
 
   same_link : (ms : List Module) (linked : Linked) → LinksTo l s ms (Ok linked) → LinkOf (output_of l) s ms (Ok linked)
   same_link ms linked (Ok x, link, same) = subst (λ (z : Linked). LinkOf (output_of l) s ms (Ok z)) (sym (ok_same linked x same)) link
   same_link ms linked (Err e, link, same) = absurd (ok_err linked (refusal.Link e) same)
 
-  by_modules : (linked : Linked) (q : Result (List Module) Refusal) → AreInputs s m 0 [] l.inputs q → First q (LinksTo l s) (Ok linked) → (ms : List Module) × AreInputs s m 0 [] l.inputs (Ok ms) × LinkOf (output_of l) s ms (Ok linked)
+  by_modules : (linked : Linked) (q : Result (List Module) LinkCommandFault) → AreInputs s m 0 [] l.inputs q → AndThen q (LinksTo l s) (Ok linked) → (ms : List Module) × AreInputs s m 0 [] l.inputs (Ok ms) × LinkOf (output_of l) s ms (Ok linked)
   by_modules linked (Ok ms) are h = (ms, are, same_link ms linked h)
   by_modules linked (Err e) are h = absurd (ok_err linked e h)
 
-  by_names : (linked : Linked) (q : Result (Unit {0}) Refusal) → First q (λ u. IsInputLink m l s) (Ok linked) → IsInputLink m l s (Ok linked)
+  by_names : (linked : Linked) (q : Result (Unit {0}) LinkCommandFault) → AndThen q (λ u. IsInputLink m l s) (Ok linked) → IsInputLink m l s (Ok linked)
   by_names linked (Ok u) h = h
   by_names linked (Err e) h = absurd (ok_err linked e h)
 
@@ -78,9 +78,9 @@ module _ (l : Linking) (m : Files) (s : Script) (text : List ℕ) (file : get m 
       by_modules linked found.0 found.1 found.2
 
   -- where the modules of the inputs have a link, the line comes to no other
-  pub link_is : (ms : List Module) (linked : Linked) (r : Result Linked Refusal) → AreInputs s m 0 [] l.inputs (Ok ms) → names_once s (program_of []) ≡ Ok tt → LinkOf (output_of l) s ms (Ok linked) → IsLinked m l r → r ≡ Ok linked
+  pub link_is : (ms : List Module) (linked : Linked) (r : Result Linked LinkCommandFault) → AreInputs s m 0 [] l.inputs (Ok ms) → names_once s (program_of []) ≡ Ok tt → LinkOf (output_of l) s ms (Ok linked) → IsLinked m l r → r ≡ Ok linked
   link_is ms linked r are once link h =
-      let there : IsInputLink m l s r = subst (λ (q : Result (Unit {0}) LinkFault). First (as_refusal q) (λ u. IsInputLink m l s) r) once (by_script r h) in
+      let there : IsInputLink m l s r = subst (λ (q : Result (Unit {0}) LinkFault). AndThen (as_refusal q) (λ u. IsInputLink m l s) r) once (by_script r h) in
       let same : there.0 ≡ Ok ms = inputs_once s m 0 [] l.inputs there.0 (Ok ms) there.1 are in
-      let found : LinksTo l s ms r = subst (λ (q : Result (List Module) Refusal). First q (LinksTo l s) r) same there.2 in
+      let found : LinksTo l s ms r = subst (λ (q : Result (List Module) LinkCommandFault). AndThen q (LinksTo l s) r) same there.2 in
       found.2 ∙ ap (λ q. as_refusal q) (link_once (output_of l) s ms found.0 (Ok linked) found.1 link)

@@ -1,41 +1,41 @@
 -- From the parts of a run to the whole.
 use Rattle.std.proofs.Common.{◌≡◌, ◌⊎◌, inl, inr, ℕ, ◌<◌, ◌≤◌, List, [], Bool, true, false, Option, Some, None, Result, Ok, Err, refl, sym, not, arith, append-nil}
 use Rattle.std.specs.Prelude.{IfSome, ◌||◌}
-use Rattle.base65.specs.Outcome.{Refuses}
-use Rattle.base65.specs.Store.{Blamed, Files, NoneFailed, HasFailed, last_count}
+use Rattle.base65.specs.Outcome.{RefinesErr}
+use Rattle.base65.specs.Store.{LastFailure, Files, NoneFailed, HasFailed, max_failures}
 use Rattle.output65.specs.declared.outcome.Outcome.{Outcome}
 use Rattle.output65.specs.declared.outcome.Status.{Status}
 use Rattle.output65.specs.declared.outcome.Status.TheVariants.{Failure}
 use Rattle.output65.specs.Outputs.{failing}
-use Rattle.tools65.specs.Inner.Computing.{Computes}
-use Rattle.tools65.specs.Command.{DoesLine, Commands, Ran, RanWords, line_memory}
-use Rattle.output65.specs.Leaving.{OverWriters, Prints, SaysBoth, Settles, Performs, StopsShort, Streams, streams}
-use Rattle.cli65.specs.Line.{Says, line_of}
-use Rattle.cli65.specs.LineFaults.{is_outside as is_line_outside}
+use Rattle.tools65.specs.Internal.Computing.{ComputesOutcome}
+use Rattle.tools65.specs.Command.{IsOutcomeOfCommand, RunsCommand, RunSatisfies, ArgsRunSatisfies, line_memory}
+use Rattle.output65.specs.RunEffects.{OverWriters, PrintsText, SaysBoth, FilesAfterRun, PerformsOutcome, StopsShort, Streams, streams}
+use Rattle.cli65.specs.Line.{CommandView, line_of}
+use Rattle.cli65.specs.LineFaults.{is_system_error as is_line_system_error}
 use Rattle.cli65.specs.declared.fault.LineFault.{LineFault}
 use Rattle.cli65.specs.declared.fault.LineFault.TheVariants.{OutOfMemory, BadArguments}
 use Rattle.cli65.specs.Messages.{line_message_of, line_memory_message}
 
-no_text : (out : Option (List ℕ)) → Prints out out [] true
+no_text : (out : Option (List ℕ)) → PrintsText out out [] true
 no_text None = tt
 no_text (Some xs) = sym (append-nil xs)
 
 -- standard output was asked nothing
-only_errors : (out err_old err_new : Option (List ℕ)) (text : List ℕ) (out_refused err_refused : Bool) → out_refused ≡ false → Prints err_old err_new text (not err_refused) → SaysBoth (streams out out out_refused err_old err_new err_refused) [] text
+only_errors : (out err_old err_new : Option (List ℕ)) (text : List ℕ) (out_refused err_refused : Bool) → out_refused ≡ false → PrintsText err_old err_new text (not err_refused) → SaysBoth (streams out out out_refused err_old err_new err_refused) [] text
 only_errors out err_old err_new text true err_refused quiet p = absurd cc
 only_errors out err_old err_new text false err_refused quiet p = (no_text out, p)
 
-nothing_written : (text : List ℕ) (m : Files) (new : Option Files) (status : Status) (whole : Bool) → new ≡ Some m → status ≡ Failure → Settles (failing text) m new status whole
+nothing_written : (text : List ℕ) (m : Files) (new : Option Files) (status : Status) (whole : Bool) → new ≡ Some m → status ≡ Failure → FilesAfterRun (failing text) m new status whole
 nothing_written text m new status true e f = (e, f)
 nothing_written text m new status false e f = (e, f)
 
 -- a command that only says why
-pub says : (m : Files) (new : Option Files) (out err_old err_new : Option (List ℕ)) (text : List ℕ) (out_refused err_refused : Bool) (status : Status) → new ≡ Some m → status ≡ Failure → out_refused ≡ false → Prints err_old err_new text (not err_refused) → Performs (failing text) m new (streams out out out_refused err_old err_new err_refused) status
+pub says : (m : Files) (new : Option Files) (out err_old err_new : Option (List ℕ)) (text : List ℕ) (out_refused err_refused : Bool) (status : Status) → new ≡ Some m → status ≡ Failure → out_refused ≡ false → PrintsText err_old err_new text (not err_refused) → PerformsOutcome (failing text) m new (streams out out out_refused err_old err_new err_refused) status
 says m new out err_old err_new text out_refused err_refused status same e quiet p =
     record { said = only_errors out err_old err_new text out_refused err_refused quiet p; settled = nothing_written text m new status (not (out_refused || err_refused)) same e }
 
 -- where memory ran out before there was an outcome
-pub only_memory : (known new : Option Files) (does : Files → Outcome → Type 0) (out err_old err_new : Option (List ℕ)) (memory : List ℕ) (out_refused err_refused : Bool) (status : Status) (Q : Type 0) → new ≡ known → status ≡ Failure → out_refused ≡ false → Prints err_old err_new memory (not err_refused) → IfSome known (λ m. Q → Ran does memory m new (streams out out out_refused err_old err_new err_refused) status)
+pub only_memory : (known new : Option Files) (does : Files → Outcome → Type 0) (out err_old err_new : Option (List ℕ)) (memory : List ℕ) (out_refused err_refused : Bool) (status : Status) (Q : Type 0) → new ≡ known → status ≡ Failure → out_refused ≡ false → PrintsText err_old err_new memory (not err_refused) → IfSome known (λ m. Q → RunSatisfies does memory m new (streams out out out_refused err_old err_new err_refused) status)
 only_memory None new does out err_old err_new memory out_refused err_refused status Q same e quiet p = tt
 only_memory (Some m) new does out err_old err_new memory out_refused err_refused status Q same e quiet p = λ _. (failing memory, inr refl, inl (says m new out err_old err_new memory out_refused err_refused status same e quiet p))
 
@@ -45,33 +45,33 @@ none_before fo fm fn a b h =
     let same : fm ≡ fo = omega (arith, h.same) in
     (same, record { same = omega (arith, h.same); before = omega (arith, h.before, same) })
 
-pub did_not_fail : (fo fm : ℕ) → fm ≡ fo → fo < last_count → HasFailed fo fm → ⊥
+pub did_not_fail : (fo fm : ℕ) → fm ≡ fo → fo < max_failures → HasFailed fo fm → ⊥
 did_not_fail fo fm same before (inl h) = absurd (omega arith)
 did_not_fail fo fm same before (inr h) = absurd (omega arith)
 
 -- an outcome that was computed is carried out
-pub line_done : (known mid new : Option Files) (fo fm fn : ℕ) (line : Says) (blamed : Blamed) (o : Outcome) (io : Streams) (status : Status) → mid ≡ known → fo ≤ fm → fm ≤ fn → IfSome known (λ m. Computes line m blamed fo fm o) → IfSome mid (λ m. NoneFailed fm fn → Performs o m new io status ⊎ StopsShort o (line_memory line) m new io status) → IfSome known (λ m. NoneFailed fo fn → Ran (DoesLine line) (line_memory line) m new io status)
-line_done None mid new fo fm fn line blamed o io status same early later computes performs = tt
-line_done (Some m) mid new fo fm fn line blamed o io status same early later computes performs = λ none.
+pub line_done : (known mid new : Option Files) (fo fm fn : ℕ) (line : CommandView) (last_failure : LastFailure) (o : Outcome) (io : Streams) (status : Status) → mid ≡ known → fo ≤ fm → fm ≤ fn → IfSome known (λ m. ComputesOutcome line m last_failure fo fm o) → IfSome mid (λ m. NoneFailed fm fn → PerformsOutcome o m new io status ⊎ StopsShort o (line_memory line) m new io status) → IfSome known (λ m. NoneFailed fo fn → RunSatisfies (IsOutcomeOfCommand line) (line_memory line) m new io status)
+line_done None mid new fo fm fn line last_failure o io status same early later computes performs = tt
+line_done (Some m) mid new fo fm fn line last_failure o io status same early later computes performs = λ none.
     let between = none_before fo fm fn early later none in
     (o, computes.done (did_not_fail fo fm between.0 none.before), (rw same at performs) between.1)
 
 -- a line that was run
-pub line_run : (known new : Option Files) (fo fn : ℕ) (words : List (List ℕ)) (line : Says) (io : Streams) (status : Status) → line_of words ≡ Ok line → IfSome known (λ m. NoneFailed fo fn → Ran (DoesLine line) (line_memory line) m new io status) → IfSome known (λ m. NoneFailed fo fn → Commands words m new io status)
+pub line_run : (known new : Option Files) (fo fn : ℕ) (words : List (List ℕ)) (line : CommandView) (io : Streams) (status : Status) → line_of words ≡ Ok line → IfSome known (λ m. NoneFailed fo fn → RunSatisfies (IsOutcomeOfCommand line) (line_memory line) m new io status) → IfSome known (λ m. NoneFailed fo fn → RunsCommand words m new io status)
 line_run None new fo fn words line io status e h = tt
 line_run (Some m) new fo fn words line io status e h = λ none. rw e (inl (h none))
 
 -- words that are no line, or for which memory ran out
-pub refused_words : (known new : Option Files) (words : List (List ℕ)) (e : LineFault) (out err_old err_new : Option (List ℕ)) (out_refused err_refused : Bool) (status : Status) (Q : Type 0) → new ≡ known → status ≡ Failure → Refuses is_line_outside e (line_of words) → out_refused ≡ false → Prints err_old err_new (line_message_of e) (not err_refused) → IfSome known (λ m. Q → Commands words m new (streams out out out_refused err_old err_new err_refused) status)
+pub refused_words : (known new : Option Files) (words : List (List ℕ)) (e : LineFault) (out err_old err_new : Option (List ℕ)) (out_refused err_refused : Bool) (status : Status) (Q : Type 0) → new ≡ known → status ≡ Failure → RefinesErr is_line_system_error e (line_of words) → out_refused ≡ false → PrintsText err_old err_new (line_message_of e) (not err_refused) → IfSome known (λ m. Q → RunsCommand words m new (streams out out out_refused err_old err_new err_refused) status)
 refused_words None new words e out err_old err_new out_refused err_refused status Q same f h quiet p = tt
 refused_words (Some m) new words BadArguments out err_old err_new out_refused err_refused status Q same f h quiet p =
     λ _. rw h (failing (line_message_of BadArguments), inl refl, inl (says m new out err_old err_new (line_message_of BadArguments) out_refused err_refused status same f quiet p))
 refused_words (Some m) new words OutOfMemory out err_old err_new out_refused err_refused status Q same f h quiet p = λ _. either (line_of words)
   where
-    said : Performs (failing line_memory_message) m new (streams out out out_refused err_old err_new err_refused) status
+    said : PerformsOutcome (failing line_memory_message) m new (streams out out out_refused err_old err_new err_refused) status
     said = says m new out err_old err_new line_memory_message out_refused err_refused status same f quiet p
 
-    either : (r : Result Says LineFault) → RanWords r m new (streams out out out_refused err_old err_new err_refused) status
+    either : (r : Result CommandView LineFault) → ArgsRunSatisfies r m new (streams out out out_refused err_old err_new err_refused) status
     either (Ok line) = inr said
     either (Err e) = (failing line_memory_message, inr refl, inl said)
 

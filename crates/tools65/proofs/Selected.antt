@@ -1,7 +1,7 @@
 -- The modules that a line selects, and those that the linker is fed.
 use Rattle.std.proofs.Common.{◌≡◌, ◌∙◌, ℕ, suc, ◌+◌, List, [], ◌∷◌, ◌++◌, map, Bool, true, false, cond, Some, None, Result, Ok, Err, append-nil, append_assoc, refl, sym, ap, subst}
 use Rattle.std.proofs.lemmas.List.{map-append}
-use Rattle.base65.specs.Outcome.{◌>>=◌, First}
+use Rattle.base65.specs.Outcome.{◌>>=◌, AndThen}
 use Rattle.base65.specs.Store.{Files}
 use Rattle.object65.specs.declared.fault.ObjectFault.{ObjectFault}
 use Rattle.object65.specs.declared.object.Object.{Object}
@@ -12,18 +12,18 @@ use Rattle.library65.specs.declared.fault.LibraryFault.{LibraryFault}
 use Rattle.script65.specs.declared.script.Script.{Script}
 use Rattle.link65.specs.Names.{first_again, given_names, is_among, open_names, script_names}
 use Rattle.link65.specs.Links.{names_once}
-use Rattle.link65.specs.Programs.{Module, exported, program_of}
+use Rattle.link65.specs.Programs.{Module, linked_export, program_of}
 use Rattle.link65.specs.declared.fault.LinkFault.{LinkFault}
 use Rattle.link65.specs.declared.fault.LinkFault.TheVariants.{IndexDisagrees, Malformed}
 use Rattle.link65.specs.declared.parts.Exported.{Exported}
-use Rattle.link65.specs.Standing.{agreed, agrees_with, as_link, joined as joined_to, module_of}
+use Rattle.link65.specs.Representation.{agreeing_object, agrees_with, as_link, module_without_duplicates as joined_to, module_of}
 use Rattle.whole65.proofs.Links.{none_again}
 use Rattle.whole65.proofs.Providers.{exports_are, linked_exports}
 use Rattle.whole65.proofs.SameValues.{bind_ok}
-use Rattle.ld65.specs.declared.refusal.Refusal.{Refusal}
-use Rattle.ld65.specs.declared.refusal.Refusal.TheVariants as refusal
-use Rattle.ld65.specs.Linkage.{AreInputs, AreNeeded, ByKind, Input, IsLibraryInput, added_in, as_library, behind, chosen, file_input, index_in, is_library_in, member_input, member_module, object_in, with_file, with_member, with_members}
-use Rattle.ld65.specs.Refusals.{refusal_at, refusal_in}
+use Rattle.ld65.specs.declared.fault.LinkCommandFault.{LinkCommandFault}
+use Rattle.ld65.specs.declared.fault.LinkCommandFault.TheVariants as refusal
+use Rattle.ld65.specs.Linkage.{AreInputs, AreNeeded, ByKind, Input, IsLibraryInput, added_in, as_library, modules_after, selected_entries, file_input, index_in, is_library_in, member_input, member_module, object_in, with_file, with_member, with_members}
+use Rattle.ld65.specs.Faults.{refusal_at, refusal_in}
 use Rattle.tools65.specs.OneProgram.{AreMembers, AreSelected, AreTaken, IsModuleOf}
 
 -- ---- Answers that are right, and faults.
@@ -48,7 +48,7 @@ exports_front : (owner : ℕ) (a b : List Module) → (zs : List Exported) × (l
 exports_front owner [] b = (linked_exports owner b, refl)
 exports_front owner (m ∷ a) b =
     let more = exports_front (suc owner) a b in
-    (more.0, ap (λ z. map (exported owner) m.object.exports ++ z) more.1 ∙ sym (append_assoc (map (exported owner) m.object.exports) (linked_exports (suc owner) a) more.0))
+    (more.0, ap (λ z. map (linked_export owner) m.object.exports ++ z) more.1 ∙ sym (append_assoc (map (linked_export owner) m.object.exports) (linked_exports (suc owner) a) more.0))
 
 -- where modules give no name twice, the first of them don't
 pub names_front : (s : Script) (a b : List Module) → names_once s (program_of (a ++ b)) ≡ Ok tt → names_once s (program_of a) ≡ Ok tt
@@ -81,35 +81,35 @@ chain q f g o a b c = rw (a, b) c
 abbrev either : Bool → Object → Result Object LinkFault
 either b o = cond b (Ok o) (Err IndexDisagrees)
 
-abbrev behind_names : Result (Unit {0}) LinkFault → Object → Result Object LinkFault
-behind_names q o = q >>= (λ u. Ok o)
+abbrev after_names : Result (Unit {0}) LinkFault → Object → Result Object LinkFault
+after_names q o = q >>= (λ u. Ok o)
 
-abbrev modules : List Module → Result (List Module) Refusal
+abbrev modules : List Module → Result (List Module) LinkCommandFault
 modules ms = Ok ms
 
 module _ (s : Script) (m : Files) where
   -- an object that is added is a module's
   added_module : (before : List Module) (i : Input) (o : Object) → added_in s before m i ≡ Ok o → IsModuleOf m i (module_of i.name o)
   added_module before i o e =
-      let (x, front, joined) = bind_ok (as_link (object_in m i) >>= agreed i.entry) (joined_to s before i.name) o e in
-      let (y, found, agreed_to) = bind_ok (as_link (object_in m i)) (agreed i.entry) x front in
+      let (x, front, joined) = bind_ok (as_link (object_in m i) >>= agreeing_object i.entry) (joined_to s before i.name) o e in
+      let (y, found, agreed_to) = bind_ok (as_link (object_in m i)) (agreeing_object i.entry) x front in
       let (u, once, same) = bind_ok (names_once s (program_of (before ++ module_of i.name x ∷ []))) (λ u. Ok x) o joined in
       let both = agreeing (agrees_with i.entry y) y x _ agreed_to in
       let equal : y ≡ o = both.1 ∙ ok_same x o same in
       (o, subst (λ z. object_in m i ≡ Ok z) equal (linked_object (object_in m i) y found), subst (λ z. agrees_with i.entry z ≡ true) equal both.0, refl)
 
   -- a module's object is added where no name is given twice
-  module_added : (before : List Module) (i : Input) (x : Module) → IsModuleOf m i x → names_once s (program_of (before ++ x ∷ [])) ≡ Ok tt → (named : LinkFault → Refusal) → behind named before i.name (added_in s before m i) ≡ Ok (before ++ x ∷ [])
+  module_added : (before : List Module) (i : Input) (x : Module) → IsModuleOf m i x → names_once s (program_of (before ++ x ∷ [])) ≡ Ok tt → (named : LinkFault → LinkCommandFault) → modules_after named before i.name (added_in s before m i) ≡ Ok (before ++ x ∷ [])
   module_added before i x (o, found, agrees, same) once named =
-      let agreed_to : agreed i.entry o ≡ Ok o = ap (λ (b : Bool). either b o) agrees in
+      let agreed_to : agreeing_object i.entry o ≡ Ok o = ap (λ (b : Bool). either b o) agrees in
       let there : names_once s (program_of (before ++ module_of i.name o ∷ [])) ≡ Ok tt = subst (λ z. names_once s (program_of (before ++ z ∷ [])) ≡ Ok tt) same once in
-      let joined : joined_to s before i.name o ≡ Ok o = ap (λ (q : Result (Unit {0}) LinkFault). behind_names q o) there in
-      ap (behind named before i.name) (chain (object_in m i) (agreed i.entry) (joined_to s before i.name) o found agreed_to joined)
+      let joined : joined_to s before i.name o ≡ Ok o = ap (λ (q : Result (Unit {0}) LinkFault). after_names q o) there in
+      ap (modules_after named before i.name) (chain (object_in m i) (agreeing_object i.entry) (joined_to s before i.name) o found agreed_to joined)
       ∙ ap (λ (z : Module). modules (before ++ z ∷ [])) (sym same)
 
-  behind_ok : (named : LinkFault → Refusal) (before after : List Module) (name : List ℕ) (q : Result Object LinkFault) → behind named before name q ≡ Ok after → (o : Object) × (q ≡ Ok o) × (after ≡ before ++ module_of name o ∷ [])
-  behind_ok named before after name (Ok o) e = (o, refl, sym (ok_same (before ++ module_of name o ∷ []) after e))
-  behind_ok named before after name (Err f) e = absurd (ok_err after (named f) (sym e))
+  after_ok : (named : LinkFault → LinkCommandFault) (before after : List Module) (name : List ℕ) (q : Result Object LinkFault) → modules_after named before name q ≡ Ok after → (o : Object) × (q ≡ Ok o) × (after ≡ before ++ module_of name o ∷ [])
+  after_ok named before after name (Ok o) e = (o, refl, sym (ok_same (before ++ module_of name o ∷ []) after e))
+  after_ok named before after name (Err f) e = absurd (ok_err after (named f) (sym e))
 
   -- ---- Members of a library.
 
@@ -130,30 +130,30 @@ module _ (s : Script) (m : Files) where
   members_there library before [] after e = ([], tt, sym (ok_same before after e) ∙ sym (append-nil before))
   members_there library before (e ∷ es) after h =
       let (zs, first, rest) = bind_ok (with_member s m library before e) (λ zs. with_members s m library zs es) after h in
-      let (o, added, same) = behind_ok (refusal_in (member_module library e.name)) before zs (member_module library e.name) (added_in s before m (member_input library e)) first in
+      let (o, added, same) = after_ok (refusal_in (member_module library e.name)) before zs (member_module library e.name) (added_in s before m (member_input library e)) first in
       let x : Module = module_of (member_module library e.name) o in
       let more = members_there library zs es after rest in
       (x ∷ more.0, (added_module before (member_input library e) o added, more.1), more.2 ∙ ap (λ z. z ++ more.0) same ∙ append_assoc before (x ∷ []) more.0)
 
   -- ---- Inputs.
 
-  index_there : (k : ℕ) (q : Result (List Entry) LibraryFault) (before after : List Module) (Next : List Entry → Result (List Module) Refusal → Type 0) → First (as_library k q) Next (Ok after) → (es : List Entry) × (q ≡ Ok es) × Next es (Ok after)
+  index_there : (k : ℕ) (q : Result (List Entry) LibraryFault) (before after : List Module) (Next : List Entry → Result (List Module) LinkCommandFault → Type 0) → AndThen (as_library k q) Next (Ok after) → (es : List Entry) × (q ≡ Ok es) × Next es (Ok after)
   index_there k (Ok es) before after Next h = (es, refl, h)
   index_there k (Err e) before after Next h = absurd (ok_err after (refusal.Library k e) h)
 
-  kind_there : (b : Bool) (k : ℕ) (before after : List Module) (name : List ℕ) → ByKind b (IsLibraryInput s m k before name (Ok after)) (◌≡◌ {A = Result (List Module) Refusal} (Ok after) (with_file s m k before name)) → (ms : List Module) × ByKind b (AreTaken s m before name ms) ((x : Module) × IsModuleOf m (file_input name) x × (ms ≡ x ∷ [])) × (after ≡ before ++ ms)
+  kind_there : (b : Bool) (k : ℕ) (before after : List Module) (name : List ℕ) → ByKind b (IsLibraryInput s m k before name (Ok after)) (◌≡◌ {A = Result (List Module) LinkCommandFault} (Ok after) (with_file s m k before name)) → (ms : List Module) × ByKind b (AreTaken s m before name ms) ((x : Module) × IsModuleOf m (file_input name) x × (ms ≡ x ∷ [])) × (after ≡ before ++ ms)
   kind_there true k before after name h =
       let (es, index, needed) = index_there k (index_in m name) before after (AreNeeded s m name before) h in
-      let more = members_there name before (chosen es needed.0) after (sym needed.2) in
+      let more = members_there name before (selected_entries es needed.0) after (sym needed.2) in
       (more.0, (es, needed.0, index, needed.1, more.1), more.2)
   kind_there false k before after name h =
-      let (o, added, same) = behind_ok (refusal_at k) before after name (added_in s before m (file_input name)) (sym h) in
+      let (o, added, same) = after_ok (refusal_at k) before after name (added_in s before m (file_input name)) (sym h) in
       (module_of name o ∷ [], (module_of name o, added_module before (file_input name) o added, refl), same)
 
-  kind_added : (b : Bool) (k : ℕ) (before ms : List Module) (name : List ℕ) → ByKind b (AreTaken s m before name ms) ((x : Module) × IsModuleOf m (file_input name) x × (ms ≡ x ∷ [])) → names_once s (program_of (before ++ ms)) ≡ Ok tt → ByKind b (IsLibraryInput s m k before name (Ok (before ++ ms))) (◌≡◌ {A = Result (List Module) Refusal} (Ok (before ++ ms)) (with_file s m k before name))
+  kind_added : (b : Bool) (k : ℕ) (before ms : List Module) (name : List ℕ) → ByKind b (AreTaken s m before name ms) ((x : Module) × IsModuleOf m (file_input name) x × (ms ≡ x ∷ [])) → names_once s (program_of (before ++ ms)) ≡ Ok tt → ByKind b (IsLibraryInput s m k before name (Ok (before ++ ms))) (◌≡◌ {A = Result (List Module) LinkCommandFault} (Ok (before ++ ms)) (with_file s m k before name))
   kind_added true k before ms name (es, places, index, selection, members) once =
-      let needed : AreNeeded s m name before es (Ok (before ++ ms)) = (places, selection, sym (members_added name before (chosen es places) ms members once)) in
-      subst (λ q. First (as_library k q) (AreNeeded s m name before) (Ok (before ++ ms))) (sym index) needed
+      let needed : AreNeeded s m name before es (Ok (before ++ ms)) = (places, selection, sym (members_added name before (selected_entries es places) ms members once)) in
+      subst (λ q. AndThen (as_library k q) (AreNeeded s m name before) (Ok (before ++ ms))) (sym index) needed
   kind_added false k before ms name (x, of, same) once =
       let there : names_once s (program_of (before ++ x ∷ [])) ≡ Ok tt = subst (λ z. names_once s (program_of (before ++ z)) ≡ Ok tt) same once in
       ap (λ z. modules (before ++ z)) same ∙ sym (module_added before (file_input name) x of there (refusal_at k))
@@ -198,8 +198,8 @@ module _ (s : Script) (m : Files) where
       let same : fs ≡ es = ok_same fs es (sym there ∙ index) in
       let selected : IsSelection es (open_names s (program_of before)) (given_names s (program_of before)) others = subst (λ z. IsSelection z (open_names s (program_of before)) (given_names s (program_of before)) others) same other in
       let equal : others ≡ places = one_selection es (open_names s (program_of before)) (given_names s (program_of before)) others places selected selection in
-      let moved : AreMembers m library (chosen es places) ys = subst (λ z. AreMembers m library (chosen es z) ys) equal (subst (λ z. AreMembers m library (chosen z others) ys) same further) in
-      members_once library (chosen es places) xs ys members moved
+      let moved : AreMembers m library (selected_entries es places) ys = subst (λ z. AreMembers m library (selected_entries es z) ys) equal (subst (λ z. AreMembers m library (selected_entries z others) ys) same further) in
+      members_once library (selected_entries es places) xs ys members moved
 
   input_of_once : (b : Bool) (before : List Module) (name : List ℕ) (xs ys : List Module) → ByKind b (AreTaken s m before name xs) ((x : Module) × IsModuleOf m (file_input name) x × (xs ≡ x ∷ [])) → ByKind b (AreTaken s m before name ys) ((x : Module) × IsModuleOf m (file_input name) x × (ys ≡ x ∷ [])) → xs ≡ ys
   input_of_once true before name xs ys h k = taken_once before name xs ys h k

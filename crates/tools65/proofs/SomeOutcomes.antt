@@ -13,11 +13,11 @@ use Rattle.object65.specs.declared.object.Object.{Object}
 use Rattle.sources65.specs.Fitting.{AreOfTypes}
 use Rattle.semantics65.specs.Module as asm
 use Rattle.sources65.specs.Reading.{IsOutcome}
-use Rattle.semantics65.specs.Module.{PlacedFault}
+use Rattle.semantics65.specs.Module.{LocatedFault}
 use Rattle.sources65.proofs.SomeLayouts.{some_answer}
 use Rattle.sources65.proofs.FitLayouts.{fitting_object}
 use Rattle.cli65.specs.Defining.{Defining}
-use Rattle.cli65.specs.Line.{Assembling, Says, archive, assemble, line_of, link}
+use Rattle.cli65.specs.Line.{Assembling, CommandView, archive, assemble, line_of, link}
 use Rattle.cli65.specs.declared.fault.LineFault.{LineFault}
 use Rattle.cli65.proofs.SmallValues.{HasSmallValues, line_small}
 use Rattle.link65.proofs.OutcomeLemmas.{link_once}
@@ -33,9 +33,9 @@ use Rattle.output65.specs.declared.outcome.Status.TheVariants.{Success}
 use Rattle.cli65.specs.Messages.{line_message_of}
 use Rattle.tools65.specs.Archives.{archive_outcome}
 use Rattle.tools65.specs.Assembling.{IsOutputName, define_in, job_in}
-use Rattle.tools65.specs.Command.{Assembles, DoesLine, DoesWords, outcome_of, refused_with}
+use Rattle.tools65.specs.Command.{AssemblesSource, IsOutcomeOfCommand, IsOutcomeOfArgs, outcome_of, refused_with}
 use Rattle.tools65.specs.Naming.{HasNoExtension, IsExtension, IsObjectName, IsPlain}
-use Rattle.tools65.specs.OneOutcome.{AnOutcomeLaw}
+use Rattle.tools65.specs.OneOutcome.{OutcomeExists}
 use Rattle.tools65.specs.OneProgram.{ImageOrNoneLaw, WholeOf}
 use Rattle.tools65.proofs.OneOutcomes.{one_outcome}
 use Rattle.tools65.proofs.Selected.{ok_err}
@@ -94,7 +94,7 @@ module _ (name : List ℕ) where
   at_dot (suc p) inside plain is = by (nat_eq (get_or name p 0) 47) refl
     where
       by : (b : Bool) → nat_eq (get_or name p 0) 47 ≡ b → Has
-      by true e = inr (none_there (suc p) plain (λ x. x.part (subst (λ k. get_or name k 0 ≡ 47) (sym (before_next p)) (equal (get_or name p 0) 47 e))) (λ k lt x. (x.behind (suc p) lt inside).dot is))
+      by true e = inr (none_there (suc p) plain (λ x. x.part (subst (λ k. get_or name k 0 ≡ 47) (sym (before_next p)) (equal (get_or name p 0) 47 e))) (λ k lt x. (x.following (suc p) lt inside).dot is))
       by false e = inl (
         suc p,
         record {
@@ -102,7 +102,7 @@ module _ (name : List ℕ) where
           dot = is;
           before = omega arith;
           part = subst (λ k. get_or name k 0 ≡ 47 → ⊥) (sym (before_next p)) (unequal (get_or name p 0) 47 e);
-          behind = λ i lt there. plain i (omega (arith, lt)) there;
+          following = λ i lt there. plain i (omega (arith, lt)) there;
         },
       )
 
@@ -117,7 +117,7 @@ module _ (name : List ℕ) where
       by : (a b : Bool) → nat_eq (get_or name n 0) 46 ≡ a → nat_eq (get_or name n 0) 47 ≡ b → (IsPlain (get_or name n 0) → Has) → Has
       by true b is other further = at_dot n inside plain (equal (get_or name n 0) 46 is)
       by false true isnt is further =
-          inr (none_there n plain (λ x. unequal (get_or name n 0) 46 isnt x.dot) (λ k lt x. (x.behind n lt inside).slash (equal (get_or name n 0) 47 is)))
+          inr (none_there n plain (λ x. unequal (get_or name n 0) 46 isnt x.dot) (λ k lt x. (x.following n lt inside).slash (equal (get_or name n 0) 47 is)))
       by false false isnt other further =
           further (record { dot = unequal (get_or name n 0) 46 isnt; slash = unequal (get_or name n 0) 47 other })
 
@@ -141,10 +141,10 @@ defines_of_types : (ds : List Defining) → AllByRecursion (λ d. d.value < 2 ^ 
 defines_of_types [] h = tt
 defines_of_types (d ∷ ds) h = (h.0, defines_of_types ds h.1)
 
-assembles_there : (a : Assembling) (m : Files) → HoldBytes m → AreOfTypes (job_in a).defines → (o : Outcome) × Assembles a m o
+assembles_there : (a : Assembling) (m : Files) → HoldBytes m → AreOfTypes (job_in a).defines → (o : Outcome) × AssemblesSource a m o
 assembles_there a m bytes typed = let found = some_answer m (job_in a) in by found.0 found.1 found.0.result refl
   where
-    by : (x : asm.Outcome) → IsOutcome m (job_in a) x → (r : Result Object PlacedFault) → x.result ≡ r → (o : Outcome) × Assembles a m o
+    by : (x : asm.Outcome) → IsOutcome m (job_in a) x → (r : Result Object LocatedFault) → x.result ≡ r → (o : Outcome) × AssemblesSource a m o
     by x is (Ok object) e =
         let name = output_name_there a.output a.source in
         let fits : ObjectFits object = fitting_object m (job_in a) x object bytes typed is e in
@@ -154,16 +154,16 @@ assembles_there a m bytes typed = let found = some_answer m (job_in a) in by fou
 
 -- ---- Commands.
 
-line_there : (line : Says) (m : Files) → HoldBytes m → HasSmallValues line → (o : Outcome) × DoesLine line m o
+line_there : (line : CommandView) (m : Files) → HoldBytes m → HasSmallValues line → (o : Outcome) × IsOutcomeOfCommand line m o
 line_there (assemble a) m bytes small = assembles_there a m bytes (defines_of_types a.defines small)
 line_there (link l) m bytes small = let r = some_link m l in (outcome_of l r.0, (r.0, r.1, refl))
 line_there (archive a) m bytes small = (archive_outcome a (archived_of m a), refl)
 
-words_there : (words : Result Says LineFault) (m : Files) → HoldBytes m → IfOk words HasSmallValues → (o : Outcome) × DoesWords words m o
+words_there : (words : Result CommandView LineFault) (m : Files) → HoldBytes m → IfOk words HasSmallValues → (o : Outcome) × IsOutcomeOfArgs words m o
 words_there (Ok line) m bytes small = line_there line m bytes small
 words_there (Err e) m bytes small = (failing (line_message_of e), refl)
 
-pub an_outcome_exists : AnOutcomeLaw
+pub an_outcome_exists : OutcomeExists
 an_outcome_exists words m bytes =
     let there = words_there (line_of words) m bytes (line_small words) in
     (there.0, there.1, λ other does. one_outcome (line_of words) m other there.0 does there.1)

@@ -1,22 +1,22 @@
 -- A run over sources' objects, and the whole program of the sources.
 use Rattle.std.proofs.Common.{◌≡◌, ◌∙◌, ◌⊎◌, inl, inr, ℕ, List, [], Bool, true, false, Option, Some, None, Result, Ok, Err, refl, sym, ap, subst}
 use Rattle.std.specs.Prelude.{IfSome, slice_get}
-use Rattle.base65.specs.Store.{Files, NoneFailed, Tells}
+use Rattle.base65.specs.Store.{Files, NoneFailed, RelatesFiles}
 use Rattle.script65.specs.declared.script.Script.{Script}
-use Rattle.base65.specs.Outcome.{First}
+use Rattle.base65.specs.Outcome.{AndThen}
 use Rattle.link65.specs.Links.{IsProgramLink, LinkOf, names_once}
 use Rattle.link65.specs.Programs.{Module, program_of}
 use Rattle.link65.specs.declared.linking.Linked.{Linked}
 use Rattle.base65.specs.declared.output.OutputFile.{OutputFile}
-use Rattle.cli65.specs.Line.{Linking, Says, link, line_of}
+use Rattle.cli65.specs.Line.{Linking, CommandView, link, line_of}
 use Rattle.cli65.specs.Messages.{line_memory_message}
 use Rattle.cli65.specs.declared.fault.LineFault.{LineFault}
 use Rattle.whole65.specs.Equality.{IsLinkedTo}
-use Rattle.ld65.specs.declared.refusal.Refusal.{Refusal}
+use Rattle.ld65.specs.declared.fault.LinkCommandFault.{LinkCommandFault}
 use Rattle.ld65.specs.Linkage.{IsLinked, output_of}
-use Rattle.ld65.specs.Refusals.{memory_message}
-use Rattle.tools65.specs.Command.{Commands, Does, DoesLine, Ran, RanWords, line_memory, outcome_of}
-use Rattle.output65.specs.Leaving.{Performs, Settles, StopsAt, StopsShort, Streams, apply, took_both}
+use Rattle.ld65.specs.Faults.{memory_message}
+use Rattle.tools65.specs.Command.{RunsCommand, IsLinkOutcome, IsOutcomeOfCommand, RunSatisfies, ArgsRunSatisfies, line_memory, outcome_of}
+use Rattle.output65.specs.RunEffects.{PerformsOutcome, FilesAfterRun, StopsAt, StopsShort, Streams, apply, took_both}
 use Rattle.tools65.specs.OneProgram.{DoesWhole, HasFiles, HaveNoImage, IsRefusal, LineLinksWhole, LineRunsLaw, LinksWhole, RunsLaw, SelectsSources, Source, WholeOf, WordsLinkWhole, WritesWhole, WroteFiles}
 use Rattle.output65.specs.Outputs.{failing, with_map}
 use Rattle.output65.specs.declared.outcome.Outcome.{Outcome}
@@ -31,23 +31,23 @@ use Rattle.tools65.proofs.Selected.{inputs_selected, names_front, ok_err, select
 not_both : Success ≡ Failure → ⊥
 not_both e = cc
 
-settled_well : (o : Outcome) (m : Files) (new : Option Files) (status : Status) (whole : Bool) → Settles o m new status whole → status ≡ Success → (o.status ≡ Success) × (new ≡ Some (apply o.outputs m))
+settled_well : (o : Outcome) (m : Files) (new : Option Files) (status : Status) (whole : Bool) → FilesAfterRun o m new status whole → status ≡ Success → (o.status ≡ Success) × (new ≡ Some (apply o.outputs m))
 settled_well o m new status true h e = (sym h.1 ∙ e, h.0)
 settled_well o m new status false h e = absurd (not_both (sym e ∙ h.1))
 
 -- its outcome is carried out whole
-carried_out : (o : Outcome) (memory : List ℕ) (m : Files) (new : Option Files) (io : Streams) (status : Status) → status ≡ Success → Performs o m new io status ⊎ StopsShort o memory m new io status → (o.status ≡ Success) × (new ≡ Some (apply o.outputs m))
+carried_out : (o : Outcome) (memory : List ℕ) (m : Files) (new : Option Files) (io : Streams) (status : Status) → status ≡ Success → PerformsOutcome o m new io status ⊎ StopsShort o memory m new io status → (o.status ≡ Success) × (new ≡ Some (apply o.outputs m))
 carried_out o memory m new io status e (inl p) = settled_well o m new status (took_both io) p.settled e
 carried_out o memory m new io status e (inr p) = absurd (not_both (sym e ∙ p.failed))
 
 failing_fails : (o : Outcome) (text : List ℕ) → o ≡ failing text → o.status ≡ Success → ⊥
 failing_fails o text same e = not_both (sym e ∙ ap (λ (z : Outcome). z.status) same)
 
-linked_well : (l : Linking) (r : Result Linked Refusal) (o : Outcome) → o ≡ outcome_of l r → o.status ≡ Success → (linked : Linked) × (r ≡ Ok linked)
+linked_well : (l : Linking) (r : Result Linked LinkCommandFault) (o : Outcome) → o ≡ outcome_of l r → o.status ≡ Success → (linked : Linked) × (r ≡ Ok linked)
 linked_well l (Ok linked) o same e = (linked, refl)
 linked_well l (Err f) o same e = absurd (failing_fails o _ same e)
 
-first_passed : {E A : Type 0} (q : Result (Unit {0}) E) (Next : Unit {0} → Result A E → Type 0) (x : A) → First q Next (Ok x) → q ≡ Ok tt
+first_passed : {E A : Type 0} (q : Result (Unit {0}) E) (Next : Unit {0} → Result A E → Type 0) (x : A) → AndThen q Next (Ok x) → q ≡ Ok tt
 first_passed (Ok u) Next x h = refl
 first_passed (Err e) Next x h = absurd (ok_err x e h)
 
@@ -57,19 +57,19 @@ link_once output s ms linked h = first_passed (names_once s (program_of ms)) (λ
 
 -- ---- A run without files.
 
-settled_alone : (o : Outcome) (m : Files) (new : Option Files) (status : Status) (whole : Bool) → o.outputs ≡ [] → o.status ≡ Failure → Settles o m new status whole → (new ≡ Some m) × (status ≡ Failure)
+settled_alone : (o : Outcome) (m : Files) (new : Option Files) (status : Status) (whole : Bool) → o.outputs ≡ [] → o.status ≡ Failure → FilesAfterRun o m new status whole → (new ≡ Some m) × (status ≡ Failure)
 settled_alone o m new status true none fails h = (h.0 ∙ ap (λ (files : List OutputFile). Some (apply files m)) none, h.1 ∙ fails)
 settled_alone o m new status false none fails h = h
 
 none_there : (place : ℕ) (o : OutputFile) → ◌≡◌ {A = Option OutputFile} (slice_get [] place) (Some o) → ⊥
 none_there place o e = cc
 
-no_place : (outputs : List OutputFile) (place : ℕ) (m : Files) (new : Option Files) → outputs ≡ [] → Tells (StopsAt outputs place) (Some m) new → ⊥
+no_place : (outputs : List OutputFile) (place : ℕ) (m : Files) (new : Option Files) → outputs ≡ [] → RelatesFiles (StopsAt outputs place) (Some m) new → ⊥
 no_place outputs place m None none left = left
 no_place outputs place m (Some z) none left = none_there place left.0 (sym (ap (λ (files : List OutputFile). slice_get files place) none) ∙ left.1)
 
 -- an outcome without files leaves the files as they were
-left_alone : (o : Outcome) (memory : List ℕ) (m : Files) (new : Option Files) (io : Streams) (status : Status) → o.outputs ≡ [] → o.status ≡ Failure → Performs o m new io status ⊎ StopsShort o memory m new io status → (new ≡ Some m) × (status ≡ Failure)
+left_alone : (o : Outcome) (memory : List ℕ) (m : Files) (new : Option Files) (io : Streams) (status : Status) → o.outputs ≡ [] → o.status ≡ Failure → PerformsOutcome o m new io status ⊎ StopsShort o memory m new io status → (new ≡ Some m) × (status ≡ Failure)
 left_alone o memory m new io status none fails (inl p) = settled_alone o m new status (took_both io) none fails p.settled
 left_alone o memory m new io status none fails (inr p) = absurd (no_place o.outputs p.place m new none p.left)
 
@@ -83,32 +83,32 @@ module _ (l : Linking) (m : Files) (s : Script) (xs : List Source) (k : SelectsS
       subst (λ (ms : List Module). LinkOf (output_of l) s ms (Ok linked)) same found.2
 
   -- where those modules have a link, the line has it
-  linked_so : (linked : Linked) (r : Result Linked Refusal) → LinkOf (output_of l) s k.modules (Ok linked) → IsLinked m l r → r ≡ Ok linked
+  linked_so : (linked : Linked) (r : Result Linked LinkCommandFault) → LinkOf (output_of l) s k.modules (Ok linked) → IsLinked m l r → r ≡ Ok linked
   linked_so linked r h is =
       let once = link_once (output_of l) s k.modules linked h in
       link_is l m s k.text k.file k.script k.modules linked r (selected_inputs s m 0 [] l.inputs k.modules k.selected once) (names_front s [] k.modules once) h is
 
-  wrote : (o : Outcome) (new : Option Files) → Does l m o ⊎ (o ≡ failing memory_message) → o.status ≡ Success → new ≡ Some (apply o.outputs m) → (files : List OutputFile) × WholeOf (output_of l) s xs files × WroteFiles l files m new
+  wrote : (o : Outcome) (new : Option Files) → IsLinkOutcome l m o ⊎ (o ≡ failing memory_message) → o.status ≡ Success → new ≡ Some (apply o.outputs m) → (files : List OutputFile) × WholeOf (output_of l) s xs files × WroteFiles l files m new
   wrote o new (inr same) e written = absurd (failing_fails o memory_message same e)
   wrote o new (inl (r, is, same)) e written =
       let found = linked_well l r o same e in
       let linked : Linked = found.0 in
-      let link = fed_so linked (subst (λ (q : Result Linked Refusal). IsLinked m l q) found.1 is) in
-      let outcome : o ≡ outcome_of l (Ok linked) = same ∙ ap (λ (q : Result Linked Refusal). outcome_of l q) found.1 in (
+      let link = fed_so linked (subst (λ (q : Result Linked LinkCommandFault). IsLinked m l q) found.1 is) in
+      let outcome : o ≡ outcome_of l (Ok linked) = same ∙ ap (λ (q : Result Linked LinkCommandFault). outcome_of l q) found.1 in (
         linked.files,
         (one_program (output_of l) s xs k.modules linked.files k.objects).1 (record { linked = linked; link = link; same = refl }),
         (linked.map, written ∙ ap (λ (z : Outcome). Some (apply z.outputs m)) outcome),
       )
 
-  has_files : (files : List OutputFile) → WholeOf (output_of l) s xs files → (o : Outcome) → Does l m o → HasFiles l files o
+  has_files : (files : List OutputFile) → WholeOf (output_of l) s xs files → (o : Outcome) → IsLinkOutcome l m o → HasFiles l files o
   has_files files w o (r, is, same) =
       let link : IsLinkedTo (output_of l) s k.modules files = (one_program (output_of l) s xs k.modules files k.objects).0 w in
       let found : r ≡ Ok link.linked = linked_so link.linked r link.link is in
       let made : List OutputFile → Outcome = λ zs. record { out = []; err = link.linked.warnings; outputs = with_map l.map zs link.linked.map; status = Success } in
-      (link.linked.warnings, link.linked.map, same ∙ ap (λ (q : Result Linked Refusal). outcome_of l q) found ∙ ap made link.same)
+      (link.linked.warnings, link.linked.map, same ∙ ap (λ (q : Result Linked LinkCommandFault). outcome_of l q) found ∙ ap made link.same)
 
   -- a link is the image of the sources, or they have none
-  image_or_none : (r : Result Linked Refusal) → IsLinked m l r → (o : Outcome) → o ≡ outcome_of l r → ((files : List OutputFile) × WholeOf (output_of l) s xs files × HasFiles l files o) ⊎ (HaveNoImage l s xs × IsRefusal l o)
+  image_or_none : (r : Result Linked LinkCommandFault) → IsLinked m l r → (o : Outcome) → o ≡ outcome_of l r → ((files : List OutputFile) × WholeOf (output_of l) s xs files × HasFiles l files o) ⊎ (HaveNoImage l s xs × IsRefusal l o)
   image_or_none (Ok linked) is o same =
       let whole = (one_program (output_of l) s xs k.modules linked.files k.objects).1 (record { linked = linked; link = fed_so linked is; same = refl }) in
       inl (linked.files, whole, (linked.warnings, linked.map, same))
@@ -119,7 +119,7 @@ module _ (l : Linking) (m : Files) (s : Script) (xs : List Source) (k : SelectsS
           let link : IsLinkedTo (output_of l) s k.modules files = (one_program (output_of l) s xs k.modules files k.objects).0 w in
           ok_err link.linked e (sym (linked_so link.linked (Err e) link.link is))
 
-  does_whole : (o : Outcome) → Does l m o → DoesWhole l s xs m o
+  does_whole : (o : Outcome) → IsLinkOutcome l m o → DoesWhole l s xs m o
   does_whole o does = record {
     does = does;
     has = λ files w. has_files files w o does;
@@ -135,37 +135,37 @@ module _ (l : Linking) (m : Files) (s : Script) (xs : List Source) (k : SelectsS
       by_only (inl (files, w, has)) = absurd (none files w)
       by_only (inr (none_there, (e, same))) = (ap (λ (z : Outcome). z.outputs) same, ap (λ (z : Outcome). z.status) same)
 
-  writes_whole : (new : Option Files) (io : Streams) (status : Status) → Ran (Does l) memory_message m new io status → WritesWhole l s xs m new io status
+  writes_whole : (new : Option Files) (io : Streams) (status : Status) → RunSatisfies (IsLinkOutcome l) memory_message m new io status → WritesWhole l s xs m new io status
   writes_whole new io status (o, does, left) = record {
     ran = (o, carried does, left);
     wrote = λ e. (let well = carried_out o memory_message m new io status e left in wrote o new does well.0 well.1);
     refused = λ none. (let fails = fails_alone o (carried does) none in left_alone o memory_message m new io status fails.0 fails.1 left);
   }
     where
-      carried : Does l m o ⊎ (o ≡ failing memory_message) → DoesWhole l s xs m o ⊎ (o ≡ failing memory_message)
+      carried : IsLinkOutcome l m o ⊎ (o ≡ failing memory_message) → DoesWhole l s xs m o ⊎ (o ≡ failing memory_message)
       carried (inl does) = inl (does_whole o does)
       carried (inr same) = inr same
 
 -- ---- Lines and words.
 
 module _ (m : Files) (new : Option Files) (io : Streams) (status : Status) where
-  links_whole : (line : Says) (l : Linking) → Ran (DoesLine line) (line_memory line) m new io status → line ≡ link l → LinksWhole l m new io status
+  links_whole : (line : CommandView) (l : Linking) → RunSatisfies (IsOutcomeOfCommand line) (line_memory line) m new io status → line ≡ link l → LinksWhole l m new io status
   links_whole line l ran same s xs k =
-      let there : Ran (Does l) memory_message m new io status =
-      subst (λ (z : Says). Ran (DoesLine z) (line_memory z) m new io status) same ran in
+      let there : RunSatisfies (IsLinkOutcome l) memory_message m new io status =
+      subst (λ (z : CommandView). RunSatisfies (IsOutcomeOfCommand z) (line_memory z) m new io status) same ran in
       writes_whole l m s xs k new io status there
 
-  line_links : (line : Says) → Ran (DoesLine line) (line_memory line) m new io status → LineLinksWhole line m new io status
+  line_links : (line : CommandView) → RunSatisfies (IsOutcomeOfCommand line) (line_memory line) m new io status → LineLinksWhole line m new io status
   unfolding LineLinksWhole
   line_links line ran l same = links_whole line l ran same
 
-  either : (l : Linking) → RanWords (Ok (link l)) m new io status → LinksWhole l m new io status ⊎ Performs (failing line_memory_message) m new io status
+  either : (l : Linking) → ArgsRunSatisfies (Ok (link l)) m new io status → LinksWhole l m new io status ⊎ PerformsOutcome (failing line_memory_message) m new io status
   either l (inl ran) = inl (links_whole (link l) l ran refl)
   either l (inr p) = inr p
 
-  words_link : (words : Result Says LineFault) → RanWords words m new io status → WordsLinkWhole words m new io status
+  words_link : (words : Result CommandView LineFault) → ArgsRunSatisfies words m new io status → WordsLinkWhole words m new io status
   unfolding WordsLinkWhole
-  words_link words ran l same = either l (subst (λ (z : Result Says LineFault). RanWords z m new io status) same ran)
+  words_link words ran l same = either l (subst (λ (z : Result CommandView LineFault). ArgsRunSatisfies z m new io status) same ran)
 
 pub words_law : RunsLaw
 words_law words m new io status ran = words_link m new io status (line_of words) ran
@@ -174,11 +174,11 @@ pub lines_law : LineRunsLaw
 lines_law line m new io status ran = line_links m new io status line ran
 
 -- a line that was run
-pub line_whole : (known new : Option Files) (fo fn : ℕ) (line : Says) (io : Streams) (status : Status) → IfSome known (λ m. NoneFailed fo fn → Ran (DoesLine line) (line_memory line) m new io status) → IfSome known (λ m. NoneFailed fo fn → LineLinksWhole line m new io status)
+pub line_whole : (known new : Option Files) (fo fn : ℕ) (line : CommandView) (io : Streams) (status : Status) → IfSome known (λ m. NoneFailed fo fn → RunSatisfies (IsOutcomeOfCommand line) (line_memory line) m new io status) → IfSome known (λ m. NoneFailed fo fn → LineLinksWhole line m new io status)
 line_whole None new fo fn line io status h = tt
 line_whole (Some m) new fo fn line io status h = λ none. line_links m new io status line (h none)
 
 -- words that were run
-pub words_whole : (known new : Option Files) (fo fn : ℕ) (words : List (List ℕ)) (io : Streams) (status : Status) → IfSome known (λ m. NoneFailed fo fn → Commands words m new io status) → IfSome known (λ m. NoneFailed fo fn → WordsLinkWhole (line_of words) m new io status)
+pub words_whole : (known new : Option Files) (fo fn : ℕ) (words : List (List ℕ)) (io : Streams) (status : Status) → IfSome known (λ m. NoneFailed fo fn → RunsCommand words m new io status) → IfSome known (λ m. NoneFailed fo fn → WordsLinkWhole (line_of words) m new io status)
 words_whole None new fo fn words io status h = tt
 words_whole (Some m) new fo fn words io status h = λ none. words_link m new io status (line_of words) (h none)

@@ -4,26 +4,26 @@ use Rattle.object65.specs.declared.object.Object.{Object}
 use Rattle.semantics65.specs.Layout.{Layout}
 use Rattle.sources65.proofs.OneLayouts.{one_layout}
 use Rattle.sources65.proofs.SoundSources.{sound_layout}
-use Rattle.semantics65.specs.Module.{PlacedFault, object_of, outcome_of}
-use Rattle.sources65.specs.Reading.{AreLaid, Reached}
+use Rattle.semantics65.specs.Module.{LocatedFault, object_of, outcome_of}
+use Rattle.sources65.specs.Reading.{AreLaidOut, ReachedState}
 use Rattle.link65.specs.Programs.{Module}
 use Rattle.whole65.proofs.Equality.{equality_law}
 use Rattle.whole65.proofs.Links.{laid_out_law}
 use Rattle.whole65.specs.Sources.{AreSources}
 use Rattle.whole65.specs.Sources as whole
-use Rattle.whole65.specs.Whole.{Whole}
+use Rattle.whole65.specs.Whole.{IsWholeProgramImage}
 use Rattle.tools65.specs.OneProgram.{AreLaidOf, AreObjectsOf, IsLaidOf, IsObjectOf, OneProgramLaw, Source}
 
 -- a source with an object has no fault at a line
-no_fault : (y : Layout) (f : Option PlacedFault) (o : Object) → (outcome_of y f).result ≡ Ok o → (f ≡ None) × (object_of y ≡ Ok o)
+no_fault : (y : Layout) (f : Option LocatedFault) (o : Object) → (outcome_of y f).result ≡ Ok o → (f ≡ None) × (object_of y ≡ Ok o)
 no_fault y None o e = (refl, e)
 no_fault y (Some f) o e = absurd cc
 
 laid_of : (x : Source) (m : Module) → IsObjectOf x m → (y : Layout) × IsLaidOf x y × whole.IsSource y m
 laid_of x m (a, p, (r, laid, is), found, version) =
-    let sound = no_fault r.behind r.fault p (sym (ap (λ z. z.result) is) ∙ found) in
-    let there : IsLaidOf x r.behind = subst (λ f. AreLaid x.files x.job (record { behind = r.behind; fault = f })) sound.0 laid in
-    (r.behind, there, record { laid_out = laid_out_law x.files x.job r laid; sound = sound_layout x.files x.job r laid; written = p; object = sound.1; version = version })
+    let sound = no_fault r.following r.fault p (sym (ap (λ z. z.result) is) ∙ found) in
+    let there : IsLaidOf x r.following = subst (λ f. AreLaidOut x.files x.job (record { following = r.following; fault = f })) sound.0 laid in
+    (r.following, there, record { laid_out = laid_out_law x.files x.job r laid; sound = sound_layout x.files x.job r laid; written = p; object = sound.1; version = version })
 
 all_laid : (xs : List Source) (ms : List Module) → AreObjectsOf xs ms → (ys : List Layout) × AreLaidOf xs ys × AreSources ys ms
 all_laid [] [] h = ([], tt, tt)
@@ -42,14 +42,14 @@ laid_once [] [] (z ∷ zs) h k = absurd k
 laid_once (x ∷ xs) [] zs h k = absurd h
 laid_once (x ∷ xs) (y ∷ ys) [] h k = absurd k
 laid_once (x ∷ xs) (y ∷ ys) (z ∷ zs) h k =
-    let one : Layout → Reached Layout = λ l. record { behind = l; fault = None } in
-    let same : y ≡ z = ap (λ (r : Reached Layout). r.behind) (one_layout x.files x.job (one y) (one z) h.0 k.0) in
+    let one : Layout → ReachedState Layout = λ l. record { following = l; fault = None } in
+    let same : y ≡ z = ap (λ (r : ReachedState Layout). r.following) (one_layout x.files x.job (one y) (one z) h.0 k.0) in
     ap (λ l. l ∷ ys) same ∙ ap (λ ls. z ∷ ls) (laid_once xs ys zs h.1 k.1)
 
 pub one_program : OneProgramLaw
 one_program output s xs ms files h =
     let (ys, laid, sources) = all_laid xs ms h in
     let both = equality_law output s ys ms files sources in (
-      λ w. both.0 (subst (λ zs. Whole output s zs files) (laid_once xs w.0 ys w.1 laid) w.2),
+      λ w. both.0 (subst (λ zs. IsWholeProgramImage output s zs files) (laid_once xs w.0 ys w.1 laid) w.2),
       λ k. (ys, laid, both.1 k),
     )

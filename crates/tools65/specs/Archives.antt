@@ -6,9 +6,9 @@ use Rattle.base65.specs.declared.output.OutputFile.{OutputFile}
 use Rattle.ar65.specs.declared.archiving.Archived.{Archived}
 use Rattle.ar65.specs.declared.archiving.Archived.TheVariants.{Library, Names, Members}
 use Rattle.ar65.specs.declared.members.MemberFile.{MemberFile}
-use Rattle.ar65.specs.declared.refusal.Refusal.{Refusal}
+use Rattle.ar65.specs.declared.fault.ArchiveFault.{ArchiveFault}
 use Rattle.ar65.specs.Librarian.{archived_of}
-use Rattle.ar65.specs.Refusals.{refusal_message}
+use Rattle.ar65.specs.Faults.{error_message}
 use Rattle.output65.specs.declared.outcome.Outcome.{Outcome}
 use Rattle.output65.specs.declared.outcome.Status.TheVariants.{Success}
 use Rattle.output65.specs.Outputs.{failing}
@@ -27,10 +27,10 @@ archived_outcome a (Names text) = record { out = text; err = []; outputs = []; s
 archived_outcome a (Members files) = record { out = []; err = []; outputs = map output_of files; status = Success }
 
 -- the same, or it says why it does nothing
-abbrev pub archive_outcome : Archiving → Result Archived Refusal → Outcome
+abbrev pub archive_outcome : Archiving → Result Archived ArchiveFault → Outcome
 archive_outcome a (Ok x) = archived_outcome a x
-archive_outcome a (Err e) = failing (refusal_message a e)
+archive_outcome a (Err e) = failing (error_message a e)
 
 -- what an archive line does with these files
-abbrev pub Archives : Archiving → Files → Outcome → Type 0
-Archives a m o = o ≡ archive_outcome a (archived_of m a)
+abbrev pub ArchivesFiles : Archiving → Files → Outcome → Type 0
+ArchivesFiles a m o = o ≡ archive_outcome a (archived_of m a)

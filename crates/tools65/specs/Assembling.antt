@@ -1,11 +1,11 @@
 -- What ca65 names and says.
 use Rattle.std.specs.Prelude.{◌≡◌, ℕ, nat_eq, List, map, Option, Some, None, if◌then◌else◌}
-use Rattle.syntax65.specs.declared.place.Place.{Place}
+use Rattle.syntax65.specs.declared.source_location.SourceLocation.{SourceLocation}
 use Rattle.ast65.specs.Faults.{fault_text}
 use Rattle.cli65.specs.Defining.{Defining}
 use Rattle.cli65.specs.Line.{Assembling}
 use Rattle.cli65.specs.Messages.{file_message, line_message}
-use Rattle.semantics65.specs.Module.{PlacedFault}
+use Rattle.semantics65.specs.Module.{LocatedFault}
 use Rattle.sources65.specs.Reading.{Define, Job}
 use Rattle.tools65.specs.Naming.{IsObjectName}
 
@@ -23,9 +23,9 @@ IsOutputName None source name = IsObjectName source name
 IsOutputName (Some given) source name = name ≡ given
 
 -- a message at a line, or behind the source's name where no line was read
-abbrev pub said_at : List ℕ → Place → List ℕ → List ℕ
+abbrev pub said_at : List ℕ → SourceLocation → List ℕ → List ℕ
 said_at source p words = if nat_eq p.line 0 then file_message source words else line_message p.file p.line words
 
 -- why a source has no object
-abbrev pub asm_message : List ℕ → PlacedFault → List ℕ
+abbrev pub asm_message : List ℕ → LocatedFault → List ℕ
 asm_message source e = said_at source e.place (fault_text e.fault)

@@ -11,7 +11,7 @@ use Rattle.ar65.specs.Librarian.{archived_of}
 use Rattle.output65.specs.declared.outcome.Outcome.{Outcome}
 use Rattle.output65.specs.declared.outcome.Status.TheVariants.{Success}
 use Rattle.tools65.specs.Assembling.{job_in}
-use Rattle.tools65.specs.Command.{Assembles}
+use Rattle.tools65.specs.Command.{AssemblesSource}
 use Rattle.tools65.specs.OneProgram.{Source}
 use Rattle.tools65.specs.Written.{IsSourceLibrary, IsSourceObject, IsWrittenOf}
 
@@ -22,7 +22,7 @@ source_in a m = record { files = m; job = job_in a }
 -- a file that an assemble line writes is what ca65 writes of the line's source, where it is within the limit of a file
 abbrev pub AssembledFileLaw : Type 0
 AssembledFileLaw =
-    (a : Assembling) (m : Files) (o : Outcome) → Assembles a m o → o.status ≡ Success →
+    (a : Assembling) (m : Files) (o : Outcome) → AssemblesSource a m o → o.status ≡ Success →
     AllByRecursion (λ f. length f.bytes ≤ file_limit → IsWrittenOf (source_in a m) f.bytes) o.outputs
 
 -- `r` makes of object files that ca65 wrote, and of a library of such members or of none, a library of such members

@@ -8,4 +8,4 @@ pub mod OneProgram
 pub mod Written
 pub mod Inputs
 pub mod Kept
-pub mod Inner
+pub mod Internal

@@ -19,7 +19,7 @@ pub record IsExtension (name : List ℕ) (k : ℕ) : Type 0 where
   pub dot : get_or name k 0 ≡ dot
   pub before : 0 < k
   pub part : get_or name (k - 1) 0 ≢ slash
-  pub behind : (i : ℕ) → k < i → i < length name → IsPlain (get_or name i 0)
+  pub following : (i : ℕ) → k < i → i < length name → IsPlain (get_or name i 0)
 
 abbrev pub HasNoExtension : List ℕ → Type 0
 HasNoExtension name = (k : ℕ) → IsExtension name k → ⊥

@@ -2,28 +2,28 @@
 use Rattle.std.specs.Prelude.{◌≡◌, ℕ, List, Some, Result}
 use Rattle.base65.specs.Holding.{HoldBytes}
 use Rattle.base65.specs.Store.{FailedCall, Files}
-use Rattle.cli65.specs.Line.{Archiving, Linking, Says, archive, line_of, link}
+use Rattle.cli65.specs.Line.{Archiving, Linking, CommandView, archive, line_of, link}
 use Rattle.cli65.specs.declared.fault.LineFault.{LineFault}
 use Rattle.ld65.specs.Laws.{TellsPart}
 use Rattle.output65.specs.declared.outcome.Outcome.{Outcome}
-use Rattle.tools65.specs.Command.{DoesWords}
+use Rattle.tools65.specs.Command.{IsOutcomeOfArgs}
 use Rattle.tools65.specs.Failing.{SaysFailure}
 
 -- what words, or the line that they are, do as a command is one thing at most: these texts, these files, this status
-abbrev pub OneOutcomeLaw : Type 0
-OneOutcomeLaw = (words : Result Says LineFault) (m : Files) (a b : Outcome) → DoesWords words m a → DoesWords words m b → a ≡ b
+abbrev pub OutcomeIsUnique : Type 0
+OutcomeIsUnique = (words : Result CommandView LineFault) (m : Files) (a b : Outcome) → IsOutcomeOfArgs words m a → IsOutcomeOfArgs words m b → a ≡ b
 
 -- Whatever words are and whatever bytes files hold, there is one thing that the words do as a command, and no other.
-abbrev pub AnOutcomeLaw : Type 0
-AnOutcomeLaw =
+abbrev pub OutcomeExists : Type 0
+OutcomeExists =
     (words : List (List ℕ)) (m : Files) → HoldBytes m →
-    (o : Outcome) × DoesWords (line_of words) m o
-    × ((other : Outcome) → DoesWords (line_of words) m other → other ≡ o)
+    (o : Outcome) × IsOutcomeOfArgs (line_of words) m o
+    × ((other : Outcome) → IsOutcomeOfArgs (line_of words) m other → other ≡ o)
 
 -- What ld65 and ar65 say of a call that failed while files were read is one text, of ld65 if the call's place tells which part of
 -- a library it asked for.
-abbrev pub OneFailureLaw : Type 0
-OneFailureLaw =
+abbrev pub FailureIsUnique : Type 0
+FailureIsUnique =
     (m : Files) (c : FailedCall) (out err other_out other_err : List ℕ) →
     ((l : Linking) → TellsPart m c → SaysFailure (link l) m (Some c) out err → SaysFailure (link l) m (Some c) other_out other_err → (out ≡ other_out) × (err ≡ other_err))
     × ((a : Archiving) → SaysFailure (archive a) m (Some c) out err → SaysFailure (archive a) m (Some c) other_out other_err → (out ≡ other_out) × (err ≡ other_err))

@@ -5,7 +5,7 @@ use Rattle.base65.specs.Store.{Files}
 use Rattle.script65.specs.Scripts.{IsScript}
 use Rattle.script65.specs.declared.script.Script.{Script}
 use Rattle.semantics65.specs.Layout.{Layout}
-use Rattle.sources65.specs.Reading.{AreLaid, Job, IsOutcome}
+use Rattle.sources65.specs.Reading.{AreLaidOut, Job, IsOutcome}
 use Rattle.semantics65.specs.Module as asm
 use Rattle.object65.specs.declared.object.Object.{Object}
 use Rattle.object65.specs.Versions.{IsEitherVersion}
@@ -13,21 +13,21 @@ use Rattle.library65.specs.Selection.{IsSelection}
 use Rattle.library65.specs.declared.index.Entry.{Entry}
 use Rattle.link65.specs.Names.{given_names, open_names}
 use Rattle.link65.specs.Programs.{Module, program_of}
-use Rattle.link65.specs.Standing.{agrees_with, module_of}
+use Rattle.link65.specs.Representation.{agrees_with, module_of}
 use Rattle.base65.specs.declared.output.OutputFile.{OutputFile}
 use Rattle.whole65.specs.Equality.{IsLinkedTo}
-use Rattle.whole65.specs.Whole.{Whole}
-use Rattle.cli65.specs.Line.{Linking, Says, line_of, link}
+use Rattle.whole65.specs.Whole.{IsWholeProgramImage}
+use Rattle.cli65.specs.Line.{Linking, CommandView, line_of, link}
 use Rattle.cli65.specs.Messages.{line_memory_message}
 use Rattle.cli65.specs.declared.fault.LineFault.{LineFault}
-use Rattle.ld65.specs.Linkage.{ByKind, Input, chosen, file_input, index_in, is_library_in, member_input, object_in, output_of}
-use Rattle.ld65.specs.Refusals.{memory_message, refusal_message}
-use Rattle.ld65.specs.declared.refusal.Refusal.{Refusal}
+use Rattle.ld65.specs.Linkage.{ByKind, Input, selected_entries, file_input, index_in, is_library_in, member_input, object_in, output_of}
+use Rattle.ld65.specs.Faults.{memory_message, error_message}
+use Rattle.ld65.specs.declared.fault.LinkCommandFault.{LinkCommandFault}
 use Rattle.output65.specs.declared.outcome.Outcome.{Outcome}
 use Rattle.output65.specs.declared.outcome.Status.{Status}
 use Rattle.output65.specs.declared.outcome.Status.TheVariants.{Failure, Success}
-use Rattle.tools65.specs.Command.{Commands, Does, DoesLine, Ran, line_memory}
-use Rattle.output65.specs.Leaving.{Performs, apply, Streams}
+use Rattle.tools65.specs.Command.{RunsCommand, IsLinkOutcome, IsOutcomeOfCommand, RunSatisfies, line_memory}
+use Rattle.output65.specs.RunEffects.{PerformsOutcome, apply, Streams}
 use Rattle.output65.specs.Outputs.{failing, with_map}
 
 -- ---- Sources, what ca65 writes of them, and what they are as one program.
@@ -50,7 +50,7 @@ AreObjectsOf (x ∷ xs) [] = ⊥
 
 -- a source's expanded statements are laid so, and none has a fault at its line
 abbrev pub IsLaidOf : Source → Layout → Type 0
-IsLaidOf x y = AreLaid x.files x.job (record { behind = y; fault = None })
+IsLaidOf x y = AreLaidOut x.files x.job (record { following = y; fault = None })
 
 abbrev pub AreLaidOf : List Source → List Layout → Type 0
 AreLaidOf [] [] = ⊤
@@ -60,7 +60,7 @@ AreLaidOf (x ∷ xs) [] = ⊥
 
 -- the sources, laid out and evaluated as one program, have this image
 abbrev pub WholeOf : List ℕ → Script → List Source → List OutputFile → Type 0
-WholeOf output s xs files = (ys : List Layout) × AreLaidOf xs ys × Whole output s ys files
+WholeOf output s xs files = (ys : List Layout) × AreLaidOf xs ys × IsWholeProgramImage output s ys files
 
 -- Linking what ca65 wrote of sources gives files exactly where their whole program has an image, and that image.
 abbrev pub OneProgramLaw : Type 0
@@ -91,7 +91,7 @@ AreMembers m library (e ∷ es) [] = ⊥
 abbrev pub AreTaken : Script → Files → List Module → List ℕ → List Module → Type 0
 AreTaken s m before library ms =
     (es : List Entry) × (places : List ℕ) × (index_in m library ≡ Ok es)
-    × IsSelection es (open_names s (program_of before)) (given_names s (program_of before)) places × AreMembers m library (chosen es places) ms
+    × IsSelection es (open_names s (program_of before)) (given_names s (program_of before)) places × AreMembers m library (selected_entries es places) ms
 
 -- the modules of an input behind others
 abbrev pub AreInputOf : Script → Files → List Module → List ℕ → List Module → Type 0
@@ -128,7 +128,7 @@ WroteFiles l files m new = (map : List ℕ) × (new ≡ Some (apply (with_map l.
 
 -- a link's outcome is a refusal: it says why, writes nothing and fails
 abbrev pub IsRefusal : Linking → Outcome → Type 0
-IsRefusal l o = (e : Refusal) × (o ≡ failing (refusal_message l e))
+IsRefusal l o = (e : LinkCommandFault) × (o ≡ failing (error_message l e))
 
 -- sources have no image as one program
 abbrev pub HaveNoImage : Linking → Script → List Source → Type 0
@@ -136,7 +136,7 @@ HaveNoImage l s xs = (files : List OutputFile) → WholeOf (output_of l) s xs fi
 
 -- What a line does with these files, where its modules are those of sources.
 pub record DoesWhole (l : Linking) (s : Script) (xs : List Source) (m : Files) (o : Outcome) : Type 0 where
-  pub does : Does l m o
+  pub does : IsLinkOutcome l m o
   -- where the sources have an image as one program, its files and then the map
   pub has : (files : List OutputFile) → WholeOf (output_of l) s xs files → HasFiles l files o
   -- nothing but those files, or a refusal where there is no image
@@ -148,7 +148,7 @@ pub record DoesWhole (l : Linking) (s : Script) (xs : List Source) (m : Files) (
 -- none.
 pub record WritesWhole (l : Linking) (s : Script) (xs : List Source) (m : Files) (new : Option Files) (io : Streams) (status : Status) : Type 0 where
   -- the run carries that out, or says that memory ran out
-  pub ran : Ran (DoesWhole l s xs) memory_message m new io status
+  pub ran : RunSatisfies (DoesWhole l s xs) memory_message m new io status
   -- a run that succeeds wrote such an image
   pub wrote :
       status ≡ Success → (files : List OutputFile) × WholeOf (output_of l) s xs files × WroteFiles l files m new
@@ -160,23 +160,23 @@ LinksWhole l m new io status =
     (s : Script) (xs : List Source) → SelectsSources l m s xs → WritesWhole l s xs m new io status
 
 -- where a line is a link of sources' objects
-unfoldable pub LineLinksWhole : Says → Files → Option Files → Streams → Status → Type 0
+unfoldable pub LineLinksWhole : CommandView → Files → Option Files → Streams → Status → Type 0
 LineLinksWhole line m new io status =
     (l : Linking) → line ≡ link l → LinksWhole l m new io status
 
 -- where words are such a line, unless memory ran out before they were one
-unfoldable pub WordsLinkWhole : Result Says LineFault → Files → Option Files → Streams → Status → Type 0
+unfoldable pub WordsLinkWhole : Result CommandView LineFault → Files → Option Files → Streams → Status → Type 0
 WordsLinkWhole words m new io status =
     (l : Linking) → words ≡ Ok (link l)
-    → LinksWhole l m new io status ⊎ Performs (failing line_memory_message) m new io status
+    → LinksWhole l m new io status ⊎ PerformsOutcome (failing line_memory_message) m new io status
 
 -- What a run of words or of a line does by its command, it does so.
 abbrev pub RunsLaw : Type 0
 RunsLaw =
     (words : List (List ℕ)) (m : Files) (new : Option Files) (io : Streams) (status : Status) →
-    Commands words m new io status → WordsLinkWhole (line_of words) m new io status
+    RunsCommand words m new io status → WordsLinkWhole (line_of words) m new io status
 
 abbrev pub LineRunsLaw : Type 0
 LineRunsLaw =
-    (line : Says) (m : Files) (new : Option Files) (io : Streams) (status : Status) →
-    Ran (DoesLine line) (line_memory line) m new io status → LineLinksWhole line m new io status
+    (line : CommandView) (m : Files) (new : Option Files) (io : Streams) (status : Status) →
+    RunSatisfies (IsOutcomeOfCommand line) (line_memory line) m new io status → LineLinksWhole line m new io status

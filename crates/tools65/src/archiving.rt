@@ -3,11 +3,11 @@
 ghost use Rattle.std.specs.Prelude.{◌≡◌, IfOk, IfSome, map};
 ghost use Rattle.cli65.specs.Line.{archive, archiving};
 ghost use Rattle.tools65.specs.Archives.{archive_outcome, archived_outcome, library_file, output_of};
-ghost use Rattle.tools65.specs.Inner.Computing.{Computes, Leaves};
+ghost use Rattle.tools65.specs.Internal.Computing.{ComputesOutcome, ComputeFrame};
 
-use ar65::{Archived, MemberFile, Refusal, archive, refusal_message};
-use base65::{OutputFile, Sequence, Store, Text};
-use cli65::ArchiveLine;
+use ar65::{ArchiveFault, Archived, MemberFile, archive, error_message};
+use base65::{ListVec, OutputFile, PathString, Store};
+use cli65::ArchiveArgs;
 use output65::{Outcome, Status};
 use std::alloc::{AllocError, Global};
 
@@ -15,12 +15,12 @@ use std::alloc::{AllocError, Global};
 fn library_file(
     alloc: Global,
     name: &str,
-    bytes: Sequence<u8>,
-) -> Result<Sequence<OutputFile>, AllocError>
+    bytes: ListVec<u8>,
+) -> Result<ListVec<OutputFile>, AllocError>
     ensures { IfOk result (λ outputs. outputs ≡ library_file name.now bytes) }
 {
-    let mut outputs = Sequence::new(alloc);
-    let name = Text::copy_of(alloc, name)?;
+    let mut outputs = ListVec::new(alloc);
+    let name = PathString::copy_of(alloc, name)?;
     outputs.push(OutputFile { name, bytes })?;
     Ok(outputs)
 }
@@ -28,11 +28,11 @@ fn library_file(
 /// The files of members.
 fn member_outputs(
     alloc: Global,
-    files: Sequence<MemberFile>,
-) -> Result<Sequence<OutputFile>, AllocError>
+    files: ListVec<MemberFile>,
+) -> Result<ListVec<OutputFile>, AllocError>
     ensures { IfOk result (λ outputs. outputs ≡ map output_of files) }
 {
-    let mut outputs = Sequence::new(alloc);
+    let mut outputs = ListVec::new(alloc);
     for file in files.into_vec() {
         let MemberFile { name, bytes } = file;
         outputs.push(OutputFile { name, bytes })?;
@@ -44,13 +44,13 @@ fn member_outputs(
 /// members.
 fn archived_outcome(
     alloc: Global,
-    line: &ArchiveLine<'_>,
+    line: &ArchiveArgs<'_>,
     archived: Archived,
 ) -> Result<Outcome, AllocError>
     ensures { IfOk result (λ outcome. outcome ≡ archived_outcome (archiving line.now) archived) }
 {
-    let mut out = Sequence::new(alloc);
-    let mut outputs = Sequence::new(alloc);
+    let mut out = ListVec::new(alloc);
+    let mut outputs = ListVec::new(alloc);
     match archived {
         Archived::Library(bytes) => outputs = library_file(alloc, line.library, bytes)?,
         Archived::Names(text) => out = text,
@@ -58,7 +58,7 @@ fn archived_outcome(
     }
     Ok(Outcome {
         out,
-        err: Sequence::new(alloc),
+        err: ListVec::new(alloc),
         outputs,
         status: Status::Success,
     })
@@ -67,17 +67,17 @@ fn archived_outcome(
 /// What a line does, or why it does nothing.
 fn archive_outcome(
     alloc: Global,
-    line: &ArchiveLine<'_>,
-    archived: Result<Archived, Refusal>,
+    line: &ArchiveArgs<'_>,
+    archived: Result<Archived, ArchiveFault>,
 ) -> Result<Outcome, AllocError>
     ensures { IfOk result (λ outcome. outcome ≡ archive_outcome (archiving line.now) archived) }
 {
     match archived {
         Ok(archived) => archived_outcome(alloc, line, archived),
         Err(refusal) => Ok(Outcome {
-            out: Sequence::new(alloc),
-            err: refusal_message(alloc, line, &refusal)?,
-            outputs: Sequence::new(alloc),
+            out: ListVec::new(alloc),
+            err: error_message(alloc, line, &refusal)?,
+            outputs: ListVec::new(alloc),
             status: Status::Failure,
         }),
     }
@@ -86,12 +86,12 @@ fn archive_outcome(
 /// Does with a library what a line says, and computes what that does.
 pub fn compute_archive<S: Store>(
     alloc: Global,
-    line: &ArchiveLine<'_>,
+    line: &ArchiveArgs<'_>,
     store: &mut S,
 ) -> Result<Outcome, AllocError>
-    ensures computed { IfSome (S.files store.old) (λ m. IfOk result (Computes (archive (archiving line.now)) m
-        (S.blamed store.new) (S.failures store.old) (S.failures store.new))) }
-    ensures kept { Leaves S.files S.failures store.old store.new result }
+    ensures computed { IfSome (S.files store.old) (λ m. IfOk result (ComputesOutcome (archive (archiving line.now)) m
+        (S.last_failure store.new) (S.failures store.old) (S.failures store.new))) }
+    ensures frame { ComputeFrame S.files S.failures store.old store.new result }
 {
     let archived = archive(alloc, store, line);
     archive_outcome(alloc, line, archived)

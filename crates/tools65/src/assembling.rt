@@ -1,6 +1,6 @@
 //! Assembles a source into a file.
 
+pub mod diagnostic;
 pub mod job;
 pub mod naming;
 pub mod outcome;
-pub mod refusal;

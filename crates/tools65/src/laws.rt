@@ -2,23 +2,23 @@
 
 ghost use Rattle.tools65.specs.Inputs.{SourcesSelectedLaw, WrittenInputLaw, WrittenMemberLaw, WrittenObjectLaw};
 ghost use Rattle.tools65.specs.Kept.{ArchivedSourcesLaw, AssembledFileLaw};
-ghost use Rattle.tools65.specs.OneOutcome.{AnOutcomeLaw, OneFailureLaw, OneOutcomeLaw};
+ghost use Rattle.tools65.specs.OneOutcome.{OutcomeExists, FailureIsUnique, OutcomeIsUnique};
 ghost use Rattle.tools65.specs.OneProgram.{ImageOrNoneLaw, LineRunsLaw, OneProgramLaw, RunsLaw};
 
 /// What words do as a command, given the files, is one outcome at most: these texts, these files, this status.
-pub fn one_outcome()
-    ensures { OneOutcomeLaw }
+pub fn outcome_is_unique()
+    ensures { OutcomeIsUnique }
 {}
 
 /// Whatever words are and whatever bytes files hold, there is exactly one thing that the words do as a command: these texts,
 /// these files, this status.
-pub fn an_outcome_exists()
-    ensures { AnOutcomeLaw }
+pub fn outcome_exists()
+    ensures { OutcomeExists }
 {}
 
 /// What ld65 and ar65 say of a call that failed while files were read is one text, where the call's place tells what it asked for.
-pub fn one_failure()
-    ensures { OneFailureLaw }
+pub fn failure_is_unique()
+    ensures { FailureIsUnique }
 {}
 
 /// Linking objects that ca65 wrote of sources, in either version, gives files exactly where the sources, laid out

@@ -9,7 +9,7 @@ mod running;
 
 pub use base65::{OutputFile, Seed};
 pub use cli65::{
-    ArchiveLine, AssembleLine, Define, Line, LineFault, LinkLine, Operation, read_line,
+    ArchiveArgs, AssembleArgs, Define, Line, LineFault, LinkArgs, Operation, read_line,
 };
 pub use output65::{DiskStore, Outcome, Status, Stream, print, write_file};
-pub use running::{run, run_line, run_line_over, run_over};
+pub use running::{run, run_line, run_line_with_streams, run_with_streams};

@@ -4,10 +4,10 @@ ghost use Rattle.std.specs.Prelude.{◌≡◌, ◌≤◌, IfOk, IfSome, false, m
 ghost use Rattle.base65.specs.Store.{HasFailed, NoneFailed};
 ghost use Rattle.cli65.specs.Line.{line_of, view};
 ghost use Rattle.cli65.specs.Messages.{memory_line};
-ghost use Rattle.output65.specs.Leaving.{AreSame, OverWriters, between};
-ghost use Rattle.tools65.specs.Command.{Commands, DoesLine, Ran, line_memory};
+ghost use Rattle.output65.specs.RunEffects.{AreSame, OverWriters, between};
+ghost use Rattle.tools65.specs.Command.{RunsCommand, IsOutcomeOfCommand, RunSatisfies, line_memory};
 ghost use Rattle.tools65.specs.Failing.{FailsLine, FailsWords};
-ghost use Rattle.tools65.specs.Inner.Computing.{Computes, Leaves};
+ghost use Rattle.tools65.specs.Internal.Computing.{ComputesOutcome, ComputeFrame};
 ghost use Rattle.tools65.specs.OneProgram.{LineLinksWhole, WordsLinkWhole};
 
 use crate::archiving::compute_archive;
@@ -15,7 +15,7 @@ use crate::assembling::outcome::compute_assembly;
 use crate::linking::compute_link;
 use base65::Store;
 use cli65::{Line, fault_message, read_line};
-use output65::{Outcome, Status, Stream, perform, print, say_memory};
+use output65::{Outcome, Status, Stream, commit_outcome, print, print_out_of_memory};
 use std::alloc::{AllocError, Global};
 use std::convert::AsStr;
 use std::io::Write;
@@ -33,9 +33,9 @@ fn memory_name<'a>(line: &'a Line<'_>) -> &'a str
 
 /// Reads what a line names, and computes its outcome; nothing is said or written.
 fn compute<S: Store>(alloc: Global, line: &Line<'_>, store: &mut S) -> Result<Outcome, AllocError>
-    ensures computed { IfSome (S.files store.old) (λ m. IfOk result (Computes (view line.now) m
-        (S.blamed store.new) (S.failures store.old) (S.failures store.new))) }
-    ensures kept { Leaves S.files S.failures store.old store.new result }
+    ensures computed { IfSome (S.files store.old) (λ m. IfOk result (ComputesOutcome (view line.now) m
+        (S.last_failure store.new) (S.failures store.old) (S.failures store.new))) }
+    ensures frame { ComputeFrame S.files S.failures store.old store.new result }
 {
     match line {
         Line::Assemble(line) => compute_assembly(alloc, line, store),
@@ -46,7 +46,7 @@ fn compute<S: Store>(alloc: Global, line: &Line<'_>, store: &mut S) -> Result<Ou
 
 /// Runs a line over two streams, and answers the status. Everything is computed first, then the texts are printed, then the
 /// files are written; a run that is refused writes none, and a stream that has refused is asked no more.
-pub fn run_line_over<S: Store, W: Write, E: Write>(
+pub fn run_line_with_streams<S: Store, W: Write, E: Write>(
     alloc: Global,
     line: &Line<'_>,
     store: &mut S,
@@ -57,10 +57,10 @@ pub fn run_line_over<S: Store, W: Write, E: Write>(
     requires err { err.old.has_refused ≡ false }
     ensures same { AreSame out.old out.new err.old err.new }
     ensures done { IfSome (S.files store.old) (λ m. NoneFailed (S.failures store.old) (S.failures store.new) →
-        Ran (DoesLine (view line.now)) (line_memory (view line.now)) m (S.files store.new)
+        RunSatisfies (IsOutcomeOfCommand (view line.now)) (line_memory (view line.now)) m (S.files store.new)
         (between W.contents E.contents out.old out.new err.old err.new) result) }
     ensures failed { IfSome (S.files store.old) (λ m. HasFailed (S.failures store.old) (S.failures store.new) →
-        FailsLine (view line.now) m (S.files store.new) (S.blamed store.new)
+        FailsLine (view line.now) m (S.files store.new) (S.last_failure store.new)
         (between W.contents E.contents out.old out.new err.old err.new) result) }
     ensures one_program { IfSome (S.files store.old) (λ m. NoneFailed (S.failures store.old) (S.failures store.new) →
         LineLinksWhole (view line.now) m (S.files store.new)
@@ -69,9 +69,9 @@ pub fn run_line_over<S: Store, W: Write, E: Write>(
     ensures rose { HasFailed (S.failures store.old) (S.failures store.new) → result ≡ Status.Failure }
 {
     match compute(alloc, line, store) {
-        Ok(outcome) => perform(&outcome, store, out, err, memory_name(line)),
+        Ok(outcome) => commit_outcome(&outcome, store, out, err, memory_name(line)),
         Err(_) => {
-            say_memory(err, memory_name(line));
+            print_out_of_memory(err, memory_name(line));
             Status::Failure
         }
     }
@@ -87,17 +87,17 @@ pub fn run_line<S: Store, W: Write, E: Write>(
 ) -> Status
     ensures done { IfSome (S.files store.old) (λ m. NoneFailed (S.failures store.old) (S.failures store.new) →
         OverWriters (W.contents out.old) (W.contents out.new) (E.contents err.old) (E.contents err.new)
-        (λ io. Ran (DoesLine (view line.now)) (line_memory (view line.now)) m (S.files store.new) io result)) }
+        (λ io. RunSatisfies (IsOutcomeOfCommand (view line.now)) (line_memory (view line.now)) m (S.files store.new) io result)) }
     ensures failed { IfSome (S.files store.old) (λ m. HasFailed (S.failures store.old) (S.failures store.new) →
         OverWriters (W.contents out.old) (W.contents out.new) (E.contents err.old) (E.contents err.new)
-        (λ io. FailsLine (view line.now) m (S.files store.new) (S.blamed store.new) io result)) }
+        (λ io. FailsLine (view line.now) m (S.files store.new) (S.last_failure store.new) io result)) }
     ensures one_program { IfSome (S.files store.old) (λ m. NoneFailed (S.failures store.old) (S.failures store.new) →
         OverWriters (W.contents out.old) (W.contents out.new) (E.contents err.old) (E.contents err.new)
         (λ io. LineLinksWhole (view line.now) m (S.files store.new) io result)) }
     ensures later { S.failures store.old ≤ S.failures store.new }
     ensures rose { HasFailed (S.failures store.old) (S.failures store.new) → result ≡ Status.Failure }
 {
-    run_line_over(
+    run_line_with_streams(
         alloc,
         line,
         store,
@@ -107,7 +107,7 @@ pub fn run_line<S: Store, W: Write, E: Write>(
 }
 
 /// Runs words as a command over two streams, the first word being the program's name, and answers the status.
-pub fn run_over<A: AsStr, S: Store, W: Write, E: Write>(
+pub fn run_with_streams<A: AsStr, S: Store, W: Write, E: Write>(
     alloc: Global,
     words: &[A],
     store: &mut S,
@@ -118,10 +118,10 @@ pub fn run_over<A: AsStr, S: Store, W: Write, E: Write>(
     requires err { err.old.has_refused ≡ false }
     ensures same { AreSame out.old out.new err.old err.new }
     ensures done { IfSome (S.files store.old) (λ m. NoneFailed (S.failures store.old) (S.failures store.new) →
-        Commands (map A.text words.now) m (S.files store.new)
+        RunsCommand (map A.text words.now) m (S.files store.new)
         (between W.contents E.contents out.old out.new err.old err.new) result) }
     ensures failed { IfSome (S.files store.old) (λ m. HasFailed (S.failures store.old) (S.failures store.new) →
-        FailsWords (S.failures store.old) (map A.text words.now) m (S.files store.new) (S.blamed store.new)
+        FailsWords (S.failures store.old) (map A.text words.now) m (S.files store.new) (S.last_failure store.new)
         (between W.contents E.contents out.old out.new err.old err.new) result) }
     ensures one_program { IfSome (S.files store.old) (λ m. NoneFailed (S.failures store.old) (S.failures store.new) →
         WordsLinkWhole (line_of (map A.text words.now)) m (S.files store.new)
@@ -130,7 +130,7 @@ pub fn run_over<A: AsStr, S: Store, W: Write, E: Write>(
     ensures rose { HasFailed (S.failures store.old) (S.failures store.new) → result ≡ Status.Failure }
 {
     match read_line(alloc, words) {
-        Ok(line) => run_line_over(alloc, &line, store, out, err),
+        Ok(line) => run_line_with_streams(alloc, &line, store, out, err),
         Err(fault) => {
             print(err, fault_message(fault));
             Status::Failure
@@ -148,17 +148,17 @@ pub fn run<A: AsStr, S: Store, W: Write, E: Write>(
 ) -> Status
     ensures done { IfSome (S.files store.old) (λ m. NoneFailed (S.failures store.old) (S.failures store.new) →
         OverWriters (W.contents out.old) (W.contents out.new) (E.contents err.old) (E.contents err.new)
-        (λ io. Commands (map A.text words.now) m (S.files store.new) io result)) }
+        (λ io. RunsCommand (map A.text words.now) m (S.files store.new) io result)) }
     ensures failed { IfSome (S.files store.old) (λ m. HasFailed (S.failures store.old) (S.failures store.new) →
         OverWriters (W.contents out.old) (W.contents out.new) (E.contents err.old) (E.contents err.new)
-        (λ io. FailsWords (S.failures store.old) (map A.text words.now) m (S.files store.new) (S.blamed store.new) io result)) }
+        (λ io. FailsWords (S.failures store.old) (map A.text words.now) m (S.files store.new) (S.last_failure store.new) io result)) }
     ensures one_program { IfSome (S.files store.old) (λ m. NoneFailed (S.failures store.old) (S.failures store.new) →
         OverWriters (W.contents out.old) (W.contents out.new) (E.contents err.old) (E.contents err.new)
         (λ io. WordsLinkWhole (line_of (map A.text words.now)) m (S.files store.new) io result)) }
     ensures later { S.failures store.old ≤ S.failures store.new }
     ensures rose { HasFailed (S.failures store.old) (S.failures store.new) → result ≡ Status.Failure }
 {
-    run_over(
+    run_with_streams(
         alloc,
         words,
         store,

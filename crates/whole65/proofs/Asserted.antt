@@ -10,24 +10,24 @@ use Rattle.syntax65.specs.Trees.{Tree}
 use Rattle.object65.specs.Form.{Form, lit}
 use Rattle.object65.specs.declared.object.Action.{Action}
 use Rattle.object65.specs.declared.object.Action.TheVariants as action
-use Rattle.syntax65.specs.declared.place.Place.{Place}
-use Rattle.semantics65.specs.Contents.{Content, Declaration, Exported, ForcedImport, Asserted, decided, written, exported_names}
+use Rattle.syntax65.specs.declared.source_location.SourceLocation.{SourceLocation}
+use Rattle.semantics65.specs.Contents.{Content, Declaration, Exported, ForcedImport, Asserted, decided_assertion, located_declarations, exported_names}
 use Rattle.ast65.specs.declared.fault.AsmFault.{AsmFault}
-use Rattle.semantics65.specs.Symbols.{Laid, Symbols}
+use Rattle.semantics65.specs.Symbols.{LaidOutStatement, Symbols}
 use Rattle.ast65.specs.declared.language.Statement.{Statement}
 use Rattle.ast65.specs.declared.language.Statement.TheVariants.{Export, Global, ForceImport, Assert}
 use Rattle.semantics65.specs.Norms.{norm_of}
-use Rattle.semantics65.specs.Numbering.{all_said, assert_of, import_keys, numbered, section_keys}
+use Rattle.semantics65.specs.Numbering.{all_said, assert_of, import_keys, renumbered_form, section_keys}
 use Rattle.sources65.proofs.SoundForms.{all_append}
-use Rattle.semantics65.specs.Module.{ending_of}
+use Rattle.semantics65.specs.Module.{module_resolution}
 use Rattle.whole65.proofs.Files.{table_law}
 use Rattle.whole65.proofs.SameValues.{bind_ok, written_ok, same_values_law}
 use Rattle.whole65.proofs.SectionBytes.{in_middle}
 use Rattle.whole65.proofs.Statements.{AreStated, IsSaidBy, SaidOnce, a_line, are_stated, left_out, no_line, no_name, said_append, said_first, stated}
 use Rattle.whole65.specs.Objects.{AreObjects, HasValue, Objects, form_value}
-use Rattle.whole65.specs.Segments.{line_of, lines_behind}
+use Rattle.whole65.specs.Segments.{line_of, lines_after}
 use Rattle.whole65.specs.Values.{Program, Value}
-use Rattle.whole65.specs.Whole.{HasAssertion, Passes, AreAsserted}
+use Rattle.whole65.specs.Whole.{HasAssertion, AssertionHolds, AreAsserted}
 use Rattle.std.specs.Ordering.{int_eq}
 use Rattle.std.proofs.lemmas.Bool.Decides.{not_from_Decides}
 use Rattle.object65.specs.declared.object.Object.{Object}
@@ -41,9 +41,9 @@ use Rattle.link65.specs.Values.{linkage_of, AreExports, Exports, Linkage, export
 use Rattle.link65.specs.Programs as linked
 use Rattle.link65.specs.Texts.{assertion_warning}
 use Rattle.link65.specs.declared.fault.LinkFault.{LinkFault}
-use Rattle.link65.specs.declared.fault.Site.{Site}
+use Rattle.link65.specs.declared.fault.ModuleLocation.{ModuleLocation}
 use Rattle.link65.specs.declared.parts.Asserted.{Asserted as LinkedAssertion}
-use Rattle.link65.specs.declared.parts.Member.{Member}
+use Rattle.link65.specs.declared.parts.LinkedModule.{LinkedModule}
 use Rattle.link65.specs.declared.parts.ValueFault.{ValueFault}
 use Rattle.whole65.proofs.Providers.{keyed_said, sources_law}
 use Rattle.whole65.proofs.Keyed.{form_law, keyed_law}
@@ -60,7 +60,7 @@ use Rattle.whole65.specs.Programs.{program_of}
 abbrev pub IsPassed : {E : Type 0} → Objects E → ℕ → Declaration → Type 0
 IsPassed o owner (Exported n place f) = ⊤
 IsPassed o owner (ForcedImport n) = ⊤
-IsPassed o owner (Asserted act place words f) = (v : ℤ) × HasValue o owner f v × Passes act v
+IsPassed o owner (Asserted act place words f) = (v : ℤ) × HasValue o owner f v × AssertionHolds act v
 
 -- ---- Statements that assert nothing.
 
@@ -71,7 +71,7 @@ module _ {E : Type 0} (o : Objects E) (owner : ℕ) where
   nothing_said : (ss : List Declaration) → ◌≡◌ {A = Result (List Declaration) AsmFault} (Ok []) (Ok ss) → AllPass ss
   nothing_said ss e = let same : [] ≡ ss = cc in subst AllPass same tt
 
-  exports_pass : {z : Symbols} {place : Place} {names ns : List (List ℕ)} {ss : List Declaration} → SaidOnce z place names ns ss → AllPass ss
+  exports_pass : {z : Symbols} {place : SourceLocation} {names ns : List (List ℕ)} {ss : List Declaration} → SaidOnce z place names ns ss → AllPass ss
   exports_pass no_name = tt
   exports_pass (left_out why more) = exports_pass more
   exports_pass (said_first j f new e form more) = (tt, exports_pass more)
@@ -85,33 +85,33 @@ module _ {E : Type 0} (o : Objects E) (owner : ℕ) where
 module _ {E : Type 0} (p : Program) (o : Objects E) (h : AreObjects p o) (owner : ℕ) where
   -- an expression and its form pass alike
   abbrev FormPasses : Action → Form → Type 0
-  FormPasses act f = (v : ℤ) × HasValue o owner f v × Passes act v
+  FormPasses act f = (v : ℤ) × HasValue o owner f v × AssertionHolds act v
 
   -- an assertion that its source decides passes; another one passes as what is said of it
-  decided_passes : (act : Action) (place : Place) (words : List ℕ) (f : Form) (ss : List Declaration) → decided act place words f ≡ Ok ss → FormPasses act f ↔ AllPass o owner ss
+  decided_passes : (act : Action) (place : SourceLocation) (words : List ℕ) (f : Form) (ss : List Declaration) → decided_assertion act place words f ≡ Ok ss → FormPasses act f ↔ AllPass o owner ss
   decided_passes act place words f ss d = by act f d
     where
-      settled : (act : Action) (v : ℤ) → Passes act v → ◌≡◌ {A = Result (List Declaration) AsmFault} (Ok []) (Ok ss) → FormPasses act (lit v) ↔ AllPass o owner ss
+      settled : (act : Action) (v : ℤ) → AssertionHolds act v → ◌≡◌ {A = Result (List Declaration) AsmFault} (Ok []) (Ok ss) → FormPasses act (lit v) ↔ AllPass o owner ss
       settled act v fine e = (λ k. nothing_said o owner ss e, λ k. (v, (0, refl), fine))
 
-      waits : (act : Action) (f : Form) → written place (Asserted act place words f ∷ []) ≡ Ok ss → FormPasses act f ↔ AllPass o owner ss
+      waits : (act : Action) (f : Form) → located_declarations place (Asserted act place words f ∷ []) ≡ Ok ss → FormPasses act f ↔ AllPass o owner ss
       waits act f e =
           let same : Asserted act place words f ∷ [] ≡ ss = written_ok place (Asserted act place words f ∷ []) ss e in
           (λ k. subst (AllPass o owner) same (k, tt), λ k. (subst (AllPass o owner) (sym same) k).0)
 
-      by : (act : Action) (f : Form) → decided act place words f ≡ Ok ss → FormPasses act f ↔ AllPass o owner ss
+      by : (act : Action) (f : Form) → decided_assertion act place words f ≡ Ok ss → FormPasses act f ↔ AllPass o owner ss
       by action.Error (lit (pos zero)) d = absurd cc
       by action.Error (lit (pos (suc n))) d = settled action.Error (pos (suc n)) (λ e. cc) d
       by action.Error (lit (negsuc n)) d = settled action.Error (negsuc n) (λ e. cc) d
       by action.Warning (lit v) d = settled action.Warning v tt d
       by act f d = waits act f d
 
-  assertion_passes : (number : ℕ) (place : Place) (e : Tree) (act : Action) (words : List ℕ) (f : Form) (ss : List Declaration) → norm_of (o.symbols owner) (o.contexts owner number) e ≡ Ok f → decided act place words f ≡ Ok ss → ((v : ℤ) × Value p owner number e v × Passes act v) ↔ AllPass o owner ss
+  assertion_passes : (number : ℕ) (place : SourceLocation) (e : Tree) (act : Action) (words : List ℕ) (f : Form) (ss : List Declaration) → norm_of (o.symbols owner) (o.contexts owner number) e ≡ Ok f → decided_assertion act place words f ≡ Ok ss → ((v : ℤ) × Value p owner number e v × AssertionHolds act v) ↔ AllPass o owner ss
   assertion_passes number place e act words f ss q d =
       let value : (v : ℤ) → Value p owner number e v ↔ HasValue o owner f v = λ v. same_values_law E p o h (suc (length (o.symbols owner).definitions)) owner number e f v q in
       grind (arith, common_steps, decided_passes)
 
-  line_passes : (names : List (List ℕ)) (before : List Laid) (l : Laid) (ss : List Declaration) → o.contexts owner (length before) ≡ l.context → IsSaidBy (o.symbols owner) names l l.stated ss → HasAssertion p (line_of owner before l) ↔ AllPass o owner ss
+  line_passes : (names : List (List ℕ)) (before : List LaidOutStatement) (l : LaidOutStatement) (ss : List Declaration) → o.contexts owner (length before) ≡ l.context → IsSaidBy (o.symbols owner) names l l.stated ss → HasAssertion p (line_of owner before l) ↔ AllPass o owner ss
   line_passes names before l ss at d = go l.stated d
     where
       silent : AllPass o owner ss → ⊤ ↔ AllPass o owner ss
@@ -126,7 +126,7 @@ module _ {E : Type 0} (p : Program) (o : Objects E) (h : AreObjects p o) (owner 
 
   -- ---- Lines.
 
-  pub lines_pass : (all : List Laid) → ((place : ℕ) (l : Laid) → slice_get all place ≡ Some l → o.contexts owner place ≡ l.context) → (before ls : List Laid) (names : List (List ℕ)) (cs : List Content) → before ++ ls ≡ all → AreStated (o.symbols owner) names ls cs → AllByRecursion (HasAssertion p) (lines_behind owner before ls) ↔ AllPass o owner (all_said cs)
+  pub lines_pass : (all : List LaidOutStatement) → ((place : ℕ) (l : LaidOutStatement) → slice_get all place ≡ Some l → o.contexts owner place ≡ l.context) → (before ls : List LaidOutStatement) (names : List (List ℕ)) (cs : List Content) → before ++ ls ≡ all → AreStated (o.symbols owner) names ls cs → AllByRecursion (HasAssertion p) (lines_after owner before ls) ↔ AllPass o owner (all_said cs)
   lines_pass all contexts before [] names _ w no_line = (λ k. tt, λ k. tt)
   lines_pass all contexts before (l ∷ ls) names _ w (a_line ds cs found more) =
       let next : (before ++ l ∷ []) ++ ls ≡ all = append_assoc before (l ∷ []) ls ∙ w in
@@ -141,25 +141,25 @@ module _ {E : Type 0} (p : Program) (o : Objects E) (h : AreObjects p o) (owner 
 
 abbrev linked_asserts : ℕ → List Module → List LinkedAssertion
 linked_asserts owner [] = []
-linked_asserts owner (m ∷ ms) = map (linked.asserted owner) m.object.asserts ++ linked_asserts (suc owner) ms
+linked_asserts owner (m ∷ ms) = map (linked.linked_assertion owner) m.object.asserts ++ linked_asserts (suc owner) ms
 
-asserts_behind : (p : linked.Program) (ms : List Module) → (linked.with_modules p ms).asserts ≡ p.asserts ++ linked_asserts (length p.members) ms
-asserts_behind p [] = sym (append-nil p.asserts)
-asserts_behind p (m ∷ ms) = grind (arith, common_steps, (asserts_behind (linked.with_module p m) ms))
+asserts_after : (p : linked.Program) (ms : List Module) → (linked.with_modules p ms).asserts ≡ p.asserts ++ linked_asserts (length p.members) ms
+asserts_after p [] = sym (append-nil p.asserts)
+asserts_after p (m ∷ ms) = grind (arith, common_steps, (asserts_after (linked.with_module p m) ms))
 
 asserts_are : (ms : List Module) → (linked.program_of ms).asserts ≡ linked_asserts 0 ms
-asserts_are ms = asserts_behind linked.no_program ms
+asserts_are ms = asserts_after linked.no_program ms
 
 -- ---- The check.
 
 -- there is a value, and it passes
 abbrev ComesToPass : Action → Result ℤ ValueFault → Type 0
-ComesToPass act r = (v : ℤ) × (r ≡ Ok v) × Passes act v
+ComesToPass act r = (v : ℤ) × (r ≡ Ok v) × AssertionHolds act v
 
 abbrev IsTold : Result (List ℕ) LinkFault → Type 0
 IsTold r = (text : List ℕ) × (r ≡ Ok text)
 
-value_told : (s : Site) (act : Action) (text : List ℕ) (v : ℤ) → IsTold (assertion_result s act text v) ↔ Passes act v
+value_told : (s : ModuleLocation) (act : Action) (text : List ℕ) (v : ℤ) → IsTold (assertion_result s act text v) ↔ AssertionHolds act v
 value_told s action.Warning text v = (λ k. tt, λ k. go (int_eq v (pos 0)))
   where
     go : (b : Bool) → IsTold (cond b (Ok (assertion_warning s text)) (Ok []))
@@ -167,15 +167,15 @@ value_told s action.Warning text v = (λ k. tt, λ k. go (int_eq v (pos 0)))
     go false = ([], refl)
 value_told s action.Error text v = grind (arith, common_steps, not_from_Decides)
 
-result_told : (s : Site) (act : Action) (text : List ℕ) (r : Result ℤ ValueFault) → IsTold (value_at s r >>= assertion_result s act text) ↔ ComesToPass act r
+result_told : (s : ModuleLocation) (act : Action) (text : List ℕ) (r : Result ℤ ValueFault) → IsTold (value_at s r >>= assertion_result s act text) ↔ ComesToPass act r
 result_told s act text (Ok v) =
     let one = value_told s act text v in (
       λ k. (v, refl, one.0 k),
-      λ k. (let same : k.0 ≡ v = cc k.1 in one.1 (subst (Passes act) same k.2)),
+      λ k. (let same : k.0 ≡ v = cc k.1 in one.1 (subst (AssertionHolds act) same k.2)),
     )
 result_told s act text (Err e) = grind (arith, common_steps)
 
-module _ (l : Linkage) (members : List Member) (exports : Exports) where
+module _ (l : Linkage) (members : List LinkedModule) (exports : Exports) where
   -- an assertion of a linked module comes to a value and passes
   abbrev pub Succeeds : LinkedAssertion → Type 0
   Succeeds a = ComesToPass a.action (value_by l exports a.owner a.form)
@@ -211,7 +211,7 @@ module _ (s : Script) (placement : Placement) (ys : List Layout) (ms : List Modu
   abbrev Passing : LinkedAssertion → Type 0
   Passing = Succeeds l (linked.program_of ms).members (in_table table)
 
-  module _ (owner : ℕ) (y : Layout) (m : Module) (cs : List Content) (at_y : slice_get ys owner ≡ Some y) (at_m : slice_get ms owner ≡ Some m) (found : (ending_of y.laid).found ≡ Ok cs) where
+  module _ (owner : ℕ) (y : Layout) (m : Module) (cs : List Content) (at_y : slice_get ys owner ≡ Some y) (at_m : slice_get ms owner ≡ Some m) (found : (module_resolution y.laid).found ≡ Ok cs) where
     abbrev sections : List ℕ
     sections = section_keys cs
 
@@ -221,16 +221,16 @@ module _ (s : Script) (placement : Placement) (ys : List Layout) (ms : List Modu
     abbrev IsKeyedHere : Declaration → Type 0
     IsKeyedHere = IsKeyedSaid sections numbers (length (table_of y).imports)
 
-    one_form : (f : Form) (v : ℤ) → IsKeyed sections numbers (length (table_of y).imports) f → (value_by l (in_table table) owner (numbered sections numbers f) ≡ Ok v) ↔ HasValue o owner f v
+    one_form : (f : Form) (v : ℤ) → IsKeyed sections numbers (length (table_of y).imports) f → (value_by l (in_table table) owner (renumbered_form sections numbers f) ≡ Ok v) ↔ HasValue o owner f v
     one_form f v keyed =
-        let same : (turns : ℕ) → form_value o turns owner f ≡ value_by l (exports_through l turns) owner (numbered sections numbers f) =
+        let same : (turns : ℕ) → form_value o turns owner f ≡ value_by l (exports_through l turns) owner (renumbered_form sections numbers f) =
         λ turns. form_law s placement ys ms owner turns y m cs f h at_y at_m found keyed in
-        let value = table_law l table owner (numbered sections numbers f) v exports in (
+        let value = table_law l table owner (renumbered_form sections numbers f) v exports in (
           λ k. (let q = value.0 k in (q.0, same q.0 ∙ q.1)),
           λ k. value.1 (k.0, sym (same k.0) ∙ k.1),
         )
 
-    said_pass : (origins : Place → Origin) (ss : List Declaration) → AllByRecursion IsKeyedHere ss → AllByRecursion Passing (map (linked.asserted owner) (filter_map (assert_of origins sections numbers) ss)) ↔ AllByRecursion (IsPassed o owner) ss
+    said_pass : (origins : SourceLocation → Origin) (ss : List Declaration) → AllByRecursion IsKeyedHere ss → AllByRecursion Passing (map (linked.linked_assertion owner) (filter_map (assert_of origins sections numbers) ss)) ↔ AllByRecursion (IsPassed o owner) ss
     said_pass origins [] k = (λ q. tt, λ q. tt)
     said_pass origins (Exported n place f ∷ ss) k = let more = said_pass origins ss k.1 in (λ q. (tt, more.0 q), λ q. more.1 q.1)
     said_pass origins (ForcedImport n ∷ ss) k = let more = said_pass origins ss k.1 in (λ q. (tt, more.0 q), λ q. more.1 q.1)
@@ -243,15 +243,15 @@ module _ (s : Script) (placement : Placement) (ys : List Layout) (ms : List Modu
     table_there : o.symbols owner ≡ table_of y
     table_there = ap symbols_at at_y
 
-    context_there : (place : ℕ) (x : Laid) → slice_get y.laid place ≡ Some x → o.contexts owner place ≡ x.context
+    context_there : (place : ℕ) (x : LaidOutStatement) → slice_get y.laid place ≡ Some x → o.contexts owner place ≡ x.context
     context_there place x e = ap (λ r. context_in r place) at_y ∙ ap (context_or (global_context y)) e
 
-    lines_agree : AllByRecursion (HasAssertion p) (lines_behind owner [] y.laid) ↔ AllByRecursion (IsPassed o owner) (all_said cs)
+    lines_agree : AllByRecursion (HasAssertion p) (lines_after owner [] y.laid) ↔ AllByRecursion (IsPassed o owner) (all_said cs)
     lines_agree =
         lines_pass p o (sources_law s placement ys ms h) owner y.laid context_there [] y.laid [] cs refl
         (subst (λ z. AreStated z [] y.laid cs) (sym table_there) (are_stated y cs found))
 
-  one_source : (owner : ℕ) (y : Layout) (m : Module) → slice_get ys owner ≡ Some y → slice_get ms owner ≡ Some m → IsSource y m → AllByRecursion Passing (map (linked.asserted owner) m.object.asserts) ↔ AllByRecursion (HasAssertion p) (lines_behind owner [] y.laid)
+  one_source : (owner : ℕ) (y : Layout) (m : Module) → slice_get ys owner ≡ Some y → slice_get ms owner ≡ Some m → IsSource y m → AllByRecursion Passing (map (linked.linked_assertion owner) m.object.asserts) ↔ AllByRecursion (HasAssertion p) (lines_after owner [] y.laid)
   one_source owner y m at_y at_m source =
       let c : HasContents y m = contents_of y m source in
       let cs : List Content = c.contents in
@@ -259,8 +259,8 @@ module _ (s : Script) (placement : Placement) (ys : List Layout) (ms : List Modu
       let keyed = keyed_said (section_keys cs) (import_keys z.imports cs) (length z.imports) cs (keyed_law y cs source.sound c.found) in
       let said = said_pass owner y m cs at_y at_m c.found c.origins (all_said cs) keyed in
       let lines = lines_agree owner y m cs at_y at_m c.found in (
-        λ k. lines.1 (said.0 (subst (λ (x : Object). AllByRecursion Passing (map (linked.asserted owner) x.asserts)) c.object k)),
-        λ k. subst (λ (x : Object). AllByRecursion Passing (map (linked.asserted owner) x.asserts)) (sym c.object) (said.1 (lines.0 k)),
+        λ k. lines.1 (said.0 (subst (λ (x : Object). AllByRecursion Passing (map (linked.linked_assertion owner) x.asserts)) c.object k)),
+        λ k. subst (λ (x : Object). AllByRecursion Passing (map (linked.linked_assertion owner) x.asserts)) (sym c.object) (said.1 (lines.0 k)),
       )
 
   -- ---- Module by module.
@@ -274,7 +274,7 @@ module _ (s : Script) (placement : Placement) (ys : List Layout) (ms : List Modu
       let at_y : slice_get ys owner ≡ Some y = ap (slice_get ys) (sym here) ∙ sym (up_y 0) in
       let at_m : slice_get ms owner ≡ Some m = ap (slice_get ms) (sym here) ∙ sym (up_m 0) in
       let next : (i : ℕ) → owner + suc i ≡ suc owner + i = λ i. omega arith in
-      let first : List LinkedAssertion = map (linked.asserted owner) m.object.asserts in
+      let first : List LinkedAssertion = map (linked.linked_assertion owner) m.object.asserts in
       let others : List LinkedAssertion = linked_asserts (suc owner) ns in
       let one = one_source owner y m at_y at_m k.0 in
       let more = all_sources rest ns (suc owner) k.1 (λ i. up_y (suc i) ∙ ap (slice_get ys) (next i)) (λ i. up_m (suc i) ∙ ap (slice_get ms) (next i)) in (

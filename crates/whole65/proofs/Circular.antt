@@ -4,12 +4,12 @@ use Rattle.std.proofs.Common.{◌≡◌, ℕ, false, Option, Some, None, arith, 
 use Rattle.std.specs.Prelude.{ℤ, ⊤}
 use Rattle.syntax65.specs.Trees.{Tree, name}
 use Rattle.syntax65.specs.Trees as tree
-use Rattle.whole65.specs.Values.{Provider, by_module, by_script, by_nobody, Program, Meaning, label_at, constant_at, import_of, meaning_in, Value, number, here, label, constant, exported, scripted, prefixed, joined, Spot, at, NeedsNext, Needs, next, behind}
+use Rattle.whole65.specs.Values.{Provider, by_module, by_script, by_nobody, Program, SymbolBinding, label_at, constant_at, import_of, meaning_in, Value, number, here, label, constant, exported, scripted, prefixed, joined, LocatedExpr, at, NeedsNext, NeedsValueOf, next, following}
 use Rattle.whole65.specs.Laws.{CircularLaw}
 
 -- what is needed ends
-data Ends (p : Program) : Spot → Type 0 where
-  ends : {x : Spot} → ((y : Spot) → NeedsNext p x y → Ends p y) → Ends p x
+data Ends (p : Program) : LocatedExpr → Type 0 where
+  ends : {x : LocatedExpr} → ((y : LocatedExpr) → NeedsNext p x y → Ends p y) → Ends p x
 
 -- what is needed next ends, by what an expression is and means
 abbrev EndsBy : Program → Provider → List ℕ → Type 0
@@ -17,32 +17,32 @@ EndsBy p (by_module provider) x = Ends p (at provider (p.global provider) (name 
 EndsBy p (by_script v) x = ⊤
 EndsBy p by_nobody x = ⊤
 
-abbrev EndsAs : Program → ℕ → Option Meaning → Type 0
+abbrev EndsAs : Program → ℕ → Option SymbolBinding → Type 0
 EndsAs p owner None = ⊤
 EndsAs p owner (Some (label_at place)) = ⊤
 EndsAs p owner (Some (constant_at place f)) = Ends p (at owner place f)
 EndsAs p owner (Some (import_of x)) = EndsBy p (p.provider x) x
 
-abbrev EndsBehind : Program → ℕ → ℕ → Tree → Type 0
-EndsBehind p owner place (tree.number n) = ⊤
-EndsBehind p owner place tree.here = ⊤
-EndsBehind p owner place (tree.unary op e) = Ends p (at owner place e)
-EndsBehind p owner place (tree.binary op e f) = Ends p (at owner place e) × Ends p (at owner place f)
-EndsBehind p owner place e = EndsAs p owner (p.means owner place e)
+abbrev EndsAfter : Program → ℕ → ℕ → Tree → Type 0
+EndsAfter p owner place (tree.number n) = ⊤
+EndsAfter p owner place tree.here = ⊤
+EndsAfter p owner place (tree.unary op e) = Ends p (at owner place e)
+EndsAfter p owner place (tree.binary op e f) = Ends p (at owner place e) × Ends p (at owner place f)
+EndsAfter p owner place e = EndsAs p owner (p.means owner place e)
 
-of_meaning : (p : Program) (owner place : ℕ) (e : Tree) (m : Meaning) → meaning_in p owner place e ≡ Some m → EndsBehind p owner place e → EndsAs p owner (Some m)
+of_meaning : (p : Program) (owner place : ℕ) (e : Tree) (m : SymbolBinding) → meaning_in p owner place e ≡ Some m → EndsAfter p owner place e → EndsAs p owner (Some m)
 of_meaning p owner place x m q h = grind (arith, common_steps)
 
-by_meaning : (p : Program) (owner place : ℕ) (e : Tree) (m : Meaning) → meaning_in p owner place e ≡ Some m → EndsAs p owner (Some m) → EndsBehind p owner place e
+by_meaning : (p : Program) (owner place : ℕ) (e : Tree) (m : SymbolBinding) → meaning_in p owner place e ≡ Some m → EndsAs p owner (Some m) → EndsAfter p owner place e
 by_meaning p owner place x m q h = grind (arith, common_steps)
 
-step_ends : (p : Program) {x y : Spot} → NeedsNext p x y → EndsBehind p x.owner x.place x.tree → Ends p y
+step_ends : (p : Program) {x y : LocatedExpr} → NeedsNext p x y → EndsAfter p x.owner x.place x.tree → Ends p y
 step_ends p x1 h = grind (arith, common_steps)
 
-here_ends : (p : Program) (owner place : ℕ) (e : Tree) → EndsBehind p owner place e → Ends p (at owner place e)
+here_ends : (p : Program) (owner place : ℕ) (e : Tree) → EndsAfter p owner place e → Ends p (at owner place e)
 here_ends p owner place e h = ends (λ y s. step_ends p s h)
 
-value_ends : (p : Program) {owner place : ℕ} {e : Tree} {v : ℤ} → Value p owner place e v → EndsBehind p owner place e
+value_ends : (p : Program) {owner place : ℕ} {e : Tree} {v : ℤ} → Value p owner place e v → EndsAfter p owner place e
 value_ends p number = tt
 value_ends p here = tt
 value_ends p (label {owner = owner} {place = place} {at = w} {e = e} m) = by_meaning p owner place e (label_at w) m tt
@@ -53,13 +53,13 @@ value_ends p (prefixed {owner = owner} {place = place} {e = e} d) = here_ends p 
 value_ends p (joined {owner = owner} {place = place} {e = e} {f = f} c d q) = (here_ends p owner place e (value_ends p c), here_ends p owner place f (value_ends p d))
 
 -- one step more
-and_then : (p : Program) {x y z : Spot} → Needs p x y → NeedsNext p y z → Needs p x z
-and_then p (next s) t = behind s (next t)
-and_then p (behind s n) t = behind s (and_then p n t)
+and_then : (p : Program) {x y z : LocatedExpr} → NeedsValueOf p x y → NeedsNext p y z → NeedsValueOf p x z
+and_then p (next s) t = following s (next t)
+and_then p (following s n) t = following s (and_then p n t)
 
-never_back : (p : Program) {x : Spot} → Ends p x → {y : Spot} → Needs p x y → y ≡ x → ⊥
+never_back : (p : Program) {x : LocatedExpr} → Ends p x → {y : LocatedExpr} → NeedsValueOf p x y → y ≡ x → ⊥
 never_back p (ends {x = x} h) (next {y = y} s) q = never_back p (h y s) (next (subst (λ z. NeedsNext p z y) (sym q) s)) refl
-never_back p (ends {x = x} h) (behind {y = y} {z = z} s n) q = never_back p (h y s) (and_then p n (subst (λ w. NeedsNext p w y) (sym q) s)) refl
+never_back p (ends {x = x} h) (following {y = y} {z = z} s n) q = never_back p (h y s) (and_then p n (subst (λ w. NeedsNext p w y) (sym q) s)) refl
 
 pub circular_law : CircularLaw
 circular_law p x v n d = never_back p (here_ends p x.owner x.place x.tree (value_ends p d)) n refl

@@ -23,7 +23,7 @@ use Rattle.whole65.specs.Modules.{table_of}
 use Rattle.whole65.specs.Programs as whole
 use Rattle.whole65.specs.Sources.{AreSources}
 use Rattle.whole65.specs.Values.{Program}
-use Rattle.whole65.specs.Whole.{HasExport, AreAsserted, AreExported, AreForced, AreSaid, HasImage, Whole}
+use Rattle.whole65.specs.Whole.{HasExport, AreAsserted, AreExported, AreForced, AreSaid, HasImage, IsWholeProgramImage}
 use Rattle.base65.specs.declared.output.OutputFile.{OutputFile}
 use Rattle.whole65.proofs.Asserted.{assertions_law}
 use Rattle.whole65.proofs.Links.{names_law, HasLink, link_by, link_has, linked_by}
@@ -93,7 +93,7 @@ said_parts p owner [] = (λ k. (tt, tt, tt), λ k. tt)
 said_parts p owner (y ∷ ys) = grind (arith, common_steps, (said_parts p (suc owner) ys))
 
 module _ (output : List ℕ) (s : Script) (ys : List Layout) (ms : List Module) (files : List OutputFile) (h : AreSources ys ms) where
-  has_link : Whole output s ys files → HasLink output s (linked.program_of ms) files
+  has_link : IsWholeProgramImage output s ys files → HasLink output s (linked.program_of ms) files
   has_link w =
       let p : Program = program_of s w.placement ys in
       let said = (said_parts p 0 ys).0 w.image.said in
@@ -114,7 +114,7 @@ module _ (output : List ℕ) (s : Script) (ys : List Layout) (ms : List Module) 
         made = made.1;
       }
 
-  is_whole : HasLink output s (linked.program_of ms) files → Whole output s ys files
+  is_whole : HasLink output s (linked.program_of ms) files → IsWholeProgramImage output s ys files
   is_whole k =
       let p : Program = program_of s k.placement ys in
       let placed = sym (placement_law s ys ms h) ∙ k.placed in
@@ -124,7 +124,7 @@ module _ (output : List ℕ) (s : Script) (ys : List Layout) (ms : List Module) 
       let image : HasImage output s ys k.placement p files = (files_law output s k.placement ys ms k.table files h k.exports).1 (k.values, k.made) in
       grind (arith, common_steps, names_law, said_parts)
 
-  either : Whole output s ys files ↔ IsLinkedTo output s ms files
+  either : IsWholeProgramImage output s ys files ↔ IsLinkedTo output s ms files
   either = (
     λ w. (let k = has_link w in record { linked = linked_by output s (linked.program_of ms) files k; link = link_by output s (linked.program_of ms) files k; same = refl }),
     λ k. is_whole (link_has output s (linked.program_of ms) files k.linked k.link k.same),

@@ -9,9 +9,9 @@ use Rattle.object65.specs.Form.{Form}
 use Rattle.object65.specs.declared.object.Action.{Action}
 use Rattle.object65.specs.declared.object.Export.{Export}
 use Rattle.object65.specs.declared.object.Object.{Object}
-use Rattle.syntax65.specs.declared.place.Place.{Place}
-use Rattle.semantics65.specs.Contents.{Content, Declaration, Exported, ForcedImport, Asserted, decided, exported_names}
-use Rattle.semantics65.specs.Symbols.{Laid, Symbols, defined, named, with_new}
+use Rattle.syntax65.specs.declared.source_location.SourceLocation.{SourceLocation}
+use Rattle.semantics65.specs.Contents.{Content, Declaration, Exported, ForcedImport, Asserted, decided_assertion, exported_names}
+use Rattle.semantics65.specs.Symbols.{LaidOutStatement, Symbols, definition_index, named, with_new}
 use Rattle.ast65.specs.declared.language.Statement.{Statement}
 use Rattle.ast65.specs.declared.language.Statement.TheVariants as statement
 use Rattle.semantics65.specs.Layout.{Layout}
@@ -24,7 +24,7 @@ use Rattle.link65.specs.declared.parts.Exported as parts
 use Rattle.sources65.proofs.SoundForms.{all_append}
 use Rattle.semantics65.proofs.Found.{names_append, exports_named}
 use Rattle.sources65.proofs.Resolving.{new_append}
-use Rattle.semantics65.specs.Module.{ending_of}
+use Rattle.semantics65.specs.Module.{module_resolution}
 use Rattle.whole65.proofs.Statements.{AreStated, IsSaidBy, SaidOnce, a_line, are_stated, left_out, no_line, no_name, said_append, said_first, stated}
 use Rattle.whole65.proofs.Sources.{contents_of}
 use Rattle.whole65.specs.Modules.{exported_by, exports_of, table_of, forced_by}
@@ -36,12 +36,12 @@ use Rattle.ast65.specs.declared.language.Statement.TheVariants.{Export as Export
 
 -- an export has the form of the definition of its name
 abbrev pub IsDefined : Symbols → Declaration → Type 0
-IsDefined z (Exported n place f) = (j : ℕ) × (defined z (named 0 n) ≡ Some j) × (defined_form z j ≡ Ok f)
+IsDefined z (Exported n place f) = (j : ℕ) × (definition_index z (named 0 n) ≡ Some j) × (defined_form z j ≡ Ok f)
 IsDefined z (ForcedImport n) = ⊤
 IsDefined z (Asserted act place words f) = ⊤
 
 abbrev pub has_definition : Symbols → List ℕ → Bool
-has_definition z n = is_some (defined z (named 0 n))
+has_definition z n = is_some (definition_index z (named 0 n))
 
 -- Statements that export names, behind exports of other names, say those that are defined: each once, where it is first exported.
 pub record Says (z : Symbols) (before names : List (List ℕ)) (ss : List Declaration) : Type 0 where
@@ -54,7 +54,7 @@ says_nothing z before ss none all = grind (arith, common_steps)
 says_both : (z : Symbols) (before ns ms : List (List ℕ)) (ss rs : List Declaration) → Says z before ns ss → Says z (before ++ exported_names ss) ms rs → Says z before (ns ++ ms) (ss ++ rs)
 says_both z before ns ms ss rs h k = grind (arith, common_steps, new_append, names_append)
 
-exports_say : {z : Symbols} {place : Place} {before ns : List (List ℕ)} {ss : List Declaration} → SaidOnce z place before ns ss → Says z before ns ss
+exports_say : {z : Symbols} {place : SourceLocation} {before ns : List (List ℕ)} {ss : List Declaration} → SaidOnce z place before ns ss → Says z before ns ss
 exports_say {before = before} no_name = record { exported = sym (append-nil before); are_defined = tt }
 exports_say {z = z} {before = before} (left_out {n = n} {ns = ns} {ss = ss} why more) = grind (arith, common_steps, (exports_say more))
 exports_say {z = z} {before = before} (said_first {n = n} {ns = ns} {ss = ss} j f new e form more) = grind (arith, common_steps, (exports_say more))
@@ -64,14 +64,14 @@ forced_says z before [] = grind (arith, common_steps)
 forced_says z before (n ∷ ns) = grind (arith, common_steps, (forced_says z before ns))
 
 -- what an assertion says: nothing, or that it waits
-data IsDecided (act : Action) (place : Place) (words : List ℕ) (f : Form) (ss : List Declaration) : Type 0 where
+data IsDecided (act : Action) (place : SourceLocation) (words : List ℕ) (f : Form) (ss : List Declaration) : Type 0 where
   settled : [] ≡ ss → IsDecided act place words f ss
   waiting : Asserted act place words f ∷ [] ≡ ss → IsDecided act place words f ss
 
-is_decided : (act : Action) (place : Place) (words : List ℕ) (f : Form) (ss : List Declaration) → decided act place words f ≡ Ok ss → IsDecided act place words f ss
+is_decided : (act : Action) (place : SourceLocation) (words : List ℕ) (f : Form) (ss : List Declaration) → decided_assertion act place words f ≡ Ok ss → IsDecided act place words f ss
 is_decided x place words y ss h = grind (arith, common_steps)
 
-one_says : (z : Symbols) (before : List (List ℕ)) (l : Laid) (ss : List Declaration) → IsSaidBy z before l l.stated ss → Says z before (exported_by l.stated) ss
+one_says : (z : Symbols) (before : List (List ℕ)) (l : LaidOutStatement) (ss : List Declaration) → IsSaidBy z before l l.stated ss → Says z before (exported_by l.stated) ss
 one_says z before l ss h = go l.stated h
   where
     go : (x : Statement) → IsSaidBy z before l x ss → Says z before (exported_by x) ss
@@ -84,14 +84,14 @@ one_says z before l ss h = go l.stated h
         by x1 = grind (arith, common_steps)
     go x h = subst (Says z before []) (sym h) (says_nothing z before [] refl tt)
 
-lines_say : (z : Symbols) (before : List (List ℕ)) (ls : List Laid) (cs : List Content) → AreStated z before ls cs → Says z before (flat_map (λ l. exported_by l.stated) ls) (all_said cs)
+lines_say : (z : Symbols) (before : List (List ℕ)) (ls : List LaidOutStatement) (cs : List Content) → AreStated z before ls cs → Says z before (flat_map (λ l. exported_by l.stated) ls) (all_said cs)
 lines_say z before [] _ no_line = says_nothing z before [] refl tt
 lines_say z before (l ∷ ls) _ (a_line ds cs found more) =
     subst (Says z before (flat_map (λ l. exported_by l.stated) (l ∷ ls))) (sym (said_append ds cs))
     (says_both z before (exported_by l.stated) (flat_map (λ l. exported_by l.stated) ls) (all_said ds) (all_said cs)
     (one_says z before l (all_said ds) (stated z before l ds found).said) (lines_say z (before ++ exported_names (all_said ds)) ls cs more))
 
-pub said_all : (y : Layout) (cs : List Content) → (ending_of y.laid).found ≡ Ok cs → Says (table_of y) [] (flat_map (λ l. exported_by l.stated) y.laid) (all_said cs)
+pub said_all : (y : Layout) (cs : List Content) → (module_resolution y.laid).found ≡ Ok cs → Says (table_of y) [] (flat_map (λ l. exported_by l.stated) y.laid) (all_said cs)
 said_all y cs e = lines_say (table_of y) [] y.laid cs (are_stated y cs e)
 
 -- ---- Exports of objects.
@@ -106,7 +106,7 @@ source_exports y m h =
 
 -- ---- Module by module.
 
-names_exported : (owner : ℕ) (es : List Export) → map (λ (e : parts.Exported). e.name) (map (linked.exported owner) es) ≡ map (λ (e : Export). e.name) es
+names_exported : (owner : ℕ) (es : List Export) → map (λ (e : parts.Exported). e.name) (map (linked.linked_export owner) es) ≡ map (λ (e : Export). e.name) es
 names_exported owner [] = refl
 names_exported owner (e ∷ es) = ap (λ z. e.name ∷ z) (names_exported owner es)
 
@@ -131,12 +131,12 @@ abbrev pub demanded_names : List Declaration → List (List ℕ)
 demanded_names ss = flat_map demanded_name ss
 
 -- what waits for the linker has the form of the statement's assertion
-abbrev pub IsAsserted : Symbols → Laid → Declaration → Type 0
+abbrev pub IsAsserted : Symbols → LaidOutStatement → Declaration → Type 0
 IsAsserted z l (Exported n place f) = ⊤
 IsAsserted z l (ForcedImport n) = ⊤
 IsAsserted z l (Asserted act place words f) = (e : Tree) × (l.stated ≡ Assert e act words) × (norm_of z l.context e ≡ Ok f)
 
-pub record Tells (z : Symbols) (l : Laid) (ss : List Declaration) : Type 0 where
+pub record Tells (z : Symbols) (l : LaidOutStatement) (ss : List Declaration) : Type 0 where
   pub demanded : demanded_names ss ≡ forced_by l.stated
   pub asserted : AllByRecursion (IsAsserted z l) ss
 
@@ -153,24 +153,24 @@ none_demanded (Exported n place f ∷ ss) h = none_demanded ss h.1
 none_demanded (ForcedImport n ∷ ss) h = absurd h.0
 none_demanded (Asserted act place words f ∷ ss) h = absurd h.0
 
-none_asserted : (z : Symbols) (l : Laid) (ss : List Declaration) → AllByRecursion IsExport ss → AllByRecursion (IsAsserted z l) ss
+none_asserted : (z : Symbols) (l : LaidOutStatement) (ss : List Declaration) → AllByRecursion IsExport ss → AllByRecursion (IsAsserted z l) ss
 none_asserted z l [] h = tt
 none_asserted z l (Exported n place f ∷ ss) h = (tt, none_asserted z l ss h.1)
 none_asserted z l (ForcedImport n ∷ ss) h = absurd h.0
 none_asserted z l (Asserted act place words f ∷ ss) h = absurd h.0
 
-exports_alone : {z : Symbols} {place : Place} {names ns : List (List ℕ)} {ss : List Declaration} → SaidOnce z place names ns ss → AllByRecursion IsExport ss
+exports_alone : {z : Symbols} {place : SourceLocation} {names ns : List (List ℕ)} {ss : List Declaration} → SaidOnce z place names ns ss → AllByRecursion IsExport ss
 exports_alone no_name = tt
 exports_alone (left_out why more) = exports_alone more
 exports_alone (said_first j f new e form more) = (tt, exports_alone more)
 
 -- ---- Statements.
 
-of_forced : (z : Symbols) (l : Laid) (ns : List (List ℕ)) → (demanded_names (map ForcedImport ns) ≡ ns) × AllByRecursion (IsAsserted z l) (map ForcedImport ns)
+of_forced : (z : Symbols) (l : LaidOutStatement) (ns : List (List ℕ)) → (demanded_names (map ForcedImport ns) ≡ ns) × AllByRecursion (IsAsserted z l) (map ForcedImport ns)
 of_forced z l [] = (refl, tt)
 of_forced z l (n ∷ ns) = let more = of_forced z l ns in (ap (λ k. n ∷ k) more.0, (tt, more.1))
 
-pub one_tells : (z : Symbols) (names : List (List ℕ)) (l : Laid) (ss : List Declaration) → IsSaidBy z names l l.stated ss → Tells z l ss
+pub one_tells : (z : Symbols) (names : List (List ℕ)) (l : LaidOutStatement) (ss : List Declaration) → IsSaidBy z names l l.stated ss → Tells z l ss
 one_tells z names l ss h = go l.stated h
   where
     exporting : (x : Statement) → forced_by x ≡ [] → AllByRecursion IsExport ss → Tells z (record l { stated = x }) ss
@@ -190,7 +190,7 @@ one_tells z names l ss h = go l.stated h
 
 -- ---- All of a module.
 
-lines_demand : (z : Symbols) (names : List (List ℕ)) (ls : List Laid) (cs : List Content) → AreStated z names ls cs → demanded_names (all_said cs) ≡ flat_map (λ l. forced_by l.stated) ls
+lines_demand : (z : Symbols) (names : List (List ℕ)) (ls : List LaidOutStatement) (cs : List Content) → AreStated z names ls cs → demanded_names (all_said cs) ≡ flat_map (λ l. forced_by l.stated) ls
 lines_demand z names [] _ no_line = refl
 lines_demand z names (l ∷ ls) _ (a_line ds cs found more) =
     ap demanded_names (said_append ds cs)
@@ -198,5 +198,5 @@ lines_demand z names (l ∷ ls) _ (a_line ds cs found more) =
     ∙ ap (λ ns. ns ++ demanded_names (all_said cs)) (one_tells z names l (all_said ds) (stated z names l ds found).said).demanded
     ∙ ap (λ ns. forced_by l.stated ++ ns) (lines_demand z (names ++ exported_names (all_said ds)) ls cs more)
 
-pub all_demanded : (y : Layout) (cs : List Content) → (ending_of y.laid).found ≡ Ok cs → demanded_names (all_said cs) ≡ flat_map (λ l. forced_by l.stated) y.laid
+pub all_demanded : (y : Layout) (cs : List Content) → (module_resolution y.laid).found ≡ Ok cs → demanded_names (all_said cs) ≡ flat_map (λ l. forced_by l.stated) y.laid
 all_demanded y cs e = lines_demand (table_of y) [] y.laid cs (are_stated y cs e)

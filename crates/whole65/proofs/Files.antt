@@ -11,7 +11,7 @@ use Rattle.link65.specs.declared.parts.Exported.{Exported}
 use Rattle.link65.specs.declared.parts.Provider.{Provider}
 use Rattle.link65.specs.declared.parts.ValueFault.{ValueFault}
 use Rattle.link65.specs.declared.parts.ValueFault.TheVariants.{NoValue}
-use Rattle.link65.specs.Values.{AreExports, Exports, Linkage, base_of, exports_through, provider_at, import_value, in_table, value_by, cell_bytes, or_zero, stored, row_bytes, segment_bytes, linkage_of}
+use Rattle.link65.specs.Values.{AreExports, Exports, Linkage, base_of, exports_through, provider_at, import_value, in_table, value_by, cell_bytes, or_zero, checked_value_bytes, row_bytes, segment_bytes, linkage_of}
 use Rattle.whole65.proofs.SameValues.{bind_ok, value_covered, same_values_law}
 use Rattle.whole65.proofs.LinkedObjects.{linked_value, AreCells, cells_or, linked_objects}
 use Rattle.std.specs.List.{flat_map, AllByRecursion}
@@ -20,12 +20,12 @@ use Rattle.link65.specs.Links.{check_fixup, each_passes, fitting, site, value_at
 use Rattle.link65.specs.Programs.{Cell, known, filled, waits, Module, Segment, segment_of}
 use Rattle.link65.specs.declared.fault.LinkFault.{LinkFault}
 use Rattle.link65.specs.declared.fault.LinkFault.TheVariants as fault
-use Rattle.link65.specs.declared.fault.Site.{Site}
-use Rattle.link65.specs.declared.parts.Member.{Member}
-use Rattle.link65.specs.declared.parts.Fixup.{Fixup}
+use Rattle.link65.specs.declared.fault.ModuleLocation.{ModuleLocation}
+use Rattle.link65.specs.declared.parts.LinkedModule.{LinkedModule}
+use Rattle.link65.specs.declared.parts.ValueFixup.{ValueFixup}
 use Rattle.syntax65.specs.Trees as tree
 use Rattle.script65.specs.declared.placement.Placement.{Placement}
-use Rattle.script65.specs.declared.script.Row.{Row}
+use Rattle.script65.specs.declared.script.SegmentRow.{SegmentRow}
 use Rattle.script65.specs.declared.script.Script.{Script}
 use Rattle.semantics65.specs.Layout.{Layout}
 use Rattle.link65.proofs.Passes.{passes_append}
@@ -43,8 +43,8 @@ use Rattle.whole65.specs.Sources.{AreSources}
 use Rattle.whole65.specs.Values.{Program}
 use Rattle.whole65.specs.Whole.{AreRow, AreExported, HasExport, HasImage}
 use Rattle.object65.specs.declared.object.Export.{Export}
-use Rattle.script65.specs.declared.placement.RowPlace.{RowPlace}
-use Rattle.script65.specs.declared.script.Area.{Area}
+use Rattle.script65.specs.declared.placement.RowPlacement.{RowPlacement}
+use Rattle.script65.specs.declared.script.MemoryArea.{MemoryArea}
 use Rattle.base65.specs.declared.output.OutputFile.{OutputFile}
 use Rattle.sources65.proofs.SoundForms.{all_append}
 use Rattle.whole65.proofs.Exports.{source_exports}
@@ -108,23 +108,23 @@ table_law l table owner f v h = (λ e. to_turns l table h owner f v e, λ k. fro
 -- ---- Values of a segment that pass their checks.
 
 -- a value that fits
-abbrev Fits : Fixup → Result ℤ ValueFault → Type 0
+abbrev Fits : ValueFixup → Result ℤ ValueFault → Type 0
 Fits w r = (v : ℤ) × (r ≡ Ok v) × (fits_width w.width v ≡ true)
 
-passing : (s : Site) (w : Fixup) (r : Result ℤ ValueFault) → (value_at s r >>= fitting s w) ≡ Ok tt → Fits w r
+passing : (s : ModuleLocation) (w : ValueFixup) (r : Result ℤ ValueFault) → (value_at s r >>= fitting s w) ≡ Ok tt → Fits w r
 passing s w x h = grind (arith, common_steps)
 
-passes : (s : Site) (w : Fixup) (r : Result ℤ ValueFault) → Fits w r → (value_at s r >>= fitting s w) ≡ Ok tt
+passes : (s : ModuleLocation) (w : ValueFixup) (r : Result ℤ ValueFault) → Fits w r → (value_at s r >>= fitting s w) ≡ Ok tt
 passes s w r (v, e, fits) = ap (λ z. value_at s z >>= fitting s w) e ∙ ap (λ b. cond b (Ok tt) (Err (fault.OutOfRange s))) fits
 
-written : (w : Fixup) (r : Result ℤ ValueFault) (v : ℤ) → r ≡ Ok v → fits_width w.width v ≡ true → stored w.width (or_zero r) ≡ value_bytes w.width v
-written w r v e fits = ap (λ z. stored w.width (or_zero z)) e ∙ ap (λ b. cond b (value_bytes w.width v) []) fits
+written : (w : ValueFixup) (r : Result ℤ ValueFault) (v : ℤ) → r ≡ Ok v → fits_width w.width v ≡ true → checked_value_bytes w.width (or_zero r) ≡ value_bytes w.width v
+written w r v e fits = ap (λ z. checked_value_bytes w.width (or_zero z)) e ∙ ap (λ b. cond b (value_bytes w.width v) []) fits
 
-module _ (l : Linkage) (members : List Member) (table : List (Result ℤ ValueFault)) (fill : ℕ) (h : AreExports l table) where
+module _ (l : Linkage) (members : List LinkedModule) (table : List (Result ℤ ValueFault)) (fill : ℕ) (h : AreExports l table) where
   abbrev exports : Exports
   exports = in_table table
 
-  abbrev check : Fixup → Result (Unit {0}) LinkFault
+  abbrev check : ValueFixup → Result (Unit {0}) LinkFault
   check w = check_fixup l members exports w
 
   abbrev Checked : List Cell → List ℕ → Type 0
@@ -145,14 +145,14 @@ module _ (l : Linkage) (members : List Member) (table : List (Result ℤ ValueFa
   back (filled ∷ cells) bytes (passed, e) = grind (arith, common_steps, (back cells))
   back (waits w ∷ cells) bytes (passed, e) =
       let rest : List ℕ = flat_map (cell_bytes l exports fill) cells in
-      let own : List ℕ = stored w.width (or_zero (value_by l exports w.owner w.form)) in
+      let own : List ℕ = checked_value_bytes w.width (or_zero (value_by l exports w.owner w.form)) in
       let (u, fine, others) = bind_ok (check w) (λ u. each_passes check (flat_map fixups_in cells)) tt passed in
       let (v, found, fits) = passing (site members w.owner w.origin) w (value_by l exports w.owner w.form) fine in
       let value : linked_value l w.owner w.form v = (table_law l table w.owner w.form v h).0 found in
       (own, rest, (v, value, (fits, written w (value_by l exports w.owner w.form) v found fits)), back cells rest (others, refl), e)
 
 -- What lies in a segment has bytes exactly where each value that waits there passes its check, and those that a link writes.
-pub checked_law : (l : Linkage) (members : List Member) (table : List (Result ℤ ValueFault)) (fill : ℕ) (cells : List Cell) (bytes : List ℕ) → AreExports l table → AreCells l fill cells bytes ↔ ((each_passes (check_fixup l members (in_table table)) (flat_map fixups_in cells) ≡ Ok tt) × (bytes ≡ flat_map (cell_bytes l (in_table table) fill) cells))
+pub checked_law : (l : Linkage) (members : List LinkedModule) (table : List (Result ℤ ValueFault)) (fill : ℕ) (cells : List Cell) (bytes : List ℕ) → AreExports l table → AreCells l fill cells bytes ↔ ((each_passes (check_fixup l members (in_table table)) (flat_map fixups_in cells) ≡ Ok tt) × (bytes ≡ flat_map (cell_bytes l (in_table table) fill) cells))
 checked_law l members table fill cells bytes h = (there l members table fill h cells bytes, back l members table fill h cells bytes)
 
 -- ---- Rows.
@@ -170,13 +170,13 @@ module _ (s : Script) (placement : Placement) (ys : List Layout) (ms : List Modu
   abbrev segments : List Segment
   segments = (linked.program_of ms).segments
 
-  abbrev check_all : Fixup → Result (Unit {0}) LinkFault
+  abbrev check_all : ValueFixup → Result (Unit {0}) LinkFault
   check_all = check_fixup l (linked.program_of ms).members (in_table table)
 
-  abbrev IsWritten : Row → Type 0
+  abbrev IsWritten : SegmentRow → Type 0
   IsWritten r = bytes r ≡ row_bytes l (in_table table) segments r
 
-  one_row : (r : Row) → AreRow (whole.program_of s placement ys) ys bytes r ↔ ((each_passes check_all (fixups_of (segment_of segments r.name)) ≡ Ok tt) × IsWritten r)
+  one_row : (r : SegmentRow) → AreRow (whole.program_of s placement ys) ys bytes r ↔ ((each_passes check_all (fixups_of (segment_of segments r.name)) ≡ Ok tt) × IsWritten r)
   one_row r =
       let g : Option Segment = segment_of segments r.name in
       let list = linked_bytes_law s placement ys ms r.fill_value r.name (bytes r) h (sources_law s placement ys ms h) in
@@ -185,7 +185,7 @@ module _ (s : Script) (placement : Placement) (ys : List Layout) (ms : List Modu
         λ k. list.0 (cells.1 (ap (each_passes check_all) (sym (fixup_cells g)) ∙ k.0, k.1 ∙ bytes_cells l table r.fill_value g)),
       )
 
-  all_rows : (rs : List Row) → AllByRecursion (AreRow (whole.program_of s placement ys) ys bytes) rs ↔ ((each_passes check_all (fixups_by_row rs segments) ≡ Ok tt) × AllByRecursion IsWritten rs)
+  all_rows : (rs : List SegmentRow) → AllByRecursion (AreRow (whole.program_of s placement ys) ys bytes) rs ↔ ((each_passes check_all (fixups_by_row rs segments) ≡ Ok tt) × AllByRecursion IsWritten rs)
   all_rows [] = (λ k. (refl, tt), λ k. tt)
   all_rows (r ∷ rs) = grind (arith, common_steps, one_row, passes_append, (all_rows rs))
 
@@ -209,23 +209,23 @@ export_value_law s placement ys ms table i e v h exports at =
 
 -- ---- Files rest on the bytes of a script's rows alone.
 
-same_pieces : (start k : ℕ) (bytes others : RowBytes) (rs : List Row) (ps : List RowPlace) → AllByRecursion (λ r. bytes r ≡ others r) rs → area_pieces start bytes (loaded_in k rs ps) ≡ area_pieces start others (loaded_in k rs ps)
+same_pieces : (start k : ℕ) (bytes others : RowBytes) (rs : List SegmentRow) (ps : List RowPlacement) → AllByRecursion (λ r. bytes r ≡ others r) rs → area_pieces start bytes (loaded_in k rs ps) ≡ area_pieces start others (loaded_in k rs ps)
 same_pieces start k bytes others [] ps h = refl
 same_pieces start k bytes others (r ∷ rs) [] h = refl
 same_pieces start k bytes others (r ∷ rs) (p ∷ ps) h = grind (arith, common_steps, (same_pieces start k bytes others rs ps h.1))
 
-same_file : (rs : List Row) (p : Placement) (bytes others : RowBytes) → AllByRecursion (λ r. bytes r ≡ others r) rs → (k : ℕ) (a : Area) (image : List ℕ) → IsAreaFile rs p bytes k a image → IsAreaFile rs p others k a image
+same_file : (rs : List SegmentRow) (p : Placement) (bytes others : RowBytes) → AllByRecursion (λ r. bytes r ≡ others r) rs → (k : ℕ) (a : MemoryArea) (image : List ℕ) → IsAreaFile rs p bytes k a image → IsAreaFile rs p others k a image
 same_file rs p bytes others h k a image f = grind (arith, common_steps, same_pieces)
 
-module _ (output : List ℕ) (F G : ℕ → Area → List ℕ → Type 0) (up : (k : ℕ) (a : Area) (image : List ℕ) → F k a image → G k a image) where
-  adds_one : (k : ℕ) (a : Area) (b : Bool) (name : List ℕ) (before after : List OutputFile) → AddsArea b name (F k a) before after → AddsArea b name (G k a) before after
+module _ (output : List ℕ) (F G : ℕ → MemoryArea → List ℕ → Type 0) (up : (k : ℕ) (a : MemoryArea) (image : List ℕ) → F k a image → G k a image) where
+  adds_one : (k : ℕ) (a : MemoryArea) (b : Bool) (name : List ℕ) (before after : List OutputFile) → AddsArea b name (F k a) before after → AddsArea b name (G k a) before after
   adds_one k a x1 name before after h = grind (arith, common_steps)
 
-  adds_all : (k : ℕ) (areas : List Area) (before after : List OutputFile) → AddsAreas output F k areas before after → AddsAreas output G k areas before after
+  adds_all : (k : ℕ) (areas : List MemoryArea) (before after : List OutputFile) → AddsAreas output F k areas before after → AddsAreas output G k areas before after
   adds_all k [] before after h = h
   adds_all k (a ∷ rest) before after h = (h.0, adds_one k a (length (file_name output a.file) == 0) (file_name output a.file) before h.0 h.1, adds_all (k + 1) rest h.0 after h.2)
 
-all_itself : (bytes : RowBytes) (rs : List Row) → AllByRecursion (λ r. bytes r ≡ bytes r) rs
+all_itself : (bytes : RowBytes) (rs : List SegmentRow) → AllByRecursion (λ r. bytes r ≡ bytes r) rs
 all_itself bytes [] = tt
 all_itself bytes (r ∷ rs) = (refl, all_itself bytes rs)
 
@@ -253,17 +253,17 @@ all_either P Q (x ∷ xs) f =
     (λ k. (one.0 k.0, more.0 k.1), λ k. (one.1 k.0, more.1 k.1))
 
 -- a value is there where the check passes
-abbrev found_at : Site → Result ℤ ValueFault → Result (Unit {0}) LinkFault
+abbrev found_at : ModuleLocation → Result ℤ ValueFault → Result (Unit {0}) LinkFault
 found_at s r = value_at s r >>= (λ v. Ok tt)
 
-value_there : (s : Site) (r : Result ℤ ValueFault) → (found_at s r ≡ Ok tt) ↔ ((v : ℤ) × (r ≡ Ok v))
+value_there : (s : ModuleLocation) (r : Result ℤ ValueFault) → (found_at s r ≡ Ok tt) ↔ ((v : ℤ) × (r ≡ Ok v))
 value_there s x = grind (arith, common_steps)
 
 module _ (p : Program) where
   abbrev pub OfExport : Exported → Type 0
   OfExport e = HasExport p e.owner e.name
 
-  one_module : (owner : ℕ) (es : List Export) → AllByRecursion OfExport (map (linked.exported owner) es) ↔ AllByRecursion (HasExport p owner) (map (λ (e : Export). e.name) es)
+  one_module : (owner : ℕ) (es : List Export) → AllByRecursion OfExport (map (linked.linked_export owner) es) ↔ AllByRecursion (HasExport p owner) (map (λ (e : Export). e.name) es)
   one_module owner [] = (λ k. tt, λ k. tt)
   one_module owner (e ∷ es) = let more = one_module owner es in (λ k. (k.0, more.0 k.1), λ k. (k.0, more.1 k.1))
 
@@ -275,7 +275,7 @@ module _ (p : Program) where
       let names : map (λ (e : Export). e.name) m.object.exports ≡ exports_of y = source_exports y m h.0 in
       let one = one_module owner m.object.exports in
       let more = all_modules (suc owner) ys ms h.1 in
-      let first : List Exported = map (linked.exported owner) m.object.exports in
+      let first : List Exported = map (linked.linked_export owner) m.object.exports in
       let rest : List Exported = linked_exports (suc owner) ms in (
         λ k. (let q = all_parts OfExport first rest k in (subst (AllByRecursion (HasExport p owner)) names (one.0 q.0), more.0 q.1)),
         λ k. all_append OfExport first rest (one.1 (subst (AllByRecursion (HasExport p owner)) (sym names) k.0)) (more.1 k.1),

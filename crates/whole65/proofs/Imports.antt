@@ -8,23 +8,23 @@ use Rattle.std.proofs.lemmas.List.Folds.{list_any-append}
 use Rattle.std.proofs.lemmas.Grind.{common_steps, flat_map-append}
 use Rattle.script65.proofs.Apart.{all_placed}
 use Rattle.script65.specs.Placing.{place_of}
-use Rattle.script65.specs.declared.placement.AreaPlace.{AreaPlace}
+use Rattle.script65.specs.declared.placement.AreaPlacement.{AreaPlacement}
 use Rattle.script65.specs.declared.placement.Placement.{Placement}
-use Rattle.script65.specs.declared.placement.RowPlace.{RowPlace}
+use Rattle.script65.specs.declared.placement.RowPlacement.{RowPlacement}
 use Rattle.script65.specs.declared.placement.SegmentNeed.{SegmentNeed}
-use Rattle.script65.specs.declared.script.Area.{Area}
-use Rattle.script65.specs.declared.script.Row.{Row}
+use Rattle.script65.specs.declared.script.MemoryArea.{MemoryArea}
+use Rattle.script65.specs.declared.script.SegmentRow.{SegmentRow}
 use Rattle.script65.specs.declared.script.Script.{Script}
 use Rattle.ast65.proofs.Lists.{same_bytes, bytes_swap}
 use Rattle.semantics65.specs.Layout.{Layout}
-use Rattle.link65.specs.Names.{by_definition, by_export, defined_at, each_once, export_names, exported_at, given_names, is_among, is_given, references, unresolved, area_definitions, area_names, areas_definitions, row_definitions, row_names, rows_definitions, script_definitions, script_names, symbol_exports, symbol_imports, weak_symbols}
+use Rattle.link65.specs.Names.{by_definition, by_export, defined_at, each_once, export_names, exported_at, given_names, is_among, is_given, references, unresolved_names, area_definitions, area_names, areas_definitions, row_definitions, row_names, rows_definitions, script_definitions, script_names, symbol_exports, symbol_imports, weak_symbols}
 use Rattle.link65.specs.Names as linked
 use Rattle.link65.specs.Programs.{flat_zip, Module, Program, member, no_program, program_of, with_module, with_modules}
-use Rattle.link65.specs.declared.parts.Definition.{Definition}
+use Rattle.link65.specs.declared.parts.ScriptSymbol.{ScriptSymbol}
 use Rattle.link65.specs.declared.parts.Exported as parts
 use Rattle.link65.specs.declared.parts.Provider.{Provider}
 use Rattle.link65.specs.declared.parts.Provider.TheVariants.{Nobody}
-use Rattle.link65.specs.declared.parts.Member.{Member}
+use Rattle.link65.specs.declared.parts.LinkedModule.{LinkedModule}
 use Rattle.sources65.proofs.SoundForms.{all_append}
 use Rattle.semantics65.proofs.Segments.{all_more, all_same}
 use Rattle.whole65.proofs.Providers.{Agree, providers_agree}
@@ -33,13 +33,13 @@ use Rattle.whole65.specs.Segments.{needs_of}
 use Rattle.whole65.specs.Sources.{AreSources, IsSource}
 use Rattle.whole65.specs.Values as values
 use Rattle.whole65.specs.Values.{by_nobody}
-use Rattle.whole65.specs.Whole.{IsGiven}
+use Rattle.whole65.specs.Whole.{IsProvided}
 use Rattle.std.specs.Option.{option_map}
 use Rattle.object65.specs.declared.object.Object.{Object}
 use Rattle.semantics65.specs.Contents.{Content, Part, Declaration, Exported, ForcedImport, Asserted}
-use Rattle.semantics65.specs.Symbols.{Laid, imports_of}
-use Rattle.semantics65.specs.Numbering.{all_said, content_imports, import_keys, key_of, name_of, once, part_imports, said_imports}
-use Rattle.link65.proofs.SegmentLemmas.{at_front, behind_front}
+use Rattle.semantics65.specs.Symbols.{LaidOutStatement, imports_of}
+use Rattle.semantics65.specs.Numbering.{all_said, content_imports, import_keys, key_of, name_of, distinct_keys, part_imports, said_imports}
+use Rattle.link65.proofs.SegmentLemmas.{at_front, after_front}
 use Rattle.whole65.proofs.Keyed.{one_of, each_among, or_right}
 use Rattle.whole65.proofs.Exports.{all_demanded, demanded_names}
 use Rattle.whole65.proofs.Sections.{all_once, any_once}
@@ -50,18 +50,18 @@ use Rattle.whole65.specs.Modules.{forced_by, forced_of, table_of}
 
 -- ---- A script's names are those of what it defines.
 
-abbrev names_of : List Definition → List (List ℕ)
-names_of ds = map (λ (d : Definition). d.name) ds
+abbrev names_of : List ScriptSymbol → List (List ℕ)
+names_of ds = map (λ (d : ScriptSymbol). d.name) ds
 
-zip_names : {A B : Type 0} (f : A → B → List Definition) (g : A → List (List ℕ)) → ((x : A) (y : B) → names_of (f x y) ≡ g x) → (xs : List A) (zs : List B) → length zs ≡ length xs → names_of (flat_zip f xs zs) ≡ flat_map g xs
+zip_names : {A B : Type 0} (f : A → B → List ScriptSymbol) (g : A → List (List ℕ)) → ((x : A) (y : B) → names_of (f x y) ≡ g x) → (xs : List A) (zs : List B) → length zs ≡ length xs → names_of (flat_zip f xs zs) ≡ flat_map g xs
 zip_names f g h [] zs e = refl
 zip_names f g h (x ∷ xs) [] e = absurd (omega (arith, e))
 zip_names f g h (x ∷ xs) (z ∷ zs) e = grind (arith, common_steps, (zip_names f g h xs zs (omega (arith, e))), map-append)
 
-of_area : (a : Area) (q : AreaPlace) → names_of (area_definitions a q) ≡ area_names a
+of_area : (a : MemoryArea) (q : AreaPlacement) → names_of (area_definitions a q) ≡ area_names a
 of_area a q = grind (arith, common_steps)
 
-of_row : (r : Row) (q : RowPlace) → names_of (row_definitions r q) ≡ row_names r
+of_row : (r : SegmentRow) (q : RowPlacement) → names_of (row_definitions r q) ≡ row_names r
 of_row r q = grind (arith, common_steps)
 
 script_named : (s : Script) (needs : List SegmentNeed) (q : Placement) → place_of s needs ≡ Ok q → names_of (script_definitions s q) ≡ script_names s
@@ -83,7 +83,7 @@ some_among p i (x ∷ xs) = some_step (p x) i (position_from p (i + 1) xs) (list
 knows_nobody : Knows false Nobody
 knows_nobody = (λ k. absurd (k refl), λ k. absurd cc)
 
-knows_definition : (ds : List Definition) (name : List ℕ) (b : Bool) (g : Provider) → Knows b g → Knows (is_among (names_of ds) name || b) (by_definition ds (defined_at ds name) g)
+knows_definition : (ds : List ScriptSymbol) (name : List ℕ) (b : Bool) (g : Provider) → Knows b g → Knows (is_among (names_of ds) name || b) (by_definition ds (defined_at ds name) g)
 knows_definition ds name b g h = subst (λ a. Knows (a || b) (by_definition ds (defined_at ds name) g)) (some_among (λ n. bytes_eq n name) 0 (names_of ds)) (go (defined_at ds name))
   where
     go : (o : Option ℕ) → Knows (is_some o || b) (by_definition ds o g)
@@ -110,10 +110,10 @@ module _ (s : Script) (placement : Placement) (ys : List Layout) (ms : List Modu
   abbrev q : Program
   q = program_of ms
 
-  known : (name : List ℕ) → IsGiven p name ↔ (is_given s q name ≡ true)
+  known : (name : List ℕ) → IsProvided p name ↔ (is_given s q name ≡ true)
   known name =
-      let own : List Definition = script_definitions s placement in
-      let weak : List Definition = weak_symbols s.symbols in
+      let own : List ScriptSymbol = script_definitions s placement in
+      let weak : List ScriptSymbol = weak_symbols s.symbols in
       let agree = agree_known q.exports name (whole.provider_of s placement ys name) (linked.provider_of own q.exports weak name) (providers_agree s placement ys ms name h) in
       let inner : Knows (is_among (export_names q) name || (is_among (names_of weak) name || false)) (by_export (exported_at q.exports name) (by_definition weak (defined_at weak name) Nobody)) =
       knows_export q.exports name (is_among (names_of weak) name || false) (by_definition weak (defined_at weak name) Nobody) (knows_definition weak name false Nobody knows_nobody) in
@@ -145,23 +145,23 @@ none_left t [] = (λ k. tt, λ k. refl)
 none_left t (n ∷ names) = grind (arith, common_steps, (none_left t names))
 
 -- the imports of members are those of their objects
-imports_behind : (q : Program) (ms : List Module) → flat_map (λ (m : Member). m.imports) (with_modules q ms).members ≡ flat_map (λ (m : Member). m.imports) q.members ++ flat_map (λ (m : Module). m.object.imports) ms
-imports_behind q [] = sym (append-nil (flat_map (λ (m : Member). m.imports) q.members))
-imports_behind q (m ∷ ms) =
-    imports_behind (with_module q m) ms
-    ∙ ap (λ ns. ns ++ flat_map (λ (m : Module). m.object.imports) ms) (flat_map-append (λ (m : Member). m.imports) q.members (member q m ∷ []) ∙ ap (λ ns. flat_map (λ (m : Member). m.imports) q.members ++ ns) (append-nil m.object.imports))
-    ∙ append_assoc (flat_map (λ (m : Member). m.imports) q.members) m.object.imports (flat_map (λ (m : Module). m.object.imports) ms)
+imports_after : (q : Program) (ms : List Module) → flat_map (λ (m : LinkedModule). m.imports) (with_modules q ms).members ≡ flat_map (λ (m : LinkedModule). m.imports) q.members ++ flat_map (λ (m : Module). m.object.imports) ms
+imports_after q [] = sym (append-nil (flat_map (λ (m : LinkedModule). m.imports) q.members))
+imports_after q (m ∷ ms) =
+    imports_after (with_module q m) ms
+    ∙ ap (λ ns. ns ++ flat_map (λ (m : Module). m.object.imports) ms) (flat_map-append (λ (m : LinkedModule). m.imports) q.members (member q m ∷ []) ∙ ap (λ ns. flat_map (λ (m : LinkedModule). m.imports) q.members ++ ns) (append-nil m.object.imports))
+    ∙ append_assoc (flat_map (λ (m : LinkedModule). m.imports) q.members) m.object.imports (flat_map (λ (m : Module). m.object.imports) ms)
 
 -- A link leaves no name open where the imports of the script and of all objects are given in the whole program.
-pub none_open : (s : Script) (placement : Placement) (ys : List Layout) (ms : List Module) → AreSources ys ms → place_of s (needs_of ys) ≡ Ok placement → (unresolved s (program_of ms) ≡ []) ↔ (AllByRecursion (IsGiven (whole.program_of s placement ys)) (symbol_imports s.symbols) × AllByRecursion (IsGiven (whole.program_of s placement ys)) (flat_map (λ (m : Module). m.object.imports) ms))
+pub none_open : (s : Script) (placement : Placement) (ys : List Layout) (ms : List Module) → AreSources ys ms → place_of s (needs_of ys) ≡ Ok placement → (unresolved_names s (program_of ms) ≡ []) ↔ (AllByRecursion (IsProvided (whole.program_of s placement ys)) (symbol_imports s.symbols) × AllByRecursion (IsProvided (whole.program_of s placement ys)) (flat_map (λ (m : Module). m.object.imports) ms))
 none_open s placement ys ms h placed =
     let q : Program = program_of ms in
     let Given : List ℕ → Type 0 = λ n. is_given s q n ≡ true in
-    let Known : List ℕ → Type 0 = IsGiven (whole.program_of s placement ys) in
+    let Known : List ℕ → Type 0 = IsProvided (whole.program_of s placement ys) in
     let own : List (List ℕ) = symbol_imports s.symbols in
-    let members : List (List ℕ) = flat_map (λ (m : Member). m.imports) q.members in
+    let members : List (List ℕ) = flat_map (λ (m : LinkedModule). m.imports) q.members in
     let objects : List (List ℕ) = flat_map (λ (m : Module). m.object.imports) ms in
-    let same : members ≡ objects = imports_behind no_program ms in
+    let same : members ≡ objects = imports_after no_program ms in
     let either = none_left (is_given s q) (references s q) in (
       λ k. (
           let both = all_parts Given own members (once_parts Given (own ++ members) [] (either.0 k)).1 in (
@@ -184,12 +184,12 @@ key_for (m ∷ names) n = go (bytes_eq m n) refl (key_for names n)
   where
     go : (b : Bool) → bytes_eq m n ≡ b → KeyFor names n → KeyFor (m ∷ names) n
     go true e more = at_key 0 (at_front (λ k. bytes_eq k n) m names e) (same_bytes m n e)
-    go false e (at_key k q called) = at_key (suc k) (behind_front (λ k. bytes_eq k n) m names e ∙ ap (option_map suc) q) called
-    go false e (no_key q none) = no_key (behind_front (λ k. bytes_eq k n) m names e ∙ ap (option_map suc) q) (ap (λ b. b || is_among names n) e ∙ none)
+    go false e (at_key k q called) = at_key (suc k) (after_front (λ k. bytes_eq k n) m names e ∙ ap (option_map suc) q) called
+    go false e (no_key q none) = no_key (after_front (λ k. bytes_eq k n) m names e ∙ ap (option_map suc) q) (ap (λ b. b || is_among names n) e ∙ none)
 
 -- ---- A module imports the names that it forces.
 
-any_forced : (n : List ℕ) (ls : List Laid) → list_any (λ k. bytes_eq n k) (flat_map (λ l. forced_by l.stated) ls) ≡ true → list_any (λ k. bytes_eq n k) (flat_map (λ l. imports_of l.stated) ls) ≡ true
+any_forced : (n : List ℕ) (ls : List LaidOutStatement) → list_any (λ k. bytes_eq n k) (flat_map (λ l. forced_by l.stated) ls) ≡ true → list_any (λ k. bytes_eq n k) (flat_map (λ l. imports_of l.stated) ls) ≡ true
 any_forced n [] e = e
 any_forced n (l ∷ ls) e = grind (arith, common_steps, (any_forced n ls), list_any-append, or_right)
 
@@ -241,8 +241,8 @@ module _ (P : List ℕ → Type 0) (names : List (List ℕ)) where
   in_said (c ∷ cs) h = grind (arith, common_steps, (all_parts OfKey (content_imports names c) (flat_map (content_imports names) cs) h), (all_parts OfKey (flat_map part_imports c.parts) (flat_map (said_imports names) c.said)), (all_apart (said_imports names) c.said), (in_said cs))
 
   -- keys that come once, and all of them
-  all_keys : (ks : List ℕ) → AllByRecursion OfKey (once [] ks) → AllByRecursion OfKey ks
-  all_keys ks h = each_among OfKey ks (λ k e. one_of OfKey (once [] ks) k h (any_once (nat_eq k) [] ks ∙ e))
+  all_keys : (ks : List ℕ) → AllByRecursion OfKey (distinct_keys [] ks) → AllByRecursion OfKey ks
+  all_keys ks h = each_among OfKey ks (λ k e. one_of OfKey (distinct_keys [] ks) k h (any_once (nat_eq k) [] ks ∙ e))
 
   demands : (ss : List Declaration) → AllByRecursion OfSaid ss → AllByRecursion (λ n. is_among names n ≡ true) (demanded_names ss) → AllByRecursion P (demanded_names ss)
   demands [] h a = tt

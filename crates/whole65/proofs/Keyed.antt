@@ -6,10 +6,10 @@ use Rattle.std.proofs.Common.{◌≡◌, List, [], ◌∷◌, ◌++◌, Ok, refl
 use Rattle.std.specs.Prelude.{◌+ℤ◌, ℤ, pos, ◌||◌, ◌&&◌, Result}
 use Rattle.std.specs.Int.{int_wrap, next_multiple_of}
 use Rattle.std.specs.List.{AllByRecursion, list_any, flat_map, list_all}
-use Rattle.base65.specs.Values.{wrapped}
+use Rattle.base65.specs.Values.{wrap_signed}
 use Rattle.object65.specs.Form.{lit, sec, imp, prefix, binary, Form}
 use Rattle.object65.specs.FormValue.{value_in}
-use Rattle.semantics65.specs.Numbering.{imports_in, import_keys, number_of, section_keys, section_of, content_imports, name_of, part_imports, said_imports, numbered, sections_in, IsSoundContent, IsSoundForm, IsSoundPart, IsSoundDeclaration, IsSoundLayout}
+use Rattle.semantics65.specs.Numbering.{imports_in, import_keys, number_of, section_keys, section_of, content_imports, name_of, part_imports, said_imports, renumbered_form, sections_in, IsSoundContent, IsSoundForm, IsSoundPart, IsSoundDeclaration, IsSoundLayout}
 use Rattle.std.specs.Str.{bytes_eq}
 use Rattle.std.proofs.lemmas.Bool.Decides.{nat_tests}
 use Rattle.object65.specs.declared.object.Object.{Object}
@@ -17,13 +17,13 @@ use Rattle.object65.specs.declared.object.Origin.{Origin}
 use Rattle.object65.specs.declared.object.Section.{Section}
 use Rattle.script65.specs.declared.placement.Placement.{Placement}
 use Rattle.script65.specs.declared.script.Script.{Script}
-use Rattle.syntax65.specs.declared.place.Place.{Place}
+use Rattle.syntax65.specs.declared.source_location.SourceLocation.{SourceLocation}
 use Rattle.semantics65.specs.Contents.{Content, Part, Declaration}
 use Rattle.semantics65.specs.Layout.{Layout}
-use Rattle.link65.specs.Programs.{Module, Program, member, no_program, program_of, with_module, with_modules, grown, section_place, section_places, segment_of, with_section}
-use Rattle.link65.specs.Values.{address_of, linkage_of, resolved, run_of, base_of, exports_through, provider_at, import_value, Linkage, value_by}
+use Rattle.link65.specs.Programs.{Module, Program, member, no_program, program_of, with_module, with_modules, segment_with_section, section_place, section_places, segment_of, with_section}
+use Rattle.link65.specs.Values.{address_of, linkage_of, module_bindings, run_of, base_of, exports_through, provider_at, import_value, Linkage, value_by}
 use Rattle.link65.specs.Programs as linked
-use Rattle.link65.specs.declared.parts.Member.{Member}
+use Rattle.link65.specs.declared.parts.LinkedModule.{LinkedModule}
 use Rattle.link65.specs.declared.parts.SectionPlace.{SectionPlace}
 use Rattle.whole65.proofs.Sections.{one_section, AreOnce, held, keys_of, number_first, number_later, any_once, name_at}
 use Rattle.whole65.proofs.Positions.{Distinct, named, itself, all_parts}
@@ -31,8 +31,8 @@ use Rattle.whole65.proofs.Multiples.{equal, end_of-append}
 use Rattle.whole65.proofs.Sources.{contents_of, in_segment, section_begin, same_object, size_law, size_or}
 use Rattle.whole65.proofs.LinkedObjects.{or_empty, base_in, symbols_at, IsKeyed, IsKeyedContent, IsKeyedPart, IsKeyedSaid, provider_named, imports_linked, linked_objects}
 use Rattle.whole65.specs.Modules.{table_of}
-use Rattle.whole65.specs.Offsets.{IsLaidOut, begin_from, lines_at}
-use Rattle.whole65.specs.Segments.{end_of, has_section, items_from, items_of, largest_multiple, lines_behind, lines_in, part_of, segment_name}
+use Rattle.whole65.specs.Offsets.{IsSoundLayoutOf, begin_from, lines_at}
+use Rattle.whole65.specs.Segments.{end_of, has_section, items_from, items_of, largest_multiple, lines_after, lines_in, part_of, segment_name}
 use Rattle.whole65.specs.Sources.{AreSources, IsSource}
 use Rattle.std.proofs.lemmas.List.Folds.{list_any-append}
 use Rattle.link65.specs.Names.{provider_of, script_definitions, weak_symbols}
@@ -42,9 +42,9 @@ use Rattle.link65.specs.declared.parts.ValueFault.{ValueFault}
 use Rattle.link65.specs.declared.parts.ValueFault.TheVariants.{NoValue}
 use Rattle.sources65.proofs.SoundContents.{sound_contents}
 use Rattle.whole65.proofs.ModuleBytes.{number_law}
-use Rattle.script65.specs.declared.script.Row.{Row}
-use Rattle.script65.specs.declared.placement.RowPlace.{RowPlace}
-use Rattle.semantics65.specs.Module.{ending_of}
+use Rattle.script65.specs.declared.script.SegmentRow.{SegmentRow}
+use Rattle.script65.specs.declared.placement.RowPlacement.{RowPlacement}
+use Rattle.semantics65.specs.Module.{module_resolution}
 use Rattle.whole65.specs.Objects.{form_value}
 
 -- ---- What the value of a form rests on.
@@ -52,7 +52,7 @@ use Rattle.whole65.specs.Objects.{form_value}
 -- The value of a form rests on the bases of its own sections and on what its own imports come to, and on no others.
 pub own_parts_law : (E : Type 0) → (none : E) (bases others : ℕ → ℤ) (values rest : ℕ → Result ℤ E) (f : Form) → AllByRecursion (λ g. bases g ≡ others g) (sections_in f) → AllByRecursion (λ k. values k ≡ rest k) (imports_in f) → value_in none bases values f ≡ value_in none others rest f
 own_parts_law E none bases others values rest (lit v) h k = refl
-own_parts_law E none bases others values rest (sec g a) h k = ap (λ b. Ok (wrapped (b +ℤ a))) h.0
+own_parts_law E none bases others values rest (sec g a) h k = ap (λ b. Ok (wrap_signed (b +ℤ a))) h.0
 own_parts_law E none bases others values rest (imp j) h k = k.0
 own_parts_law E none bases others values rest (prefix op f) h k = grind (arith, common_steps, (own_parts_law E none bases others values rest f h k))
 own_parts_law E none bases others values rest (binary op f g) h k =
@@ -61,7 +61,7 @@ own_parts_law E none bases others values rest (binary op f g) h k =
     grind (arith, common_steps, (own_parts_law E none bases others values rest f own.0 named.0), (own_parts_law E none bases others values rest g own.1 named.1))
 
 -- The base of a section in a link is where it begins behind the run address of its segment's row, wrapped.
-pub base_law : (rows : List Row) (places : List RowPlace) (at : SectionPlace) → address_of rows places at ≡ wrapped (pos (run_of rows places at.segment + at.offset))
+pub base_law : (rows : List SegmentRow) (places : List RowPlacement) (at : SectionPlace) → address_of rows places at ≡ wrap_signed (pos (run_of rows places at.segment + at.offset))
 unfolding int_wrap
 base_law rows places at = refl
 
@@ -72,7 +72,7 @@ get_front [] ys i x e = cc
 get_front (z ∷ xs) ys zero x e = e
 get_front (z ∷ xs) ys (suc i) x e = get_front xs ys i x e
 
-kept : (p : Program) (ms : List Module) (i : ℕ) (x : Member) → slice_get p.members i ≡ Some x → slice_get (with_modules p ms).members i ≡ Some x
+kept : (p : Program) (ms : List Module) (i : ℕ) (x : LinkedModule) → slice_get p.members i ≡ Some x → slice_get (with_modules p ms).members i ≡ Some x
 kept p [] i x e = e
 kept p (m ∷ ms) i x e = kept (with_module p m) ms i x (get_front p.members (member p m ∷ []) i x e)
 
@@ -93,8 +93,8 @@ get_mapped f [] i x e = cc
 get_mapped f (z ∷ xs) zero x e = let same : z ≡ x = cc in ap (λ k. Some (f k)) same
 get_mapped f (z ∷ xs) (suc i) x e = get_mapped f xs i x e
 
-pub resolved_at : (s : Script) (placement : Placement) (ms : List Module) (i : ℕ) (m : Module) → slice_get ms i ≡ Some m → slice_get (linkage_of s (program_of ms) placement).modules i ≡ Some (resolved s (program_of ms) placement (member (program_of (take i ms)) m))
-resolved_at s placement ms i m e = get_mapped (resolved s (program_of ms) placement) (program_of ms).members i (member (program_of (take i ms)) m) (member_at ms i m e)
+pub resolved_at : (s : Script) (placement : Placement) (ms : List Module) (i : ℕ) (m : Module) → slice_get ms i ≡ Some m → slice_get (linkage_of s (program_of ms) placement).modules i ≡ Some (module_bindings s (program_of ms) placement (member (program_of (take i ms)) m))
+resolved_at s placement ms i m e = get_mapped (module_bindings s (program_of ms) placement) (program_of ms).members i (member (program_of (take i ms)) m) (member_at ms i m e)
 
 pub sources_front : (ys : List Layout) (ms : List Module) (i : ℕ) → AreSources ys ms → AreSources (take i ys) (take i ms)
 sources_front [] [] zero h = tt
@@ -118,7 +118,7 @@ pub one_of : (P : ℕ → Type 0) (ks : List ℕ) (g : ℕ) → AllByRecursion P
 one_of P [] g h e = cc
 one_of P (k ∷ ks) g h e = grind (arith, common_steps, (one_of P ks g h.1), equal)
 
-module _ (y : Layout) (owner : ℕ) (origins : Place → Origin) (sections imports : List ℕ) (cs : List Content) (A : SectionPlace → ℤ) (d : Distinct y.cursor.segments) where
+module _ (y : Layout) (owner : ℕ) (origins : SourceLocation → Origin) (sections imports : List ℕ) (cs : List Content) (A : SectionPlace → ℤ) (d : Distinct y.cursor.segments) where
   abbrev own_section : ℕ → Section
   own_section g = section_of origins y.cursor.segments sections imports cs g
 
@@ -140,10 +140,10 @@ less : (n m : ℕ) → n < m → nat_lt n m ≡ true
 less n m h = grind (arith, nat_tests)
 
 -- The base of a section of an object in a link is that of the module's segment in the whole program.
-pub section_base_law : (s : Script) (placement : Placement) (ys : List Layout) (ms : List Module) (owner g : ℕ) (y : Layout) (m : Module) (cs : List Content) → AreSources ys ms → slice_get ys owner ≡ Some y → slice_get ms owner ≡ Some m → (ending_of y.laid).found ≡ Ok cs → list_any (nat_eq g) (section_keys cs) ≡ true → base_of (slice_get (linkage_of s (linked.program_of ms) placement).modules owner) (number_of (section_keys cs) g) ≡ base_in s placement ys owner g (Some y)
+pub section_base_law : (s : Script) (placement : Placement) (ys : List Layout) (ms : List Module) (owner g : ℕ) (y : Layout) (m : Module) (cs : List Content) → AreSources ys ms → slice_get ys owner ≡ Some y → slice_get ms owner ≡ Some m → (module_resolution y.laid).found ≡ Ok cs → list_any (nat_eq g) (section_keys cs) ≡ true → base_of (slice_get (linkage_of s (linked.program_of ms) placement).modules owner) (number_of (section_keys cs) g) ≡ base_in s placement ys owner g (Some y)
 section_base_law s placement ys ms owner g y m cs h at_y at_m e among =
     let source : IsSource y m = source_at ys ms owner y m h at_y at_m in
-    let d : IsLaidOut y = source.laid_out in
+    let d : IsSoundLayoutOf y = source.laid_out in
     let keys = keys_of y cs d e in
     let names = (table_of y).imports in
     let imports : List ℕ = import_keys names cs in
@@ -152,14 +152,14 @@ section_base_law s placement ys ms owner g y m cs h at_y at_m e among =
     let name : List ℕ = segment_name y g in
     let before : Program = program_of (take owner ms) in
     let A : SectionPlace → ℤ = address_of s.rows placement.rows in
-    let origins : Place → Origin = (contents_of y m source).origins in
+    let origins : SourceLocation → Origin = (contents_of y m source).origins in
     let sec_g : Section = section_of origins y.cursor.segments sections imports cs g in
     let named_so : sec_g.name ≡ name = name_at y.cursor.segments g lt in
     let has : has_section y name ≡ true = keys.has name ∙ held (λ k. bytes_eq (segment_name y k) name) g sections among (itself name) in
     let object = same_object y m cs source e in
     let size : linked.end_of before.segments name ≡ end_of 0 (items_of (take owner ys) name) = size_law (take owner ys) (take owner ms) name (sources_front ys ms owner h) in
     let run : ℕ = run_of s.rows placement.rows name in
-    let lines_are : lines_in owner y name ≡ lines_at g (lines_behind owner [] y.laid) = in_segment owner y g d lt in
+    let lines_are : lines_in owner y name ≡ lines_at g (lines_after owner [] y.laid) = in_segment owner y g d lt in
     grind (arith, common_steps, (resolved_at s placement ms owner m at_m), (place_at y (length before.members) origins sections imports cs A (named d).distinct before.segments sections g keys.standing keys.single among), (base_law s.rows placement.rows (section_place before.segments sec_g)), (section_begin y owner g (end_of 0 (items_of (take owner ys) name)) origins sections imports cs d), (begins ys y name 0 0 owner at_y))
 
 -- ---- All forms have keys.
@@ -230,7 +230,7 @@ module _ (sections imports : List ℕ) (count : ℕ) where
       )
 
 -- All forms in a module's contents have the sections and the imports of its object.
-pub keyed_law : (y : Layout) (cs : List Content) → IsSoundLayout y → (ending_of y.laid).found ≡ Ok cs → AllByRecursion (IsKeyedContent (section_keys cs) (import_keys (table_of y).imports cs) (length (table_of y).imports)) cs
+pub keyed_law : (y : Layout) (cs : List Content) → IsSoundLayout y → (module_resolution y.laid).found ≡ Ok cs → AllByRecursion (IsKeyedContent (section_keys cs) (import_keys (table_of y).imports cs) (length (table_of y).imports)) cs
 keyed_law y cs h e =
     let names : List (List ℕ) = (table_of y).imports in
     keyed_contents (section_keys cs) (import_keys names cs) (length names) names cs (sound_contents y cs h e).contents
@@ -249,7 +249,7 @@ got (n ∷ names) zero h = refl
 got (n ∷ names) (suc k) h = got names k (omega (arith, h))
 
 -- Such a form comes in a link, through so many exports, to what linking knows of it in the whole program.
-pub form_law : (s : Script) (placement : Placement) (ys : List Layout) (ms : List Module) (owner turns : ℕ) (y : Layout) (m : Module) (cs : List Content) (f : Form) → AreSources ys ms → slice_get ys owner ≡ Some y → slice_get ms owner ≡ Some m → (ending_of y.laid).found ≡ Ok cs → let sections : List ℕ = section_keys cs in let imports : List ℕ = import_keys (table_of y).imports cs in let l : Linkage = linkage_of s (linked.program_of ms) placement in IsKeyed sections imports (length (table_of y).imports) f → form_value (linked_objects s placement ys ms) turns owner f ≡ value_by l (exports_through l turns) owner (numbered sections imports f)
+pub form_law : (s : Script) (placement : Placement) (ys : List Layout) (ms : List Module) (owner turns : ℕ) (y : Layout) (m : Module) (cs : List Content) (f : Form) → AreSources ys ms → slice_get ys owner ≡ Some y → slice_get ms owner ≡ Some m → (module_resolution y.laid).found ≡ Ok cs → let sections : List ℕ = section_keys cs in let imports : List ℕ = import_keys (table_of y).imports cs in let l : Linkage = linkage_of s (linked.program_of ms) placement in IsKeyed sections imports (length (table_of y).imports) f → form_value (linked_objects s placement ys ms) turns owner f ≡ value_by l (exports_through l turns) owner (renumbered_form sections imports f)
 form_law s placement ys ms owner turns y m cs f h at_y at_m e =
     let names : List (List ℕ) = (table_of y).imports in
     let sections : List ℕ = section_keys cs in

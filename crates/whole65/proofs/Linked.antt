@@ -4,13 +4,13 @@ use Rattle.std.proofs.Common.{◌≡◌, ℕ, zero, suc, ◌+◌, List, [], ◌�
 use Rattle.std.specs.List.{flat_map, AllByRecursion, list_any}
 use Rattle.syntax65.specs.Trees.{Tree}
 use Rattle.ast65.specs.declared.fault.AsmFault.{AsmFault}
-use Rattle.semantics65.specs.Symbols.{Laid, asks_section, Definition, Key, definition_with, definitions_of, key_defined, value_defined, Symbols, symbols_of, meaning_of}
+use Rattle.semantics65.specs.Symbols.{LaidOutStatement, needs_section, Definition, Key, definition_with, definitions_of, key_defined, value_defined, Symbols, symbols_of, binding_of}
 use Rattle.semantics65.specs.Layout.{Layout}
 use Rattle.semantics65.specs.Symbols as names
 use Rattle.whole65.proofs.LinkedObjects.{place_in, symbols_at, base_in, begin_in, objects_of, context_in}
 use Rattle.whole65.specs.Modules.{defining_from, import_named, meaning_by, context_at, statement_at, table_of, global_context, context_or}
-use Rattle.whole65.specs.Objects.{definition_shown, import_shown, meaning_shown, AreObjects, IsGiven, Objects}
-use Rattle.whole65.specs.Values.{Meaning, Program}
+use Rattle.whole65.specs.Objects.{definition_shown, import_shown, meaning_shown, AreObjects, ImportHasValue, Objects}
+use Rattle.whole65.specs.Values.{SymbolBinding, Program}
 use Rattle.std.specs.Prelude.{◌&&◌, ℤ, pos, ◌+ℤ◌, nat_lt}
 use Rattle.syntax65.specs.declared.lexing.tokens.AddressSize.{AddressSize}
 use Rattle.semantics65.specs.declared.laid.Context.{Context}
@@ -20,12 +20,12 @@ use Rattle.semantics65.proofs.Segments.{all_more}
 use Rattle.whole65.proofs.Positions.{IsAbsent, other_part, all_front, itself, all_get, position_law, named}
 use Rattle.whole65.proofs.Multiples.{equal}
 use Rattle.whole65.proofs.Offsets.{placed}
-use Rattle.whole65.specs.Offsets.{IsLaidOut, begun, behind, lines_at, begin_of}
-use Rattle.whole65.specs.Segments.{Item, end_of, has_section, items_before, items_from, items_of, largest_multiple, line, line_end, lines_behind, lines_in, part_of, rounding, segment_name, stands_in, position_of}
+use Rattle.whole65.specs.Offsets.{IsSoundLayoutOf, begun, following, lines_at, begin_of}
+use Rattle.whole65.specs.Segments.{Item, end_of, has_section, items_before, items_from, items_of, largest_multiple, line, line_end, lines_after, lines_in, part_of, rounding, segment_name, stands_in, position_of}
 use Rattle.std.specs.Int.{int_wrap}
 use Rattle.std.proofs.lemmas.Bool.Decides.{nat_tests}
 use Rattle.std.proofs.lemmas.Int.{ints, int_wrap-add_left}
-use Rattle.base65.specs.Values.{wrapped}
+use Rattle.base65.specs.Values.{wrap_signed}
 use Rattle.script65.specs.declared.placement.Placement.{Placement}
 use Rattle.script65.specs.declared.script.Script.{Script}
 use Rattle.whole65.specs.Programs.{laid_at, means_at, statement_address, program_of}
@@ -33,9 +33,9 @@ use Rattle.whole65.specs.Programs.{laid_at, means_at, statement_address, program
 -- ---- The statements that make definitions.
 
 -- the definition of a number and the statement that makes it
-pub record Made (i : ℕ) (ls : List Laid) (d : ℕ) : Type 0 where
+pub record Made (i : ℕ) (ls : List LaidOutStatement) (d : ℕ) : Type 0 where
   pub place : ℕ
-  pub laid : Laid
+  pub laid : LaidOutStatement
   pub definition : Definition
   pub there : slice_get ls place ≡ Some laid
   pub defining : slice_get (defining_from i ls) d ≡ Some (i + place)
@@ -43,15 +43,15 @@ pub record Made (i : ℕ) (ls : List Laid) (d : ℕ) : Type 0 where
   pub value : definition.value ≡ value_defined laid.stated
   pub context : definition.context ≡ laid.context
 
-pub record Missing (i : ℕ) (ls : List Laid) (d : ℕ) : Type 0 where
+pub record Missing (i : ℕ) (ls : List LaidOutStatement) (d : ℕ) : Type 0 where
   pub defining : slice_get (defining_from i ls) d ≡ None
   pub defined : slice_get (flat_map definitions_of ls) d ≡ None
 
-pub data Looked (i : ℕ) (ls : List Laid) (d : ℕ) : Type 0 where
+pub data Looked (i : ℕ) (ls : List LaidOutStatement) (d : ℕ) : Type 0 where
   made : Made i ls d → Looked i ls d
   missing : Missing i ls d → Looked i ls d
 
-pub look : (i : ℕ) (ls : List Laid) (d : ℕ) → Looked i ls d
+pub look : (i : ℕ) (ls : List LaidOutStatement) (d : ℕ) → Looked i ls d
 look i [] d = missing (record { defining = refl; defined = refl })
 look i (l ∷ ls) d = go (key_defined l.context l.stated) refl d (λ e. look (suc i) ls e)
   where
@@ -95,7 +95,7 @@ look i (l ∷ ls) d = go (key_defined l.context l.stated) refl d (λ e. look (su
 
 -- ---- What names mean.
 
-abbrev pub shown_by : Option Layout → Result names.Meaning AsmFault → Option Meaning
+abbrev pub shown_by : Option Layout → Result names.Binding AsmFault → Option SymbolBinding
 shown_by r (Err e) = None
 shown_by r (Ok (names.defined_at d)) = definition_shown (place_in r d) (slice_get (symbols_at r).definitions d)
 shown_by r (Ok (names.imported_as k)) = import_shown (slice_get (symbols_at r).imports k)
@@ -106,10 +106,10 @@ same_definition y d x = grind (arith, common_steps)
 same_import : (r : Option (List ℕ)) → import_named r ≡ import_shown r
 same_import x = grind (arith, common_steps)
 
-pub same_meaning : (y : Layout) (r : Result names.Meaning AsmFault) → meaning_by y r ≡ shown_by (Some y) r
+pub same_meaning : (y : Layout) (r : Result names.Binding AsmFault) → meaning_by y r ≡ shown_by (Some y) r
 same_meaning y x = grind (arith, common_steps, same_definition, look, same_import)
 
-pub none_shown : (r : Result names.Meaning AsmFault) → None ≡ shown_by None r
+pub none_shown : (r : Result names.Binding AsmFault) → None ≡ shown_by None r
 none_shown x = grind (arith, common_steps)
 
 -- a definition stands where its statement does
@@ -122,30 +122,30 @@ same_context y d x e = go (look 0 y.laid d)
 
 -- ---- What asks for no section places nothing.
 
-abbrev IsQuiet : Laid → Type 0
-IsQuiet l = asks_section l.stated ≡ false → l.length ≡ 0
+abbrev IsQuiet : LaidOutStatement → Type 0
+IsQuiet l = needs_section l.stated ≡ false → l.length ≡ 0
 
-places_nothing : (y : Symbols) (s : Context) (own : AddressSize) (x : Statement) → asks_section x ≡ false → length_of y s own x ≡ 0
+places_nothing : (y : Symbols) (s : Context) (own : AddressSize) (x : Statement) → needs_section x ≡ false → length_of y s own x ≡ 0
 places_nothing y s own x h = grind (arith, common_steps)
 
-pub quiet : {y : Layout} → IsLaidOut y → AllByRecursion IsQuiet y.laid
+pub quiet : {y : Layout} → IsSoundLayoutOf y → AllByRecursion IsQuiet y.laid
 quiet begun = tt
-quiet (behind y place x d none) = grind (arith, common_steps, (quiet d), all_more, places_nothing)
+quiet (following y place x d none) = grind (arith, common_steps, (quiet d), all_more, places_nothing)
 
 -- none of the module's statements there asks
-abbrev AsksNot : Layout → List ℕ → Laid → Type 0
-AsksNot y name l = stands_in y name l ≡ true → asks_section l.stated ≡ false
+abbrev AsksNot : Layout → List ℕ → LaidOutStatement → Type 0
+AsksNot y name l = stands_in y name l ≡ true → needs_section l.stated ≡ false
 
-none_asks : (y : Layout) (name : List ℕ) (ls : List Laid) → list_any (λ l. stands_in y name l && asks_section l.stated) ls ≡ false → AllByRecursion (AsksNot y name) ls
+none_asks : (y : Layout) (name : List ℕ) (ls : List LaidOutStatement) → list_any (λ l. stands_in y name l && needs_section l.stated) ls ≡ false → AllByRecursion (AsksNot y name) ls
 none_asks y name [] h = tt
 none_asks y name (l ∷ ls) h = grind (arith, common_steps, (none_asks y name ls))
 
-quiet_lines : (at owner : ℕ) (y : Layout) (g : ℕ) (before ls : List Laid) → AllByRecursion IsQuiet ls → AllByRecursion (AsksNot y (segment_name y g)) ls → end_of at (map line (lines_at g (lines_behind owner before ls))) ≡ at
+quiet_lines : (at owner : ℕ) (y : Layout) (g : ℕ) (before ls : List LaidOutStatement) → AllByRecursion IsQuiet ls → AllByRecursion (AsksNot y (segment_name y g)) ls → end_of at (map line (lines_at g (lines_after owner before ls))) ≡ at
 quiet_lines at owner y g before [] q a = refl
 quiet_lines at owner y g before (l ∷ ls) q a = grind (arith, common_steps, itself, (λ (z : ℕ). quiet_lines z owner y g (before ++ l ∷ []) ls q.1 a.1))
 
 -- a statement there has the offset 0
-pub no_offset : (y : Layout) (place : ℕ) (l : Laid) → IsLaidOut y → slice_get y.laid place ≡ Some l → has_section y (segment_name y l.context.segment) ≡ false → l.context.offset ≡ 0
+pub no_offset : (y : Layout) (place : ℕ) (l : LaidOutStatement) → IsSoundLayoutOf y → slice_get y.laid place ≡ Some l → has_section y (segment_name y l.context.segment) ≡ false → l.context.offset ≡ 0
 no_offset y place l d there asked =
     (placed 0 d).offsets place l there
     ∙ quiet_lines 0 0 y l.context.segment [] (take place y.laid) (all_front IsQuiet y.laid place (quiet d)) (all_front (AsksNot y (segment_name y l.context.segment)) y.laid place (none_asks y (segment_name y l.context.segment) y.laid asked))
@@ -160,12 +160,12 @@ both_absent : (owner place : ℕ) (xs ys : List Item) → IsAbsent owner place x
 both_absent owner place [] ys h k = k
 both_absent owner place (x ∷ xs) ys h k = (h.0, both_absent owner place xs ys h.1 k)
 
-behind_absent : (first owner place : ℕ) (ys : List Layout) (name : List ℕ) → owner < first → IsAbsent owner place (items_from first ys name)
-behind_absent first owner place [] name lt = tt
-behind_absent first owner place (y ∷ ys) name lt =
+after_absent : (first owner place : ℕ) (ys : List Layout) (name : List ℕ) → owner < first → IsAbsent owner place (items_from first ys name)
+after_absent first owner place [] name lt = tt
+after_absent first owner place (y ∷ ys) name lt =
     let other : first ≢ owner = omega (arith, lt) in
     let next : owner < suc first = omega (arith, lt) in
-    both_absent owner place (part_of first y name) (items_from (suc first) ys name) (other_part first owner place other y name) (behind_absent (suc first) owner place ys name next)
+    both_absent owner place (part_of first y name) (items_from (suc first) ys name) (other_part first owner place other y name) (after_absent (suc first) owner place ys name next)
 
 absent_from : (first count owner place : ℕ) (ys : List Layout) (y : Layout) (name : List ℕ) → owner ≡ first + count → slice_get ys count ≡ Some y → has_section y name ≡ false → IsAbsent owner place (items_from first ys name)
 absent_from first count owner place [] y name o e h = cc
@@ -174,7 +174,7 @@ absent_from first zero owner place (z ∷ ys) y name o e h =
     let none : has_section z name ≡ false = ap (λ k. has_section k name) same ∙ h in
     let lt : owner < suc first = omega (arith, o) in
     let empty : part_of first z name ≡ [] = ap (λ b. cond b (rounding (largest_multiple (lines_in first z name)) ∷ map line (lines_in first z name)) []) none in
-    subst (λ xs. IsAbsent owner place (xs ++ items_from (suc first) ys name)) (sym empty) (behind_absent (suc first) owner place ys name lt)
+    subst (λ xs. IsAbsent owner place (xs ++ items_from (suc first) ys name)) (sym empty) (after_absent (suc first) owner place ys name lt)
 absent_from first (suc count) owner place (z ∷ ys) y name o e h =
     let other : first ≢ owner = omega (arith, o) in
     let next : owner ≡ suc first + count = omega (arith, o) in
@@ -187,10 +187,10 @@ at_end ys owner place y name e h =
 
 -- ---- Names.
 
-shown_is : {E : Type 0} (none : E) (imports : ℕ → ℕ → ℕ → Result ℤ E) (s : Script) (p : Placement) (ys : List Layout) (owner : ℕ) (r : Result names.Meaning AsmFault) → meaning_shown (objects_of none imports s p ys) owner r ≡ shown_by (slice_get ys owner) r
+shown_is : {E : Type 0} (none : E) (imports : ℕ → ℕ → ℕ → Result ℤ E) (s : Script) (p : Placement) (ys : List Layout) (owner : ℕ) (r : Result names.Binding AsmFault) → meaning_shown (objects_of none imports s p ys) owner r ≡ shown_by (slice_get ys owner) r
 shown_is none imports s p ys owner x = grind (arith, common_steps)
 
-means_by : (r : Option Layout) (place : ℕ) (e : Tree) → means_at r place e ≡ shown_by r (meaning_of (symbols_at r) (context_in r place) e)
+means_by : (r : Option Layout) (place : ℕ) (e : Tree) → means_at r place e ≡ shown_by r (binding_of (symbols_at r) (context_in r place) e)
 means_by x place e = grind (arith, common_steps, none_shown, symbols_at, context_in, same_meaning)
 
 context_by : (r : Option Layout) (d : ℕ) (x : Definition) → slice_get (symbols_at r).definitions d ≡ Some x → context_in r (place_in r d) ≡ x.context
@@ -199,10 +199,10 @@ context_by x1 d x e = grind (arith, common_steps, same_context)
 -- ---- Addresses.
 
 -- a sum of natural numbers, wrapped at any point
-moved : (run begin offset : ℕ) → wrapped (pos (run + (begin + offset))) ≡ wrapped (wrapped (pos (run + begin)) +ℤ pos offset)
+moved : (run begin offset : ℕ) → wrap_signed (pos (run + (begin + offset))) ≡ wrap_signed (wrap_signed (pos (run + begin)) +ℤ pos offset)
 moved run begin offset = grind (arith, common_steps, ints, int_wrap-add_left)
 
-zero_wraps : pos 0 ≡ wrapped (pos 0)
+zero_wraps : pos 0 ≡ wrap_signed (pos 0)
 unfolding int_wrap
 zero_wraps = refl
 
@@ -212,17 +212,17 @@ less n m h = grind (arith, nat_tests)
 not_less : (n : ℕ) → nat_lt n n ≡ false
 not_less n = grind (arith, nat_tests)
 
-module _ (s : Script) (p : Placement) (ys : List Layout) (laid_out : AllByRecursion IsLaidOut ys) where
-  position_is : (owner place : ℕ) (y : Layout) (l : Laid) → slice_get ys owner ≡ Some y → slice_get y.laid place ≡ Some l → (b : Bool) → has_section y (segment_name y l.context.segment) ≡ b → position_of ys (segment_name y l.context.segment) owner place ≡ cond b (begin_of ys (segment_name y l.context.segment) owner) (end_of 0 (items_of ys (segment_name y l.context.segment))) + l.context.offset
+module _ (s : Script) (p : Placement) (ys : List Layout) (laid_out : AllByRecursion IsSoundLayoutOf ys) where
+  position_is : (owner place : ℕ) (y : Layout) (l : LaidOutStatement) → slice_get ys owner ≡ Some y → slice_get y.laid place ≡ Some l → (b : Bool) → has_section y (segment_name y l.context.segment) ≡ b → position_of ys (segment_name y l.context.segment) owner place ≡ cond b (begin_of ys (segment_name y l.context.segment) owner) (end_of 0 (items_of ys (segment_name y l.context.segment))) + l.context.offset
   position_is owner place y l e there x1 h = grind (arith, common_steps, position_law, all_get, no_offset, at_end)
 
-  of_line : (owner place : ℕ) (y : Layout) → slice_get ys owner ≡ Some y → (r : Option Laid) → slice_get y.laid place ≡ r → statement_address s p ys owner place (Some y) r ≡ wrapped (base_in s p ys owner (context_or (global_context y) r).segment (Some y) +ℤ pos (context_or (global_context y) r).offset)
+  of_line : (owner place : ℕ) (y : Layout) → slice_get ys owner ≡ Some y → (r : Option LaidOutStatement) → slice_get y.laid place ≡ r → statement_address s p ys owner place (Some y) r ≡ wrap_signed (base_in s p ys owner (context_or (global_context y) r).segment (Some y) +ℤ pos (context_or (global_context y) r).offset)
   of_line owner place y e x1 there = grind (arith, common_steps, all_get, named, position_is, moved)
 
-  of_module : (owner place : ℕ) (r : Option Layout) → slice_get ys owner ≡ r → statement_address s p ys owner place r (laid_at r place) ≡ wrapped (base_in s p ys owner (context_in r place).segment r +ℤ pos (context_in r place).offset)
+  of_module : (owner place : ℕ) (r : Option Layout) → slice_get ys owner ≡ r → statement_address s p ys owner place r (laid_at r place) ≡ wrap_signed (base_in s p ys owner (context_in r place).segment r +ℤ pos (context_in r place).offset)
   of_module owner place x e = grind (arith, common_steps, zero_wraps, of_line)
 
 -- The modules of a placed program are linked as that program: names mean the same, and statements have the addresses that
 -- their sections' bases and their offsets make, for all that imports come to as their providers say.
-pub linked_law : (E : Type 0) → (none : E) (imports : ℕ → ℕ → ℕ → Result ℤ E) (s : Script) (placement : Placement) (ys : List Layout) → AllByRecursion IsLaidOut ys → let p : Program = program_of s placement ys in let o : Objects E = objects_of none imports s placement ys in ((owner k : ℕ) → IsGiven p o owner k (slice_get (o.symbols owner).imports k)) → AreObjects p o
+pub linked_law : (E : Type 0) → (none : E) (imports : ℕ → ℕ → ℕ → Result ℤ E) (s : Script) (placement : Placement) (ys : List Layout) → AllByRecursion IsSoundLayoutOf ys → let p : Program = program_of s placement ys in let o : Objects E = objects_of none imports s placement ys in ((owner k : ℕ) → ImportHasValue p o owner k (slice_get (o.symbols owner).imports k)) → AreObjects p o
 linked_law x none imports s p ys laid_out given = grind (arith, common_steps, means_by, shown_is, symbols_at, context_in, context_by, of_module)

@@ -8,8 +8,8 @@ use Rattle.semantics65.specs.Contents.{Part, Known, Filled, Waiting, Content, De
 use Rattle.whole65.specs.Contents.{AreStored}
 use Rattle.std.specs.Str.{bytes_eq}
 use Rattle.object65.specs.declared.object.Section.{Section}
-use Rattle.link65.specs.Programs.{Module, Segment, empty_segment, grown, Program, program_of, Cell, known, filled, waits}
-use Rattle.base65.specs.Values.{wrapped}
+use Rattle.link65.specs.Programs.{Module, Segment, empty_segment, segment_with_section, Program, program_of, Cell, known, filled, waits}
+use Rattle.base65.specs.Values.{wrap_signed}
 use Rattle.script65.specs.declared.placement.Placement.{Placement}
 use Rattle.script65.specs.declared.script.Script.{Script}
 use Rattle.link65.specs.Values.{run_of, linkage_of, exports_through, import_value, Linkage, base_of, provider_at}
@@ -21,7 +21,7 @@ use Rattle.whole65.specs.Objects.{Objects, HasValue}
 use Rattle.whole65.specs.Offsets.{begin_of}
 use Rattle.whole65.specs.Segments.{end_of, has_section, items_of, segment_name}
 use Rattle.std.specs.List.{AllByRecursion, list_any}
-use Rattle.semantics65.specs.Numbering.{imports_in, numbered, sections_in}
+use Rattle.semantics65.specs.Numbering.{imports_in, renumbered_form, sections_in}
 use Rattle.link65.specs.Names.{provider_of, script_definitions, weak_symbols}
 use Rattle.link65.specs.declared.parts.Provider.{Provider}
 use Rattle.link65.specs.declared.parts.Provider.TheVariants.{Nobody}
@@ -68,15 +68,15 @@ or_empty name None = empty_segment name
 or_empty name (Some g) = g
 
 -- the segment of a name behind the sections of a module
-abbrev pub behind_sections : ℕ → List ℕ → Option Segment → List Section → Option Segment
-behind_sections owner name g [] = g
-behind_sections owner name g (s ∷ ss) =
-    behind_sections owner name (if bytes_eq s.name name then Some (grown owner (or_empty s.name g) s) else g) ss
+abbrev pub after_sections : ℕ → List ℕ → Option Segment → List Section → Option Segment
+after_sections owner name g [] = g
+after_sections owner name g (s ∷ ss) =
+    after_sections owner name (if bytes_eq s.name name then Some (segment_with_section owner (or_empty s.name g) s) else g) ss
 
 -- behind modules, the first of which has this place
-abbrev pub behind_modules : ℕ → List ℕ → Option Segment → List Module → Option Segment
-behind_modules owner name g [] = g
-behind_modules owner name g (m ∷ ms) = behind_modules (suc owner) name (behind_sections owner name g m.object.sections) ms
+abbrev pub after_modules : ℕ → List ℕ → Option Segment → List Module → Option Segment
+after_modules owner name g [] = g
+after_modules owner name g (m ∷ ms) = after_modules (suc owner) name (after_sections owner name g m.object.sections) ms
 
 -- ---- What linking knows of the modules of a placed program.
 
@@ -111,7 +111,7 @@ abbrev pub base_in : Script → Placement → List Layout → ℕ → ℕ → Op
 base_in s p ys owner g None = pos 0
 base_in s p ys owner g (Some y) =
     if nat_lt g (length y.cursor.segments)
-    then wrapped (pos (run_of s.rows p.rows (segment_name y g) + begin_in ys owner y (segment_name y g)))
+    then wrap_signed (pos (run_of s.rows p.rows (segment_name y g) + begin_in ys owner y (segment_name y g)))
     else pos 0
 
 -- by what imports come to
@@ -185,7 +185,7 @@ abbrev pub IsValuedIn : {E : Type 0} → Objects E → Linkage → ℕ → (sect
 IsValuedIn o l owner sections imports (Known own) = ⊤
 IsValuedIn o l owner sections imports (Filled n) = ⊤
 IsValuedIn o l owner sections imports (Waiting width place f) =
-    (v : ℤ) → HasValue o owner f v ↔ linked_value l owner (numbered sections imports f) v
+    (v : ℤ) → HasValue o owner f v ↔ linked_value l owner (renumbered_form sections imports f) v
 
 -- what lies in a segment, if there is one
 abbrev pub cells_or : Option Segment → List Cell

@@ -2,12 +2,12 @@
 use Rattle.std.proofs.lemmas.Grind.{common_steps}
 use Rattle.std.proofs.Common.{arith, ◌≡◌, ℕ, List, [], ◌∷◌, ◌++◌, Result, Ok, Err, refl, sym, subst, Option, None}
 use Rattle.std.specs.Prelude.{ℤ, ◌↔◌}
-use Rattle.base65.specs.Outcome.{First}
+use Rattle.base65.specs.Outcome.{AndThen}
 use Rattle.script65.specs.Placing.{place_of}
 use Rattle.script65.specs.declared.placement.Placement.{Placement}
 use Rattle.script65.specs.declared.script.Script.{Script}
 use Rattle.link65.specs.Links.{check_asserts, check_export, check_fixup, each_passes, fixups_by_row, AreFiles, IsProgramLink, names_once, no_name_again}
-use Rattle.link65.specs.Names.{unresolved, first_again}
+use Rattle.link65.specs.Names.{unresolved_names, first_again}
 use Rattle.link65.specs.Texts.{map_text, warnings_of_rows}
 use Rattle.link65.specs.Values.{linkage_of, needs_of, AreExports, in_table}
 use Rattle.link65.specs.Programs.{Program, program_of, Module}
@@ -21,15 +21,15 @@ use Rattle.syntax65.specs.Trees.{number}
 use Rattle.expand65.specs.Expansion.{opened_in}
 use Rattle.expand65.specs.State as expand
 use Rattle.syntax65.specs.declared.fault.ExpandFault.{ExpandFault}
-use Rattle.syntax65.specs.declared.place.Place.{Place}
+use Rattle.syntax65.specs.declared.source_location.SourceLocation.{SourceLocation}
 use Rattle.ast65.specs.declared.fault.AsmFault.{AsmFault}
 use Rattle.ast65.specs.declared.language.Statement.{Statement}
 use Rattle.ast65.specs.declared.language.Statement.TheVariants.{Constant}
-use Rattle.semantics65.specs.Layout.{Layout, layout_behind, nothing_laid, line_fault, unless_fault}
+use Rattle.semantics65.specs.Layout.{Layout, layout_after, nothing_laid, line_fault, unless_fault}
 use Rattle.semantics65.specs.Symbols.{symbols_of}
 use Rattle.ast65.specs.Parsing.{label_of}
-use Rattle.sources65.specs.Reading.{IsLaid, laying, AreLaid, AreDefined, AreTaken, Define, Follows, IsBegun, IsGiven, IsLabelled, IsRest, Job, Reached, no_line, taken, faulty, refused, ended, with_bytes}
-use Rattle.whole65.specs.Offsets.{IsLaidOut, begun, behind}
+use Rattle.sources65.specs.Reading.{IsLaidOut, layout_semantics, AreLaidOut, AreDefined, AreTaken, Define, AssemblesAfterDefines, IsBegun, AssemblesExpanded, IsLabelled, IsRest, Job, ReachedState, no_line, taken, faulty, refused, ended, with_bytes}
+use Rattle.whole65.specs.Offsets.{IsSoundLayoutOf, begun, following}
 use Rattle.object65.specs.Form.{lit, sec, imp, prefix, binary, Form}
 use Rattle.object65.specs.FormValue.{value_in}
 use Rattle.semantics65.specs.Numbering.{imports_in}
@@ -46,7 +46,7 @@ use Rattle.whole65.specs.Sources.{AreSources}
 -- no name is given twice, none is left open, rows are placed, exports come to a table, all checks pass, and the files are made
 pub record HasLink (output : List ℕ) (s : Script) (q : Program) (files : List OutputFile) : Type 0 where
   pub once : names_once s q ≡ Ok tt
-  pub none : unresolved s q ≡ []
+  pub none : unresolved_names s q ≡ []
   pub placement : Placement
   pub placed : place_of s (needs_of q) ≡ Ok placement
   pub table : List (Result ℤ ValueFault)
@@ -65,61 +65,61 @@ module _ (output : List ℕ) (s : Script) (q : Program) (files : List OutputFile
     map = map_text s q h.placement (linkage_of s q h.placement) (in_table h.table);
   }
 
-  pub link_by : (h : HasLink output s q files) → First (names_once s q) (λ u. IsProgramLink output s q) (Ok (linked_by h))
+  pub link_by : (h : HasLink output s q files) → AndThen (names_once s q) (λ u. IsProgramLink output s q) (Ok (linked_by h))
   link_by h = grind (arith, common_steps)
 
   -- and such a link has all of this
-  pub link_has : (linked : Linked) → First (names_once s q) (λ u. IsProgramLink output s q) (Ok linked) → linked.files ≡ files → HasLink output s q files
+  pub link_has : (linked : Linked) → AndThen (names_once s q) (λ u. IsProgramLink output s q) (Ok linked) → linked.files ≡ files → HasLink output s q files
   link_has linked link same = grind (arith, common_steps)
 
 -- ---- A source lays its statements one behind the other, none with a fault at its line.
 
-one : (y z : Layout) (place : Place) (x : Statement) → IsLaidOut y → IsLaid y place x (Ok z) → IsLaidOut z
+one : (y z : Layout) (place : SourceLocation) (x : Statement) → IsSoundLayoutOf y → IsLaidOut y place x (Ok z) → IsSoundLayoutOf z
 one y z place x d h = by (line_fault (symbols_of y.laid) y.cursor x) refl h
   where
-    by : (o : Option AsmFault) → line_fault (symbols_of y.laid) y.cursor x ≡ o → Ok z ≡ unless_fault o (layout_behind y place x) → IsLaidOut z
-    by x1 is h = grind (arith, common_steps, (behind y place x d))
+    by : (o : Option AsmFault) → line_fault (symbols_of y.laid) y.cursor x ≡ o → Ok z ≡ unless_fault o (layout_after y place x) → IsSoundLayoutOf z
+    by x1 is h = grind (arith, common_steps, (following y place x d))
 
-unchanged : (y z : Layout) → IsLaidOut y → ◌≡◌ {A = Result Layout AsmFault} (Ok z) (Ok y) → IsLaidOut z
-unchanged y z d h = let same : y ≡ z = cc in subst IsLaidOut same d
+unchanged : (y z : Layout) → IsSoundLayoutOf y → ◌≡◌ {A = Result Layout AsmFault} (Ok z) (Ok y) → IsSoundLayoutOf z
+unchanged y z d h = let same : y ≡ z = cc in subst IsSoundLayoutOf same d
 
-labelled : (y z : Layout) (place : Place) (x : Option Statement) → IsLaidOut y → IsLabelled IsLaid y place x (Ok z) → IsLaidOut z
+labelled : (y z : Layout) (place : SourceLocation) (x : Option Statement) → IsSoundLayoutOf y → IsLabelled IsLaidOut y place x (Ok z) → IsSoundLayoutOf z
 labelled y z place x d h = grind (arith, common_steps, unchanged, one)
 
-stated : (m : Files) (y z : Layout) (place : Place) (x : Result Statement AsmFault) → IsLaidOut y → First x (λ s. IsLaid y place (with_bytes m place s)) (Ok z) → IsLaidOut z
+stated : (m : Files) (y z : Layout) (place : SourceLocation) (x : Result Statement AsmFault) → IsSoundLayoutOf y → AndThen x (λ s. IsLaidOut y place (with_bytes m place s)) (Ok z) → IsSoundLayoutOf z
 stated m y z place x d h = grind (arith, common_steps, one)
 
-rest : (m : Files) (y z : Layout) (place : Place) (ts : List Lexeme) → IsLaidOut y → IsRest m IsLaid y place ts (Ok z) → IsLaidOut z
+rest : (m : Files) (y z : Layout) (place : SourceLocation) (ts : List Lexeme) → IsSoundLayoutOf y → IsRest m IsLaidOut y place ts (Ok z) → IsSoundLayoutOf z
 rest m y z place [] d h = unchanged y z d h
 rest m y z place (t ∷ ts) d (x, is, h) = stated m y z place x d h
 
-behind_label : (m : Files) (y z : Layout) (place : Place) (ts : List Lexeme) (q : Result Layout AsmFault) → IsLaidOut y → IsLabelled IsLaid y place (label_of ts).0 q → First q (λ w. IsRest m IsLaid w place (label_of ts).1) (Ok z) → IsLaidOut z
-behind_label m y z place ts x1 d l h = grind (arith, common_steps, rest, labelled)
+after_label : (m : Files) (y z : Layout) (place : SourceLocation) (ts : List Lexeme) (q : Result Layout AsmFault) → IsSoundLayoutOf y → IsLabelled IsLaidOut y place (label_of ts).0 q → AndThen q (λ w. IsRest m IsLaidOut w place (label_of ts).1) (Ok z) → IsSoundLayoutOf z
+after_label m y z place ts x1 d l h = grind (arith, common_steps, rest, labelled)
 
-given : (m : Files) (y z : Layout) (place : Place) (x : expand.Stated) → IsLaidOut y → IsGiven m IsLaid y place x (Ok z) → IsLaidOut z
-given m y z place (expand.label ts) d (q, l, h) = behind_label m y z place ts q d l h
+given : (m : Files) (y z : Layout) (place : SourceLocation) (x : expand.ExpandedStatement) → IsSoundLayoutOf y → AssemblesExpanded m IsLaidOut y place x (Ok z) → IsSoundLayoutOf z
+given m y z place (expand.label ts) d (q, l, h) = after_label m y z place ts q d l h
 given m y z place (expand.plain ts) d h = rest m y z place ts d h
 
-all_taken : (m : Files) {s : expand.State} {y : Layout} {r : Reached Layout} → AreTaken m laying s y r → IsLaidOut y → IsLaidOut r.behind
+all_taken : (m : Files) {s : expand.State} {y : Layout} {r : ReachedState Layout} → AreTaken m layout_semantics s y r → IsSoundLayoutOf y → IsSoundLayoutOf r.following
 all_taken m (taken s t x y z r reach h more) d = all_taken m more (given m y z t.left.place x d h)
 all_taken m (faulty s t x y e reach h) d = d
 all_taken m (refused s y e place reach) d = d
 all_taken m (ended s t y reach) d = d
 
-all_defined : (y : Layout) (place : Place) (ds : List Define) (z : Layout) → IsLaidOut y → AreDefined IsLaid y place ds (Ok z) → IsLaidOut z
+all_defined : (y : Layout) (place : SourceLocation) (ds : List Define) (z : Layout) → IsSoundLayoutOf y → AreDefined IsLaidOut y place ds (Ok z) → IsSoundLayoutOf z
 all_defined y place [] z d h = unchanged y z d h
 all_defined y place (c ∷ cs) z d (q, is, h) = grind (arith, common_steps, (λ (w : Layout). one y w place (Constant c.0 (number c.1)) d), (λ (w : Layout). all_defined w place cs z))
 
-followed : (m : Files) (s : expand.State) (place : Place) (ds : List Define) (q : Result Layout AsmFault) (r : Reached Layout) → AreDefined IsLaid nothing_laid place ds q → Follows m laying s place nothing_laid q r → IsLaidOut r.behind
+followed : (m : Files) (s : expand.State) (place : SourceLocation) (ds : List Define) (q : Result Layout AsmFault) (r : ReachedState Layout) → AreDefined IsLaidOut nothing_laid place ds q → AssemblesAfterDefines m layout_semantics s place nothing_laid q r → IsSoundLayoutOf r.following
 followed m s place ds (Ok z) r defined h = all_taken m h (all_defined nothing_laid place ds z begun defined)
-followed m s place ds (Err e) r defined h = subst (λ (k : Reached Layout). IsLaidOut k.behind) (sym h) begun
+followed m s place ds (Err e) r defined h = subst (λ (k : ReachedState Layout). IsSoundLayoutOf k.following) (sym h) begun
 
-opened : (m : Files) (job : Job) (o : Result expand.State ExpandFault) (r : Reached Layout) → IsBegun m laying job nothing_laid o r → IsLaidOut r.behind
-opened m job (Err e) r h = subst (λ (k : Reached Layout). IsLaidOut k.behind) (sym h) begun
+opened : (m : Files) (job : Job) (o : Result expand.State ExpandFault) (r : ReachedState Layout) → IsBegun m layout_semantics job nothing_laid o r → IsSoundLayoutOf r.following
+opened m job (Err e) r h = subst (λ (k : ReachedState Layout). IsSoundLayoutOf k.following) (sym h) begun
 opened m job (Ok s) r (q, defined, h) = followed m s (no_line job.source) job.defines q r defined h
 
 -- what a source lays, it lays so: statement by statement, none with a fault at its line
-pub laid_out_law : (m : Files) (job : Job) (r : Reached Layout) → AreLaid m job r → IsLaidOut r.behind
+pub laid_out_law : (m : Files) (job : Job) (r : ReachedState Layout) → AreLaidOut m job r → IsSoundLayoutOf r.following
 laid_out_law m job r h = opened m job (opened_in m job.source job.include) r h
 
 -- ---- Names that are given, and imports that have values.

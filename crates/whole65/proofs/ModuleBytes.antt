@@ -14,17 +14,17 @@ use Rattle.base65.specs.Values.{value1}
 use Rattle.object65.specs.Form.{Form, lit, sec, imp, prefix, binary}
 use Rattle.object65.specs.FormValue.{value_in}
 use Rattle.object65.specs.declared.object.Origin.{Origin}
-use Rattle.syntax65.specs.declared.place.Place.{Place}
+use Rattle.syntax65.specs.declared.source_location.SourceLocation.{SourceLocation}
 use Rattle.semantics65.specs.Contents.{Part, Known, Filled, Waiting, Content}
-use Rattle.semantics65.specs.Numbering.{all_joined, fragment_of, fragments_of, is_empty, joined, number_of, numbered, parts_in, section_of}
+use Rattle.semantics65.specs.Numbering.{all_joined, fragment_of, fragments_of, is_empty, merged_fragments, number_of, renumbered_form, parts_in, section_of}
 use Rattle.whole65.proofs.SectionBytes.{section_law}
 use Rattle.whole65.specs.Objects.{HasValue, Objects, AreObjects}
-use Rattle.semantics65.specs.Module.{ending_of}
+use Rattle.semantics65.specs.Module.{module_resolution}
 use Rattle.semantics65.specs.Layout.{Layout}
 use Rattle.whole65.specs.Modules.{table_of}
-use Rattle.whole65.specs.Offsets.{lines_at, IsMultiple, IsLaidOut}
-use Rattle.semantics65.specs.Symbols.{Laid}
-use Rattle.whole65.specs.Segments.{largest_multiple, lines_behind, line}
+use Rattle.whole65.specs.Offsets.{lines_at, IsMultiple, IsSoundLayoutOf}
+use Rattle.semantics65.specs.Symbols.{LaidOutStatement}
+use Rattle.whole65.specs.Segments.{largest_multiple, lines_after, line}
 use Rattle.whole65.specs.Contents.{AreBytes}
 use Rattle.whole65.specs.Values.{Program}
 
@@ -72,7 +72,7 @@ cells_law l fill owner fs bytes = of_fragments l fill owner fs bytes
 
 -- The value of a form whose sections and imports have the numbers of an object is that of the form by those numbers' bases and
 -- values.
-pub number_law : (E : Type 0) → (none : E) (bases : ℕ → ℤ) (values : ℕ → Result ℤ E) (sections imports : List ℕ) (f : Form) → value_in none bases values (numbered sections imports f) ≡ value_in none (λ g. bases (number_of sections g)) (λ k. values (number_of imports k)) f
+pub number_law : (E : Type 0) → (none : E) (bases : ℕ → ℤ) (values : ℕ → Result ℤ E) (sections imports : List ℕ) (f : Form) → value_in none bases values (renumbered_form sections imports f) ≡ value_in none (λ g. bases (number_of sections g)) (λ k. values (number_of imports k)) f
 number_law E none bases values ss is (lit v) = refl
 number_law E none bases values ss is (sec g a) = refl
 number_law E none bases values ss is (imp k) = refl
@@ -81,10 +81,10 @@ number_law E none bases values ss is (binary op f g) = grind (arith, common_step
 
 module _ (Has : Valuing) (fill : ℕ) where
   -- ---- Without numbers.
-  same_part : (origins : Place → Origin) (ss is : List ℕ) (p : Part) (bytes : List ℕ) → ArePart (λ f v. Has (numbered ss is f) v) fill p bytes ↔ IsFragment Has fill (fragment_of origins ss is p) bytes
+  same_part : (origins : SourceLocation → Origin) (ss is : List ℕ) (p : Part) (bytes : List ℕ) → ArePart (λ f v. Has (renumbered_form ss is f) v) fill p bytes ↔ IsFragment Has fill (fragment_of origins ss is p) bytes
   same_part origins ss is x bytes = grind (arith, common_steps)
 
-  pub same_parts : (origins : Place → Origin) (ss is : List ℕ) (ps : List Part) (bytes : List ℕ) → AreParts (λ f v. Has (numbered ss is f) v) fill ps bytes ↔ AreFragments Has fill (map (fragment_of origins ss is) ps) bytes
+  pub same_parts : (origins : SourceLocation → Origin) (ss is : List ℕ) (ps : List Part) (bytes : List ℕ) → AreParts (λ f v. Has (renumbered_form ss is f) v) fill ps bytes ↔ AreFragments Has fill (map (fragment_of origins ss is) ps) bytes
   same_parts origins ss is [] bytes = (λ h. h, λ h. h)
   same_parts origins ss is (p ∷ ps) bytes = grind (arith, common_steps, (same_parts origins ss is ps))
 
@@ -121,11 +121,11 @@ module _ (Has : Valuing) (fill : ℕ) where
   then : {A B C : Type 0} → A ↔ B → B ↔ C → A ↔ C
   then p q = (λ a. q.0 (p.0 a), λ c. p.1 (q.1 c))
 
-  all_in_one : (f : Fragment) (fs : List Fragment) (bytes : List ℕ) → AreFragments Has fill (f ∷ fs) bytes ↔ AreFragments Has fill (joined f fs) bytes
+  all_in_one : (f : Fragment) (fs : List Fragment) (bytes : List ℕ) → AreFragments Has fill (f ∷ fs) bytes ↔ AreFragments Has fill (merged_fragments f fs) bytes
   all_in_one f [] bytes = (λ h. h, λ h. h)
   all_in_one (Literal a) (Literal b ∷ fs) bytes = grind (arith, common_steps, (all_in_one (Literal (a ++ b)) fs bytes))
   all_in_one (Fill m) (Fill n ∷ fs) bytes = grind (arith, common_steps, more_fill, (all_in_one (Fill (m + n)) fs bytes))
-  all_in_one f (g ∷ fs) bytes = one_more f (g ∷ fs) (joined g fs) bytes (all_in_one g fs)
+  all_in_one f (g ∷ fs) bytes = one_more f (g ∷ fs) (merged_fragments g fs) bytes (all_in_one g fs)
 
   pub all_joined_are : (fs : List Fragment) (bytes : List ℕ) → AreFragments Has fill fs bytes ↔ AreFragments Has fill (all_joined fs) bytes
   all_joined_are x bytes = grind (arith, common_steps, all_in_one)
@@ -133,18 +133,18 @@ module _ (Has : Valuing) (fill : ℕ) where
 -- ---- A module's lines in a segment, and what its object's section puts there.
 
 module _ {E : Type 0} (o : Objects E) (l : Linkage) (owner fill : ℕ) (sections imports : List ℕ) where
-  of_part : (q : Part) (bytes : List ℕ) → IsValuedIn o l owner sections imports q → ArePart (HasValue o owner) fill q bytes ↔ ArePart (λ f v. linked_value l owner (numbered sections imports f) v) fill q bytes
+  of_part : (q : Part) (bytes : List ℕ) → IsValuedIn o l owner sections imports q → ArePart (HasValue o owner) fill q bytes ↔ ArePart (λ f v. linked_value l owner (renumbered_form sections imports f) v) fill q bytes
   of_part (Known own) bytes h = (λ k. k, λ k. k)
   of_part (Filled n) bytes h = (λ k. k, λ k. k)
   of_part (Waiting width place f) bytes h = (λ k. (k.0, (h k.0).0 k.1, k.2), λ k. (k.0, (h k.0).1 k.1, k.2))
 
-  of_parts : (qs : List Part) (bytes : List ℕ) → AllByRecursion (IsValuedIn o l owner sections imports) qs → AreParts (HasValue o owner) fill qs bytes ↔ AreParts (λ f v. linked_value l owner (numbered sections imports f) v) fill qs bytes
+  of_parts : (qs : List Part) (bytes : List ℕ) → AllByRecursion (IsValuedIn o l owner sections imports) qs → AreParts (HasValue o owner) fill qs bytes ↔ AreParts (λ f v. linked_value l owner (renumbered_form sections imports f) v) fill qs bytes
   of_parts [] bytes h = (λ k. k, λ k. k)
   of_parts (q ∷ qs) bytes h = grind (arith, common_steps, of_part, (of_parts qs))
 
 -- A module's lines in a segment have the bytes of what its object's section puts there, where the forms in its parts have the
 -- values of those in the object.
-pub module_law : (E : Type 0) → (p : Program) (o : Objects E) (l : Linkage) (fill begin owner g : ℕ) (y : Layout) (cs : List Content) (origins : Place → Origin) (sections imports bytes : List ℕ) → AreObjects p o → o.symbols owner ≡ table_of y → ((place : ℕ) (x : Laid) → slice_get y.laid place ≡ Some x → o.contexts owner place ≡ x.context) → IsLaidOut y → IsMultiple begin (largest_multiple (lines_at g (lines_behind owner [] y.laid))) → (ending_of y.laid).found ≡ Ok cs → AllByRecursion (IsValuedIn o l owner sections imports) (parts_in cs g) → AreBytes p fill begin (map line (lines_at g (lines_behind owner [] y.laid))) bytes ↔ AreCells l fill (flat_map (fragment_cells owner) (section_of origins y.cursor.segments sections imports cs g).fragments) bytes
+pub module_law : (E : Type 0) → (p : Program) (o : Objects E) (l : Linkage) (fill begin owner g : ℕ) (y : Layout) (cs : List Content) (origins : SourceLocation → Origin) (sections imports bytes : List ℕ) → AreObjects p o → o.symbols owner ≡ table_of y → ((place : ℕ) (x : LaidOutStatement) → slice_get y.laid place ≡ Some x → o.contexts owner place ≡ x.context) → IsSoundLayoutOf y → IsMultiple begin (largest_multiple (lines_at g (lines_after owner [] y.laid))) → (module_resolution y.laid).found ≡ Ok cs → AllByRecursion (IsValuedIn o l owner sections imports) (parts_in cs g) → AreBytes p fill begin (map line (lines_at g (lines_after owner [] y.laid))) bytes ↔ AreCells l fill (flat_map (fragment_cells owner) (section_of origins y.cursor.segments sections imports cs g).fragments) bytes
 module_law E p o l fill begin owner g y cs origins sections imports bytes h table contexts d m e valued =
     let Has : Valuing = linked_value l owner in
     let lines = section_law E p o fill begin owner g y cs bytes h table contexts d m e in

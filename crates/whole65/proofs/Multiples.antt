@@ -6,17 +6,17 @@ use Rattle.std.specs.Int.{next_multiple_of}
 use Rattle.std.proofs.Math.Nat.{mul-add-mod_self_left, div-add-mod, add_assoc, mul_assoc, mod-eq_of_lt, mod_self}
 use Rattle.std.proofs.lemmas.Nat.{pow-add, pow_pos, mod_below}
 use Rattle.whole65.specs.Offsets.{IsMultiple, IsPower, ArePowers}
-use Rattle.semantics65.specs.Symbols.{Laid, Symbols}
+use Rattle.semantics65.specs.Symbols.{LaidOutStatement, Symbols}
 use Rattle.ast65.specs.declared.language.Statement.{Statement}
 use Rattle.ast65.specs.declared.language.Statement.TheVariants.{Align}
-use Rattle.whole65.specs.Segments.{Item, Line, end_behind, end_of, largest_multiple, line, line_end}
+use Rattle.whole65.specs.Segments.{Item, SegmentLine, end_after, end_of, largest_multiple, line, line_end}
 use Rattle.std.specs.Prelude.{ℤ, pos, negsuc, not, ◌==◌}
 use Rattle.std.specs.List.{AllByRecursion, list_any}
 use Rattle.ast65.specs.declared.fault.AsmFault.{AsmFault}
 use Rattle.ast65.specs.declared.fault.AsmFault.TheVariants.{BadAlignment}
-use Rattle.semantics65.specs.Layout.{Cursor, laid, multiple_of, powers, context_of, alignment_fault, line_fault, multiple_fault, when}
-use Rattle.semantics65.specs.Norms.{constant_in, counted}
-use Rattle.syntax65.specs.declared.place.Place.{Place}
+use Rattle.semantics65.specs.Layout.{Cursor, laid_out_statement, multiple_of, powers, context_of, alignment_fault, line_fault, multiple_fault, when}
+use Rattle.semantics65.specs.Norms.{constant_in, byte_count}
+use Rattle.syntax65.specs.declared.source_location.SourceLocation.{SourceLocation}
 use Rattle.script65.specs.Placing.{rounded_up}
 
 -- ---- Numbers that are tested.
@@ -95,27 +95,27 @@ power_positive n p = subst (λ z. 0 < z) (sym p.power) (pow_pos p.exponent)
 
 pub end_of-append : (at : ℕ) (xs ys : List Item) → end_of at (xs ++ ys) ≡ end_of (end_of at xs) ys
 end_of-append at [] ys = refl
-end_of-append at (x ∷ xs) ys = end_of-append (end_behind at x) xs ys
+end_of-append at (x ∷ xs) ys = end_of-append (end_after at x) xs ys
 
-pub largest_power : (xs : List Line) → ArePowers xs → IsPower (largest_multiple xs)
+pub largest_power : (xs : List SegmentLine) → ArePowers xs → IsPower (largest_multiple xs)
 largest_power [] h = record { exponent = 0; below = omega arith; power = refl }
-largest_power (x ∷ xs) h = (larger x.multiple (largest_multiple xs) h.0 (largest_power xs h.1)).is_power
+largest_power (x ∷ xs) h = (larger x.alignment (largest_multiple xs) h.0 (largest_power xs h.1)).is_power
 
-pub line_shift : (b o multiple : ℕ) (l : Laid) → IsMultiple b multiple → line_end (b + o) multiple l ≡ b + line_end o multiple l
-line_shift b o multiple l h = grind (arith, common_steps, round_shift, add_assoc)
+pub line_shift : (b o alignment : ℕ) (l : LaidOutStatement) → IsMultiple b alignment → line_end (b + o) alignment l ≡ b + line_end o alignment l
+line_shift b o alignment l h = grind (arith, common_steps, round_shift, add_assoc)
 
-pub end_shift : (xs : List Line) (b o : ℕ) → ArePowers xs → IsMultiple b (largest_multiple xs) → end_of (b + o) (map line xs) ≡ b + end_of o (map line xs)
+pub end_shift : (xs : List SegmentLine) (b o : ℕ) → ArePowers xs → IsMultiple b (largest_multiple xs) → end_of (b + o) (map line xs) ≡ b + end_of o (map line xs)
 end_shift [] b o p h = refl
 end_shift (x ∷ xs) b o p h =
-    let both : Larger x.multiple (largest_multiple xs) = larger x.multiple (largest_multiple xs) p.0 (largest_power xs p.1) in
-    let first = multiple_of_multiple b x.multiple (max x.multiple (largest_multiple xs)) h both.first in
-    let others = multiple_of_multiple b (largest_multiple xs) (max x.multiple (largest_multiple xs)) h both.second in
-    ap (λ n. end_of n (map line xs)) (line_shift b o x.multiple x.laid first)
-    ∙ end_shift xs b (line_end o x.multiple x.laid) p.1 others
+    let both : Larger x.alignment (largest_multiple xs) = larger x.alignment (largest_multiple xs) p.0 (largest_power xs p.1) in
+    let first = multiple_of_multiple b x.alignment (max x.alignment (largest_multiple xs)) h both.first in
+    let others = multiple_of_multiple b (largest_multiple xs) (max x.alignment (largest_multiple xs)) h both.second in
+    ap (λ n. end_of n (map line xs)) (line_shift b o x.alignment x.laid first)
+    ∙ end_shift xs b (line_end o x.alignment x.laid) p.1 others
 
 -- Lines that begin at a multiple of the largest of their own multiples end where they end from 0 on, moved to there: so
 -- `.align` rounds a position in the whole list as it rounds an offset in the section.
-pub shift_law : (xs : List Line) (begin : ℕ) → ArePowers xs → IsMultiple begin (largest_multiple xs) → end_of begin (map line xs) ≡ begin + end_of 0 (map line xs)
+pub shift_law : (xs : List SegmentLine) (begin : ℕ) → ArePowers xs → IsMultiple begin (largest_multiple xs) → end_of begin (map line xs) ≡ begin + end_of 0 (map line xs)
 shift_law xs b p h = let same : b ≡ b + 0 = omega arith in ap (λ n. end_of n (map line xs)) same ∙ end_shift xs b 0 p h
 
 -- ---- A line ends its length behind its offset, and aligns to a power of two.
@@ -140,12 +140,12 @@ not_when x1 e h = grind (arith, common_steps)
 
 -- a constant that is one of the multiples
 pub record IsAligned (r : Option ℤ) : Type 0 where
-  pub multiple : ℕ
-  pub value : r ≡ Some (pos multiple)
-  pub is_power : IsPower multiple
+  pub alignment : ℕ
+  pub value : r ≡ Some (pos alignment)
+  pub is_power : IsPower alignment
 
 aligned : (r : Option ℤ) → multiple_fault r ≡ None → IsAligned r
-aligned (Some (pos n)) h = record { multiple = n; value = refl; is_power = power_among n powers all_powers (not_when (list_any (λ m. m == n) powers) BadAlignment h) }
+aligned (Some (pos n)) h = record { alignment = n; value = refl; is_power = power_among n powers all_powers (not_when (list_any (λ m. m == n) powers) BadAlignment h) }
 aligned (Some (negsuc n)) h = absurd cc
 aligned None h = absurd cc
 
@@ -155,12 +155,12 @@ multiple_power y w x h = go x (no_alignment_fault y w x h)
     go : (x : Statement) → alignment_fault y (context_of w) x ≡ None → IsPower (multiple_of y (context_of w) x)
     go (Align n v) h =
         let a = aligned (constant_in y (context_of w) n) h in
-        subst (λ r. IsPower (counted r)) (sym a.value) a.is_power
+        subst (λ r. IsPower (byte_count r)) (sym a.value) a.is_power
     go x h = record { exponent = 0; below = omega arith; power = refl }
 
 -- ---- Ends.
 
-pub line_ends : (y : Symbols) (w : Cursor) (place : Place) (x : Statement) → line_fault y w x ≡ None → line_end (context_of w).offset (multiple_of y (context_of w) x) (laid y w place x) ≡ (context_of w).offset + (laid y w place x).length
+pub line_ends : (y : Symbols) (w : Cursor) (place : SourceLocation) (x : Statement) → line_fault y w x ≡ None → line_end (context_of w).offset (multiple_of y (context_of w) x) (laid_out_statement y w place x) ≡ (context_of w).offset + (laid_out_statement y w place x).length
 line_ends y w place x h = grind (arith, common_steps)
 
 -- ---- Rounding up by quotients and by remainders.

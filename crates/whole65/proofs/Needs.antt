@@ -10,14 +10,14 @@ use Rattle.semantics65.specs.Numbering.{import_keys, section_keys, section_of}
 use Rattle.link65.specs.Programs.{Module, Segment, segment_of}
 use Rattle.link65.specs.Programs as linked
 use Rattle.link65.specs.Values as places
-use Rattle.whole65.proofs.LinkedObjects.{behind_modules, behind_sections, or_empty}
+use Rattle.whole65.proofs.LinkedObjects.{after_modules, after_sections, or_empty}
 use Rattle.whole65.proofs.Positions.{alignment_law}
 use Rattle.whole65.proofs.Sections.{segment_law}
-use Rattle.whole65.proofs.Sources.{Behind, behind_source, contents_of, grows, no_part, size_law, unchanged, whole_part}
+use Rattle.whole65.proofs.Sources.{Following, after_source, contents_of, grows, no_part, size_law, unchanged, whole_part}
 use Rattle.whole65.specs.Modules.{table_of}
 use Rattle.whole65.specs.Laws.{NeedsLaw, SourceLaw}
 use Rattle.whole65.specs.Offsets.{lines_at}
-use Rattle.whole65.specs.Segments.{Item, Line, alignment_of, items_from, items_of, largest_multiple, line, lines_behind, need_of, part_of}
+use Rattle.whole65.specs.Segments.{Item, SegmentLine, alignment_of, items_from, items_of, largest_multiple, line, lines_after, need_of, part_of}
 use Rattle.whole65.specs.Sources.{AreSources, IsSource}
 
 -- ---- The alignment of a list.
@@ -30,9 +30,9 @@ alignment_of-append : (xs zs : List Item) → alignment_of (xs ++ zs) ≡ max (a
 alignment_of-append [] zs = omega (arith, some_alignment zs)
 alignment_of-append (x ∷ xs) zs = omega (arith, alignment_of-append xs zs)
 
-lines_alignment : (ls : List Line) → alignment_of (map line ls) ≡ largest_multiple ls
+lines_alignment : (ls : List SegmentLine) → alignment_of (map line ls) ≡ largest_multiple ls
 lines_alignment [] = refl
-lines_alignment (x ∷ ls) = ap (max x.multiple) (lines_alignment ls)
+lines_alignment (x ∷ ls) = ap (max x.alignment) (lines_alignment ls)
 
 -- ---- That of a segment of the link.
 
@@ -43,31 +43,31 @@ align_or_empty : (name : List ℕ) (g : Option Segment) → (or_empty name g).al
 align_or_empty name None = refl
 align_or_empty name (Some g) = refl
 
-part_alignment : (y : Layout) (m : Module) (owner : ℕ) (name : List ℕ) (g : Option Segment) → IsSource y m → 0 < align_or g → align_or (behind_sections owner name g m.object.sections) ≡ max (align_or g) (alignment_of (part_of owner y name))
-part_alignment y m owner name g h some = go (behind_source y m h owner name g)
+part_alignment : (y : Layout) (m : Module) (owner : ℕ) (name : List ℕ) (g : Option Segment) → IsSource y m → 0 < align_or g → align_or (after_sections owner name g m.object.sections) ≡ max (align_or g) (alignment_of (part_of owner y name))
+part_alignment y m owner name g h some = go (after_source y m h owner name g)
   where
-    go : Behind y m (contents_of y m h).origins (contents_of y m h).contents owner name g → align_or (behind_sections owner name g m.object.sections) ≡ max (align_or g) (alignment_of (part_of owner y name))
+    go : Following y m (contents_of y m h).origins (contents_of y m h).contents owner name g → align_or (after_sections owner name g m.object.sections) ≡ max (align_or g) (alignment_of (part_of owner y name))
     go (unchanged has e) =
         let none : alignment_of (part_of owner y name) ≡ 1 = ap alignment_of (no_part y owner name has) in
         ap align_or e ∙ omega (arith, none, some)
     go (grows key has among lt called e) =
-        let lines : List Line = lines_at key (lines_behind owner [] y.laid) in
+        let lines : List SegmentLine = lines_at key (lines_after owner [] y.laid) in
         let part : alignment_of (part_of owner y name) ≡ max (largest_multiple lines) (alignment_of (map line lines)) = ap alignment_of (whole_part y owner key name h.laid_out lt called has) in
         let own = alignment_law y owner key h.laid_out in
         ap align_or e ∙ ap (λ n. max n (linked.align_of (section_of (contents_of y m h).origins y.cursor.segments (section_keys (contents_of y m h).contents) (import_keys (table_of y).imports (contents_of y m h).contents) (contents_of y m h).contents key))) (align_or_empty name g)
         ∙ omega (arith, own, part, lines_alignment lines)
 
-modules_alignment : (ys : List Layout) (ms : List Module) (owner : ℕ) (name : List ℕ) (g : Option Segment) → AreSources ys ms → 0 < align_or g → align_or (behind_modules owner name g ms) ≡ max (align_or g) (alignment_of (items_from owner ys name))
+modules_alignment : (ys : List Layout) (ms : List Module) (owner : ℕ) (name : List ℕ) (g : Option Segment) → AreSources ys ms → 0 < align_or g → align_or (after_modules owner name g ms) ≡ max (align_or g) (alignment_of (items_from owner ys name))
 modules_alignment [] [] owner name g h some = omega (arith, some)
 modules_alignment [] (m ∷ ms) owner name g h some = absurd h
 modules_alignment (y ∷ ys) [] owner name g h some = absurd h
 modules_alignment (y ∷ ys) (m ∷ ms) owner name g h some =
     let first = part_alignment y m owner name g h.0 some in
-    let rest = modules_alignment ys ms (suc owner) name (behind_sections owner name g m.object.sections) h.1 (omega (arith, first, some)) in
+    let rest = modules_alignment ys ms (suc owner) name (after_sections owner name g m.object.sections) h.1 (omega (arith, first, some)) in
     omega (arith, first, rest, alignment_of-append (part_of owner y name) (items_from (suc owner) ys name))
 
-alignment : (ys : List Layout) (ms : List Module) (name : List ℕ) → AreSources ys ms → align_or (segment_of (linked.program_of ms).segments name) ≡ alignment_of (items_of ys name)
-alignment ys ms name h = ap align_or (segment_law ms name) ∙ modules_alignment ys ms 0 name None h (omega arith) ∙ omega (arith, some_alignment (items_of ys name))
+same_alignment : (ys : List Layout) (ms : List Module) (name : List ℕ) → AreSources ys ms → align_or (segment_of (linked.program_of ms).segments name) ≡ alignment_of (items_of ys name)
+same_alignment ys ms name h = ap align_or (segment_law ms name) ∙ modules_alignment ys ms 0 name None h (omega arith) ∙ omega (arith, some_alignment (items_of ys name))
 
 -- ---- Needs.
 
@@ -90,7 +90,7 @@ same_needs ys ms name h = go (segment_of (linked.program_of ms).segments name) r
     go (Some g) is =
         let called : g.name ≡ name = found_named (linked.program_of ms).segments name g is in
         let size : g.size ≡ (need_of ys name).size = sym (ap (λ (o : Option Segment). option_map_or (λ (g : Segment). g.size) o 0) is) ∙ size_law ys ms name h in
-        let align : g.align ≡ (need_of ys name).align = sym (ap align_or is) ∙ alignment ys ms name h in
+        let align : g.align ≡ (need_of ys name).align = sym (ap align_or is) ∙ same_alignment ys ms name h in
         need_is g.size g.align g.name (need_of ys name) called size align
 
 pub laid_is_a_source : SourceLaw

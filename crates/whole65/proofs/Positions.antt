@@ -5,20 +5,20 @@ use Rattle.std.specs.Prelude.{⊤}
 use Rattle.std.specs.List.{AllByRecursion, position_from}
 use Rattle.std.proofs.lemmas.Bool.Decides.{nat_tests}
 use Rattle.std.proofs.lemmas.List.{append-nil, take-append-drop}
-use Rattle.semantics65.specs.Symbols.{Laid}
-use Rattle.semantics65.specs.Layout.{Layout, grown_at, layout_behind, named_segments, new_segment, place_of, segment_at, segments_behind, powers}
-use Rattle.whole65.specs.Segments.{Item, Line, has_section, is_line, items_before, largest_multiple, line, lines_behind, lines_in, part_of, rounding, stands_in, end_of, items_from, segment_name, position_of}
+use Rattle.semantics65.specs.Symbols.{LaidOutStatement}
+use Rattle.semantics65.specs.Layout.{Layout, grown_at, layout_after, named_segments, new_segment, place_of, segment_at, segments_after, powers}
+use Rattle.whole65.specs.Segments.{Item, SegmentLine, has_section, is_line, items_before, largest_multiple, line, lines_after, lines_in, part_of, rounding, stands_in, end_of, items_from, segment_name, position_of}
 use Rattle.std.specs.Str.{bytes_eq}
 use Rattle.std.proofs.lemmas.Iterator.Adapters.{position_from-zero}
 use Rattle.syntax65.specs.declared.lexing.tokens.AddressSize.{AddressSize}
 use Rattle.ast65.proofs.Lists.{bytes_swap}
 use Rattle.semantics65.specs.declared.contents.Segment.{Segment}
 use Rattle.ast65.specs.declared.language.Statement.{Statement}
-use Rattle.syntax65.specs.declared.place.Place.{Place}
+use Rattle.syntax65.specs.declared.source_location.SourceLocation.{SourceLocation}
 use Rattle.semantics65.proofs.Segments.{all_same, grown_length}
-use Rattle.whole65.proofs.Offsets.{behind_more, placed, largest_push}
+use Rattle.whole65.proofs.Offsets.{following_more, placed, largest_push}
 use Rattle.whole65.proofs.Multiples.{equal, larger, multiple_of_multiple, power_positive, rounded, end_of-append, largest_power, shift_law}
-use Rattle.whole65.specs.Offsets.{IsLaidOut, begun, behind, ArePowers, IsMultiple, begin_from, lines_at, IsPower, begin_of}
+use Rattle.whole65.specs.Offsets.{IsSoundLayoutOf, begun, following, ArePowers, IsMultiple, begin_from, lines_at, IsPower, begin_of}
 use Rattle.std.specs.Int.{next_multiple_of}
 use Rattle.std.proofs.lemmas.List.Elements.{filter-append}
 use Rattle.std.proofs.lemmas.Slice.Eq.{bytes_eq-Decides}
@@ -42,7 +42,7 @@ alike n = grind (arith, nat_tests)
 
 -- ---- Other modules.
 
-other_lines : (first owner place : ℕ) → first ≢ owner → (q : Laid → Bool) (before ls : List Laid) → IsAbsent owner place (map line (filter (λ (x : Line). q x.laid) (lines_behind first before ls)))
+other_lines : (first owner place : ℕ) → first ≢ owner → (q : LaidOutStatement → Bool) (before ls : List LaidOutStatement) → IsAbsent owner place (map line (filter (λ (x : SegmentLine). q x.laid) (lines_after first before ls)))
 other_lines first owner place h q before [] = tt
 other_lines first owner place h q before (l ∷ ls) = grind (arith, common_steps, (other_lines first owner place h q (before ++ l ∷ []) ls), apart)
 
@@ -55,7 +55,7 @@ other_part first owner place h y name = go (has_section y name)
 
 -- ---- The module itself.
 
-pub stopped : (owner place : ℕ) (q : Laid → Bool) (before ls : List Laid) (rest : List Item) (i : ℕ) (l : Laid) → place ≡ length before + i → slice_get ls i ≡ Some l → q l ≡ true → items_before owner place (map line (filter (λ (x : Line). q x.laid) (lines_behind owner before ls)) ++ rest) ≡ map line (filter (λ (x : Line). q x.laid) (lines_behind owner before (take i ls)))
+pub stopped : (owner place : ℕ) (q : LaidOutStatement → Bool) (before ls : List LaidOutStatement) (rest : List Item) (i : ℕ) (l : LaidOutStatement) → place ≡ length before + i → slice_get ls i ≡ Some l → q l ≡ true → items_before owner place (map line (filter (λ (x : SegmentLine). q x.laid) (lines_after owner before ls)) ++ rest) ≡ map line (filter (λ (x : SegmentLine). q x.laid) (lines_after owner before (take i ls)))
 stopped owner place q before [] rest i l e s t = cc
 stopped owner place q before (x ∷ ls) rest zero l e s t = grind (arith, common_steps, alike)
 stopped owner place q before (x ∷ ls) rest (suc i) l e s t = grind (arith, common_steps, (stopped owner place q (before ++ x ∷ []) ls rest i l))
@@ -75,12 +75,12 @@ last_name : (gs : List Segment) (x : Segment) → (segment_at (gs ++ x ∷ []) (
 last_name [] x = refl
 last_name (y ∷ gs) x = last_name gs x
 
-grown_name : (gs : List Segment) (i count multiple g : ℕ) → (segment_at (grown_at gs i count multiple) g).name ≡ (segment_at gs g).name
-grown_name [] i count multiple g = refl
-grown_name (y ∷ gs) zero count multiple zero = refl
-grown_name (y ∷ gs) zero count multiple (suc g) = refl
-grown_name (y ∷ gs) (suc i) count multiple zero = refl
-grown_name (y ∷ gs) (suc i) count multiple (suc g) = grown_name gs i count multiple g
+grown_name : (gs : List Segment) (i count alignment g : ℕ) → (segment_at (grown_at gs i count alignment) g).name ≡ (segment_at gs g).name
+grown_name [] i count alignment g = refl
+grown_name (y ∷ gs) zero count alignment zero = refl
+grown_name (y ∷ gs) zero count alignment (suc g) = refl
+grown_name (y ∷ gs) (suc i) count alignment zero = refl
+grown_name (y ∷ gs) (suc i) count alignment (suc g) = grown_name gs i count alignment g
 
 absent : (gs : List Segment) (n : List ℕ) (i g : ℕ) → position_from (λ (k : Segment). bytes_eq k.name n) i gs ≡ None → g < length gs → bytes_eq (segment_at gs g).name n ≡ false
 absent [] n i g e lt = absurd (omega arith)
@@ -92,19 +92,19 @@ distinct_new gs n own d e g h lt lt' same = grind (arith, common_steps, (front_n
 distinct_named : (gs : List Segment) (n : List ℕ) (own : _) (place : Option ℕ) → Distinct gs → place_of gs n ≡ place → Distinct (named_segments gs n own place)
 distinct_named gs n own x1 d e = grind (arith, common_steps, distinct_new)
 
-distinct_behind : (gs : List Segment) (current count multiple : ℕ) (x : Statement) → Distinct gs → Distinct (segments_behind gs current count multiple x)
-distinct_behind gs current count multiple x d = grind (arith, common_steps, distinct_named, grown_length, grown_name)
+distinct_after : (gs : List Segment) (current count alignment : ℕ) (x : Statement) → Distinct gs → Distinct (segments_after gs current count alignment x)
+distinct_after gs current count alignment x d = grind (arith, common_steps, distinct_named, grown_length, grown_name)
 
 pub record Named (y : Layout) : Type 0 where
   pub distinct : Distinct y.cursor.segments
-  pub standing : AllByRecursion (λ (l : Laid). l.context.segment < length y.cursor.segments) y.laid
+  pub standing : AllByRecursion (λ (l : LaidOutStatement). l.context.segment < length y.cursor.segments) y.laid
 
-later : (y : Layout) (place : Place) (x : Statement) → y.cursor.current < length y.cursor.segments → Named y → Named (layout_behind y place x)
-later y place x here h = grind (arith, common_steps, behind_more, distinct_behind, all_same)
+later : (y : Layout) (place : SourceLocation) (x : Statement) → y.cursor.current < length y.cursor.segments → Named y → Named (layout_after y place x)
+later y place x here h = grind (arith, common_steps, following_more, distinct_after, all_same)
 
-pub named : {y : Layout} → IsLaidOut y → Named y
+pub named : {y : Layout} → IsSoundLayoutOf y → Named y
 named begun = record { distinct = λ g h lt lt' e. (let none : g ≡ 0 = omega (arith, lt) in let also : h ≡ 0 = omega (arith, lt') in none ∙ sym also); standing = tt }
-named (behind y place x d none) = later y place x (placed 0 d).here (named d)
+named (following y place x d none) = later y place x (placed 0 d).here (named d)
 
 -- ---- Lines of a segment by its name and by its number.
 
@@ -114,7 +114,7 @@ itself xs = grind (arith, bytes_eq-Decides xs xs)
 name_or_number : (y : Layout) (g h : ℕ) → Distinct y.cursor.segments → g < length y.cursor.segments → h < length y.cursor.segments → bytes_eq (segment_name y h) (segment_name y g) ≡ nat_eq h g
 name_or_number y g h d lg lh = grind (arith, common_steps, nat_tests, itself)
 
-pub by_number : (owner : ℕ) (y : Layout) (g : ℕ) → Distinct y.cursor.segments → g < length y.cursor.segments → (before ls : List Laid) → AllByRecursion (λ (l : Laid). l.context.segment < length y.cursor.segments) ls → filter (λ (x : Line). stands_in y (segment_name y g) x.laid) (lines_behind owner before ls) ≡ lines_at g (lines_behind owner before ls)
+pub by_number : (owner : ℕ) (y : Layout) (g : ℕ) → Distinct y.cursor.segments → g < length y.cursor.segments → (before ls : List LaidOutStatement) → AllByRecursion (λ (l : LaidOutStatement). l.context.segment < length y.cursor.segments) ls → filter (λ (x : SegmentLine). stands_in y (segment_name y g) x.laid) (lines_after owner before ls) ≡ lines_at g (lines_after owner before ls)
 by_number owner y g d lg before [] h = refl
 by_number owner y g d lg before (l ∷ ls) h = grind (arith, common_steps, (by_number owner y g d lg (before ++ l ∷ []) ls h.1), name_or_number)
 
@@ -131,11 +131,11 @@ all_get P (y ∷ xs) (suc i) x h e = all_get P xs i x h.1 e
 
 -- ---- A front of a module's lines.
 
-lines_both : (owner : ℕ) (before xs ys : List Laid) → lines_behind owner before (xs ++ ys) ≡ lines_behind owner before xs ++ lines_behind owner (before ++ xs) ys
-lines_both owner before [] ys = ap (λ b. lines_behind owner b ys) (sym (append-nil before))
+lines_both : (owner : ℕ) (before xs ys : List LaidOutStatement) → lines_after owner before (xs ++ ys) ≡ lines_after owner before xs ++ lines_after owner (before ++ xs) ys
+lines_both owner before [] ys = ap (λ b. lines_after owner b ys) (sym (append-nil before))
 lines_both owner before (x ∷ xs) ys = grind (arith, common_steps, (lines_both owner (before ++ x ∷ []) xs ys))
 
-pub powers_at : (g : ℕ) (xs : List Line) → ArePowers xs → ArePowers (lines_at g xs)
+pub powers_at : (g : ℕ) (xs : List SegmentLine) → ArePowers xs → ArePowers (lines_at g xs)
 powers_at g [] h = tt
 powers_at g (x ∷ xs) h = grind (arith, common_steps, (powers_at g xs h.1))
 
@@ -143,57 +143,57 @@ pub all_parts : {A : Type 0} (P : A → Type 0) (xs zs : List A) → AllByRecurs
 all_parts P [] zs h = (tt, h)
 all_parts P (x ∷ xs) zs h = let more = all_parts P xs zs h.1 in ((h.0, more.0), more.1)
 
-front_multiple : (b : ℕ) (xs ys : List Line) → ArePowers (xs ++ ys) → IsMultiple b (largest_multiple (xs ++ ys)) → IsMultiple b (largest_multiple xs)
+front_multiple : (b : ℕ) (xs ys : List SegmentLine) → ArePowers (xs ++ ys) → IsMultiple b (largest_multiple (xs ++ ys)) → IsMultiple b (largest_multiple xs)
 front_multiple b xs ys p h =
-    let powers = all_parts (λ (x : Line). IsPower x.multiple) xs ys p in
+    let powers = all_parts (λ (x : SegmentLine). IsPower x.alignment) xs ys p in
     let both = larger (largest_multiple xs) (largest_multiple ys) (largest_power xs powers.0) (largest_power ys powers.1) in
     let whole : IsMultiple b (max (largest_multiple xs) (largest_multiple ys)) = subst (IsMultiple b) (largest_push xs ys) h in
     multiple_of_multiple b (largest_multiple xs) (max (largest_multiple xs) (largest_multiple ys)) whole both.first
 
-module _ (owner place : ℕ) (y : Layout) (l : Laid) (d : IsLaidOut y) (there : slice_get y.laid place ≡ Some l) where
+module _ (owner place : ℕ) (y : Layout) (l : LaidOutStatement) (d : IsSoundLayoutOf y) (there : slice_get y.laid place ≡ Some l) where
   abbrev g : ℕ
   g = l.context.segment
 
-  abbrev front : List Line
-  front = lines_at g (lines_behind owner [] (take place y.laid))
+  abbrev front : List SegmentLine
+  front = lines_at g (lines_after owner [] (take place y.laid))
 
-  abbrev behind_front : List Line
-  behind_front = lines_at g (lines_behind owner (take place y.laid) (drop place y.laid))
+  abbrev after_front : List SegmentLine
+  after_front = lines_at g (lines_after owner (take place y.laid) (drop place y.laid))
 
-  in_order : lines_at g (lines_behind owner [] y.laid) ≡ front ++ behind_front
+  in_order : lines_at g (lines_after owner [] y.laid) ≡ front ++ after_front
   in_order =
-      ap (λ ls. lines_at g (lines_behind owner [] ls)) (sym (take-append-drop place y.laid))
+      ap (λ ls. lines_at g (lines_after owner [] ls)) (sym (take-append-drop place y.laid))
       ∙ ap (lines_at g) (lines_both owner [] (take place y.laid) (drop place y.laid))
-      ∙ filter-append (λ (x : Line). nat_eq x.laid.context.segment g) (lines_behind owner [] (take place y.laid)) (lines_behind owner (take place y.laid) (drop place y.laid))
+      ∙ filter-append (λ (x : SegmentLine). nat_eq x.laid.context.segment g) (lines_after owner [] (take place y.laid)) (lines_after owner (take place y.laid) (drop place y.laid))
 
   below : g < length y.cursor.segments
-  below = all_get (λ (k : Laid). k.context.segment < length y.cursor.segments) y.laid place l (named d).standing there
+  below = all_get (λ (k : LaidOutStatement). k.context.segment < length y.cursor.segments) y.laid place l (named d).standing there
 
-  all_powers : ArePowers (front ++ behind_front)
-  all_powers = subst ArePowers in_order (powers_at g (lines_behind owner [] y.laid) (placed owner d).powers)
+  all_powers : ArePowers (front ++ after_front)
+  all_powers = subst ArePowers in_order (powers_at g (lines_after owner [] y.laid) (placed owner d).powers)
 
   -- the position in a list that begins with the module's part, from a position on
   pub in_part : (at : ℕ) (rest : List Item) → has_section y (segment_name y g) ≡ true → end_of at (items_before owner place (part_of owner y (segment_name y g) ++ rest)) ≡ next_multiple_of at (largest_multiple (lines_in owner y (segment_name y g))) + l.context.offset
   in_part at rest asked =
       let n = named d in
-      let all : lines_in owner y (segment_name y g) ≡ lines_at g (lines_behind owner [] y.laid) = by_number owner y g n.distinct below [] y.laid n.standing in
-      let multiple : ℕ = largest_multiple (lines_in owner y (segment_name y g)) in
-      let begin : ℕ = next_multiple_of at multiple in
-      let power = largest_power (front ++ behind_front) all_powers in
-      let same : multiple ≡ largest_multiple (front ++ behind_front) = ap largest_multiple (all ∙ in_order) in
-      let positive = power_positive (largest_multiple (front ++ behind_front)) power in
-      let is_multiple : IsMultiple begin (largest_multiple (front ++ behind_front)) = subst (λ m. IsMultiple (next_multiple_of at m) (largest_multiple (front ++ behind_front))) (sym same) (rounded at (largest_multiple (front ++ behind_front)) positive) in
+      let all : lines_in owner y (segment_name y g) ≡ lines_at g (lines_after owner [] y.laid) = by_number owner y g n.distinct below [] y.laid n.standing in
+      let alignment : ℕ = largest_multiple (lines_in owner y (segment_name y g)) in
+      let begin : ℕ = next_multiple_of at alignment in
+      let power = largest_power (front ++ after_front) all_powers in
+      let same : alignment ≡ largest_multiple (front ++ after_front) = ap largest_multiple (all ∙ in_order) in
+      let positive = power_positive (largest_multiple (front ++ after_front)) power in
+      let is_multiple : IsMultiple begin (largest_multiple (front ++ after_front)) = subst (λ m. IsMultiple (next_multiple_of at m) (largest_multiple (front ++ after_front))) (sym same) (rounded at (largest_multiple (front ++ after_front)) positive) in
       let yes : stands_in y (segment_name y g) l ≡ true = itself (segment_name y g) in
       let before : items_before owner place (map line (lines_in owner y (segment_name y g)) ++ rest) ≡ map line front =
       stopped owner place (stands_in y (segment_name y g)) [] y.laid rest place l (omega arith) there yes
-      ∙ ap (map line) (by_number owner y g n.distinct below [] (take place y.laid) (all_front (λ (k : Laid). k.context.segment < length y.cursor.segments) y.laid place n.standing)) in
-      ap (λ b. end_of at (items_before owner place (cond b (rounding multiple ∷ map line (lines_in owner y (segment_name y g))) [] ++ rest))) asked
+      ∙ ap (map line) (by_number owner y g n.distinct below [] (take place y.laid) (all_front (λ (k : LaidOutStatement). k.context.segment < length y.cursor.segments) y.laid place n.standing)) in
+      ap (λ b. end_of at (items_before owner place (cond b (rounding alignment ∷ map line (lines_in owner y (segment_name y g))) [] ++ rest))) asked
       ∙ ap (end_of begin) before
-      ∙ shift_law front begin (all_parts (λ (x : Line). IsPower x.multiple) front behind_front all_powers).0 (front_multiple begin front behind_front all_powers is_multiple)
+      ∙ shift_law front begin (all_parts (λ (x : SegmentLine). IsPower x.alignment) front after_front all_powers).0 (front_multiple begin front after_front all_powers is_multiple)
       ∙ ap (λ n. begin + n) (sym ((placed owner d).offsets place l there))
 
 -- ---- Module by module.
-from_module : (at first count owner place : ℕ) (ys : List Layout) (y : Layout) (l : Laid) → owner ≡ first + count → slice_get ys count ≡ Some y → IsLaidOut y → slice_get y.laid place ≡ Some l → has_section y (segment_name y l.context.segment) ≡ true → end_of at (items_before owner place (items_from first ys (segment_name y l.context.segment))) ≡ begin_from at first ys (segment_name y l.context.segment) count + l.context.offset
+from_module : (at first count owner place : ℕ) (ys : List Layout) (y : Layout) (l : LaidOutStatement) → owner ≡ first + count → slice_get ys count ≡ Some y → IsSoundLayoutOf y → slice_get y.laid place ≡ Some l → has_section y (segment_name y l.context.segment) ≡ true → end_of at (items_before owner place (items_from first ys (segment_name y l.context.segment))) ≡ begin_from at first ys (segment_name y l.context.segment) count + l.context.offset
 from_module at first count owner place [] y l o e d there asked = cc
 from_module at first zero owner place (z ∷ ys) y l o e d there asked = grind (arith, common_steps, (in_part owner place y l d there at (items_from (suc owner) ys (segment_name y l.context.segment)) asked))
 from_module at first (suc count) owner place (z ∷ ys) y l o e d there asked =
@@ -206,7 +206,7 @@ from_module at first (suc count) owner place (z ∷ ys) y l o e d there asked =
 
 -- In the list of a segment of which the module has a section, a statement's position is where the module's section begins,
 -- moved by the statement's offset.
-pub position_law : (ys : List Layout) (owner place : ℕ) (y : Layout) (l : Laid) → slice_get ys owner ≡ Some y → IsLaidOut y → slice_get y.laid place ≡ Some l → has_section y (segment_name y l.context.segment) ≡ true → position_of ys (segment_name y l.context.segment) owner place ≡ begin_of ys (segment_name y l.context.segment) owner + l.context.offset
+pub position_law : (ys : List Layout) (owner place : ℕ) (y : Layout) (l : LaidOutStatement) → slice_get ys owner ≡ Some y → IsSoundLayoutOf y → slice_get y.laid place ≡ Some l → has_section y (segment_name y l.context.segment) ≡ true → position_of ys (segment_name y l.context.segment) owner place ≡ begin_of ys (segment_name y l.context.segment) owner + l.context.offset
 position_law ys owner place y l e d there asked = from_module 0 0 owner owner place ys y l (omega arith) e d there asked
 
 -- ---- The alignment of a section in an object.
@@ -239,5 +239,5 @@ power_at (x ∷ gs) zero = refl
 power_at (x ∷ gs) (suc g) = power_at gs g
 
 -- The section of an object for a segment is aligned as the module's lines in that segment are.
-pub alignment_law : (y : Layout) (owner g : ℕ) → IsLaidOut y → 2 ^ segment_power (slice_get y.cursor.segments g) ≡ largest_multiple (lines_at g (lines_behind owner [] y.laid))
+pub alignment_law : (y : Layout) (owner g : ℕ) → IsSoundLayoutOf y → 2 ^ segment_power (slice_get y.cursor.segments g) ≡ largest_multiple (lines_at g (lines_after owner [] y.laid))
 alignment_law y owner g d = grind (arith, common_steps, placed, power_at, its_power, largest_power, powers_at)

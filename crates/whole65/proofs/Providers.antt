@@ -13,24 +13,24 @@ use Rattle.object65.specs.declared.object.Origin.{Origin}
 use Rattle.script65.specs.declared.placement.Placement.{Placement}
 use Rattle.script65.specs.declared.script.Script.{Script}
 use Rattle.ast65.proofs.Lists.{same_bytes}
-use Rattle.syntax65.specs.declared.place.Place.{Place}
+use Rattle.syntax65.specs.declared.source_location.SourceLocation.{SourceLocation}
 use Rattle.semantics65.specs.Contents.{Content, Declaration, Exported, ForcedImport, Asserted}
-use Rattle.semantics65.specs.Symbols.{Laid, Symbols, defined, named}
+use Rattle.semantics65.specs.Symbols.{LaidOutStatement, Symbols, definition_index, named}
 use Rattle.semantics65.specs.Layout.{Layout}
 use Rattle.semantics65.specs.Norms.{defined_form, norm}
-use Rattle.semantics65.specs.Numbering.{all_said, export_of, import_keys, numbered, section_keys}
+use Rattle.semantics65.specs.Numbering.{all_said, export_of, import_keys, renumbered_form, section_keys}
 use Rattle.link65.specs.Names.{by_definition, by_export, defined_at, exported_at, is_among, script_definitions, weak_symbols}
 use Rattle.link65.specs.Names as linked
-use Rattle.link65.specs.Programs.{position_in, Module, Program, exported, no_program, program_of, with_module, with_modules}
+use Rattle.link65.specs.Programs.{position_in, Module, Program, linked_export, no_program, program_of, with_module, with_modules}
 use Rattle.link65.specs.Values.{linkage_of, Linkage, export_value, exports_through, import_value, value_by}
-use Rattle.link65.specs.declared.parts.Definition.{Definition}
+use Rattle.link65.specs.declared.parts.ScriptSymbol.{ScriptSymbol}
 use Rattle.link65.specs.declared.parts.Exported as parts
 use Rattle.link65.specs.declared.parts.Provider.{Provider}
 use Rattle.link65.specs.declared.parts.Provider.TheVariants.{ByModule, ByScript, Nobody}
 use Rattle.link65.specs.declared.parts.ValueFault.{ValueFault}
 use Rattle.link65.specs.declared.parts.ValueFault.TheVariants.{Circular, Unresolved}
 use Rattle.sources65.proofs.SoundForms.{all_append}
-use Rattle.semantics65.specs.Module.{ending_of}
+use Rattle.semantics65.specs.Module.{module_resolution}
 use Rattle.whole65.proofs.Exports.{IsDefined, said_all, source_exports}
 use Rattle.whole65.proofs.Keyed.{form_law, keyed_law}
 use Rattle.whole65.proofs.Linked.{linked_law}
@@ -38,8 +38,8 @@ use Rattle.whole65.proofs.Positions.{all_get}
 use Rattle.whole65.proofs.Sources.{contents_of}
 use Rattle.whole65.proofs.LinkedObjects.{IsKeyed, IsKeyedContent, IsKeyedSaid, provider_named, imports_linked, linked_objects, context_in, symbols_at}
 use Rattle.whole65.specs.Modules.{global_context, table_of}
-use Rattle.whole65.specs.Objects.{IsExport, IsGiven, IsGivenBy, Objects, AreObjects}
-use Rattle.whole65.specs.Offsets.{IsLaidOut}
+use Rattle.whole65.specs.Objects.{IsExport, ImportHasValue, IsGivenBy, Objects, AreObjects}
+use Rattle.whole65.specs.Offsets.{IsSoundLayoutOf}
 use Rattle.whole65.specs.Programs as whole
 use Rattle.whole65.specs.Programs.{definition_of, exporter_from, provider_or, length_of}
 use Rattle.whole65.specs.Sources.{AreSources}
@@ -51,9 +51,9 @@ use Rattle.whole65.specs.Values.{by_module, by_nobody, by_script}
 -- an export has the form of the definition of its name, with the numbers of the object
 abbrev IsWritten : Symbols → (sections numbers : List ℕ) → ℕ → Export → Type 0
 IsWritten z sections numbers count e =
-    (f : Form) × (j : ℕ) × IsKeyed sections numbers count f × (e.form ≡ numbered sections numbers f) × (defined z (named 0 e.name) ≡ Some j) × (defined_form z j ≡ Ok f)
+    (f : Form) × (j : ℕ) × IsKeyed sections numbers count f × (e.form ≡ renumbered_form sections numbers f) × (definition_index z (named 0 e.name) ≡ Some j) × (defined_form z j ≡ Ok f)
 
-written_said : (z : Symbols) (origins : Place → Origin) (sections numbers : List ℕ) (count : ℕ) (ss : List Declaration) → AllByRecursion (IsDefined z) ss → AllByRecursion (IsKeyedSaid sections numbers count) ss → AllByRecursion (IsWritten z sections numbers count) (filter_map (export_of origins sections numbers) ss)
+written_said : (z : Symbols) (origins : SourceLocation → Origin) (sections numbers : List ℕ) (count : ℕ) (ss : List Declaration) → AllByRecursion (IsDefined z) ss → AllByRecursion (IsKeyedSaid sections numbers count) ss → AllByRecursion (IsWritten z sections numbers count) (filter_map (export_of origins sections numbers) ss)
 written_said z origins sections numbers count [] d k = tt
 written_said z origins sections numbers count (Exported n place f ∷ ss) d k = ((f, d.0.0, k.0, refl, d.0.1, d.0.2), written_said z origins sections numbers count ss d.1 k.1)
 written_said z origins sections numbers count (ForcedImport n ∷ ss) d k = written_said z origins sections numbers count ss d.1 k.1
@@ -67,14 +67,14 @@ keyed_said sections numbers count (c ∷ cs) h = all_append (IsKeyedSaid section
 
 abbrev pub linked_exports : ℕ → List Module → List parts.Exported
 linked_exports owner [] = []
-linked_exports owner (m ∷ ms) = map (exported owner) m.object.exports ++ linked_exports (suc owner) ms
+linked_exports owner (m ∷ ms) = map (linked_export owner) m.object.exports ++ linked_exports (suc owner) ms
 
-exports_behind : (p : Program) (ms : List Module) → (with_modules p ms).exports ≡ p.exports ++ linked_exports (length p.members) ms
-exports_behind p [] = sym (append-nil p.exports)
-exports_behind p (m ∷ ms) = grind (arith, common_steps, (exports_behind (with_module p m) ms))
+exports_after : (p : Program) (ms : List Module) → (with_modules p ms).exports ≡ p.exports ++ linked_exports (length p.members) ms
+exports_after p [] = sym (append-nil p.exports)
+exports_after p (m ∷ ms) = grind (arith, common_steps, (exports_after (with_module p m) ms))
 
 pub exports_are : (ms : List Module) → (program_of ms).exports ≡ linked_exports 0 ms
-exports_are ms = exports_behind no_program ms
+exports_are ms = exports_after no_program ms
 
 -- an export of a module, and the form that its source has for it
 pub record IsExportOf (ys : List Layout) (ms : List Module) (e : parts.Exported) : Type 0 where
@@ -83,16 +83,16 @@ pub record IsExportOf (ys : List Layout) (ms : List Module) (e : parts.Exported)
   pub contents : List Content
   pub at_y : slice_get ys e.owner ≡ Some layout
   pub at_m : slice_get ms e.owner ≡ Some object
-  pub found : (ending_of layout.laid).found ≡ Ok contents
+  pub found : (module_resolution layout.laid).found ≡ Ok contents
   pub form : Form
   pub keyed : IsKeyed (section_keys contents) (import_keys (table_of layout).imports contents) (length (table_of layout).imports) form
-  pub written : e.form ≡ numbered (section_keys contents) (import_keys (table_of layout).imports contents) form
+  pub written : e.form ≡ renumbered_form (section_keys contents) (import_keys (table_of layout).imports contents) form
   pub definition : ℕ
-  pub defining : defined (table_of layout) (named 0 e.name) ≡ Some definition
+  pub defining : definition_index (table_of layout) (named 0 e.name) ≡ Some definition
   pub its_form : defined_form (table_of layout) definition ≡ Ok form
 
 module _ (ys : List Layout) (ms : List Module) where
-  of_source : (owner : ℕ) (y : Layout) (m : Module) (cs : List Content) → slice_get ys owner ≡ Some y → slice_get ms owner ≡ Some m → (ending_of y.laid).found ≡ Ok cs → (es : List Export) → AllByRecursion (IsWritten (table_of y) (section_keys cs) (import_keys (table_of y).imports cs) (length (table_of y).imports)) es → AllByRecursion (IsExportOf ys ms) (map (exported owner) es)
+  of_source : (owner : ℕ) (y : Layout) (m : Module) (cs : List Content) → slice_get ys owner ≡ Some y → slice_get ms owner ≡ Some m → (module_resolution y.laid).found ≡ Ok cs → (es : List Export) → AllByRecursion (IsWritten (table_of y) (section_keys cs) (import_keys (table_of y).imports cs) (length (table_of y).imports)) es → AllByRecursion (IsExportOf ys ms) (map (linked_export owner) es)
   of_source owner y m cs at_y at_m e [] h = tt
   of_source owner y m cs at_y at_m e (x ∷ es) h = grind (arith, common_steps, (of_source owner y m cs at_y at_m e es h.1))
 
@@ -111,7 +111,7 @@ module _ (ys : List Layout) (ms : List Module) where
       let sections : List ℕ = section_keys cs in
       let numbers : List ℕ = import_keys z.imports cs in
       let written = written_said z c.origins sections numbers (length z.imports) (all_said cs) (said_all y cs c.found).are_defined (keyed_said sections numbers (length z.imports) cs (keyed_law y cs h.0.sound c.found)) in
-      all_append (IsExportOf ys ms) (map (exported owner) m.object.exports) (linked_exports (suc owner) ns)
+      all_append (IsExportOf ys ms) (map (linked_export owner) m.object.exports) (linked_exports (suc owner) ns)
       (of_source owner y m cs at_y at_m c.found m.object.exports (subst (λ (o : Object). AllByRecursion (IsWritten z sections numbers (length z.imports)) o.exports) (sym c.object) written))
       (of_sources rest ns (suc owner) h.1 (λ i. up_y (suc i) ∙ ap (slice_get ys) (next i)) (λ i. up_m (suc i) ∙ ap (slice_get ms) (next i)))
 
@@ -157,10 +157,10 @@ abbrev by_found : Option parts.Exported → values.Provider → values.Provider
 by_found None other = other
 by_found (Some e) other = by_module e.owner
 
-by_definitions : (exports : List parts.Exported) (name : List ℕ) (ds : List Definition) (w : values.Provider) (g : Provider) → Agree exports name w g → Agree exports name (provider_or w (definition_of ds name)) (by_definition ds (defined_at ds name) g)
-by_definitions exports name ds w g h = go (locate (λ (d : Definition). d.name) name ds)
+by_definitions : (exports : List parts.Exported) (name : List ℕ) (ds : List ScriptSymbol) (w : values.Provider) (g : Provider) → Agree exports name w g → Agree exports name (provider_or w (definition_of ds name)) (by_definition ds (defined_at ds name) g)
+by_definitions exports name ds w g h = go (locate (λ (d : ScriptSymbol). d.name) name ds)
   where
-    go : Located (λ (d : Definition). d.name) name ds → Agree exports name (provider_or w (definition_of ds name)) (by_definition ds (defined_at ds name) g)
+    go : Located (λ (d : ScriptSymbol). d.name) name ds → Agree exports name (provider_or w (definition_of ds name)) (by_definition ds (defined_at ds name) g)
     go x1 = grind (arith, common_steps, of_script)
 
 by_exports : (exports : List parts.Exported) (name : List ℕ) (w : values.Provider) (g : Provider) → Agree exports name w g → Agree exports name (by_found (find (λ e. bytes_eq e.name name) exports) w) (by_export (exported_at exports name) g)
@@ -169,7 +169,7 @@ by_exports exports name w g h = go (locate (λ (e : parts.Exported). e.name) nam
     go : Located (λ (e : parts.Exported). e.name) name exports → Agree exports name (by_found (find (λ e. bytes_eq e.name name) exports) w) (by_export (exported_at exports name) g)
     go x1 = grind (arith, common_steps, of_module)
 
-one_exporter : (owner : ℕ) (name : List ℕ) (other : values.Provider) (rest : List parts.Exported) (es : List Export) → by_found (find (λ e. bytes_eq e.name name) (map (exported owner) es ++ rest)) other ≡ cond (is_among (map (λ (e : Export). e.name) es) name) (by_module owner) (by_found (find (λ e. bytes_eq e.name name) rest) other)
+one_exporter : (owner : ℕ) (name : List ℕ) (other : values.Provider) (rest : List parts.Exported) (es : List Export) → by_found (find (λ e. bytes_eq e.name name) (map (linked_export owner) es ++ rest)) other ≡ cond (is_among (map (λ (e : Export). e.name) es) name) (by_module owner) (by_found (find (λ e. bytes_eq e.name name) rest) other)
 one_exporter owner name other rest [] = refl
 one_exporter owner name other rest (e ∷ es) = grind (arith, common_steps, (one_exporter owner name other rest es))
 
@@ -191,14 +191,14 @@ providers_agree s placement ys ms name h =
 
 -- ---- What imports come to.
 
-pub past_all : (ls : List Laid) → slice_get ls (length ls) ≡ None
+pub past_all : (ls : List LaidOutStatement) → slice_get ls (length ls) ≡ None
 past_all [] = refl
 past_all (l ∷ ls) = past_all ls
 
-pub global_form : (y : Layout) (x : List ℕ) (j : ℕ) (f : Form) → defined (table_of y) (named 0 x) ≡ Some j → defined_form (table_of y) j ≡ Ok f → norm (suc (suc (length (table_of y).definitions))) (table_of y) (global_context y) (tree.name false (x ∷ [])) ≡ Ok f
+pub global_form : (y : Layout) (x : List ℕ) (j : ℕ) (f : Form) → definition_index (table_of y) (named 0 x) ≡ Some j → defined_form (table_of y) j ≡ Ok f → norm (suc (suc (length (table_of y).definitions))) (table_of y) (global_context y) (tree.name false (x ∷ [])) ≡ Ok f
 global_form y x j f e h = grind (arith, common_steps)
 
-all_laid_out : (ys : List Layout) (ms : List Module) → AreSources ys ms → AllByRecursion IsLaidOut ys
+all_laid_out : (ys : List Layout) (ms : List Module) → AreSources ys ms → AllByRecursion IsSoundLayoutOf ys
 all_laid_out [] [] h = tt
 all_laid_out [] (m ∷ ms) h = absurd h
 all_laid_out (y ∷ ys) [] h = absurd h
@@ -242,7 +242,7 @@ module _ (s : Script) (placement : Placement) (ys : List Layout) (ms : List Modu
   given_by h owner k x _ _ of_nobody says = λ turns v q. (let never : ◌≡◌ {A = Result ℤ ValueFault} (Err Unresolved) (Ok v) = sym (says turns) ∙ q in absurd cc)
   given_by h owner k x _ _ (of_module i e at called) says = of_export h owner k x i e at called says
 
-  given : (h : AreSources ys ms) (owner k : ℕ) (r : Option (List ℕ)) → slice_get (o.symbols owner).imports k ≡ r → IsGiven p o owner k r
+  given : (h : AreSources ys ms) (owner k : ℕ) (r : Option (List ℕ)) → slice_get (o.symbols owner).imports k ≡ r → ImportHasValue p o owner k r
   given h owner k None e = λ turns v q. (let never : ◌≡◌ {A = Result ℤ ValueFault} (Err Unresolved) (Ok v) = sym (ap (λ r. import_value (exports_through l turns) (provider_named s placement (program_of ms) r)) e) ∙ q in absurd cc)
   given h owner k (Some x) e =
       given_by h owner k x (whole.provider_of s placement ys x) (linked.provider_of (script_definitions s placement) (program_of ms).exports (weak_symbols s.symbols) x) (providers_agree s placement ys ms x h)

@@ -12,32 +12,32 @@ use Rattle.script65.proofs.Apart.{same_needs}
 use Rattle.script65.specs.Placing.{size_of}
 use Rattle.script65.specs.declared.placement.SegmentNeed.{SegmentNeed}
 use Rattle.ast65.proofs.Lists.{bytes_swap, same_bytes}
-use Rattle.syntax65.specs.declared.place.Place.{Place}
+use Rattle.syntax65.specs.declared.source_location.SourceLocation.{SourceLocation}
 use Rattle.semantics65.specs.Contents.{Content, Part, Known, Filled, Waiting}
-use Rattle.semantics65.specs.Symbols.{Laid, with_new}
+use Rattle.semantics65.specs.Symbols.{LaidOutStatement, with_new}
 use Rattle.semantics65.specs.Layout.{Layout}
-use Rattle.semantics65.specs.Numbering.{import_keys, once, section_keys, section_of, segments_asked, parts_in}
-use Rattle.link65.specs.Programs.{Module, Program as LinkedProgram, no_program, program_of, with_module, with_modules, Segment, grown, segment_of, with_section, with_sections, Cell, begin_behind, filled, fragment_cells}
+use Rattle.semantics65.specs.Numbering.{import_keys, distinct_keys, section_keys, section_of, segments_asked, parts_in}
+use Rattle.link65.specs.Programs.{Module, Program as LinkedProgram, no_program, program_of, with_module, with_modules, Segment, segment_with_section, segment_of, with_section, with_sections, Cell, begin_after, filled, fragment_cells}
 use Rattle.link65.specs.Values as places
 use Rattle.link65.specs.Programs as linked
 use Rattle.sources65.proofs.Resolving.{new_append}
 use Rattle.whole65.proofs.Sections.{asked_are, held, keys_of, or_false, or_true, with_key, name_at, segment_law}
 use Rattle.whole65.proofs.Positions.{itself}
-use Rattle.whole65.proofs.Sources.{contents_of, size_law, Behind, begin_is_multiple, behind_source, grows, no_part, part_end, section_begin, size_or, size_or_empty, unchanged, whole_part}
+use Rattle.whole65.proofs.Sources.{contents_of, size_law, Following, begin_is_multiple, after_source, grows, no_part, part_end, section_begin, size_or, size_or_empty, unchanged, whole_part}
 use Rattle.whole65.specs.Laws.{PlacementLaw}
 use Rattle.whole65.specs.Modules.{table_of, global_context, context_or}
-use Rattle.whole65.specs.Segments.{asked_by, end_of, items_of, need_of, segment_name, segments_of, Item, end_behind, items_from, largest_multiple, line, lines_behind, part_of, rounding}
+use Rattle.whole65.specs.Segments.{asked_by, end_of, items_of, need_of, segment_name, segments_of, Item, end_after, items_from, largest_multiple, line, lines_after, part_of, rounding}
 use Rattle.whole65.specs.Sources.{AreSources, IsSource}
 use Rattle.std.specs.Int.{next_multiple_of}
 use Rattle.script65.specs.declared.placement.Placement.{Placement}
 use Rattle.script65.specs.declared.script.Script.{Script}
 use Rattle.link65.specs.Values.{linkage_of, Linkage}
 use Rattle.link65.specs.declared.parts.ValueFault.{ValueFault}
-use Rattle.semantics65.specs.Module.{ending_of}
+use Rattle.semantics65.specs.Module.{module_resolution}
 use Rattle.sources65.proofs.SoundForms.{all_append}
 use Rattle.whole65.proofs.Keyed.{source_at, form_law, keyed_law}
 use Rattle.whole65.proofs.ModuleBytes.{cells_joined, cells_split, of_filled, module_law}
-use Rattle.whole65.proofs.LinkedObjects.{AreCells, IsValuedIn, cells_or, behind_modules, behind_sections, or_empty, IsKeyedContent, IsKeyedPart, linked_objects, context_in, symbols_at}
+use Rattle.whole65.proofs.LinkedObjects.{AreCells, IsValuedIn, cells_or, after_modules, after_sections, or_empty, IsKeyedContent, IsKeyedPart, linked_objects, context_in, symbols_at}
 use Rattle.whole65.specs.Contents.{AreBytes}
 use Rattle.whole65.specs.Objects.{AreObjects, Objects}
 use Rattle.whole65.specs.Offsets.{IsMultiple, lines_at}
@@ -67,7 +67,7 @@ any_map N n (k ∷ ks) = ap (λ b. bytes_eq n (N k) || b) (any_map N n ks)
 one_key : (N : ℕ → List ℕ) (known : List (List ℕ)) (found : List ℕ) (k : ℕ) → with_new known (map N (with_key found k)) ≡ with_name (with_new known (map N found)) (N k)
 one_key x known found k = grind (arith, common_steps, map-append, new_append, held, itself, any_new, any_map, or_true)
 
-names_once : (N : ℕ → List ℕ) (known : List (List ℕ)) (found ks : List ℕ) → with_new known (map N (once found ks)) ≡ with_new (with_new known (map N found)) (map N ks)
+names_once : (N : ℕ → List ℕ) (known : List (List ℕ)) (found ks : List ℕ) → with_new known (map N (distinct_keys found ks)) ≡ with_new (with_new known (map N found)) (map N ks)
 names_once N known found [] = refl
 names_once N known found (k ∷ ks) = grind (arith, common_steps, one_key, (names_once N known (with_key found k) ks))
 
@@ -84,11 +84,11 @@ all_sections : (owner : ℕ) (ss : List Section) (gs : List Segment) → names_o
 all_sections owner [] gs = refl
 all_sections owner (s ∷ ss) gs = all_sections owner ss (with_section owner gs s) ∙ ap (λ z. with_new z (map (λ s. s.name) ss)) (one_section owner gs s)
 
-section_names : (y : Layout) (origins : Place → Origin) (sections imports : List ℕ) (cs : List Content) (ks : List ℕ) → AllByRecursion (λ g. g < length y.cursor.segments) ks → map (λ (s : Section). s.name) (map (section_of origins y.cursor.segments sections imports cs) ks) ≡ map (segment_name y) ks
+section_names : (y : Layout) (origins : SourceLocation → Origin) (sections imports : List ℕ) (cs : List Content) (ks : List ℕ) → AllByRecursion (λ g. g < length y.cursor.segments) ks → map (λ (s : Section). s.name) (map (section_of origins y.cursor.segments sections imports cs) ks) ≡ map (segment_name y) ks
 section_names y origins sections imports cs [] h = refl
 section_names y origins sections imports cs (k ∷ ks) h = grind (arith, common_steps, (section_names y origins sections imports cs ks h.1), name_at)
 
-pub names_asked : (y : Layout) (ls : List Laid) → map (segment_name y) (map (λ (l : Laid). l.context.segment) ls) ≡ map (λ (l : Laid). segment_name y l.context.segment) ls
+pub names_asked : (y : Layout) (ls : List LaidOutStatement) → map (segment_name y) (map (λ (l : LaidOutStatement). l.context.segment) ls) ≡ map (λ (l : LaidOutStatement). segment_name y l.context.segment) ls
 names_asked y [] = refl
 names_asked y (l ∷ ls) = ap (λ z. segment_name y l.context.segment ∷ z) (names_asked y ls)
 
@@ -145,12 +145,12 @@ module _ (p : Program) (fill : ℕ) where
 
   bytes_joined : (at : ℕ) (xs zs : List Item) (bytes : List ℕ) → BothBytes at xs zs bytes → AreBytes p fill at (xs ++ zs) bytes
   bytes_joined at [] zs bytes (own, rest, none, h, e) = subst (AreBytes p fill at zs) (sym (e ∙ ap (λ z. z ++ rest) none)) h
-  bytes_joined at (x ∷ xs) zs bytes (own, rest, (a, b, k, more, e'), h, e) = grind (arith, common_steps, (bytes_joined (end_behind at x) xs zs (b ++ rest) (b, rest, more, h, refl)))
+  bytes_joined at (x ∷ xs) zs bytes (own, rest, (a, b, k, more, e'), h, e) = grind (arith, common_steps, (bytes_joined (end_after at x) xs zs (b ++ rest) (b, rest, more, h, refl)))
 
   pub bytes_split : (at : ℕ) (xs zs : List Item) (bytes : List ℕ) → AreBytes p fill at (xs ++ zs) bytes → BothBytes at xs zs bytes
   bytes_split at [] zs bytes h = ([], bytes, refl, h, refl)
   bytes_split at (x ∷ xs) zs bytes (a, b, k, more, e) =
-      let (own, rest, h, g, e') = bytes_split (end_behind at x) xs zs b more in
+      let (own, rest, h, g, e') = bytes_split (end_after at x) xs zs b more in
       (a ++ own, rest, (a, own, k, h, refl), g, e ∙ ap (λ z. a ++ z) e' ∙ sym (append_assoc a own rest))
 
 -- ---- Parts of a segment.
@@ -180,7 +180,7 @@ module _ (s : Script) (placement : Placement) (ys : List Layout) (ms : List Modu
     source : IsSource y m
     source = source_at ys ms owner y m sources at_y at_m
 
-    valued : (cs : List Content) → (ending_of y.laid).found ≡ Ok cs → (qs : List Part) → AllByRecursion (IsKeyedPart (section_keys cs) (import_keys (table_of y).imports cs) (length (table_of y).imports)) qs → AllByRecursion (IsValuedIn o l owner (section_keys cs) (import_keys (table_of y).imports cs)) qs
+    valued : (cs : List Content) → (module_resolution y.laid).found ≡ Ok cs → (qs : List Part) → AllByRecursion (IsKeyedPart (section_keys cs) (import_keys (table_of y).imports cs) (length (table_of y).imports)) qs → AllByRecursion (IsValuedIn o l owner (section_keys cs) (import_keys (table_of y).imports cs)) qs
     valued cs e [] h = tt
     valued cs e (Known own ∷ qs) h = (tt, valued cs e qs h.1)
     valued cs e (Filled n ∷ qs) h = (tt, valued cs e qs h.1)
@@ -192,20 +192,20 @@ module _ (s : Script) (placement : Placement) (ys : List Layout) (ms : List Modu
       valued cs e qs h.1,
     )
 
-    context_is : (place : ℕ) (x : Laid) → slice_get y.laid place ≡ Some x → o.contexts owner place ≡ x.context
+    context_is : (place : ℕ) (x : LaidOutStatement) → slice_get y.laid place ≡ Some x → o.contexts owner place ≡ x.context
     context_is place x e = ap (λ r. context_in r place) at_y ∙ ap (context_or (global_context y)) e
 
-    lines_have : (begin key : ℕ) (origins : Place → Origin) (cs : List Content) (bytes : List ℕ) → (ending_of y.laid).found ≡ Ok cs → IsMultiple begin (largest_multiple (lines_at key (lines_behind owner [] y.laid))) → AreBytes p fill begin (map line (lines_at key (lines_behind owner [] y.laid))) bytes ↔ AreCells l fill (flat_map (fragment_cells owner) (section_of origins y.cursor.segments (section_keys cs) (import_keys (table_of y).imports cs) cs key).fragments) bytes
-    lines_have begin key origins cs bytes e multiple =
+    lines_have : (begin key : ℕ) (origins : SourceLocation → Origin) (cs : List Content) (bytes : List ℕ) → (module_resolution y.laid).found ≡ Ok cs → IsMultiple begin (largest_multiple (lines_at key (lines_after owner [] y.laid))) → AreBytes p fill begin (map line (lines_at key (lines_after owner [] y.laid))) bytes ↔ AreCells l fill (flat_map (fragment_cells owner) (section_of origins y.cursor.segments (section_keys cs) (import_keys (table_of y).imports cs) cs key).fragments) bytes
+    lines_have begin key origins cs bytes e alignment =
         let sections : List ℕ = section_keys cs in
         let imports : List ℕ = import_keys (table_of y).imports cs in
-        module_law ValueFault p o l fill begin owner key y cs origins sections imports bytes objects (ap symbols_at at_y) context_is source.laid_out multiple e
+        module_law ValueFault p o l fill begin owner key y cs origins sections imports bytes objects (ap symbols_at at_y) context_is source.laid_out alignment e
         (valued cs e (parts_in cs key) (keyed_in sections imports (length (table_of y).imports) key cs (keyed_law y cs source.sound e)))
 
-    one_part : (g : Option Segment) (bytes : List ℕ) → AreCells l fill (cells_or (behind_sections owner name g m.object.sections)) bytes ↔ Split (cells_or g) (size_or g) (part_of owner y name) bytes
-    one_part g bytes = go (behind_source y m source owner name g)
+    one_part : (g : Option Segment) (bytes : List ℕ) → AreCells l fill (cells_or (after_sections owner name g m.object.sections)) bytes ↔ Split (cells_or g) (size_or g) (part_of owner y name) bytes
+    one_part g bytes = go (after_source y m source owner name g)
       where
-        go : Behind y m (contents_of y m source).origins (contents_of y m source).contents owner name g → AreCells l fill (cells_or (behind_sections owner name g m.object.sections)) bytes ↔ Split (cells_or g) (size_or g) (part_of owner y name) bytes
+        go : Following y m (contents_of y m source).origins (contents_of y m source).contents owner name g → AreCells l fill (cells_or (after_sections owner name g m.object.sections)) bytes ↔ Split (cells_or g) (size_or g) (part_of owner y name) bytes
         go (unchanged has e) =
             let none : part_of owner y name ≡ [] = no_part y owner name has in (
               λ h. (bytes, [], subst (λ z. AreCells l fill (cells_or z) bytes) e h, subst (λ z. AreBytes p fill (size_or g) z []) (sym none) refl, sym (append-nil bytes)),
@@ -216,50 +216,50 @@ module _ (s : Script) (placement : Placement) (ys : List Layout) (ms : List Modu
             cs : List Content
             cs = (contents_of y m source).contents
 
-            origins : Place → Origin
+            origins : SourceLocation → Origin
             origins = (contents_of y m source).origins
 
             sec : Section
             sec = section_of origins y.cursor.segments (section_keys cs) (import_keys (table_of y).imports cs) cs key
 
-            multiple : ℕ
-            multiple = largest_multiple (lines_at key (lines_behind owner [] y.laid))
+            alignment : ℕ
+            alignment = largest_multiple (lines_at key (lines_after owner [] y.laid))
 
             begin : ℕ
-            begin = next_multiple_of (size_or g) multiple
+            begin = next_multiple_of (size_or g) alignment
 
-            gap_is : begin_behind (or_empty name g).size sec - (or_empty name g).size ≡ begin - size_or g
+            gap_is : begin_after (or_empty name g).size sec - (or_empty name g).size ≡ begin - size_or g
             gap_is =
-                ap (λ n. begin_behind n sec - n) (size_or_empty name g)
+                ap (λ n. begin_after n sec - n) (size_or_empty name g)
                 ∙ ap (λ n. n - size_or g) (section_begin y owner key (size_or g) origins (section_keys cs) (import_keys (table_of y).imports cs) cs source.laid_out)
 
-            cells_are : cells_or (behind_sections owner name g m.object.sections) ≡ cells_or g ++ (replicate (begin - size_or g) filled ++ flat_map (fragment_cells owner) sec.fragments)
+            cells_are : cells_or (after_sections owner name g m.object.sections) ≡ cells_or g ++ (replicate (begin - size_or g) filled ++ flat_map (fragment_cells owner) sec.fragments)
             cells_are =
                 ap cells_or e
-                ∙ append_assoc (or_empty name g).cells (replicate (begin_behind (or_empty name g).size sec - (or_empty name g).size) filled) (flat_map (fragment_cells owner) sec.fragments)
+                ∙ append_assoc (or_empty name g).cells (replicate (begin_after (or_empty name g).size sec - (or_empty name g).size) filled) (flat_map (fragment_cells owner) sec.fragments)
                 ∙ ap (λ n. (or_empty name g).cells ++ (replicate n filled ++ flat_map (fragment_cells owner) sec.fragments)) gap_is
                 ∙ ap (λ z. z ++ (replicate (begin - size_or g) filled ++ flat_map (fragment_cells owner) sec.fragments)) (or_empty_cells name g)
 
-            part_is : part_of owner y name ≡ rounding multiple ∷ map line (lines_at key (lines_behind owner [] y.laid))
+            part_is : part_of owner y name ≡ rounding alignment ∷ map line (lines_at key (lines_after owner [] y.laid))
             part_is = whole_part y owner key name source.laid_out lt called has
 
-            lines : (more : List ℕ) → AreBytes p fill begin (map line (lines_at key (lines_behind owner [] y.laid))) more ↔ AreCells l fill (flat_map (fragment_cells owner) sec.fragments) more
+            lines : (more : List ℕ) → AreBytes p fill begin (map line (lines_at key (lines_after owner [] y.laid))) more ↔ AreCells l fill (flat_map (fragment_cells owner) sec.fragments) more
             lines more = lines_have begin key origins cs more (contents_of y m source).found (begin_is_multiple y owner key (size_or g) source.laid_out)
 
-            there : AreCells l fill (cells_or (behind_sections owner name g m.object.sections)) bytes → Split (cells_or g) (size_or g) (part_of owner y name) bytes
+            there : AreCells l fill (cells_or (after_sections owner name g m.object.sections)) bytes → Split (cells_or g) (size_or g) (part_of owner y name) bytes
             there h =
                 let a = cells_split l fill (cells_or g) (replicate (begin - size_or g) filled ++ flat_map (fragment_cells owner) sec.fragments) bytes (subst (λ z. AreCells l fill z bytes) cells_are h) in
                 let b = cells_split l fill (replicate (begin - size_or g) filled) (flat_map (fragment_cells owner) sec.fragments) a.1 a.3 in
-                let part : AreBytes p fill (size_or g) (rounding multiple ∷ map line (lines_at key (lines_behind owner [] y.laid))) a.1 = (b.0, b.1, (of_filled l fill (begin - size_or g) b.0).1 b.2, (lines b.1).1 b.3, b.4) in
+                let part : AreBytes p fill (size_or g) (rounding alignment ∷ map line (lines_at key (lines_after owner [] y.laid))) a.1 = (b.0, b.1, (of_filled l fill (begin - size_or g) b.0).1 b.2, (lines b.1).1 b.3, b.4) in
                 (a.0, a.1, a.2, subst (λ z. AreBytes p fill (size_or g) z a.1) (sym part_is) part, a.4)
 
-            back : Split (cells_or g) (size_or g) (part_of owner y name) bytes → AreCells l fill (cells_or (behind_sections owner name g m.object.sections)) bytes
+            back : Split (cells_or g) (size_or g) (part_of owner y name) bytes → AreCells l fill (cells_or (after_sections owner name g m.object.sections)) bytes
             back h =
-                let b : AreBytes p fill (size_or g) (rounding multiple ∷ map line (lines_at key (lines_behind owner [] y.laid))) h.1 = subst (λ z. AreBytes p fill (size_or g) z h.1) part_is h.3 in
+                let b : AreBytes p fill (size_or g) (rounding alignment ∷ map line (lines_at key (lines_after owner [] y.laid))) h.1 = subst (λ z. AreBytes p fill (size_or g) z h.1) part_is h.3 in
                 let rest = cells_joined l fill (replicate (begin - size_or g) filled) (flat_map (fragment_cells owner) sec.fragments) h.1 (b.0, b.1, (of_filled l fill (begin - size_or g) b.0).0 b.2, (lines b.1).0 b.3, b.4) in
                 subst (λ z. AreCells l fill z bytes) (sym cells_are) (cells_joined l fill (cells_or g) (replicate (begin - size_or g) filled ++ flat_map (fragment_cells owner) sec.fragments) bytes (h.0, h.1, h.2, rest, h.4))
 
-  modules : (rest : List Layout) (ns : List Module) (owner : ℕ) (g : Option Segment) (bytes : List ℕ) → AreSources rest ns → ((i : ℕ) → slice_get rest i ≡ slice_get ys (owner + i)) → ((i : ℕ) → slice_get ns i ≡ slice_get ms (owner + i)) → AreCells l fill (cells_or (behind_modules owner name g ns)) bytes ↔ Split (cells_or g) (size_or g) (items_from owner rest name) bytes
+  modules : (rest : List Layout) (ns : List Module) (owner : ℕ) (g : Option Segment) (bytes : List ℕ) → AreSources rest ns → ((i : ℕ) → slice_get rest i ≡ slice_get ys (owner + i)) → ((i : ℕ) → slice_get ns i ≡ slice_get ms (owner + i)) → AreCells l fill (cells_or (after_modules owner name g ns)) bytes ↔ Split (cells_or g) (size_or g) (items_from owner rest name) bytes
   modules [] [] owner g bytes h up_y up_m = grind (arith, common_steps)
   modules [] (m ∷ ns) owner g bytes h up_y up_m = absurd h
   modules (y ∷ rest) [] owner g bytes h up_y up_m = absurd h
@@ -268,7 +268,7 @@ module _ (s : Script) (placement : Placement) (ys : List Layout) (ms : List Modu
       let at_y : slice_get ys owner ≡ Some y = ap (slice_get ys) (sym here) ∙ sym (up_y 0) in
       let at_m : slice_get ms owner ≡ Some m = ap (slice_get ms) (sym here) ∙ sym (up_m 0) in
       let next : (i : ℕ) → owner + suc i ≡ suc owner + i = λ i. omega arith in
-      let after : Option Segment = behind_sections owner name g m.object.sections in
+      let after : Option Segment = after_sections owner name g m.object.sections in
       let deeper = modules rest ns (suc owner) after bytes h.1 (λ i. up_y (suc i) ∙ ap (slice_get ys) (next i)) (λ i. up_m (suc i) ∙ ap (slice_get ms) (next i)) in
       let size : size_or after ≡ end_of (size_or g) (part_of owner y name) = part_end y m owner name g h.0 in
       let one = one_part owner y m at_y at_m g in (
@@ -278,4 +278,4 @@ module _ (s : Script) (placement : Placement) (ys : List Layout) (ms : List Modu
 
 -- What lies in a segment of a link has the bytes of the segment's list in the whole program.
 pub linked_bytes_law : (s : Script) (placement : Placement) (ys : List Layout) (ms : List Module) (fill : ℕ) (name bytes : List ℕ) → AreSources ys ms → AreObjects (whole.program_of s placement ys) (linked_objects s placement ys ms) → AreCells (linkage_of s (linked.program_of ms) placement) fill (cells_or (segment_of (linked.program_of ms).segments name)) bytes ↔ AreBytes (whole.program_of s placement ys) fill 0 (items_of ys name) bytes
-linked_bytes_law s placement ys ms fill name bytes sources objects = grind (arith, common_steps, modules, cells_or, behind_modules, segment_law)
+linked_bytes_law s placement ys ms fill name bytes sources objects = grind (arith, common_steps, modules, cells_or, after_modules, segment_law)

@@ -7,15 +7,15 @@ use Rattle.base65.specs.Values.{value1, value2}
 use Rattle.object65.specs.Form.{Form, lit, sec, imp, prefix, binary}
 use Rattle.object65.specs.FormValue.{or_none, value_in}
 use Rattle.object65.specs.declared.folding.FormFault.{FormFault}
-use Rattle.syntax65.specs.declared.place.Place.{Place}
-use Rattle.semantics65.specs.Contents.{written}
-use Rattle.semantics65.specs.Norms.{folded, address_of, form_of_meaning, norm}
-use Rattle.whole65.specs.Objects.{AreObjects, IsGiven, IsGivenBy, Objects, form_value, HasValue, IsExport}
-use Rattle.whole65.specs.Values.{Provider, by_module, by_script, by_nobody, Program, Meaning, label_at, constant_at, import_of, meaning_in, Value, number, here, label, constant, exported, scripted, prefixed, joined}
+use Rattle.syntax65.specs.declared.source_location.SourceLocation.{SourceLocation}
+use Rattle.semantics65.specs.Contents.{located_declarations}
+use Rattle.semantics65.specs.Norms.{fold_result, address_of, form_of_meaning, norm}
+use Rattle.whole65.specs.Objects.{AreObjects, ImportHasValue, IsGivenBy, Objects, form_value, HasValue, IsExport}
+use Rattle.whole65.specs.Values.{Provider, by_module, by_script, by_nobody, Program, SymbolBinding, label_at, constant_at, import_of, meaning_in, Value, number, here, label, constant, exported, scripted, prefixed, joined}
 use Rattle.syntax65.specs.Trees.{Tree, name}
 use Rattle.syntax65.specs.Trees as tree
-use Rattle.whole65.specs.Laws.{OneValueLaw, SameValuesLaw}
-use Rattle.semantics65.specs.Symbols.{meaning_of}
+use Rattle.whole65.specs.Laws.{ValueIsUnique, SameValuesLaw}
+use Rattle.semantics65.specs.Symbols.{binding_of}
 use Rattle.base65.specs.declared.values.Op1.{Op1}
 use Rattle.base65.specs.declared.values.Op2.{Op2}
 use Rattle.object65.proofs.Foldings.{binary_fold_law, prefix_fold_law}
@@ -26,11 +26,11 @@ use Rattle.object65.specs.Folding.{fold1, fold2}
 pub bind_ok : {E A B : Type 0} (r : Result A E) (f : A → Result B E) (y : B) → (r >>= f) ≡ Ok y → (x : A) × (r ≡ Ok x) × (f x ≡ Ok y)
 bind_ok x f y e = grind (arith, common_steps)
 
-pub folded_ok : (r : Result Form FormFault) (f : Form) → folded r ≡ Ok f → r ≡ Ok f
+pub folded_ok : (r : Result Form FormFault) (f : Form) → fold_result r ≡ Ok f → r ≡ Ok f
 folded_ok x f e = grind (arith, common_steps)
 
 -- what is written with its place is what was to be written
-pub written_ok : {A : Type 0} (place : Place) (a b : A) → written place a ≡ Ok b → a ≡ b
+pub written_ok : {A : Type 0} (place : SourceLocation) (a b : A) → located_declarations place a ≡ Ok b → a ≡ b
 written_ok {A = A} place a b e = grind (arith, common_steps)
 
 -- the second has the values of the first
@@ -56,7 +56,7 @@ module _ {E : Type 0} (p : Program) (o : Objects E) (h : AreObjects p o) where
   by_provider turns owner k v deeper x (by_script u) given q = given (suc turns) ∙ sym (given turns) ∙ q
   by_provider turns owner k v deeper x by_nobody given q = absurd (given turns v q)
 
-  by_name : (turns owner k : ℕ) (v : ℤ) → ((before : ℕ) → turns ≡ suc before → Reaches before) → (x : Option (List ℕ)) → IsGiven p o owner k x → o.imports turns owner k ≡ Ok v → o.imports (suc turns) owner k ≡ Ok v
+  by_name : (turns owner k : ℕ) (v : ℤ) → ((before : ℕ) → turns ≡ suc before → Reaches before) → (x : Option (List ℕ)) → ImportHasValue p o owner k x → o.imports turns owner k ≡ Ok v → o.imports (suc turns) owner k ≡ Ok v
   by_name turns owner k v deeper x1 given q = grind (arith, common_steps, by_provider)
 
   reaches : (turns : ℕ) → Reaches turns
@@ -82,7 +82,7 @@ FromProvider p x (by_module provider) v = Value p provider (p.global provider) (
 FromProvider p x (by_script u) v = u ≡ v
 FromProvider p x by_nobody v = ⊥
 
-abbrev pub FromMeaning : Program → ℕ → Option Meaning → ℤ → Type 0
+abbrev pub FromMeaning : Program → ℕ → Option SymbolBinding → ℤ → Type 0
 FromMeaning p owner None v = ⊥
 FromMeaning p owner (Some (label_at at)) v = p.address owner at ≡ v
 FromMeaning p owner (Some (constant_at at f)) v = Value p owner at f v
@@ -96,14 +96,14 @@ From p owner place (tree.binary op e f) v = (a : ℤ) × (b : ℤ) × Value p ow
 From p owner place e v = FromMeaning p owner (p.means owner place e) v
 
 -- what has a meaning comes from it
-by_meaning : (p : Program) (owner place : ℕ) (e : Tree) (v : ℤ) (m : Meaning) → meaning_in p owner place e ≡ Some m → FromMeaning p owner (Some m) v → From p owner place e v
+by_meaning : (p : Program) (owner place : ℕ) (e : Tree) (v : ℤ) (m : SymbolBinding) → meaning_in p owner place e ≡ Some m → FromMeaning p owner (Some m) v → From p owner place e v
 by_meaning p owner place x v m q h = grind (arith, common_steps)
 
 pub inverse : (p : Program) {owner place : ℕ} {e : Tree} {v : ℤ} → Value p owner place e v → From p owner place e v
 inverse p x1 = grind (arith, common_steps)
 
 -- and the meaning of what has one is all that its value comes from
-pub of_meaning : (p : Program) (owner place : ℕ) (e : Tree) (v : ℤ) (m : Meaning) → meaning_in p owner place e ≡ Some m → From p owner place e v → FromMeaning p owner (Some m) v
+pub of_meaning : (p : Program) (owner place : ℕ) (e : Tree) (v : ℤ) (m : SymbolBinding) → meaning_in p owner place e ≡ Some m → From p owner place e v → FromMeaning p owner (Some m) v
 of_meaning p owner place x v m q h = grind (arith, common_steps)
 
 unique : (p : Program) {owner place : ℕ} {e : Tree} {v : ℤ} → Value p owner place e v → (w : ℤ) → Value p owner place e w → v ≡ w
@@ -121,28 +121,28 @@ unique p (joined {op = op} {a = a} {b = b} {v = v} d₁ d₂ q) w h =
     let both : Some v ≡ Some w = sym q ∙ ap (λ z. value2 op z b) one ∙ ap (λ z. value2 op a' z) two ∙ r in
     cc both
 
-pub one_value_law : OneValueLaw
+pub one_value_law : ValueIsUnique
 one_value_law p owner place e v w d h = unique p d w h
 
 -- ---- The form of what stands for a definition.
 
 -- the form of what means this, through at most so many constants
-abbrev pub IsFormOf : {E : Type 0} → Objects E → ℕ → ℕ → Form → Meaning → Type 0
+abbrev pub IsFormOf : {E : Type 0} → Objects E → ℕ → ℕ → Form → SymbolBinding → Type 0
 IsFormOf o depth owner f (label_at place) = f ≡ address_of (o.contexts owner place)
 IsFormOf o depth owner f (constant_at place e) = norm depth (o.symbols owner) (o.contexts owner place) e ≡ Ok f
 IsFormOf o depth owner f (import_of x) = (k : ℕ) × (slice_get (o.symbols owner).imports k ≡ Some x) × (f ≡ imp k)
 
-abbrev pub IsForm : {E : Type 0} → Objects E → ℕ → ℕ → Form → Option Meaning → Type 0
+abbrev pub IsForm : {E : Type 0} → Objects E → ℕ → ℕ → Form → Option SymbolBinding → Type 0
 IsForm o depth owner f (Some m) = IsFormOf o depth owner f m
 IsForm o depth owner f None = (k : ℕ) × (slice_get (o.symbols owner).imports k ≡ None) × (f ≡ imp k)
 
 module _ {E : Type 0} (p : Program) (o : Objects E) (h : AreObjects p o) where
   -- the form of an operand is that of what it means
-  pub operand : (depth owner place : ℕ) (e : Tree) (f : Form) → (meaning_of (o.symbols owner) (o.contexts owner place) e >>= form_of_meaning (norm depth (o.symbols owner)) (o.symbols owner)) ≡ Ok f → IsForm o depth owner f (p.means owner place e)
+  pub operand : (depth owner place : ℕ) (e : Tree) (f : Form) → (binding_of (o.symbols owner) (o.contexts owner place) e >>= form_of_meaning (norm depth (o.symbols owner)) (o.symbols owner)) ≡ Ok f → IsForm o depth owner f (p.means owner place e)
   operand depth owner place e f q = grind (arith, common_steps)
 
   -- likewise of an expression that has a meaning
-  pub meant : (depth owner place : ℕ) (e : Tree) (m : Meaning) (f : Form) → meaning_in p owner place e ≡ Some m → norm (suc depth) (o.symbols owner) (o.contexts owner place) e ≡ Ok f → IsFormOf o depth owner f m
+  pub meant : (depth owner place : ℕ) (e : Tree) (m : SymbolBinding) (f : Form) → meaning_in p owner place e ≡ Some m → norm (suc depth) (o.symbols owner) (o.contexts owner place) e ≡ Ok f → IsFormOf o depth owner f m
   meant depth owner place x m f w q = grind (arith, common_steps)
 
 -- ---- A normal form has the value of its expression.
@@ -160,8 +160,8 @@ module _ {E : Type 0} (p : Program) (o : Objects E) (h : AreObjects p o) where
 
   two_parts : (depth owner place : ℕ) (op : Op2) (d e : Tree) (f : Form) → norm (suc depth) (o.symbols owner) (o.contexts owner place) (tree.binary op d e) ≡ Ok f → (g : Form) × (k : Form) × (norm (suc depth) (o.symbols owner) (o.contexts owner place) d ≡ Ok g) × (norm (suc depth) (o.symbols owner) (o.contexts owner place) e ≡ Ok k) × (fold2 op g k ≡ Ok f)
   two_parts depth owner place op d e f q =
-      let (g, r, t) = bind_ok (norm (suc depth) (o.symbols owner) (o.contexts owner place) d) (λ g. norm (suc depth) (o.symbols owner) (o.contexts owner place) e >>= (λ k. folded (fold2 op g k))) f q in
-      let (k, s, u) = bind_ok (norm (suc depth) (o.symbols owner) (o.contexts owner place) e) (λ k. folded (fold2 op g k)) f t in
+      let (g, r, t) = bind_ok (norm (suc depth) (o.symbols owner) (o.contexts owner place) d) (λ g. norm (suc depth) (o.symbols owner) (o.contexts owner place) e >>= (λ k. fold_result (fold2 op g k))) f q in
+      let (k, s, u) = bind_ok (norm (suc depth) (o.symbols owner) (o.contexts owner place) e) (λ k. fold_result (fold2 op g k)) f t in
       (g, k, r, s, folded_ok (fold2 op g k) f u)
 
   at_place : (turns owner place : ℕ) → form_value o turns owner (address_of (o.contexts owner place)) ≡ Ok (p.address owner place)
@@ -222,7 +222,7 @@ module _ {E : Type 0} (p : Program) (o : Objects E) (h : AreObjects p o) where
       scripted w (g ∙ ap by_script same)
   import_back turns below owner place k e x v w by_nobody g given d = absurd (given turns v d)
 
-  meaning_back : (turns : ℕ) → BelowExport turns → (depth : ℕ) → Through turns depth → (owner place : ℕ) (e : Tree) (f : Form) (v : ℤ) (m : Option Meaning) → meaning_in p owner place e ≡ m → IsForm o depth owner f m → form_value o turns owner f ≡ Ok v → Value p owner place e v
+  meaning_back : (turns : ℕ) → BelowExport turns → (depth : ℕ) → Through turns depth → (owner place : ℕ) (e : Tree) (f : Form) (v : ℤ) (m : Option SymbolBinding) → meaning_in p owner place e ≡ m → IsForm o depth owner f m → form_value o turns owner f ≡ Ok v → Value p owner place e v
   meaning_back turns below depth through owner place e f v None w (k, there, same) d = grind (arith, common_steps)
   meaning_back turns below depth through owner place e f v (Some (label_at at)) w same d =
       let there : Ok (p.address owner at) ≡ Ok v = sym (at_place turns owner at) ∙ (rw same at d) in

@@ -4,16 +4,16 @@ use Rattle.std.proofs.Common.{◌≡◌, ℕ, ◌+◌, Bool, true, false, cond, 
 use Rattle.std.specs.Prelude.{ℤ, pos, ◌+ℤ◌, ◌-ℤ◌, ◌↔◌, replicate}
 use Rattle.std.proofs.lemmas.Int.{ints, int_wrap-add_left}
 use Rattle.base65.specs.Outcome.{◌>>=◌}
-use Rattle.base65.specs.Values.{wrapped}
+use Rattle.base65.specs.Values.{wrap_signed}
 use Rattle.base65.specs.declared.values.Op2.TheVariants.{Subtract}
 use Rattle.object65.proofs.Foldings.{binary_fold_law}
 use Rattle.object65.specs.Folding.{fold2}
 use Rattle.object65.specs.Form.{Form, lit, sec, imp, prefix, binary}
 use Rattle.object65.specs.Objects.{fits_width, value_bytes}
 use Rattle.object65.specs.declared.object.Width.{Width}
-use Rattle.object65.specs.declared.object.Width.TheVariants.{Byte, Word, HighFirst, Dword, Branch}
-use Rattle.syntax65.specs.declared.place.Place.{Place}
-use Rattle.semantics65.specs.Contents.{Part, Known, Waiting, Content, operand_form, stored, written, opcode_part, room_part, exported_names}
+use Rattle.object65.specs.declared.object.Width.TheVariants.{Byte, Word, BigEndianWord, Dword, Branch}
+use Rattle.syntax65.specs.declared.source_location.SourceLocation.{SourceLocation}
+use Rattle.semantics65.specs.Contents.{Part, Known, Waiting, Content, operand_form, value_part, located_declarations, opcode_part, room_part, exported_names}
 use Rattle.ast65.specs.declared.fault.AsmFault.{AsmFault}
 use Rattle.ast65.specs.declared.fault.AsmFault.TheVariants.{OutOfRange}
 use Rattle.semantics65.specs.declared.laid.Context.{Context}
@@ -25,22 +25,22 @@ use Rattle.whole65.proofs.Statements.{AllCome, AreStated, a_datum, a_line, a_par
 use Rattle.std.proofs.lemmas.List.{append_assoc}
 use Rattle.syntax65.specs.Trees.{Tree}
 use Rattle.syntax65.specs.declared.instructions.names.Mnemonic.{Mnemonic}
-use Rattle.semantics65.specs.declared.laid.Settled.{Settled}
-use Rattle.semantics65.specs.declared.laid.Settled.TheVariants.{Unsettled, InMode, FilledWith, FromByte}
+use Rattle.semantics65.specs.declared.laid.EncodingChoice.{EncodingChoice}
+use Rattle.semantics65.specs.declared.laid.EncodingChoice.TheVariants.{Undecided, InMode, FillByte, FileOffset}
 use Rattle.ast65.specs.declared.language.Item.{Item}
 use Rattle.ast65.specs.declared.language.Operand.{Operand}
 use Rattle.ast65.specs.declared.language.Statement.{Statement}
 use Rattle.ast65.specs.declared.language.Statement.TheVariants as statement
 use Rattle.ast65.specs.declared.language.Item.TheVariants as item
 use Rattle.semantics65.specs.Norms.{norm_of}
-use Rattle.whole65.specs.Segments.{Line, line_end, line, line_of, lines_behind, largest_multiple}
+use Rattle.whole65.specs.Segments.{SegmentLine, line_end, line, line_of, lines_after, largest_multiple}
 use Rattle.whole65.specs.Values.{Program, Value}
-use Rattle.semantics65.specs.Symbols.{Laid}
+use Rattle.semantics65.specs.Symbols.{LaidOutStatement}
 use Rattle.semantics65.specs.Numbering.{all_said, parts_in}
-use Rattle.semantics65.specs.Module.{Piece, ending_of, given, instruction_pieces, item_piece, operand_pieces, pieces_of}
+use Rattle.semantics65.specs.Module.{Piece, module_resolution, given, instruction_pieces, item_piece, operand_pieces, pieces_of}
 use Rattle.whole65.proofs.Offsets.{EndsAt, all_end, ends_moved, placed}
 use Rattle.whole65.proofs.Positions.{powers_at}
-use Rattle.whole65.specs.Offsets.{lines_at, IsMultiple, IsLaidOut}
+use Rattle.whole65.specs.Offsets.{lines_at, IsMultiple, IsSoundLayoutOf}
 use Rattle.semantics65.specs.Layout.{Layout}
 use Rattle.whole65.specs.Modules.{table_of}
 
@@ -54,11 +54,11 @@ module _ {E : Type 0} (o : Objects E) (owner fill : ℕ) where
   of_literal : (width : Width) (v : ℤ) (part : Part) (bytes : List ℕ) (b : Bool) → fits_width width v ≡ b → ◌≡◌ {A = Result Part AsmFault} (cond b (Ok (Known (value_bytes width v))) (Err OutOfRange)) (Ok part) → ArePart (HasValue o owner) fill part bytes ↔ HasBytes o owner width (lit v) bytes
   of_literal width v part bytes x1 fits e = grind (arith, common_steps)
 
-  of_waiting : (width : Width) (place : Place) (f : Form) (part : Part) (bytes : List ℕ) → written place (Waiting width place f) ≡ Ok part → ArePart (HasValue o owner) fill part bytes ↔ HasBytes o owner width f bytes
+  of_waiting : (width : Width) (place : SourceLocation) (f : Form) (part : Part) (bytes : List ℕ) → located_declarations place (Waiting width place f) ≡ Ok part → ArePart (HasValue o owner) fill part bytes ↔ HasBytes o owner width f bytes
   of_waiting width place f part bytes e = grind (arith, common_steps)
 
   -- a part has the bytes of the form that is stored
-  pub of_stored : (width : Width) (place : Place) (f : Form) (part : Part) (bytes : List ℕ) → stored width place f ≡ Ok part → ArePart (HasValue o owner) fill part bytes ↔ HasBytes o owner width f bytes
+  pub of_stored : (width : Width) (place : SourceLocation) (f : Form) (part : Part) (bytes : List ℕ) → value_part width place f ≡ Ok part → ArePart (HasValue o owner) fill part bytes ↔ HasBytes o owner width f bytes
   of_stored width place (lit v) part bytes e = of_literal width v part bytes (fits_width width v) refl e
   of_stored width place (sec k a) part bytes e = of_waiting width place (sec k a) part bytes e
   of_stored width place (imp k) part bytes e = of_waiting width place (imp k) part bytes e
@@ -67,51 +67,51 @@ module _ {E : Type 0} (o : Objects E) (owner fill : ℕ) where
 
   -- ---- Branches.
 
-  two_more : (base : ℤ) (offset : ℕ) → wrapped (wrapped (base +ℤ pos offset) +ℤ pos 2) ≡ wrapped (base +ℤ pos (offset + 2))
+  two_more : (base : ℤ) (offset : ℕ) → wrap_signed (wrap_signed (base +ℤ pos offset) +ℤ pos 2) ≡ wrap_signed (base +ℤ pos (offset + 2))
   two_more base offset = grind (arith, common_steps, ints, int_wrap-add_left)
 
   abbrev Counted : Width → ℤ → Form → List ℕ → Type 0
   Counted width address f bytes = (v : ℤ) × HasValue o owner f v × AreStored width (counted_from width address v) bytes
 
-  of_branch : (address : ℤ) (s : Context) (f h : Form) (bytes : List ℕ) → address ≡ wrapped (o.bases owner s.segment +ℤ pos s.offset) → fold2 Subtract f (sec s.segment (pos (s.offset + 2))) ≡ Ok h → Counted Branch address f bytes ↔ HasBytes o owner Branch h bytes
+  of_branch : (address : ℤ) (s : Context) (f h : Form) (bytes : List ℕ) → address ≡ wrap_signed (o.bases owner s.segment +ℤ pos s.offset) → fold2 Subtract f (sec s.segment (pos (s.offset + 2))) ≡ Ok h → Counted Branch address f bytes ↔ HasBytes o owner Branch h bytes
   of_branch address s f h bytes at e = (there, back)
     where
-      behind : ℤ
-      behind = wrapped (o.bases owner s.segment +ℤ pos (s.offset + 2))
+      following : ℤ
+      following = wrap_signed (o.bases owner s.segment +ℤ pos (s.offset + 2))
 
-      difference : (turns : ℕ) → form_value o turns owner h ≡ (form_value o turns owner f >>= (λ a. Ok (wrapped (a -ℤ wrapped (o.bases owner s.segment +ℤ pos (s.offset + 2))))))
+      difference : (turns : ℕ) → form_value o turns owner h ≡ (form_value o turns owner f >>= (λ a. Ok (wrap_signed (a -ℤ wrap_signed (o.bases owner s.segment +ℤ pos (s.offset + 2))))))
       difference turns = binary_fold_law E o.none (o.bases owner) (o.imports turns owner) Subtract f (sec s.segment (pos (s.offset + 2))) h e
 
-      same : wrapped (address +ℤ pos 2) ≡ wrapped (o.bases owner s.segment +ℤ pos (s.offset + 2))
-      same = ap (λ z. wrapped (z +ℤ pos 2)) at ∙ two_more (o.bases owner s.segment) s.offset
+      same : wrap_signed (address +ℤ pos 2) ≡ wrap_signed (o.bases owner s.segment +ℤ pos (s.offset + 2))
+      same = ap (λ z. wrap_signed (z +ℤ pos 2)) at ∙ two_more (o.bases owner s.segment) s.offset
 
-      counted : (v : ℤ) → counted_from Branch address v ≡ wrapped (v -ℤ wrapped (o.bases owner s.segment +ℤ pos (s.offset + 2)))
-      counted v = ap (λ z. wrapped (v -ℤ z)) same
+      counted : (v : ℤ) → counted_from Branch address v ≡ wrap_signed (v -ℤ wrap_signed (o.bases owner s.segment +ℤ pos (s.offset + 2)))
+      counted v = ap (λ z. wrap_signed (v -ℤ z)) same
 
       there : Counted Branch address f bytes → HasBytes o owner Branch h bytes
       there (v, (turns, got), st) =
-          (counted_from Branch address v, (turns, difference turns ∙ ap (λ r. r >>= (λ a. Ok (wrapped (a -ℤ wrapped (o.bases owner s.segment +ℤ pos (s.offset + 2)))))) got ∙ ap Ok (sym (counted v))), st)
+          (counted_from Branch address v, (turns, difference turns ∙ ap (λ r. r >>= (λ a. Ok (wrap_signed (a -ℤ wrap_signed (o.bases owner s.segment +ℤ pos (s.offset + 2)))))) got ∙ ap Ok (sym (counted v))), st)
 
       back : HasBytes o owner Branch h bytes → Counted Branch address f bytes
       back (w, (turns, got), st) =
-          let (v, first, last) = bind_ok (form_value o turns owner f) (λ a. Ok (wrapped (a -ℤ wrapped (o.bases owner s.segment +ℤ pos (s.offset + 2))))) w (sym (difference turns) ∙ got) in
-          let one : wrapped (v -ℤ wrapped (o.bases owner s.segment +ℤ pos (s.offset + 2))) ≡ w = cc last in
+          let (v, first, last) = bind_ok (form_value o turns owner f) (λ a. Ok (wrap_signed (a -ℤ wrap_signed (o.bases owner s.segment +ℤ pos (s.offset + 2))))) w (sym (difference turns) ∙ got) in
+          let one : wrap_signed (v -ℤ wrap_signed (o.bases owner s.segment +ℤ pos (s.offset + 2))) ≡ w = cc last in
           (v, (turns, first), subst (λ z. AreStored Branch z bytes) (sym (counted v ∙ one)) st)
 
   unchanged : (width : Width) (f h : Form) (bytes : List ℕ) → ◌≡◌ {A = Result Form AsmFault} (Ok f) (Ok h) → HasBytes o owner width f bytes ↔ HasBytes o owner width h bytes
   unchanged width f h bytes e = grind (arith, common_steps)
 
   -- an operand's value is counted as its form is
-  pub of_operand : (width : Width) (address : ℤ) (s : Context) (f h : Form) (bytes : List ℕ) → address ≡ wrapped (o.bases owner s.segment +ℤ pos s.offset) → operand_form width s f ≡ Ok h → Counted width address f bytes ↔ HasBytes o owner width h bytes
+  pub of_operand : (width : Width) (address : ℤ) (s : Context) (f h : Form) (bytes : List ℕ) → address ≡ wrap_signed (o.bases owner s.segment +ℤ pos s.offset) → operand_form width s f ≡ Ok h → Counted width address f bytes ↔ HasBytes o owner width h bytes
   of_operand Branch address s f h bytes at e = of_branch address s f h bytes at (folded_ok (fold2 Subtract f (sec s.segment (pos (s.offset + 2)))) h e)
   of_operand Byte address s f h bytes at e = unchanged Byte f h bytes e
   of_operand Word address s f h bytes at e = unchanged Word f h bytes e
-  of_operand HighFirst address s f h bytes at e = unchanged HighFirst f h bytes e
+  of_operand BigEndianWord address s f h bytes at e = unchanged BigEndianWord f h bytes e
   of_operand Dword address s f h bytes at e = unchanged Dword f h bytes e
 
 -- ---- The bytes of lines and those of parts.
 
-module _ {E : Type 0} (p : Program) (o : Objects E) (h : AreObjects p o) (fill : ℕ) (x : Line) (at_context : o.contexts x.owner x.place ≡ x.laid.context) where
+module _ {E : Type 0} (p : Program) (o : Objects E) (h : AreObjects p o) (fill : ℕ) (x : SegmentLine) (at_context : o.contexts x.owner x.place ≡ x.laid.context) where
   -- these pieces of the statement come to these contents
   abbrev Come : List (List ℕ) → List Piece → List Content → Type 0
   Come names ps cs = AllCome (o.symbols x.owner) x.laid names ps cs
@@ -129,12 +129,12 @@ module _ {E : Type 0} (p : Program) (o : Objects E) (h : AreObjects p o) (fill :
       let there = subst (λ s. norm_of (o.symbols x.owner) s e ≡ Ok f) (sym at_context) q in
       same_values_law E p o h (suc (length (o.symbols x.owner).definitions)) x.owner x.place e f v there
 
-  address : p.address x.owner x.place ≡ wrapped (o.bases x.owner x.laid.context.segment +ℤ pos x.laid.context.offset)
-  address = subst (λ (s : Context). p.address x.owner x.place ≡ wrapped (o.bases x.owner s.segment +ℤ pos s.offset)) at_context (h.addresses x.owner x.place)
+  address : p.address x.owner x.place ≡ wrap_signed (o.bases x.owner x.laid.context.segment +ℤ pos x.laid.context.offset)
+  address = subst (λ (s : Context). p.address x.owner x.place ≡ wrap_signed (o.bases x.owner s.segment +ℤ pos s.offset)) at_context (h.addresses x.owner x.place)
 
   -- ---- Data.
 
-  of_datum : (width : Width) (e : Tree) (f : Form) (q : Part) (bytes : List ℕ) → norm_of (o.symbols x.owner) x.laid.context e ≡ Ok f → stored width x.laid.place f ≡ Ok q → AreItem p x width (item.Value e) bytes ↔ ArePart (HasValue o x.owner) fill q bytes
+  of_datum : (width : Width) (e : Tree) (f : Form) (q : Part) (bytes : List ℕ) → norm_of (o.symbols x.owner) x.laid.context e ≡ Ok f → value_part width x.laid.place f ≡ Ok q → AreItem p x width (item.Value e) bytes ↔ ArePart (HasValue o x.owner) fill q bytes
   of_datum width e f q bytes normal kept = grind (arith, common_steps, of_stored, values)
 
   of_items : (width : Width) (names : List (List ℕ)) (is : List Item) (cs : List Content) (bytes : List ℕ) → Come names (map (item_piece width) is) cs → AreItems p x width is bytes ↔ HaveBytes cs bytes
@@ -145,7 +145,7 @@ module _ {E : Type 0} (p : Program) (o : Objects E) (h : AreObjects p o) (fill :
         λ k. (k.0, k.1, (one k.0).0 k.2, (others k.1).0 k.3, k.4),
         λ k. (k.0, k.1, (one k.0).1 k.2, (others k.1).1 k.3, k.4),
       )
-  of_items width names (item.Text own ∷ is) _ bytes (a_piece {cs = cs} (a_part _) more) =
+  of_items width names (item.StringLiteral own ∷ is) _ bytes (a_piece {cs = cs} (a_part _) more) =
       let others = λ (rest : List ℕ). of_items width _ is cs rest more in (
         λ k. (k.0, k.1, k.2, (others k.1).0 k.3, k.4),
         λ k. (k.0, k.1, k.2, (others k.1).1 k.3, k.4),
@@ -153,7 +153,7 @@ module _ {E : Type 0} (p : Program) (o : Objects E) (h : AreObjects p o) (fill :
 
   -- ---- Instructions.
 
-  of_counted : (width : Width) (e : Tree) (f g : Form) (q : Part) (bytes : List ℕ) → norm_of (o.symbols x.owner) x.laid.context e ≡ Ok f → operand_form width x.laid.context f ≡ Ok g → stored width x.laid.place g ≡ Ok q → AreOperand p x (Some width) (Some e) bytes ↔ ArePart (HasValue o x.owner) fill q bytes
+  of_counted : (width : Width) (e : Tree) (f g : Form) (q : Part) (bytes : List ℕ) → norm_of (o.symbols x.owner) x.laid.context e ≡ Ok f → operand_form width x.laid.context f ≡ Ok g → value_part width x.laid.place g ≡ Ok q → AreOperand p x (Some width) (Some e) bytes ↔ ArePart (HasValue o x.owner) fill q bytes
   of_counted width e f g q bytes normal counted kept =
       let part = of_stored o x.owner fill width x.laid.place g q bytes kept in
       let form = of_operand o x.owner fill width (p.address x.owner x.place) x.laid.context f g bytes address counted in
@@ -169,21 +169,21 @@ module _ {E : Type 0} (p : Program) (o : Objects E) (h : AreObjects p o) (fill :
   code_part : (c : Option ℕ) → opcode_part c ≡ Known (code_bytes c)
   code_part x = grind (arith, common_steps)
 
-  of_instruction : (m : Mnemonic) (d : Operand) (s : Settled) (names : List (List ℕ)) (cs : List Content) (bytes : List ℕ) → Come names (instruction_pieces m d s) cs → AreInstruction p x m d s bytes ↔ HaveBytes cs bytes
+  of_instruction : (m : Mnemonic) (d : Operand) (s : EncodingChoice) (names : List (List ℕ)) (cs : List Content) (bytes : List ℕ) → Come names (instruction_pieces m d s) cs → AreInstruction p x m d s bytes ↔ HaveBytes cs bytes
   of_instruction m d (InMode mode) names _ bytes (a_piece {cs = cs} (a_part _) more) = grind (arith, common_steps, code_part, of_operands)
-  of_instruction m d Unsettled names _ bytes no_piece = (λ k. k, λ k. k)
-  of_instruction m d (FilledWith b) names _ bytes no_piece = (λ k. k, λ k. k)
-  of_instruction m d (FromByte b) names _ bytes no_piece = (λ k. k, λ k. k)
+  of_instruction m d Undecided names _ bytes no_piece = (λ k. k, λ k. k)
+  of_instruction m d (FillByte b) names _ bytes no_piece = (λ k. k, λ k. k)
+  of_instruction m d (FileOffset b) names _ bytes no_piece = (λ k. k, λ k. k)
 
   -- ---- Room, parts of files, and statements that put nothing.
 
   of_alone : (q : Part) (names : List (List ℕ)) (cs : List Content) (bytes : List ℕ) → Come names (given q ∷ []) cs → ArePart (HasValue o x.owner) fill q bytes ↔ HaveBytes cs bytes
   of_alone q names _ bytes (a_piece (a_part _) no_piece) = single q bytes
 
-  of_room : (count : ℕ) (s : Settled) (bytes : List ℕ) → ArePart (HasValue o x.owner) fill (room_part count s) bytes ≡ (bytes ≡ replicate count (filling fill s))
+  of_room : (count : ℕ) (s : EncodingChoice) (bytes : List ℕ) → ArePart (HasValue o x.owner) fill (room_part count s) bytes ≡ (bytes ≡ replicate count (filling fill s))
   of_room count x bytes = grind (arith, common_steps)
 
-  room : (count len : ℕ) (s : Settled) (names : List (List ℕ)) (cs : List Content) (bytes : List ℕ) → count ≡ len → Come names (given (room_part len s) ∷ []) cs → (bytes ≡ replicate count (filling fill s)) ↔ HaveBytes cs bytes
+  room : (count len : ℕ) (s : EncodingChoice) (names : List (List ℕ)) (cs : List Content) (bytes : List ℕ) → count ≡ len → Come names (given (room_part len s) ∷ []) cs → (bytes ≡ replicate count (filling fill s)) ↔ HaveBytes cs bytes
   room count len s names cs bytes e all =
       let alone = of_alone (room_part len s) names cs bytes all in
       let same : ArePart (HasValue o x.owner) fill (room_part len s) bytes ≡ (bytes ≡ replicate count (filling fill s)) = of_room len s bytes ∙ ap (λ n. bytes ≡ replicate n (filling fill s)) (sym e) in
@@ -192,19 +192,19 @@ module _ {E : Type 0} (p : Program) (o : Objects E) (h : AreObjects p o) (fill :
   none : (cs : List Content) (bytes : List ℕ) → all_put cs ≡ [] → (bytes ≡ []) ↔ HaveBytes cs bytes
   none cs bytes e = (λ k. subst (λ qs. AreParts (HasValue o x.owner) fill qs bytes) (sym e) k, λ k. subst (λ qs. AreParts (HasValue o x.owner) fill qs bytes) e k)
 
-of_line : {E : Type 0} (p : Program) (o : Objects E) → AreObjects p o → (fill at : ℕ) (x : Line) (t : Statement) (names : List (List ℕ)) (cs : List Content) (bytes : List ℕ) → o.contexts x.owner x.place ≡ x.laid.context → line_end at x.multiple (record x.laid { stated = t }) ≡ at + x.laid.length → AllCome (o.symbols x.owner) x.laid names (pieces_of x.laid.length x.laid.settled t) cs → AreLine p fill at (record x { laid = record x.laid { stated = t } }) bytes ↔ AreParts (HasValue o x.owner) fill (all_put cs) bytes
+of_line : {E : Type 0} (p : Program) (o : Objects E) → AreObjects p o → (fill at : ℕ) (x : SegmentLine) (t : Statement) (names : List (List ℕ)) (cs : List Content) (bytes : List ℕ) → o.contexts x.owner x.place ≡ x.laid.context → line_end at x.alignment (record x.laid { stated = t }) ≡ at + x.laid.length → AllCome (o.symbols x.owner) x.laid names (pieces_of x.laid.length x.laid.settled t) cs → AreLine p fill at (record x { laid = record x.laid { stated = t } }) bytes ↔ AreParts (HasValue o x.owner) fill (all_put cs) bytes
 of_line p o h fill at x (statement.Instruction m d) names cs bytes s e all = of_instruction p o h fill x s m d x.laid.settled names cs bytes all
 of_line p o h fill at x (statement.Values width is) names cs bytes s e all = of_items p o h fill x s width names is cs bytes all
 of_line p o h fill at x (statement.Reserve n v) names cs bytes s e all = room p o h fill x s x.laid.length x.laid.length x.laid.settled names cs bytes refl all
 of_line p o h fill at x (statement.Align n v) names cs bytes s e all =
-    let count : line_end at x.multiple (record x.laid { stated = statement.Align n v }) - at ≡ x.laid.length = omega (arith, e) in
-    room p o h fill x s (line_end at x.multiple (record x.laid { stated = statement.Align n v }) - at) x.laid.length x.laid.settled names cs bytes count all
-of_line p o h fill at x (statement.FilePart file n v) names cs bytes s e all = of_alone p o h fill x s _ names cs bytes all
+    let count : line_end at x.alignment (record x.laid { stated = statement.Align n v }) - at ≡ x.laid.length = omega (arith, e) in
+    room p o h fill x s (line_end at x.alignment (record x.laid { stated = statement.Align n v }) - at) x.laid.length x.laid.settled names cs bytes count all
+of_line p o h fill at x (statement.Incbin file n v) names cs bytes s e all = of_alone p o h fill x s _ names cs bytes all
 of_line p o h fill at x t names cs bytes s e all = none p o h fill x s cs bytes (none_put all (pieces_alike x.laid.length x.laid.settled t))
 
 -- A line of the whole program has the bytes of the parts that its statement's pieces put into the section, at a position at
 -- which it ends its length further on.
-pub parts_law : (E : Type 0) → (p : Program) (o : Objects E) (fill at : ℕ) (x : Line) (names : List (List ℕ)) (cs : List Content) (bytes : List ℕ) → AreObjects p o → o.contexts x.owner x.place ≡ x.laid.context → line_end at x.multiple x.laid ≡ at + x.laid.length → AllCome (o.symbols x.owner) x.laid names (pieces_of x.laid.length x.laid.settled x.laid.stated) cs → AreLine p fill at x bytes ↔ AreParts (HasValue o x.owner) fill (all_put cs) bytes
+pub parts_law : (E : Type 0) → (p : Program) (o : Objects E) (fill at : ℕ) (x : SegmentLine) (names : List (List ℕ)) (cs : List Content) (bytes : List ℕ) → AreObjects p o → o.contexts x.owner x.place ≡ x.laid.context → line_end at x.alignment x.laid ≡ at + x.laid.length → AllCome (o.symbols x.owner) x.laid names (pieces_of x.laid.length x.laid.settled x.laid.stated) cs → AreLine p fill at x bytes ↔ AreParts (HasValue o x.owner) fill (all_put cs) bytes
 parts_law E p o fill at x names cs bytes h s e all = of_line p o h fill at x x.laid.stated names cs bytes s e all
 
 -- ---- Parts behind parts.
@@ -228,11 +228,11 @@ pub in_middle : {A : Type 0} (before : List A) (l : A) (ls : List A) → slice_g
 in_middle [] l ls = refl
 in_middle (x ∷ before) l ls = in_middle before l ls
 
-module _ {E : Type 0} (p : Program) (o : Objects E) (h : AreObjects p o) (fill owner g : ℕ) (all : List Laid) (contexts : (place : ℕ) (l : Laid) → slice_get all place ≡ Some l → o.contexts owner place ≡ l.context) where
-  abbrev here : List Laid → List Laid → List Line
-  here before ls = lines_at g (lines_behind owner before ls)
+module _ {E : Type 0} (p : Program) (o : Objects E) (h : AreObjects p o) (fill owner g : ℕ) (all : List LaidOutStatement) (contexts : (place : ℕ) (l : LaidOutStatement) → slice_get all place ≡ Some l → o.contexts owner place ≡ l.context) where
+  abbrev here : List LaidOutStatement → List LaidOutStatement → List SegmentLine
+  here before ls = lines_at g (lines_after owner before ls)
 
-  of_lines : (before ls : List Laid) (names : List (List ℕ)) (cs : List Content) (at : ℕ) (bytes : List ℕ) → before ++ ls ≡ all → EndsAt at (here before ls) → AreStated (o.symbols owner) names ls cs → AreBytes p fill at (map line (here before ls)) bytes ↔ AreParts (HasValue o owner) fill (parts_in cs g) bytes
+  of_lines : (before ls : List LaidOutStatement) (names : List (List ℕ)) (cs : List Content) (at : ℕ) (bytes : List ℕ) → before ++ ls ≡ all → EndsAt at (here before ls) → AreStated (o.symbols owner) names ls cs → AreBytes p fill at (map line (here before ls)) bytes ↔ AreParts (HasValue o owner) fill (parts_in cs g) bytes
   of_lines before [] names _ at bytes w ends no_line = (λ k. k, λ k. k)
   of_lines before (l ∷ ls) names _ at bytes w ends (a_line ds cs found more) =
       let one = stated (o.symbols owner) names l ds found in
@@ -242,7 +242,7 @@ module _ {E : Type 0} (p : Program) (o : Objects E) (h : AreObjects p o) (fill o
       let step = by one.own one.pieces (contexts (length before) l there) (λ z rest ends. of_lines (before ++ l ∷ []) ls (names ++ exported_names (all_said ds)) cs z rest next ends more) (nat_eq l.context.segment g) ends in
       (λ k. subst (λ qs. AreParts (HasValue o owner) fill qs bytes) (sym parts) (step.0 k), λ k. step.1 (subst (λ qs. AreParts (HasValue o owner) fill qs bytes) parts k))
     where
-      others : List Line
+      others : List SegmentLine
       others = here (before ++ l ∷ []) ls
 
       by :
@@ -252,18 +252,18 @@ module _ {E : Type 0} (p : Program) (o : Objects E) (h : AreObjects p o) (fill o
           AreBytes p fill at (map line (cond b (line_of owner before l ∷ others) others)) bytes ↔ AreParts (HasValue o owner) fill (cond b (all_put own) [] ++ parts_in cs g) bytes
       by own pieces context deeper false ends = deeper at bytes ends
       by own pieces context deeper true ends =
-          let x : Line = line_of owner before l in
-          let behind : ℕ = line_end at x.multiple l in
+          let x : SegmentLine = line_of owner before l in
+          let following : ℕ = line_end at x.alignment l in
           let one : (first : List ℕ) → AreLine p fill at x first ↔ AreParts (HasValue o owner) fill (all_put own) first = λ first. parts_law E p o fill at x names own first h context ends.0 pieces in (
-            λ k. parts_joined (HasValue o owner) fill (all_put own) (parts_in cs g) bytes (k.0, k.1, (one k.0).0 k.2, (deeper behind k.1 ends.1).0 k.3, k.4),
-            λ k. (let s = parts_split (HasValue o owner) fill (all_put own) (parts_in cs g) bytes k in (s.0, s.1, (one s.0).1 s.2, (deeper behind s.1 ends.1).1 s.3, s.4)),
+            λ k. parts_joined (HasValue o owner) fill (all_put own) (parts_in cs g) bytes (k.0, k.1, (one k.0).0 k.2, (deeper following k.1 ends.1).0 k.3, k.4),
+            λ k. (let s = parts_split (HasValue o owner) fill (all_put own) (parts_in cs g) bytes k in (s.0, s.1, (one s.0).1 s.2, (deeper following s.1 ends.1).1 s.3, s.4)),
           )
 
 -- A module's lines in a segment, from a multiple of their alignment on, have the bytes of what its statements put into the
 -- section.
-pub section_law : (E : Type 0) → (p : Program) (o : Objects E) (fill begin owner g : ℕ) (y : Layout) (cs : List Content) (bytes : List ℕ) → AreObjects p o → o.symbols owner ≡ table_of y → ((place : ℕ) (l : Laid) → slice_get y.laid place ≡ Some l → o.contexts owner place ≡ l.context) → IsLaidOut y → IsMultiple begin (largest_multiple (lines_at g (lines_behind owner [] y.laid))) → (ending_of y.laid).found ≡ Ok cs → AreBytes p fill begin (map line (lines_at g (lines_behind owner [] y.laid))) bytes ↔ AreParts (HasValue o owner) fill (parts_in cs g) bytes
+pub section_law : (E : Type 0) → (p : Program) (o : Objects E) (fill begin owner g : ℕ) (y : Layout) (cs : List Content) (bytes : List ℕ) → AreObjects p o → o.symbols owner ≡ table_of y → ((place : ℕ) (l : LaidOutStatement) → slice_get y.laid place ≡ Some l → o.contexts owner place ≡ l.context) → IsSoundLayoutOf y → IsMultiple begin (largest_multiple (lines_at g (lines_after owner [] y.laid))) → (module_resolution y.laid).found ≡ Ok cs → AreBytes p fill begin (map line (lines_at g (lines_after owner [] y.laid))) bytes ↔ AreParts (HasValue o owner) fill (parts_in cs g) bytes
 section_law E p o fill begin owner g y cs bytes h table contexts d m e =
-    let lines : List Line = lines_at g (lines_behind owner [] y.laid) in
+    let lines : List SegmentLine = lines_at g (lines_after owner [] y.laid) in
     let begins : begin + 0 ≡ begin = omega arith in
-    let ends : EndsAt begin lines = subst (λ n. EndsAt n lines) begins (ends_moved begin 0 lines (powers_at g (lines_behind owner [] y.laid) (placed owner d).powers) m (all_end owner g d)) in
+    let ends : EndsAt begin lines = subst (λ n. EndsAt n lines) begins (ends_moved begin 0 lines (powers_at g (lines_after owner [] y.laid) (placed owner d).powers) m (all_end owner g d)) in
     of_lines p o h fill owner g y.laid contexts [] y.laid [] cs begin bytes refl ends (subst (λ z. AreStated z [] y.laid cs) (sym table) (are_stated y cs e))

@@ -7,27 +7,27 @@ use Rattle.std.specs.List.{AllByRecursion, list_any}
 use Rattle.std.specs.Str.{bytes_eq}
 use Rattle.std.proofs.lemmas.Bool.Decides.{nat_tests}
 use Rattle.std.proofs.lemmas.List.Folds.{list_any-append}
-use Rattle.link65.proofs.SegmentLemmas.{at_front, behind_front, none_among as none_found}
+use Rattle.link65.proofs.SegmentLemmas.{at_front, after_front, none_among as none_found}
 use Rattle.semantics65.specs.Contents.{Content, exported_names}
-use Rattle.semantics65.specs.Symbols.{Laid, asks_section, Symbols}
+use Rattle.semantics65.specs.Symbols.{LaidOutStatement, needs_section, Symbols}
 use Rattle.semantics65.specs.Layout.{Layout, segment_at}
-use Rattle.semantics65.specs.Numbering.{all_said, number_of, once, section_keys, segments_asked, section_of}
-use Rattle.semantics65.specs.Module.{ending_of}
+use Rattle.semantics65.specs.Numbering.{all_said, number_of, distinct_keys, section_keys, segments_asked, section_of}
+use Rattle.semantics65.specs.Module.{module_resolution}
 use Rattle.whole65.proofs.Positions.{named, Distinct, alike}
 use Rattle.whole65.proofs.Multiples.{equal}
 use Rattle.whole65.proofs.Statements.{AreStated, a_line, are_stated, no_line, stated}
 use Rattle.whole65.specs.Modules.{table_of}
-use Rattle.whole65.specs.Offsets.{IsLaidOut}
+use Rattle.whole65.specs.Offsets.{IsSoundLayoutOf}
 use Rattle.whole65.specs.Segments.{has_section, segment_name, stands_in}
 use Rattle.object65.specs.declared.object.Origin.{Origin}
 use Rattle.object65.specs.declared.object.Section.{Section}
 use Rattle.ast65.proofs.Lists.{same_bytes}
-use Rattle.syntax65.specs.declared.place.Place.{Place}
+use Rattle.syntax65.specs.declared.source_location.SourceLocation.{SourceLocation}
 use Rattle.semantics65.specs.declared.contents.Segment.{Segment}
 use Rattle.semantics65.specs.Numbering as numbering
-use Rattle.link65.specs.Programs.{grown, Module, Program, member, no_program, with_module, with_modules, Segment as LinkedSegment, segment_of, with_section, with_sections}
+use Rattle.link65.specs.Programs.{segment_with_section, Module, Program, member, no_program, with_module, with_modules, Segment as LinkedSegment, segment_of, with_section, with_sections}
 use Rattle.link65.specs.Programs as linked
-use Rattle.whole65.proofs.LinkedObjects.{behind_sections, or_empty, behind_modules}
+use Rattle.whole65.proofs.LinkedObjects.{after_sections, or_empty, after_modules}
 
 -- ---- Each once.
 
@@ -53,7 +53,7 @@ held p k (x ∷ ks) e h = grind (arith, common_steps, (held p k ks), equal, or_t
 any_with : (p : ℕ → Bool) (found : List ℕ) (k : ℕ) → list_any p (with_key found k) ≡ (list_any p found || p k)
 any_with p found k = grind (arith, common_steps, held, or_true, or_false, list_any-append)
 
-pub any_once : (p : ℕ → Bool) (found ks : List ℕ) → list_any p (once found ks) ≡ (list_any p found || list_any p ks)
+pub any_once : (p : ℕ → Bool) (found ks : List ℕ) → list_any p (distinct_keys found ks) ≡ (list_any p found || list_any p ks)
 any_once p found [] = sym (or_false (list_any p found))
 any_once p found (k ∷ ks) = grind (arith, common_steps, any_with, (any_once p (with_key found k) ks))
 
@@ -65,11 +65,11 @@ once_push : (ks : List ℕ) (k : ℕ) → AreOnce ks → list_any (nat_eq k) ks 
 once_push [] k h e = (refl, tt)
 once_push (x ∷ ks) k h e = grind (arith, common_steps, (once_push ks k h.1))
 
-pub are_once : (found ks : List ℕ) → AreOnce found → AreOnce (once found ks)
+pub are_once : (found ks : List ℕ) → AreOnce found → AreOnce (distinct_keys found ks)
 are_once found [] h = h
 are_once found (k ∷ ks) h = grind (arith, common_steps, once_push, (are_once (with_key found k) ks))
 
-pub all_once : (P : ℕ → Type 0) (found ks : List ℕ) → AllByRecursion P found → AllByRecursion P ks → AllByRecursion P (once found ks)
+pub all_once : (P : ℕ → Type 0) (found ks : List ℕ) → AllByRecursion P found → AllByRecursion P ks → AllByRecursion P (distinct_keys found ks)
 all_once P found [] h all = h
 all_once P found (k ∷ ks) h all = grind (arith, common_steps, (all_once P (with_key found k) ks))
 
@@ -79,23 +79,23 @@ pub number_first : (ks : List ℕ) (k g : ℕ) → nat_eq g k ≡ true → numbe
 number_first ks k g e = ap (λ o. unwrap_or o 0) (at_front (nat_eq g) k ks e)
 
 pub number_later : (ks : List ℕ) (k g : ℕ) → nat_eq g k ≡ false → list_any (nat_eq g) ks ≡ true → number_of (k ∷ ks) g ≡ suc (number_of ks g)
-number_later ks k g e h = grind (arith, common_steps, behind_front, none_found)
+number_later ks k g e h = grind (arith, common_steps, after_front, none_found)
 
 -- ---- Sections that are asked for.
 
-lines_asked : (z : Symbols) (names : List (List ℕ)) (ls : List Laid) (cs : List Content) → AreStated z names ls cs → segments_asked cs ≡ map (λ l. l.context.segment) (filter (λ l. asks_section l.stated) ls)
+lines_asked : (z : Symbols) (names : List (List ℕ)) (ls : List LaidOutStatement) (cs : List Content) → AreStated z names ls cs → segments_asked cs ≡ map (λ l. l.context.segment) (filter (λ l. needs_section l.stated) ls)
 lines_asked z names [] _ no_line = refl
 lines_asked z names (l ∷ ls) _ (a_line ds cs found more) = grind (arith, common_steps, (stated z names l ds found), (lines_asked z (names ++ exported_names (all_said ds)) ls cs more))
 
 -- a module's contents ask for the segments in which the statements that ask stand
-pub asked_are : (y : Layout) (cs : List Content) → (ending_of y.laid).found ≡ Ok cs → segments_asked cs ≡ map (λ l. l.context.segment) (filter (λ l. asks_section l.stated) y.laid)
+pub asked_are : (y : Layout) (cs : List Content) → (module_resolution y.laid).found ≡ Ok cs → segments_asked cs ≡ map (λ l. l.context.segment) (filter (λ l. needs_section l.stated) y.laid)
 asked_are y cs e = lines_asked (table_of y) [] y.laid cs (are_stated y cs e)
 
-asked_there : (y : Layout) (name : List ℕ) (ls : List Laid) → list_any (λ l. stands_in y name l && asks_section l.stated) ls ≡ list_any (λ g. bytes_eq (segment_name y g) name) (map (λ l. l.context.segment) (filter (λ l. asks_section l.stated) ls))
+asked_there : (y : Layout) (name : List ℕ) (ls : List LaidOutStatement) → list_any (λ l. stands_in y name l && needs_section l.stated) ls ≡ list_any (λ g. bytes_eq (segment_name y g) name) (map (λ l. l.context.segment) (filter (λ l. needs_section l.stated) ls))
 asked_there y name [] = refl
 asked_there y name (l ∷ ls) = grind (arith, common_steps, (asked_there y name ls))
 
-below_all : (bound : ℕ) (ls : List Laid) → AllByRecursion (λ l. l.context.segment < bound) ls → AllByRecursion (λ g. g < bound) (map (λ l. l.context.segment) (filter (λ l. asks_section l.stated) ls))
+below_all : (bound : ℕ) (ls : List LaidOutStatement) → AllByRecursion (λ l. l.context.segment < bound) ls → AllByRecursion (λ g. g < bound) (map (λ l. l.context.segment) (filter (λ l. needs_section l.stated) ls))
 below_all bound [] h = tt
 below_all bound (l ∷ ls) h = grind (arith, common_steps, (below_all bound ls h.1))
 
@@ -105,7 +105,7 @@ pub record AreKeys (y : Layout) (keys : List ℕ) : Type 0 where
   pub standing : AllByRecursion (λ g. g < length y.cursor.segments) keys
   pub has : (name : List ℕ) → has_section y name ≡ list_any (λ g. bytes_eq (segment_name y g) name) keys
 
-pub keys_of : (y : Layout) (cs : List Content) → IsLaidOut y → (ending_of y.laid).found ≡ Ok cs → AreKeys y (section_keys cs)
+pub keys_of : (y : Layout) (cs : List Content) → IsSoundLayoutOf y → (module_resolution y.laid).found ≡ Ok cs → AreKeys y (section_keys cs)
 keys_of y cs d e =
     let asked = asked_are y cs e in
     record {
@@ -121,7 +121,7 @@ name_at [] g lt = absurd (omega (arith, lt))
 name_at (x ∷ gs) zero lt = refl
 name_at (x ∷ gs) (suc g) lt = name_at gs g (omega (arith, lt))
 
-module _ (y : Layout) (owner : ℕ) (origins : Place → Origin) (sections imports : List ℕ) (cs : List Content) (name : List ℕ) where
+module _ (y : Layout) (owner : ℕ) (origins : SourceLocation → Origin) (sections imports : List ℕ) (cs : List Content) (name : List ℕ) where
   abbrev pub its_section : ℕ → Section
   its_section g = section_of origins y.cursor.segments sections imports cs g
 
@@ -131,7 +131,7 @@ module _ (y : Layout) (owner : ℕ) (origins : Place → Origin) (sections impor
   section_named : (g : ℕ) → g < length y.cursor.segments → bytes_eq (its_section g).name name ≡ is_named g
   section_named g lt = ap (λ n. bytes_eq n name) (name_at y.cursor.segments g lt)
 
-  pub none_there : (ks : List ℕ) → AllByRecursion (λ g. g < length y.cursor.segments) ks → list_any is_named ks ≡ false → (g : Option linked.Segment) → behind_sections owner name g (map its_section ks) ≡ g
+  pub none_there : (ks : List ℕ) → AllByRecursion (λ g. g < length y.cursor.segments) ks → list_any is_named ks ≡ false → (g : Option linked.Segment) → after_sections owner name g (map its_section ks) ≡ g
   none_there [] h e g = refl
   none_there (k ∷ ks) h e g = grind (arith, common_steps, section_named, (none_there ks h.1))
 
@@ -146,7 +146,7 @@ module _ (y : Layout) (owner : ℕ) (origins : Place → Origin) (sections impor
     pub among : list_any (nat_eq key) ks ≡ true
     pub below : key < length y.cursor.segments
     pub called : segment_name y key ≡ name
-    pub is : behind_sections owner name g (map its_section ks) ≡ Some (grown owner (or_empty name g) (its_section key))
+    pub is : after_sections owner name g (map its_section ks) ≡ Some (segment_with_section owner (or_empty name g) (its_section key))
 
   pub one_there : (ks : List ℕ) → Distinct y.cursor.segments → AllByRecursion (λ g. g < length y.cursor.segments) ks → AreOnce ks → list_any is_named ks ≡ true → (g : Option linked.Segment) → IsGrown ks g
   one_there [] d h o e g = cc
@@ -161,9 +161,9 @@ module _ (y : Layout) (owner : ℕ) (origins : Place → Origin) (sections impor
             below = h.0;
             called = same_bytes (segment_name y k) name q;
             is =
-                ap (λ b. behind_sections owner name (cond b (Some (grown owner (or_empty (its_section k).name g) (its_section k))) g) (map its_section ks)) (section_named k h.0 ∙ q)
-                ∙ none_there ks h.1 (others_apart k d h.0 q ks h.1 o.0) (Some (grown owner (or_empty (its_section k).name g) (its_section k)))
-                ∙ ap (λ n. Some (grown owner (or_empty n g) (its_section k))) same;
+                ap (λ b. after_sections owner name (cond b (Some (segment_with_section owner (or_empty (its_section k).name g) (its_section k))) g) (map its_section ks)) (section_named k h.0 ∙ q)
+                ∙ none_there ks h.1 (others_apart k d h.0 q ks h.1 o.0) (Some (segment_with_section owner (or_empty (its_section k).name g) (its_section k)))
+                ∙ ap (λ n. Some (segment_with_section owner (or_empty n g) (its_section k))) same;
           }
       go false q e more =
           let r = more e in
@@ -175,18 +175,18 @@ module _ (y : Layout) (owner : ℕ) (origins : Place → Origin) (sections impor
 abbrev first : List ℕ → LinkedSegment → Option LinkedSegment → Option LinkedSegment
 first name g other = cond (bytes_eq g.name name) (Some g) other
 
-pub one_section : (owner : ℕ) (gs : List LinkedSegment) (s : Section) (name : List ℕ) → segment_of (with_section owner gs s) name ≡ cond (bytes_eq s.name name) (Some (grown owner (or_empty s.name (segment_of gs name)) s)) (segment_of gs name)
+pub one_section : (owner : ℕ) (gs : List LinkedSegment) (s : Section) (name : List ℕ) → segment_of (with_section owner gs s) name ≡ cond (bytes_eq s.name name) (Some (segment_with_section owner (or_empty s.name (segment_of gs name)) s)) (segment_of gs name)
 one_section owner [] s name = refl
 one_section owner (g ∷ gs) s name = grind (arith, common_steps, (one_section owner gs s name), bytes_eq-Decides)
 
-pub all_sections : (owner : ℕ) (gs : List LinkedSegment) (ss : List Section) (name : List ℕ) → segment_of (with_sections owner gs ss) name ≡ behind_sections owner name (segment_of gs name) ss
+pub all_sections : (owner : ℕ) (gs : List LinkedSegment) (ss : List Section) (name : List ℕ) → segment_of (with_sections owner gs ss) name ≡ after_sections owner name (segment_of gs name) ss
 all_sections owner gs [] name = refl
 all_sections owner gs (s ∷ ss) name = grind (arith, common_steps, one_section, (all_sections owner (with_section owner gs s) ss name))
 
-all_modules : (p : Program) (ms : List Module) (name : List ℕ) → segment_of (with_modules p ms).segments name ≡ behind_modules (length p.members) name (segment_of p.segments name) ms
+all_modules : (p : Program) (ms : List Module) (name : List ℕ) → segment_of (with_modules p ms).segments name ≡ after_modules (length p.members) name (segment_of p.segments name) ms
 all_modules p [] name = refl
 all_modules p (m ∷ ms) name = grind (arith, common_steps, all_sections, (all_modules (with_module p m) ms name))
 
 -- A segment of linked modules is what the sections of its name make of it, module by module.
-pub segment_law : (ms : List Module) (name : List ℕ) → segment_of (linked.program_of ms).segments name ≡ behind_modules 0 name None ms
+pub segment_law : (ms : List Module) (name : List ℕ) → segment_of (linked.program_of ms).segments name ≡ after_modules 0 name None ms
 segment_law ms name = all_modules no_program ms name

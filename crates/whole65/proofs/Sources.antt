@@ -8,30 +8,30 @@ use Rattle.object65.specs.Objects.{fragment_len, section_len}
 use Rattle.object65.specs.declared.object.Fragment.{Fragment}
 use Rattle.object65.specs.declared.object.Fragment.TheVariants.{Literal, Fill, Value}
 use Rattle.object65.specs.declared.object.Origin.{Origin}
-use Rattle.syntax65.specs.declared.place.Place.{Place}
+use Rattle.syntax65.specs.declared.source_location.SourceLocation.{SourceLocation}
 use Rattle.semantics65.specs.Contents.{Content, Part, exported_names}
-use Rattle.semantics65.specs.Symbols.{Laid, Symbols, symbols_of}
+use Rattle.semantics65.specs.Symbols.{LaidOutStatement, Symbols, symbols_of}
 use Rattle.semantics65.specs.Layout.{Layout}
-use Rattle.semantics65.specs.Numbering.{all_joined, all_said, fragment_of, fragments_of, is_empty, joined, parts_in, files_of, import_keys, in_files, object_by, object_with, section_keys, section_of, IsMeasured, IsSoundLayout, part_len}
+use Rattle.semantics65.specs.Numbering.{all_joined, all_said, fragment_of, fragments_of, is_empty, merged_fragments, parts_in, files_of, import_keys, in_files, object_by, object_with, section_keys, section_of, IsMeasured, IsSoundLayout, part_len}
 use Rattle.sources65.proofs.SoundParts.{slots_long}
-use Rattle.semantics65.specs.Module.{ending_of, PlacedFault}
+use Rattle.semantics65.specs.Module.{module_resolution, LocatedFault}
 use Rattle.whole65.proofs.SameValues.{bind_ok}
 use Rattle.whole65.proofs.Offsets.{EndsAt, all_end, placed}
 use Rattle.whole65.proofs.Statements.{AreStated, a_line, are_stated, no_line}
 use Rattle.whole65.specs.Modules.{table_of}
-use Rattle.whole65.specs.Offsets.{lines_at, IsLaidOut, IsMultiple}
-use Rattle.whole65.specs.Segments.{Line, end_of, line, lines_behind, has_section, items_from, largest_multiple, lines_in, part_of, rounding, segment_name, items_of}
+use Rattle.whole65.specs.Offsets.{lines_at, IsSoundLayoutOf, IsMultiple}
+use Rattle.whole65.specs.Segments.{SegmentLine, end_of, line, lines_after, has_section, items_from, largest_multiple, lines_in, part_of, rounding, segment_name, items_of}
 use Rattle.std.specs.Int.{next_multiple_of}
 use Rattle.std.specs.Option.{option_map_or}
 use Rattle.object65.specs.Versions.{IsEitherVersion, in_version_one, line_alone}
 use Rattle.object65.specs.declared.object.Object.{Object}
 use Rattle.script65.specs.Placing.{rounded_up}
-use Rattle.link65.specs.Programs.{Module, grown, segment_of}
+use Rattle.link65.specs.Programs.{Module, segment_with_section, segment_of}
 use Rattle.whole65.proofs.Positions.{alignment_law, named, by_number, powers_at}
 use Rattle.whole65.proofs.Sections.{segment_law, AreKeys, keys_of, its_section, none_there, one_there}
 use Rattle.whole65.proofs.Multiples.{power_positive, rounded, rounding_law, end_of-append, largest_power, shift_law}
 use Rattle.whole65.proofs.Versions.{by_lines}
-use Rattle.whole65.proofs.LinkedObjects.{behind_modules, behind_sections, or_empty}
+use Rattle.whole65.proofs.LinkedObjects.{after_modules, after_sections, or_empty}
 use Rattle.whole65.specs.Sources.{AreSources, IsSource}
 use Rattle.link65.specs.Programs as linked
 
@@ -40,15 +40,15 @@ use Rattle.link65.specs.Programs as linked
 zero_more : (n : ℕ) → n + 0 ≡ n
 zero_more n = omega arith
 
-joined_long : (f : Fragment) (fs : List Fragment) → sum_by fragment_len (joined f fs) ≡ fragment_len f + sum_by fragment_len fs
+joined_long : (f : Fragment) (fs : List Fragment) → sum_by fragment_len (merged_fragments f fs) ≡ fragment_len f + sum_by fragment_len fs
 joined_long f [] = sum_by-cons fragment_len f []
 joined_long (Literal a) (Literal b ∷ fs) = grind (arith, common_steps, (joined_long (Literal (a ++ b)) fs))
 joined_long (Fill m) (Fill n ∷ fs) = grind (arith, common_steps, (joined_long (Fill (m + n)) fs))
 joined_long (Literal a) (Fill n ∷ fs) = grind (arith, common_steps, (joined_long (Fill n) fs), sum_by-cons)
-joined_long (Literal a) (Value w n g ∷ fs) = sum_by-cons fragment_len (Literal a) (joined (Value w n g) fs) ∙ ap (λ n. length a + n) (joined_long (Value w n g) fs ∙ sym (sum_by-cons fragment_len (Value w n g) fs))
-joined_long (Fill m) (Literal b ∷ fs) = sum_by-cons fragment_len (Fill m) (joined (Literal b) fs) ∙ ap (λ n. m + n) (joined_long (Literal b) fs ∙ sym (sum_by-cons fragment_len (Literal b) fs))
-joined_long (Fill m) (Value w n g ∷ fs) = sum_by-cons fragment_len (Fill m) (joined (Value w n g) fs) ∙ ap (λ n. m + n) (joined_long (Value w n g) fs ∙ sym (sum_by-cons fragment_len (Value w n g) fs))
-joined_long (Value w n f) (g ∷ fs) = sum_by-cons fragment_len (Value w n f) (joined g fs) ∙ ap (λ k. fragment_len (Value w n f) + k) (joined_long g fs ∙ sym (sum_by-cons fragment_len g fs))
+joined_long (Literal a) (Value w n g ∷ fs) = sum_by-cons fragment_len (Literal a) (merged_fragments (Value w n g) fs) ∙ ap (λ n. length a + n) (joined_long (Value w n g) fs ∙ sym (sum_by-cons fragment_len (Value w n g) fs))
+joined_long (Fill m) (Literal b ∷ fs) = sum_by-cons fragment_len (Fill m) (merged_fragments (Literal b) fs) ∙ ap (λ n. m + n) (joined_long (Literal b) fs ∙ sym (sum_by-cons fragment_len (Literal b) fs))
+joined_long (Fill m) (Value w n g ∷ fs) = sum_by-cons fragment_len (Fill m) (merged_fragments (Value w n g) fs) ∙ ap (λ n. m + n) (joined_long (Value w n g) fs ∙ sym (sum_by-cons fragment_len (Value w n g) fs))
+joined_long (Value w n f) (g ∷ fs) = sum_by-cons fragment_len (Value w n f) (merged_fragments g fs) ∙ ap (λ k. fragment_len (Value w n f) + k) (joined_long g fs ∙ sym (sum_by-cons fragment_len g fs))
 
 all_long : (fs : List Fragment) → sum_by fragment_len (all_joined fs) ≡ sum_by fragment_len fs
 all_long x = grind (arith, common_steps, joined_long, sum_by-cons)
@@ -60,27 +60,27 @@ kept_long : (fs : List Fragment) → sum_by fragment_len (filter (λ f. not (is_
 kept_long [] = refl
 kept_long (f ∷ fs) = grind (arith, common_steps, (kept_long fs), sum_by-cons, empty_long)
 
-part_long : (origins : Place → Origin) (ss is : List ℕ) (p : Part) → fragment_len (fragment_of origins ss is p) ≡ part_len p
+part_long : (origins : SourceLocation → Origin) (ss is : List ℕ) (p : Part) → fragment_len (fragment_of origins ss is p) ≡ part_len p
 part_long origins ss is x = grind (arith, common_steps)
 
-parts_long : (origins : Place → Origin) (ss is : List ℕ) (ps : List Part) → sum_by fragment_len (map (fragment_of origins ss is) ps) ≡ sum_by part_len ps
+parts_long : (origins : SourceLocation → Origin) (ss is : List ℕ) (ps : List Part) → sum_by fragment_len (map (fragment_of origins ss is) ps) ≡ sum_by part_len ps
 parts_long origins ss is [] = refl
 parts_long origins ss is (p ∷ ps) = grind (arith, common_steps, (parts_long origins ss is ps), sum_by-cons, part_long)
 
-pub joined_parts_long : (origins : Place → Origin) (ss is : List ℕ) (ps : List Part) → sum_by fragment_len (all_joined (fragments_of origins ss is ps)) ≡ sum_by part_len ps
+pub joined_parts_long : (origins : SourceLocation → Origin) (ss is : List ℕ) (ps : List Part) → sum_by fragment_len (all_joined (fragments_of origins ss is ps)) ≡ sum_by part_len ps
 joined_parts_long origins ss is ps = all_long (fragments_of origins ss is ps) ∙ kept_long (map (fragment_of origins ss is) ps) ∙ parts_long origins ss is ps
 
 -- ---- Statements.
 
 -- statements each of which places what it was measured to place
-abbrev AreMeasured : List Laid → Type 0
-AreMeasured ls = (i : ℕ) (l : Laid) → slice_get ls i ≡ Some l → (before : Symbols) × IsMeasured before l
+abbrev AreMeasured : List LaidOutStatement → Type 0
+AreMeasured ls = (i : ℕ) (l : LaidOutStatement) → slice_get ls i ≡ Some l → (before : Symbols) × IsMeasured before l
 
 module _ (z : Symbols) (owner g : ℕ) where
-  abbrev here : List Laid → List Laid → List Line
-  here before ls = lines_at g (lines_behind owner before ls)
+  abbrev here : List LaidOutStatement → List LaidOutStatement → List SegmentLine
+  here before ls = lines_at g (lines_after owner before ls)
 
-  lines_long : (before ls : List Laid) (names : List (List ℕ)) (cs : List Content) (at : ℕ) → EndsAt at (here before ls) → AreMeasured ls → AreStated z names ls cs → end_of at (map line (here before ls)) ≡ at + sum_by part_len (parts_in cs g)
+  lines_long : (before ls : List LaidOutStatement) (names : List (List ℕ)) (cs : List Content) (at : ℕ) → EndsAt at (here before ls) → AreMeasured ls → AreStated z names ls cs → end_of at (map line (here before ls)) ≡ at + sum_by part_len (parts_in cs g)
   lines_long before [] names _ at ends measured no_line = sym (zero_more at)
   lines_long before (l ∷ ls) names _ at ends measured (a_line ds cs found more) =
       let one = measured 0 l refl in
@@ -88,7 +88,7 @@ module _ (z : Symbols) (owner g : ℕ) where
       grind (arith, common_steps, (λ (n : ℕ) (ends : EndsAt n (here (before ++ l ∷ []) ls)). lines_long (before ++ l ∷ []) ls (names ++ exported_names (all_said ds)) cs n ends (λ i x e. measured (suc i) x e) more))
 
 -- It is as long as they are.
-pub length_law : (y : Layout) (owner g : ℕ) (cs : List Content) (origins : Place → Origin) (sections imports : List ℕ) → IsLaidOut y → IsSoundLayout y → (ending_of y.laid).found ≡ Ok cs → section_len (section_of origins y.cursor.segments sections imports cs g) ≡ end_of 0 (map line (lines_at g (lines_behind owner [] y.laid)))
+pub length_law : (y : Layout) (owner g : ℕ) (cs : List Content) (origins : SourceLocation → Origin) (sections imports : List ℕ) → IsSoundLayoutOf y → IsSoundLayout y → (module_resolution y.laid).found ≡ Ok cs → section_len (section_of origins y.cursor.segments sections imports cs g) ≡ end_of 0 (map line (lines_at g (lines_after owner [] y.laid)))
 length_law y owner g cs origins sections imports d s e =
     let parts = joined_parts_long origins sections imports (parts_in cs g) in
     let lines = lines_long (table_of y) owner g [] y.laid [] cs 0 (all_end owner g d) (λ i l at. (symbols_of (take i y.laid), s.measured i l at)) (are_stated y cs e) in
@@ -99,21 +99,21 @@ length_law y owner g cs origins sections imports d s e =
 -- the contents of which a module's object is made, of one version or the other
 pub record HasContents (y : Layout) (m : Module) : Type 0 where
   pub contents : List Content
-  pub found : (ending_of y.laid).found ≡ Ok contents
+  pub found : (module_resolution y.laid).found ≡ Ok contents
   pub version : ℕ
   pub files : List (List ℕ)
   -- what places are in the object
-  pub origins : Place → Origin
+  pub origins : SourceLocation → Origin
   pub object : m.object ≡ object_by version files origins y.cursor.segments (table_of y).imports contents
 
 pub contents_of : (y : Layout) (m : Module) → IsSource y m → HasContents y m
 contents_of y m h =
     let names : List (List ℕ) = (table_of y).imports in
-    let (cs, first, last) = bind_ok (ending_of y.laid).found (λ cs. Ok (object_with y.cursor.segments names cs)) h.written h.object in
+    let (cs, first, last) = bind_ok (module_resolution y.laid).found (λ cs. Ok (object_with y.cursor.segments names cs)) h.written h.object in
     let same : object_with y.cursor.segments names cs ≡ h.written = cc last in
     go cs first same h.version
   where
-    go : (cs : List Content) → (ending_of y.laid).found ≡ Ok cs → object_with y.cursor.segments (table_of y).imports cs ≡ h.written → IsEitherVersion h.written m.object → HasContents y m
+    go : (cs : List Content) → (module_resolution y.laid).found ≡ Ok cs → object_with y.cursor.segments (table_of y).imports cs ≡ h.written → IsEitherVersion h.written m.object → HasContents y m
     go cs first same (inl as_written) = record {
       contents = cs;
       found = first;
@@ -131,10 +131,10 @@ contents_of y m h =
       object = in_one ∙ ap in_version_one (sym same) ∙ by_lines 2 (files_of cs) (in_files (files_of cs)) y.cursor.segments (table_of y).imports cs;
     }
 
-pub same_object : (y : Layout) (m : Module) (cs : List Content) → (h : IsSource y m) → (ending_of y.laid).found ≡ Ok cs → m.object ≡ object_by (contents_of y m h).version (contents_of y m h).files (contents_of y m h).origins y.cursor.segments (table_of y).imports cs
+pub same_object : (y : Layout) (m : Module) (cs : List Content) → (h : IsSource y m) → (module_resolution y.laid).found ≡ Ok cs → m.object ≡ object_by (contents_of y m h).version (contents_of y m h).files (contents_of y m h).origins y.cursor.segments (table_of y).imports cs
 same_object y m cs h e =
     let c = contents_of y m h in
-    let both : ◌≡◌ {A = Result (List Content) PlacedFault} (Ok c.contents) (Ok cs) = sym c.found ∙ e in
+    let both : ◌≡◌ {A = Result (List Content) LocatedFault} (Ok c.contents) (Ok cs) = sym c.found ∙ e in
     let same : c.contents ≡ cs = cc both in
     c.object ∙ ap (object_by c.version c.files c.origins y.cursor.segments (table_of y).imports) same
 
@@ -147,27 +147,27 @@ pub size_or_empty : (name : List ℕ) (g : Option linked.Segment) → (or_empty 
 size_or_empty name x = grind (arith, common_steps)
 
 -- what a section makes of a segment, or that there is none
-pub data Behind (y : Layout) (m : Module) (origins : Place → Origin) (cs : List Content) (owner : ℕ) (name : List ℕ) (g : Option linked.Segment) : Type 0 where
-  unchanged : has_section y name ≡ false → behind_sections owner name g m.object.sections ≡ g → Behind y m origins cs owner name g
+pub data Following (y : Layout) (m : Module) (origins : SourceLocation → Origin) (cs : List Content) (owner : ℕ) (name : List ℕ) (g : Option linked.Segment) : Type 0 where
+  unchanged : has_section y name ≡ false → after_sections owner name g m.object.sections ≡ g → Following y m origins cs owner name g
   grows :
       (key : ℕ) → has_section y name ≡ true → list_any (nat_eq key) (section_keys cs) ≡ true → key < length y.cursor.segments →
       segment_name y key ≡ name →
-      behind_sections owner name g m.object.sections ≡ Some (grown owner (or_empty name g) (section_of origins y.cursor.segments (section_keys cs) (import_keys (table_of y).imports cs) cs key)) →
-      Behind y m origins cs owner name g
+      after_sections owner name g m.object.sections ≡ Some (segment_with_section owner (or_empty name g) (section_of origins y.cursor.segments (section_keys cs) (import_keys (table_of y).imports cs) cs key)) →
+      Following y m origins cs owner name g
 
-pub behind_source : (y : Layout) (m : Module) → (h : IsSource y m) → (owner : ℕ) (name : List ℕ) (g : Option linked.Segment) → Behind y m (contents_of y m h).origins (contents_of y m h).contents owner name g
-behind_source y m h owner name g = go (has_section y name) refl
+pub after_source : (y : Layout) (m : Module) → (h : IsSource y m) → (owner : ℕ) (name : List ℕ) (g : Option linked.Segment) → Following y m (contents_of y m h).origins (contents_of y m h).contents owner name g
+after_source y m h owner name g = go (has_section y name) refl
   where
-    go : (b : Bool) → has_section y name ≡ b → Behind y m (contents_of y m h).origins (contents_of y m h).contents owner name g
+    go : (b : Bool) → has_section y name ≡ b → Following y m (contents_of y m h).origins (contents_of y m h).contents owner name g
     go b e =
         let c = contents_of y m h in
         let cs : List Content = c.contents in
         let keys = keys_of y cs h.laid_out c.found in
         let is : List ℕ = import_keys (table_of y).imports cs in
-        let same : behind_sections owner name g m.object.sections ≡ behind_sections owner name g (map (its_section y owner c.origins (section_keys cs) is cs name) (section_keys cs)) = ap (λ (z : Object). behind_sections owner name g z.sections) c.object in
+        let same : after_sections owner name g m.object.sections ≡ after_sections owner name g (map (its_section y owner c.origins (section_keys cs) is cs name) (section_keys cs)) = ap (λ (z : Object). after_sections owner name g z.sections) c.object in
         by b c.origins cs keys same e
       where
-        by : (b : Bool) (origins : Place → Origin) (cs : List Content) → AreKeys y (section_keys cs) → behind_sections owner name g m.object.sections ≡ behind_sections owner name g (map (its_section y owner origins (section_keys cs) (import_keys (table_of y).imports cs) cs name) (section_keys cs)) → has_section y name ≡ b → Behind y m origins cs owner name g
+        by : (b : Bool) (origins : SourceLocation → Origin) (cs : List Content) → AreKeys y (section_keys cs) → after_sections owner name g m.object.sections ≡ after_sections owner name g (map (its_section y owner origins (section_keys cs) (import_keys (table_of y).imports cs) cs name) (section_keys cs)) → has_section y name ≡ b → Following y m origins cs owner name g
         by false origins cs keys same e =
             unchanged e (same ∙ none_there y owner origins (section_keys cs) (import_keys (table_of y).imports cs) cs name (section_keys cs) keys.standing (sym (keys.has name) ∙ e) g)
         by true origins cs keys same e =
@@ -177,50 +177,50 @@ behind_source y m h owner name g = go (has_section y name) refl
 -- ---- Where a part begins and ends.
 
 -- the lines of a name are those of its segment's number
-pub in_segment : (owner : ℕ) (y : Layout) (g : ℕ) → IsLaidOut y → g < length y.cursor.segments → lines_in owner y (segment_name y g) ≡ lines_at g (lines_behind owner [] y.laid)
+pub in_segment : (owner : ℕ) (y : Layout) (g : ℕ) → IsSoundLayoutOf y → g < length y.cursor.segments → lines_in owner y (segment_name y g) ≡ lines_at g (lines_after owner [] y.laid)
 in_segment owner y g d lt = by_number owner y g (named d).distinct lt [] y.laid (named d).standing
 
-pub section_begin : (y : Layout) (owner key at : ℕ) (origins : Place → Origin) (sections imports : List ℕ) (cs : List Content) → IsLaidOut y → rounded_up at (linked.align_of (section_of origins y.cursor.segments sections imports cs key)) ≡ next_multiple_of at (largest_multiple (lines_at key (lines_behind owner [] y.laid)))
+pub section_begin : (y : Layout) (owner key at : ℕ) (origins : SourceLocation → Origin) (sections imports : List ℕ) (cs : List Content) → IsSoundLayoutOf y → rounded_up at (linked.align_of (section_of origins y.cursor.segments sections imports cs key)) ≡ next_multiple_of at (largest_multiple (lines_at key (lines_after owner [] y.laid)))
 section_begin y owner key at origins sections imports cs d = grind (arith, common_steps, power_positive, largest_power, powers_at, placed, alignment_law, rounding_law)
 
-pub begin_is_multiple : (y : Layout) (owner key at : ℕ) → IsLaidOut y → IsMultiple (next_multiple_of at (largest_multiple (lines_at key (lines_behind owner [] y.laid)))) (largest_multiple (lines_at key (lines_behind owner [] y.laid)))
+pub begin_is_multiple : (y : Layout) (owner key at : ℕ) → IsSoundLayoutOf y → IsMultiple (next_multiple_of at (largest_multiple (lines_at key (lines_after owner [] y.laid)))) (largest_multiple (lines_at key (lines_after owner [] y.laid)))
 begin_is_multiple y owner key at d =
-    let lines : List Line = lines_at key (lines_behind owner [] y.laid) in
-    rounded at (largest_multiple lines) (power_positive (largest_multiple lines) (largest_power lines (powers_at key (lines_behind owner [] y.laid) (placed owner d).powers)))
+    let lines : List SegmentLine = lines_at key (lines_after owner [] y.laid) in
+    rounded at (largest_multiple lines) (power_positive (largest_multiple lines) (largest_power lines (powers_at key (lines_after owner [] y.laid) (placed owner d).powers)))
 
 -- the part of a module that has a section
-pub whole_part : (y : Layout) (owner key : ℕ) (name : List ℕ) → IsLaidOut y → key < length y.cursor.segments → segment_name y key ≡ name → has_section y name ≡ true → part_of owner y name ≡ rounding (largest_multiple (lines_at key (lines_behind owner [] y.laid))) ∷ map line (lines_at key (lines_behind owner [] y.laid))
+pub whole_part : (y : Layout) (owner key : ℕ) (name : List ℕ) → IsSoundLayoutOf y → key < length y.cursor.segments → segment_name y key ≡ name → has_section y name ≡ true → part_of owner y name ≡ rounding (largest_multiple (lines_at key (lines_after owner [] y.laid))) ∷ map line (lines_at key (lines_after owner [] y.laid))
 whole_part y owner key name d lt called has = grind (arith, common_steps, in_segment)
 
 pub no_part : (y : Layout) (owner : ℕ) (name : List ℕ) → has_section y name ≡ false → part_of owner y name ≡ []
 no_part y owner name has = ap (λ b. cond b (rounding (largest_multiple (lines_in owner y name)) ∷ map line (lines_in owner y name)) []) has
 
-pub part_end : (y : Layout) (m : Module) (owner : ℕ) (name : List ℕ) (g : Option linked.Segment) → IsSource y m → size_or (behind_sections owner name g m.object.sections) ≡ end_of (size_or g) (part_of owner y name)
-part_end y m owner name g h = go (behind_source y m h owner name g)
+pub part_end : (y : Layout) (m : Module) (owner : ℕ) (name : List ℕ) (g : Option linked.Segment) → IsSource y m → size_or (after_sections owner name g m.object.sections) ≡ end_of (size_or g) (part_of owner y name)
+part_end y m owner name g h = go (after_source y m h owner name g)
   where
-    go : Behind y m (contents_of y m h).origins (contents_of y m h).contents owner name g → size_or (behind_sections owner name g m.object.sections) ≡ end_of (size_or g) (part_of owner y name)
+    go : Following y m (contents_of y m h).origins (contents_of y m h).contents owner name g → size_or (after_sections owner name g m.object.sections) ≡ end_of (size_or g) (part_of owner y name)
     go (unchanged has e) = ap size_or e ∙ ap (end_of (size_or g)) (sym (no_part y owner name has))
     go (grows key has among lt called e) =
         let c = contents_of y m h in
         let cs : List Content = c.contents in
         let sections : List ℕ = section_keys cs in
         let imports : List ℕ = import_keys (table_of y).imports cs in
-        let lines : List Line = lines_at key (lines_behind owner [] y.laid) in
+        let lines : List SegmentLine = lines_at key (lines_after owner [] y.laid) in
         let begin : ℕ = next_multiple_of (size_or g) (largest_multiple lines) in
         ap size_or e
         ∙ ap (λ n. rounded_up n (linked.align_of (section_of c.origins y.cursor.segments sections imports cs key)) + section_len (section_of c.origins y.cursor.segments sections imports cs key)) (size_or_empty name g)
         ∙ ap (λ n. n + section_len (section_of c.origins y.cursor.segments sections imports cs key)) (section_begin y owner key (size_or g) c.origins sections imports cs h.laid_out)
         ∙ ap (λ n. begin + n) (length_law y owner key cs c.origins sections imports h.laid_out h.sound c.found)
-        ∙ sym (shift_law lines begin (powers_at key (lines_behind owner [] y.laid) (placed owner h.laid_out).powers) (begin_is_multiple y owner key (size_or g) h.laid_out))
+        ∙ sym (shift_law lines begin (powers_at key (lines_after owner [] y.laid) (placed owner h.laid_out).powers) (begin_is_multiple y owner key (size_or g) h.laid_out))
         ∙ ap (end_of (size_or g)) (sym (whole_part y owner key name h.laid_out lt called has))
 
 -- ---- Module by module.
 
-pub modules_end : (ys : List Layout) (ms : List Module) (owner : ℕ) (name : List ℕ) (g : Option linked.Segment) → AreSources ys ms → size_or (behind_modules owner name g ms) ≡ end_of (size_or g) (items_from owner ys name)
+pub modules_end : (ys : List Layout) (ms : List Module) (owner : ℕ) (name : List ℕ) (g : Option linked.Segment) → AreSources ys ms → size_or (after_modules owner name g ms) ≡ end_of (size_or g) (items_from owner ys name)
 modules_end [] [] owner name g h = refl
 modules_end [] (m ∷ ms) owner name g h = absurd h
 modules_end (y ∷ ys) [] owner name g h = absurd h
-modules_end (y ∷ ys) (m ∷ ms) owner name g h = grind (arith, common_steps, part_end, end_of-append, (modules_end ys ms (suc owner) name (behind_sections owner name g m.object.sections) h.1))
+modules_end (y ∷ ys) (m ∷ ms) owner name g h = grind (arith, common_steps, part_end, end_of-append, (modules_end ys ms (suc owner) name (after_sections owner name g m.object.sections) h.1))
 
 -- A segment of linked modules is as long as the list of all lines of its name.
 pub size_law : (ys : List Layout) (ms : List Module) (name : List ℕ) → AreSources ys ms → linked.end_of (linked.program_of ms).segments name ≡ end_of 0 (items_of ys name)

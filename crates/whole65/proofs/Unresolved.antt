@@ -9,7 +9,7 @@ use Rattle.object65.specs.Form.{Form}
 use Rattle.script65.specs.declared.placement.Placement.{Placement}
 use Rattle.script65.specs.declared.script.Script.{Script}
 use Rattle.semantics65.specs.Contents.{Content, Part, Known, Filled, Waiting, Declaration, Exported, ForcedImport, Asserted, exported_names}
-use Rattle.semantics65.specs.Symbols.{Laid, asks_section, Symbols, defined, named}
+use Rattle.semantics65.specs.Symbols.{LaidOutStatement, needs_section, Symbols, definition_index, named}
 use Rattle.semantics65.specs.Layout.{Layout}
 use Rattle.semantics65.specs.Norms.{defined_form, norm}
 use Rattle.semantics65.specs.Numbering.{all_said, imports_in, name_of, optional_key, key_of, parts_in, segments_asked, section_keys}
@@ -17,7 +17,7 @@ use Rattle.link65.specs.Programs.{Module}
 use Rattle.link65.specs.declared.parts.ValueFault.{ValueFault}
 use Rattle.link65.specs.declared.parts.ValueFault.TheVariants.{NoValue}
 use Rattle.sources65.proofs.SoundForms.{all_append}
-use Rattle.semantics65.specs.Module.{ending_of}
+use Rattle.semantics65.specs.Module.{module_resolution}
 use Rattle.whole65.proofs.Exports.{IsAsserted, all_demanded, demanded_names, one_tells, IsDefined, said_all}
 use Rattle.whole65.proofs.Links.{valued_imports_law}
 use Rattle.whole65.proofs.Providers.{global_form, past_all, sources_law}
@@ -35,24 +35,24 @@ use Rattle.whole65.specs.Objects.{AreObjects, HasNone, HasValue, IsGivenBy, Obje
 use Rattle.whole65.specs.Objects as objects
 use Rattle.whole65.specs.Programs as whole
 use Rattle.whole65.specs.Programs.{length_of, program_of}
-use Rattle.whole65.specs.Segments.{line_of, lines_behind, Line, asked_by, end_of, has_section, items_from, items_of, largest_multiple, line, need_of, needs_of, part_of, rounding, segment_name, segments_of}
+use Rattle.whole65.specs.Segments.{line_of, lines_after, SegmentLine, asked_by, end_of, has_section, items_from, items_of, largest_multiple, line, need_of, needs_of, part_of, rounding, segment_name, segments_of}
 use Rattle.whole65.specs.Sources.{AreSources, IsSource}
 use Rattle.whole65.specs.Values.{Program, by_nobody}
-use Rattle.whole65.specs.Whole.{HasAssertion, HasExport, IsGiven, AreAsserted, AreExported, AreForced, AreRow}
+use Rattle.whole65.specs.Whole.{HasAssertion, HasExport, IsProvided, AreAsserted, AreExported, AreForced, AreRow}
 use Rattle.std.specs.Int.{next_multiple_of}
 use Rattle.std.specs.Str.{bytes_eq}
 use Rattle.std.proofs.lemmas.List.Folds.{list_any-append}
 use Rattle.script65.proofs.Apart.{rows_there}
 use Rattle.script65.specs.Placing.{has_row, place_of}
 use Rattle.script65.specs.declared.placement.SegmentNeed.{SegmentNeed}
-use Rattle.script65.specs.declared.script.Row.{Row}
+use Rattle.script65.specs.declared.script.SegmentRow.{SegmentRow}
 use Rattle.ast65.proofs.Lists.{same_bytes}
 use Rattle.link65.specs.Files.{RowBytes}
 use Rattle.whole65.proofs.Positions.{itself, all_parts, alike}
 use Rattle.whole65.specs.Contents.{AreBytes}
 use Rattle.whole65.specs.Offsets.{lines_at}
 use Rattle.link65.specs.Programs as linked
-use Rattle.link65.specs.Names.{unresolved, symbol_imports}
+use Rattle.link65.specs.Names.{unresolved_names, symbol_imports}
 
 -- ---- What asks for no section puts nothing there.
 
@@ -62,31 +62,31 @@ module _ (P : Part → Type 0) where
   Asked cs = (g : ℕ) → list_any (nat_eq g) (segments_asked cs) ≡ true → AllByRecursion P (parts_in cs g)
 
   -- in the segments of which these statements ask for sections
-  abbrev AskedBy : List Laid → List Content → Type 0
-  AskedBy ls cs = (g : ℕ) → list_any (nat_eq g) (map (λ l. l.context.segment) (filter (λ l. asks_section l.stated) ls)) ≡ true → AllByRecursion P (parts_in cs g)
+  abbrev AskedBy : List LaidOutStatement → List Content → Type 0
+  AskedBy ls cs = (g : ℕ) → list_any (nat_eq g) (map (λ l. l.context.segment) (filter (λ l. needs_section l.stated) ls)) ≡ true → AllByRecursion P (parts_in cs g)
 
-  lines_put : (z : Symbols) (names : List (List ℕ)) (ls : List Laid) (cs : List Content) → AreStated z names ls cs → AskedBy ls cs → AllByRecursion P (all_put cs)
+  lines_put : (z : Symbols) (names : List (List ℕ)) (ls : List LaidOutStatement) (cs : List Content) → AreStated z names ls cs → AskedBy ls cs → AllByRecursion P (all_put cs)
   lines_put z names [] _ no_line up = tt
   lines_put z names (l ∷ ls) _ (a_line ds cs found more) up =
       let one = stated z names l ds found in
-      let both = λ (g : ℕ) (e : list_any (nat_eq g) (map (λ (x : Laid). x.context.segment) (cond (asks_section l.stated) (l ∷ asking) asking)) ≡ true). all_parts P (parts_in ds g) (parts_in cs g) (subst (AllByRecursion P) (parts_append g ds cs) (up g e)) in
-      let own : AllByRecursion P (all_put one.own) = here one (asks_section l.stated) refl (λ g e. (both g e).0) in
-      subst (AllByRecursion P) (sym (put_append ds cs)) (all_append P (all_put ds) (all_put cs) (subst (AllByRecursion P) (sym one.put) own) (lines_put z (names ++ exported_names (all_said ds)) ls cs more (λ g e. (both g (wider g (asks_section l.stated) e)).1)))
+      let both = λ (g : ℕ) (e : list_any (nat_eq g) (map (λ (x : LaidOutStatement). x.context.segment) (cond (needs_section l.stated) (l ∷ asking) asking)) ≡ true). all_parts P (parts_in ds g) (parts_in cs g) (subst (AllByRecursion P) (parts_append g ds cs) (up g e)) in
+      let own : AllByRecursion P (all_put one.own) = here one (needs_section l.stated) refl (λ g e. (both g e).0) in
+      subst (AllByRecursion P) (sym (put_append ds cs)) (all_append P (all_put ds) (all_put cs) (subst (AllByRecursion P) (sym one.put) own) (lines_put z (names ++ exported_names (all_said ds)) ls cs more (λ g e. (both g (wider g (needs_section l.stated) e)).1)))
     where
-      asking : List Laid
-      asking = filter (λ (x : Laid). asks_section x.stated) ls
+      asking : List LaidOutStatement
+      asking = filter (λ (x : LaidOutStatement). needs_section x.stated) ls
 
-      wider : (g : ℕ) (b : Bool) → list_any (nat_eq g) (map (λ (x : Laid). x.context.segment) asking) ≡ true → list_any (nat_eq g) (map (λ (x : Laid). x.context.segment) (cond b (l ∷ asking) asking)) ≡ true
+      wider : (g : ℕ) (b : Bool) → list_any (nat_eq g) (map (λ (x : LaidOutStatement). x.context.segment) asking) ≡ true → list_any (nat_eq g) (map (λ (x : LaidOutStatement). x.context.segment) (cond b (l ∷ asking) asking)) ≡ true
       wider g x1 e = grind (arith, common_steps, or_right)
 
-      here : (one : Stated z names l ds) (b : Bool) → asks_section l.stated ≡ b → ((g : ℕ) → list_any (nat_eq g) (map (λ (x : Laid). x.context.segment) (cond b (l ∷ asking) asking)) ≡ true → AllByRecursion P (parts_in ds g)) → AllByRecursion P (all_put one.own)
+      here : (one : Stated z names l ds) (b : Bool) → needs_section l.stated ≡ b → ((g : ℕ) → list_any (nat_eq g) (map (λ (x : LaidOutStatement). x.context.segment) (cond b (l ∷ asking) asking)) ≡ true → AllByRecursion P (parts_in ds g)) → AllByRecursion P (all_put one.own)
       here one x1 e first = grind (arith, common_steps, (quiet_parts l.length l.settled l.stated one.pieces), (first l.context.segment))
 
   each_put : (cs : List Content) → AllByRecursion P (all_put cs) → AllByRecursion (λ (c : Content). AllByRecursion P c.parts) cs
   each_put [] h = tt
   each_put (c ∷ cs) h = (let both = all_parts P c.parts (all_put cs) h in (both.0, each_put cs both.1))
 
-  parts_asked : (y : Layout) (cs : List Content) → (ending_of y.laid).found ≡ Ok cs → Asked cs → AllByRecursion (λ (c : Content). AllByRecursion P c.parts) cs
+  parts_asked : (y : Layout) (cs : List Content) → (module_resolution y.laid).found ≡ Ok cs → Asked cs → AllByRecursion (λ (c : Content). AllByRecursion P c.parts) cs
   parts_asked y cs e up = each_put cs (lines_put (table_of y) [] y.laid cs (are_stated y cs e) (λ g h. up g (ap (list_any (nat_eq g)) (asked_are y cs e) ∙ h)))
 
 -- ---- One module.
@@ -120,44 +120,44 @@ module _ (s : Script) (placement : Placement) (ys : List Layout) (ms : List Modu
   IsValuedCheck (Asserted act place words f) = HasSome f
 
   -- an import that comes to a value has a name that is given
-  one_given : (turns k : ℕ) (w : ℤ) → o.imports turns owner k ≡ Ok w → OfKey (IsGiven p) z.imports k
-  one_given turns k w e = by (slice_get z.imports k) refl (subst (λ r. objects.IsGiven p o owner k (slice_get (symbols_at r).imports k)) at_y ((sources_law s placement ys ms h).given owner k))
+  one_given : (turns k : ℕ) (w : ℤ) → o.imports turns owner k ≡ Ok w → OfKey (IsProvided p) z.imports k
+  one_given turns k w e = by (slice_get z.imports k) refl (subst (λ r. objects.ImportHasValue p o owner k (slice_get (symbols_at r).imports k)) at_y ((sources_law s placement ys ms h).given owner k))
     where
-      by : (r : Option (List ℕ)) → slice_get z.imports k ≡ r → objects.IsGiven p o owner k r → IsGiven p (name_of z.imports k)
+      by : (r : Option (List ℕ)) → slice_get z.imports k ≡ r → objects.ImportHasValue p o owner k r → IsProvided p (name_of z.imports k)
       by None q given = absurd (given turns w e)
       by (Some x) q given = λ none.
           let called : p.provider x ≡ by_nobody = ap (λ r. p.provider (unwrap_or r [])) (sym q) ∙ none in
           let never : HasNone o owner k = subst (IsGivenBy p o owner k x) called given in
           never turns w e
 
-  each_given : (turns : ℕ) (ks : List ℕ) → AllByRecursion (λ k. (w : ℤ) × (o.imports turns owner k ≡ Ok w)) ks → AllByRecursion (OfKey (IsGiven p) z.imports) ks
+  each_given : (turns : ℕ) (ks : List ℕ) → AllByRecursion (λ k. (w : ℤ) × (o.imports turns owner k ≡ Ok w)) ks → AllByRecursion (OfKey (IsProvided p) z.imports) ks
   each_given turns [] k = tt
   each_given turns (x ∷ ks) k = (one_given turns x k.0.0 k.0.1, each_given turns ks k.1)
 
-  form_given : (f : Form) → HasSome f → AllByRecursion (OfKey (IsGiven p) z.imports) (imports_in f)
+  form_given : (f : Form) → HasSome f → AllByRecursion (OfKey (IsProvided p) z.imports) (imports_in f)
   form_given f (v, (turns, e)) = each_given turns (imports_in f) (valued_imports_law ValueFault NoValue (o.bases owner) (o.imports turns owner) f v e)
 
-  part_given : (x : Part) → IsValuedPart x → OfPart (IsGiven p) z.imports x
+  part_given : (x : Part) → IsValuedPart x → OfPart (IsProvided p) z.imports x
   part_given x k = grind (arith, common_steps, form_given)
 
-  parts_given : (xs : List Part) → AllByRecursion IsValuedPart xs → AllByRecursion (OfPart (IsGiven p) z.imports) xs
+  parts_given : (xs : List Part) → AllByRecursion IsValuedPart xs → AllByRecursion (OfPart (IsProvided p) z.imports) xs
   parts_given [] k = tt
   parts_given (x ∷ xs) k = (part_given x k.0, parts_given xs k.1)
 
-  all_parts_given : (cs : List Content) → AllByRecursion (λ (c : Content). AllByRecursion IsValuedPart c.parts) cs → AllByRecursion (λ (c : Content). AllByRecursion (OfPart (IsGiven p) z.imports) c.parts) cs
+  all_parts_given : (cs : List Content) → AllByRecursion (λ (c : Content). AllByRecursion IsValuedPart c.parts) cs → AllByRecursion (λ (c : Content). AllByRecursion (OfPart (IsProvided p) z.imports) c.parts) cs
   all_parts_given [] k = tt
   all_parts_given (c ∷ cs) k = (parts_given c.parts k.0, all_parts_given cs k.1)
 
-  demand_given : (n : List ℕ) → IsGiven p n → AllByRecursion (OfKey (IsGiven p) z.imports) (optional_key (key_of z.imports n))
+  demand_given : (n : List ℕ) → IsProvided p n → AllByRecursion (OfKey (IsProvided p) z.imports) (optional_key (key_of z.imports n))
   demand_given n k = grind (arith, common_steps, key_for, at_key, no_key)
 
-  said_given : (ss : List Declaration) → AllByRecursion (IsGiven p) (demanded_names ss) → AllByRecursion IsValuedExport ss → AllByRecursion IsValuedCheck ss → AllByRecursion (OfSaid (IsGiven p) z.imports) ss
+  said_given : (ss : List Declaration) → AllByRecursion (IsProvided p) (demanded_names ss) → AllByRecursion IsValuedExport ss → AllByRecursion IsValuedCheck ss → AllByRecursion (OfSaid (IsProvided p) z.imports) ss
   said_given [] d e a = tt
   said_given (x1 ∷ ss) d e a = grind (arith, common_steps, form_given, demand_given, (said_given ss))
 
   -- ---- Exports.
 
-  export_valued : (n : List ℕ) (j : ℕ) (f : Form) → defined z (named 0 n) ≡ Some j → defined_form z j ≡ Ok f → HasExport p owner n → HasSome f
+  export_valued : (n : List ℕ) (j : ℕ) (f : Form) → definition_index z (named 0 n) ≡ Some j → defined_form z j ≡ Ok f → HasExport p owner n → HasSome f
   export_valued n j f e normal has =
       let depth : ℕ = suc (suc (length z.definitions)) in
       let same : norm depth (o.symbols owner) (o.contexts owner (p.global owner)) (tree.name false (n ∷ [])) ≡ Ok f =
@@ -172,17 +172,17 @@ module _ (s : Script) (placement : Placement) (ys : List Layout) (ms : List Modu
 
   -- ---- Assertions.
 
-  check_valued : (before : List Laid) (l : Laid) (x : Declaration) → o.contexts owner (length before) ≡ l.context → HasAssertion p (line_of owner before l) → IsAsserted z l x → IsValuedCheck x
+  check_valued : (before : List LaidOutStatement) (l : LaidOutStatement) (x : Declaration) → o.contexts owner (length before) ≡ l.context → HasAssertion p (line_of owner before l) → IsAsserted z l x → IsValuedCheck x
   check_valued before l (Asserted act place words f) context has (e, stated, normal) =
       let same = same_values_law ValueFault p o (sources_law s placement ys ms h) (suc (length z.definitions)) owner (length before) e f in
       grind (arith, common_steps)
   check_valued before l _ context has k = tt
 
-  line_valued : (before : List Laid) (l : Laid) (ss : List Declaration) → o.contexts owner (length before) ≡ l.context → HasAssertion p (line_of owner before l) → AllByRecursion (IsAsserted z l) ss → AllByRecursion IsValuedCheck ss
+  line_valued : (before : List LaidOutStatement) (l : LaidOutStatement) (ss : List Declaration) → o.contexts owner (length before) ≡ l.context → HasAssertion p (line_of owner before l) → AllByRecursion (IsAsserted z l) ss → AllByRecursion IsValuedCheck ss
   line_valued before l [] context has k = tt
   line_valued before l (x ∷ ss) context has k = (check_valued before l x context has k.0, line_valued before l ss context has k.1)
 
-  checks_valued : (before ls : List Laid) (names : List (List ℕ)) (cs : List Content) → before ++ ls ≡ y.laid → AreStated z names ls cs → AllByRecursion (HasAssertion p) (lines_behind owner before ls) → AllByRecursion IsValuedCheck (all_said cs)
+  checks_valued : (before ls : List LaidOutStatement) (names : List (List ℕ)) (cs : List Content) → before ++ ls ≡ y.laid → AreStated z names ls cs → AllByRecursion (HasAssertion p) (lines_after owner before ls) → AllByRecursion IsValuedCheck (all_said cs)
   checks_valued before [] names _ w no_line has = tt
   checks_valued before (l ∷ ls) names _ w (a_line ds cs found more) has =
       let next : (before ++ l ∷ []) ++ ls ≡ y.laid = append_assoc before (l ∷ []) ls ∙ w in
@@ -194,34 +194,34 @@ module _ (s : Script) (placement : Placement) (ys : List Layout) (ms : List Modu
 
   -- ---- All imports of the object.
 
-  pub module_given : (m : Module) (source : IsSource y m) → AllByRecursion (IsGiven p) (forced_of y) → AllByRecursion (HasExport p owner) (exports_of y) → AllByRecursion (HasAssertion p) (lines_behind owner [] y.laid) → Asked IsValuedPart (contents_of y m source).contents → AllByRecursion (IsGiven p) m.object.imports
+  pub module_given : (m : Module) (source : IsSource y m) → AllByRecursion (IsProvided p) (forced_of y) → AllByRecursion (HasExport p owner) (exports_of y) → AllByRecursion (HasAssertion p) (lines_after owner [] y.laid) → Asked IsValuedPart (contents_of y m source).contents → AllByRecursion (IsProvided p) m.object.imports
   module_given m source given exported asserted asked =
       let c = contents_of y m source in
       let cs : List Content = c.contents in
       let says = said_all y cs c.found in
       let names : AllByRecursion (HasExport p owner) (exported_names (all_said cs)) = subst (AllByRecursion (HasExport p owner)) says.exported exported in
-      let demands : AllByRecursion (IsGiven p) (demanded_names (all_said cs)) = subst (AllByRecursion (IsGiven p)) (sym (all_demanded y cs c.found)) given in
-      imports_hold (IsGiven p) y m source
+      let demands : AllByRecursion (IsProvided p) (demanded_names (all_said cs)) = subst (AllByRecursion (IsProvided p)) (sym (all_demanded y cs c.found)) given in
+      imports_hold (IsProvided p) y m source
       (all_parts_given cs (parts_asked IsValuedPart y cs c.found asked))
       (said_given (all_said cs) demands (exports_valued (all_said cs) says.are_defined names) (checks_valued [] y.laid [] cs refl (are_stated y cs c.found) asserted))
 
 -- ---- From the link.
 
-forced_all : (p : Program) (ys : List Layout) (ms : List Module) → AreSources ys ms → AllByRecursion (IsGiven p) (flat_map (λ (m : Module). m.object.imports) ms) → AreForced p ys
+forced_all : (p : Program) (ys : List Layout) (ms : List Module) → AreSources ys ms → AllByRecursion (IsProvided p) (flat_map (λ (m : Module). m.object.imports) ms) → AreForced p ys
 forced_all p [] [] h k = tt
 forced_all p (y ∷ ys) (m ∷ ms) h k =
-    let both = all_parts (IsGiven p) m.object.imports (flat_map (λ (m : Module). m.object.imports) ms) k in
-    (forced_hold (IsGiven p) y m h.0 both.0, forced_all p ys ms h.1 both.1)
+    let both = all_parts (IsProvided p) m.object.imports (flat_map (λ (m : Module). m.object.imports) ms) k in
+    (forced_hold (IsProvided p) y m h.0 both.0, forced_all p ys ms h.1 both.1)
 forced_all p _ _ h k = absurd h
 
 -- Where a link leaves no name open, the names that have to be given in the whole program are: the script's imports, and those
 -- that modules import whether or not they use them.
-pub given_law : (s : Script) (placement : Placement) (ys : List Layout) (ms : List Module) → let p : Program = program_of s placement ys in AreSources ys ms → place_of s (needs_of ys) ≡ Ok placement → unresolved s (linked.program_of ms) ≡ [] → AllByRecursion (IsGiven p) (symbol_imports s.symbols) × AreForced p ys
+pub given_law : (s : Script) (placement : Placement) (ys : List Layout) (ms : List Module) → let p : Program = program_of s placement ys in AreSources ys ms → place_of s (needs_of ys) ≡ Ok placement → unresolved_names s (linked.program_of ms) ≡ [] → AllByRecursion (IsProvided p) (symbol_imports s.symbols) × AreForced p ys
 given_law s placement ys ms h placed none = grind (arith, common_steps, none_open, forced_all)
 
 -- ---- A segment with a section has a row.
 
-row_exists : (rows : List Row) (ys : List Layout) (names : List (List ℕ)) (name : List ℕ) → AllByRecursion (λ (n : SegmentNeed). has_row rows n.name ≡ true) (map (need_of ys) names) → list_any (λ k. bytes_eq name k) names ≡ true → has_row rows name ≡ true
+row_exists : (rows : List SegmentRow) (ys : List Layout) (names : List (List ℕ)) (name : List ℕ) → AllByRecursion (λ (n : SegmentNeed). has_row rows n.name ≡ true) (map (need_of ys) names) → list_any (λ k. bytes_eq name k) names ≡ true → has_row rows name ≡ true
 row_exists rows ys [] name h e = absurd cc
 row_exists rows ys (n ∷ names) name h e = grind (arith, common_steps, (row_exists rows ys names name h.1), same_bytes)
 
@@ -231,7 +231,7 @@ any_at name (x ∷ ys) zero y at e = grind (arith, common_steps, list_any-append
 any_at name (x ∷ ys) (suc i) y at e = grind (arith, common_steps, (any_at name ys i y at e), list_any-append)
 
 -- what holds of all rows holds of one of a name, if it is there
-row_of : (P : Row → Type 0) (rows : List Row) (name : List ℕ) → AllByRecursion P rows → has_row rows name ≡ true → (r : Row) × P r × (r.name ≡ name)
+row_of : (P : SegmentRow → Type 0) (rows : List SegmentRow) (name : List ℕ) → AllByRecursion P rows → has_row rows name ≡ true → (r : SegmentRow) × P r × (r.name ≡ name)
 unfolding has_row
 row_of P [] name h e = absurd cc
 row_of P (r ∷ rows) name h e = grind (arith, common_steps, (row_of P rows name h.1), same_bytes)
@@ -273,23 +273,23 @@ module _ (s : Script) (placement : Placement) (ys : List Layout) (ms : List Modu
       let key : list_any (nat_eq g) (section_keys cs) ≡ true = any_once (nat_eq g) [] (segments_asked cs) ∙ asked in
       let below : g < length y.cursor.segments = one_of (λ k. k < length y.cursor.segments) (section_keys cs) g keys.standing key in
       let has : has_section y name ≡ true = keys.has name ∙ held (λ k. bytes_eq (segment_name y k) name) g (section_keys cs) key (itself name) in
-      let asking : List Laid = filter (λ (l : Laid). asks_section l.stated) y.laid in
-      let shown : list_any (nat_eq g) (map (λ (l : Laid). l.context.segment) asking) ≡ true = ap (list_any (nat_eq g)) (sym (asked_are y cs c.found)) ∙ asked in
-      let by_name : list_any (λ k. bytes_eq name k) (asked_by y) ≡ true = grind (arith, common_steps, (names_asked y asking), any_map, (held (λ k. bytes_eq name (segment_name y k)) g (map (λ (l : Laid). l.context.segment) asking) shown (itself name))) in
+      let asking : List LaidOutStatement = filter (λ (l : LaidOutStatement). needs_section l.stated) y.laid in
+      let shown : list_any (nat_eq g) (map (λ (l : LaidOutStatement). l.context.segment) asking) ≡ true = ap (list_any (nat_eq g)) (sym (asked_are y cs c.found)) ∙ asked in
+      let by_name : list_any (λ k. bytes_eq name k) (asked_by y) ≡ true = grind (arith, common_steps, (names_asked y asking), any_map, (held (λ k. bytes_eq name (segment_name y k)) g (map (λ (l : LaidOutStatement). l.context.segment) asking) shown (itself name))) in
       let needed : list_any (λ k. bytes_eq name k) (segments_of ys) ≡ true = any_new name (flat_map asked_by ys) [] ∙ any_at name ys owner y at_y by_name in
       let (r, row, called) = row_of (AreRow whole_program ys bytes) s.rows name rows (row_exists s.rows ys (segments_of ys) name (rows_there s (needs_of ys) placement placed) needed) in
       let all : AreBytes whole_program r.fill_value 0 (items_of ys name) (bytes r) = subst (λ n. AreBytes whole_program r.fill_value 0 (items_of ys n) (bytes r)) called row in
       let (at, own, part) = part_bytes whole_program r.fill_value name ys 0 0 owner (bytes r) y at_y all in
       let first : 0 + owner ≡ owner = omega arith in
-      let lines : List Line = lines_at g (lines_behind owner [] y.laid) in
+      let lines : List SegmentLine = lines_at g (lines_after owner [] y.laid) in
       let begin : ℕ = next_multiple_of at (largest_multiple lines) in
       let mine : AreBytes whole_program r.fill_value at (rounding (largest_multiple lines) ∷ map line lines) own =
       subst (λ xs. AreBytes whole_program r.fill_value at xs own) (whole_part y owner g name d below refl has) (subst (λ n. AreBytes whole_program r.fill_value at (part_of n y name) own) first part) in
-      let contexts : (place : ℕ) (x : Laid) → slice_get y.laid place ≡ Some x → linked_ones.contexts owner place ≡ x.context = λ place x e. ap (λ r. context_in r place) at_y ∙ ap (context_or (global_context y)) e in
+      let contexts : (place : ℕ) (x : LaidOutStatement) → slice_get y.laid place ≡ Some x → linked_ones.contexts owner place ≡ x.context = λ place x e. ap (λ r. context_in r place) at_y ∙ ap (context_or (global_context y)) e in
       let parts : AreParts (HasValue linked_ones owner) r.fill_value (parts_in cs g) mine.1 = (section_law ValueFault whole_program linked_ones r.fill_value begin owner g y cs mine.1 (sources_law s placement ys ms h) (ap symbols_at at_y) contexts d (begin_is_multiple y owner g at d) c.found).0 mine.3 in
       parts_valued owner y at_y r.fill_value (parts_in cs g) mine.1 parts
 
-  modules_given : (rest : List Layout) (ns : List Module) (owner : ℕ) → AreSources rest ns → ((i : ℕ) → slice_get rest i ≡ slice_get ys (owner + i)) → AreForced whole_program rest → AreExported whole_program owner rest → AreAsserted whole_program owner rest → AllByRecursion (IsGiven whole_program) (flat_map (λ (m : Module). m.object.imports) ns)
+  modules_given : (rest : List Layout) (ns : List Module) (owner : ℕ) → AreSources rest ns → ((i : ℕ) → slice_get rest i ≡ slice_get ys (owner + i)) → AreForced whole_program rest → AreExported whole_program owner rest → AreAsserted whole_program owner rest → AllByRecursion (IsProvided whole_program) (flat_map (λ (m : Module). m.object.imports) ns)
   modules_given [] [] owner k up forced exported asserted = tt
   modules_given [] (m ∷ ns) owner k up forced exported asserted = absurd k
   modules_given (y ∷ rest) [] owner k up forced exported asserted = absurd k
@@ -297,11 +297,11 @@ module _ (s : Script) (placement : Placement) (ys : List Layout) (ms : List Modu
       let here : owner + 0 ≡ owner = omega arith in
       let at_y : slice_get ys owner ≡ Some y = ap (slice_get ys) (sym here) ∙ sym (up 0) in
       let next : (i : ℕ) → owner + suc i ≡ suc owner + i = λ i. omega arith in
-      all_append (IsGiven whole_program) m.object.imports (flat_map (λ (m : Module). m.object.imports) ns)
+      all_append (IsProvided whole_program) m.object.imports (flat_map (λ (m : Module). m.object.imports) ns)
       (module_given s placement ys ms h owner y at_y m k.0 forced.0 exported.0 asserted.0 (asked_valued owner y at_y m k.0))
       (modules_given rest ns (suc owner) k.1 (λ i. up (suc i) ∙ ap (slice_get ys) (next i)) forced.1 exported.1 asserted.1)
 
 -- A link leaves no name open where they are given, and all that has to have a value in the whole program has one: rows, exports
 -- and assertions.
-pub resolved_law : (s : Script) (placement : Placement) (ys : List Layout) (ms : List Module) (bytes : RowBytes) → let p : Program = program_of s placement ys in AreSources ys ms → place_of s (needs_of ys) ≡ Ok placement → AllByRecursion (IsGiven p) (symbol_imports s.symbols) → AreForced p ys → AreExported p 0 ys → AreAsserted p 0 ys → AllByRecursion (AreRow p ys bytes) s.rows → unresolved s (linked.program_of ms) ≡ []
+pub resolved_law : (s : Script) (placement : Placement) (ys : List Layout) (ms : List Module) (bytes : RowBytes) → let p : Program = program_of s placement ys in AreSources ys ms → place_of s (needs_of ys) ≡ Ok placement → AllByRecursion (IsProvided p) (symbol_imports s.symbols) → AreForced p ys → AreExported p 0 ys → AreAsserted p 0 ys → AllByRecursion (AreRow p ys bytes) s.rows → unresolved_names s (linked.program_of ms) ≡ []
 resolved_law s placement ys ms bytes h placed own forced exported asserted rows = grind (arith, common_steps, none_open, modules_given)

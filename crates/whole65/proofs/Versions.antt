@@ -7,14 +7,14 @@ use Rattle.object65.specs.declared.object.Fragment.{Fragment}
 use Rattle.object65.specs.declared.object.Fragment.TheVariants.{Literal, Fill}
 use Rattle.object65.specs.declared.object.Object.{Object}
 use Rattle.object65.specs.declared.object.Origin.{Origin}
-use Rattle.syntax65.specs.declared.place.Place.{Place}
+use Rattle.syntax65.specs.declared.source_location.SourceLocation.{SourceLocation}
 use Rattle.semantics65.specs.Contents.{Content, Part, Declaration, Exported, ForcedImport, Asserted}
 use Rattle.semantics65.specs.declared.contents.Segment.{Segment}
-use Rattle.semantics65.specs.Numbering.{all_joined, all_said, assert_of, export_of, fragment_of, fragments_of, import_keys, is_empty, joined, numbered, object_by, section_keys, section_of}
+use Rattle.semantics65.specs.Numbering.{all_joined, all_said, assert_of, export_of, fragment_of, fragments_of, import_keys, is_empty, merged_fragments, renumbered_form, object_by, section_keys, section_of}
 
 -- ---- Fragments.
 
-joined_in_one : (f : Fragment) (fs : List Fragment) → map fragment_in_one (joined f fs) ≡ joined (fragment_in_one f) (map fragment_in_one fs)
+joined_in_one : (f : Fragment) (fs : List Fragment) → map fragment_in_one (merged_fragments f fs) ≡ merged_fragments (fragment_in_one f) (map fragment_in_one fs)
 joined_in_one f [] = refl
 joined_in_one (Literal a) (Literal b ∷ fs) = joined_in_one (Literal (a ++ b)) fs
 joined_in_one (Fill m) (Fill n ∷ fs) = joined_in_one (Fill (m + n)) fs
@@ -30,9 +30,9 @@ kept_in_one : (fs : List Fragment) → map fragment_in_one (filter (λ f. not (i
 kept_in_one [] = refl
 kept_in_one (f ∷ fs) = grind (arith, common_steps, (kept_in_one fs), empty_in_one)
 
-module _ (origins : Place → Origin) (sections imports : List ℕ) where
+module _ (origins : SourceLocation → Origin) (sections imports : List ℕ) where
   -- places without their files
-  abbrev lines : Place → Origin
+  abbrev lines : SourceLocation → Origin
   lines place = line_alone (origins place)
 
   part_by_line : (p : Part) → fragment_in_one (fragment_of origins sections imports p) ≡ fragment_of lines sections imports p
@@ -53,7 +53,7 @@ module _ (origins : Place → Origin) (sections imports : List ℕ) where
 
   exports_by_line : (ss : List Declaration) → map export_in_one (filter_map (export_of origins sections imports) ss) ≡ filter_map (export_of lines sections imports) ss
   exports_by_line [] = refl
-  exports_by_line (Exported n place f ∷ ss) = ap (λ z. record { name = n; origin = lines place; form = numbered sections imports f } ∷ z) (exports_by_line ss)
+  exports_by_line (Exported n place f ∷ ss) = ap (λ z. record { name = n; origin = lines place; form = renumbered_form sections imports f } ∷ z) (exports_by_line ss)
   exports_by_line (ForcedImport n ∷ ss) = exports_by_line ss
   exports_by_line (Asserted act place words f ∷ ss) = exports_by_line ss
 
@@ -61,12 +61,12 @@ module _ (origins : Place → Origin) (sections imports : List ℕ) where
   asserts_by_line [] = refl
   asserts_by_line (Exported n place f ∷ ss) = asserts_by_line ss
   asserts_by_line (ForcedImport n ∷ ss) = asserts_by_line ss
-  asserts_by_line (Asserted act place words f ∷ ss) = ap (λ z. record { action = act; origin = lines place; text = words; form = numbered sections imports f } ∷ z) (asserts_by_line ss)
+  asserts_by_line (Asserted act place words f ∷ ss) = ap (λ z. record { action = act; origin = lines place; text = words; form = renumbered_form sections imports f } ∷ z) (asserts_by_line ss)
 
 -- ---- Objects.
 
 -- what an object of statements says in version 1 is the object of the same statements by lines alone
-pub by_lines : (version : ℕ) (files : List (List ℕ)) (origins : Place → Origin) (gs : List Segment) (names : List (List ℕ)) (cs : List Content) → in_version_one (object_by version files origins gs names cs) ≡ object_by 1 [] (λ place. line_alone (origins place)) gs names cs
+pub by_lines : (version : ℕ) (files : List (List ℕ)) (origins : SourceLocation → Origin) (gs : List Segment) (names : List (List ℕ)) (cs : List Content) → in_version_one (object_by version files origins gs names cs) ≡ object_by 1 [] (λ place. line_alone (origins place)) gs names cs
 by_lines version files origins gs names cs =
     let sections : List ℕ = section_keys cs in
     let imports : List ℕ = import_keys names cs in

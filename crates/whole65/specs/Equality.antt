@@ -7,7 +7,7 @@ use Rattle.link65.specs.Programs.{Module}
 use Rattle.link65.specs.declared.linking.Linked.{Linked}
 use Rattle.base65.specs.declared.output.OutputFile.{OutputFile}
 use Rattle.whole65.specs.Sources.{AreSources}
-use Rattle.whole65.specs.Whole.{Whole}
+use Rattle.whole65.specs.Whole.{IsWholeProgramImage}
 
 -- A script links modules to these files, with some warnings and some map.
 pub record IsLinkedTo (output : List ℕ) (s : Script) (ms : List Module) (files : List OutputFile) : Type 0 where
@@ -19,4 +19,4 @@ pub record IsLinkedTo (output : List ℕ) (s : Script) (ms : List Module) (files
 abbrev pub EqualityLaw : Type 0
 EqualityLaw =
     (output : List ℕ) (s : Script) (ys : List Layout) (ms : List Module) (files : List OutputFile) →
-    AreSources ys ms → Whole output s ys files ↔ IsLinkedTo output s ms files
+    AreSources ys ms → IsWholeProgramImage output s ys files ↔ IsLinkedTo output s ms files

@@ -6,12 +6,12 @@ use Rattle.object65.specs.Versions.{in_version_one}
 use Rattle.object65.specs.declared.object.Object.{Object}
 use Rattle.semantics65.specs.Module.{object_of}
 use Rattle.semantics65.specs.Numbering.{IsSoundLayout}
-use Rattle.semantics65.specs.Symbols.{Laid}
+use Rattle.semantics65.specs.Symbols.{LaidOutStatement}
 use Rattle.semantics65.specs.Layout.{Layout, segment_at}
 use Rattle.semantics65.specs.Norms.{norm}
-use Rattle.whole65.specs.Offsets.{ArePowers, IsLaidOut, lines_at}
+use Rattle.whole65.specs.Offsets.{ArePowers, IsSoundLayoutOf, lines_at}
 use Rattle.whole65.specs.Sources.{AreSources, IsSource}
-use Rattle.whole65.specs.Segments.{end_of, largest_multiple, line, lines_behind, need_of, needs_of}
+use Rattle.whole65.specs.Segments.{end_of, largest_multiple, line, lines_after, need_of, needs_of}
 use Rattle.link65.specs.Programs.{Module, Cell, fragment_cells, segment_of}
 use Rattle.link65.specs.Programs as linked
 use Rattle.link65.specs.Values as places
@@ -26,18 +26,18 @@ use Rattle.script65.specs.declared.placement.Placement.{Placement}
 use Rattle.script65.specs.declared.script.Script.{Script}
 use Rattle.std.specs.List.{AllByRecursion}
 use Rattle.script65.specs.Placing.{place_of}
-use Rattle.whole65.specs.Values.{Needs, Program, Spot, Value}
+use Rattle.whole65.specs.Values.{NeedsValueOf, Program, LocatedExpr, Value}
 use Rattle.whole65.specs.Whole.{AreRow}
 
 -- an expression has one value at most
-abbrev pub OneValueLaw : Type 0
-OneValueLaw =
+abbrev pub ValueIsUnique : Type 0
+ValueIsUnique =
     (p : Program) (owner place : ℕ) (e : Tree) (v w : ℤ) →
     Value p owner place e v → Value p owner place e w → v ≡ w
 
 -- what is needed for its own value has none
 abbrev pub CircularLaw : Type 0
-CircularLaw = (p : Program) (x : Spot) (v : ℤ) → Needs p x x → Value p x.owner x.place x.tree v → ⊥
+CircularLaw = (p : Program) (x : LocatedExpr) (v : ℤ) → NeedsValueOf p x x → Value p x.owner x.place x.tree v → ⊥
 
 -- Wherever sections lie, an expression that has a normal form has the value of that form, and none where the form has none:
 -- names are replaced by their definitions, operations are folded, and imports have the values of exports.
@@ -50,18 +50,18 @@ SameValuesLaw E =
 -- the position behind all, and its alignment the largest of their multiples.
 pub record AreOffsets (y : Layout) (owner : ℕ) : Type 0 where
   pub offset :
-      (place : ℕ) (l : Laid) → slice_get y.laid place ≡ Some l →
-      l.context.offset ≡ end_of 0 (map line (lines_at l.context.segment (lines_behind owner [] (take place y.laid))))
+      (place : ℕ) (l : LaidOutStatement) → slice_get y.laid place ≡ Some l →
+      l.context.offset ≡ end_of 0 (map line (lines_at l.context.segment (lines_after owner [] (take place y.laid))))
   pub size :
       (g : ℕ) →
-      (segment_at y.cursor.segments g).end ≡ end_of 0 (map line (lines_at g (lines_behind owner [] y.laid)))
-  pub alignment :
+      (segment_at y.cursor.segments g).end ≡ end_of 0 (map line (lines_at g (lines_after owner [] y.laid)))
+  pub same_alignment :
       (g : ℕ) →
-      (segment_at y.cursor.segments g).align ≡ largest_multiple (lines_at g (lines_behind owner [] y.laid))
-  pub powers : ArePowers (lines_behind owner [] y.laid)
+      (segment_at y.cursor.segments g).align ≡ largest_multiple (lines_at g (lines_after owner [] y.laid))
+  pub powers : ArePowers (lines_after owner [] y.laid)
 
 abbrev pub OffsetLaw : Type 0
-OffsetLaw = (y : Layout) (owner : ℕ) → IsLaidOut y → AreOffsets y owner
+OffsetLaw = (y : Layout) (owner : ℕ) → IsSoundLayoutOf y → AreOffsets y owner
 
 -- A segment of the link needs what the list of all its lines needs: as many bytes, and its largest alignment.
 abbrev pub NeedsLaw : Type 0
@@ -72,7 +72,7 @@ NeedsLaw =
 -- statements without a fault that lay a sound module are the source of their object, and of its version 1
 abbrev pub SourceLaw : Type 0
 SourceLaw =
-    (y : Layout) (name : List ℕ) (o : Object) → IsLaidOut y → IsSoundLayout y → object_of y ≡ Ok o →
+    (y : Layout) (name : List ℕ) (o : Object) → IsSoundLayoutOf y → IsSoundLayout y → object_of y ≡ Ok o →
     IsSource y (record { name = name; object = o }) × IsSource y (record { name = name; object = in_version_one o })
 
 -- A script places linked modules where it places their whole program.

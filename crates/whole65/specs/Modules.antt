@@ -3,13 +3,13 @@ use Rattle.std.specs.Prelude.{ℕ, suc, Bool, List, [], ◌∷◌, ◌++◌, map
 use Rattle.std.specs.List.{flat_map}
 use Rattle.syntax65.specs.Trees.{Tree}
 use Rattle.ast65.specs.declared.fault.AsmFault.{AsmFault}
-use Rattle.semantics65.specs.Symbols.{Laid, Symbols, definitions_of, defined, named, symbols_of, value_defined, with_new}
+use Rattle.semantics65.specs.Symbols.{LaidOutStatement, Symbols, definitions_of, definition_index, named, symbols_of, value_defined, with_new}
 use Rattle.semantics65.specs.declared.laid.Context.{Context}
 use Rattle.ast65.specs.declared.language.Statement.{Statement}
 use Rattle.ast65.specs.declared.language.Statement.TheVariants.{Export, Global, ForceImport}
 use Rattle.semantics65.specs.Layout.{Layout}
 use Rattle.semantics65.specs.Symbols as names
-use Rattle.whole65.specs.Values.{Meaning, label_at, constant_at, import_of}
+use Rattle.whole65.specs.Values.{SymbolBinding, label_at, constant_at, import_of}
 
 -- A module is its laid statements. A statement is named by its place among them.
 abbrev pub table_of : Layout → Symbols
@@ -18,30 +18,30 @@ table_of y = symbols_of y.laid
 -- ---- Where definitions stand.
 
 -- the places of the statements that make definitions, in the order of the definitions, where the first stands at a place
-abbrev pub defining_from : ℕ → List Laid → List ℕ
+abbrev pub defining_from : ℕ → List LaidOutStatement → List ℕ
 defining_from place [] = []
 defining_from place (l ∷ ls) = map (λ d. place) (definitions_of l) ++ defining_from (suc place) ls
 
 -- ---- What an operand means.
 
 -- a definition by the statement at a place: a constant, or else a label
-abbrev pub definition_at : ℕ → Option Laid → Option Meaning
+abbrev pub definition_at : ℕ → Option LaidOutStatement → Option SymbolBinding
 definition_at place None = None
 definition_at place (Some l) = go (value_defined l.stated)
   where
-    go : Option Tree → Option Meaning
+    go : Option Tree → Option SymbolBinding
     go (Some e) = Some (constant_at place e)
     go None = Some (label_at place)
 
-abbrev pub statement_at : List Laid → Option ℕ → Option Meaning
+abbrev pub statement_at : List LaidOutStatement → Option ℕ → Option SymbolBinding
 statement_at ls None = None
 statement_at ls (Some place) = definition_at place (slice_get ls place)
 
-abbrev pub import_named : Option (List ℕ) → Option Meaning
+abbrev pub import_named : Option (List ℕ) → Option SymbolBinding
 import_named None = None
 import_named (Some n) = Some (import_of n)
 
-abbrev pub meaning_by : Layout → Result names.Meaning AsmFault → Option Meaning
+abbrev pub meaning_by : Layout → Result names.Binding AsmFault → Option SymbolBinding
 meaning_by y (Ok (names.defined_at d)) = statement_at y.laid (slice_get (defining_from 0 y.laid) d)
 meaning_by y (Ok (names.imported_as k)) = import_named (slice_get (table_of y).imports k)
 meaning_by y (Err e) = None
@@ -57,7 +57,7 @@ global_context y = record {
   offset = 0;
 }
 
-abbrev pub context_or : Context → Option Laid → Context
+abbrev pub context_or : Context → Option LaidOutStatement → Context
 context_or other None = other
 context_or other (Some l) = l.context
 
@@ -65,8 +65,8 @@ abbrev pub context_at : Layout → ℕ → Context
 context_at y place = context_or (global_context y) (slice_get y.laid place)
 
 -- what an operand means at a place, among all statements of the module
-abbrev pub means_in : Layout → ℕ → Tree → Option Meaning
-means_in y place e = meaning_by y (names.meaning_of (table_of y) (context_at y place) e)
+abbrev pub means_in : Layout → ℕ → Tree → Option SymbolBinding
+means_in y place e = meaning_by y (names.binding_of (table_of y) (context_at y place) e)
 
 -- ---- What a module gives and needs.
 
@@ -77,7 +77,7 @@ exported_by _ = []
 
 -- the module defines the name in its global scope
 abbrev pub is_defined : Layout → List ℕ → Bool
-is_defined y n = is_some (defined (table_of y) (named 0 n))
+is_defined y n = is_some (definition_index (table_of y) (named 0 n))
 
 -- the names that a module exports, each once
 abbrev pub exports_of : Layout → List (List ℕ)

@@ -1,15 +1,15 @@
 -- Modules as linking sees them: forms in place of expressions, values by a placement and through exports.
 use Rattle.std.specs.Prelude.{◌≡◌, ◌≢◌, ℕ, zero, suc, ℤ, pos, ◌+ℤ◌, false, List, [], ◌∷◌, slice_get, Option, Some, None, Result, Ok, Err}
 use Rattle.syntax65.specs.Trees.{Tree, name}
-use Rattle.base65.specs.Values.{wrapped}
+use Rattle.base65.specs.Values.{wrap_signed}
 use Rattle.object65.specs.Form.{Form}
 use Rattle.object65.specs.FormValue.{value_in}
 use Rattle.ast65.specs.declared.fault.AsmFault.{AsmFault}
 use Rattle.semantics65.specs.declared.laid.Context.{Context}
 use Rattle.semantics65.specs.Symbols as names
-use Rattle.semantics65.specs.Symbols.{meaning_of, Definition, Symbols}
+use Rattle.semantics65.specs.Symbols.{binding_of, Definition, Symbols}
 use Rattle.semantics65.specs.Norms.{norm}
-use Rattle.whole65.specs.Values.{Provider, by_module, by_script, by_nobody, Meaning, label_at, constant_at, import_of, Program}
+use Rattle.whole65.specs.Values.{Provider, by_module, by_script, by_nobody, SymbolBinding, label_at, constant_at, import_of, Program}
 
 -- Of each module, by its place: its symbol table, where its statements stand, and what its sections and imports come to.
 -- What else than a value an import may come to is left open.
@@ -31,20 +31,20 @@ form_value o turns owner f = value_in o.none (o.bases owner) (o.imports turns ow
 
 -- ---- What names mean.
 
-abbrev pub value_shown : ℕ → Option Tree → Option Meaning
+abbrev pub value_shown : ℕ → Option Tree → Option SymbolBinding
 value_shown place None = Some (label_at place)
 value_shown place (Some e) = Some (constant_at place e)
 
 -- the definition of a statement at a place
-abbrev pub definition_shown : ℕ → Option Definition → Option Meaning
+abbrev pub definition_shown : ℕ → Option Definition → Option SymbolBinding
 definition_shown place None = None
 definition_shown place (Some d) = value_shown place d.value
 
-abbrev pub import_shown : Option (List ℕ) → Option Meaning
+abbrev pub import_shown : Option (List ℕ) → Option SymbolBinding
 import_shown None = None
 import_shown (Some x) = Some (import_of x)
 
-abbrev pub meaning_shown : {E : Type 0} → Objects E → ℕ → Result names.Meaning AsmFault → Option Meaning
+abbrev pub meaning_shown : {E : Type 0} → Objects E → ℕ → Result names.Binding AsmFault → Option SymbolBinding
 meaning_shown o owner (Err e) = None
 meaning_shown o owner (Ok (names.defined_at d)) = definition_shown (o.places owner d) (slice_get (o.symbols owner).definitions d)
 meaning_shown o owner (Ok (names.imported_as k)) = import_shown (slice_get (o.symbols owner).imports k)
@@ -69,22 +69,22 @@ IsGivenBy p o owner k x (by_module provider) = IsExport p o owner k x provider
 IsGivenBy p o owner k x (by_script v) = (turns : ℕ) → o.imports turns owner k ≡ Ok v
 IsGivenBy p o owner k x by_nobody = HasNone o owner k
 
-abbrev pub IsGiven : {E : Type 0} → Program → Objects E → ℕ → ℕ → Option (List ℕ) → Type 0
-IsGiven p o owner k None = HasNone o owner k
-IsGiven p o owner k (Some x) = IsGivenBy p o owner k x (p.provider x)
+abbrev pub ImportHasValue : {E : Type 0} → Program → Objects E → ℕ → ℕ → Option (List ℕ) → Type 0
+ImportHasValue p o owner k None = HasNone o owner k
+ImportHasValue p o owner k (Some x) = IsGivenBy p o owner k x (p.provider x)
 
 -- ---- Objects of the modules of a program, placed alike.
 pub record AreObjects {E : Type 0} (p : Program) (o : Objects E) : Type 0 where
   pub means :
       (owner place : ℕ) (e : Tree) →
-      p.means owner place e ≡ meaning_shown o owner (meaning_of (o.symbols owner) (o.contexts owner place) e)
+      p.means owner place e ≡ meaning_shown o owner (binding_of (o.symbols owner) (o.contexts owner place) e)
   pub contexts :
       (owner definition : ℕ) (d : Definition) → slice_get (o.symbols owner).definitions definition ≡ Some d →
       o.contexts owner (o.places owner definition) ≡ d.context
   pub addresses :
       (owner place : ℕ) →
-      p.address owner place ≡ wrapped (o.bases owner (o.contexts owner place).segment +ℤ pos (o.contexts owner place).offset)
-  pub given : (owner k : ℕ) → IsGiven p o owner k (slice_get (o.symbols owner).imports k)
+      p.address owner place ≡ wrap_signed (o.bases owner (o.contexts owner place).segment +ℤ pos (o.contexts owner place).offset)
+  pub given : (owner k : ℕ) → ImportHasValue p o owner k (slice_get (o.symbols owner).imports k)
 
 -- through some number of exports a form comes to a value
 abbrev pub HasValue : {E : Type 0} → Objects E → ℕ → Form → ℤ → Type 0

@@ -2,11 +2,11 @@
 use Rattle.std.specs.Prelude.{◌≡◌, ◌<◌, ℕ, zero, suc, ◌*◌, ◌^◌, List, [], ◌∷◌, filter, nat_eq, None}
 use Rattle.std.specs.Int.{next_multiple_of}
 use Rattle.std.specs.List.{AllByRecursion}
-use Rattle.syntax65.specs.declared.place.Place.{Place}
+use Rattle.syntax65.specs.declared.source_location.SourceLocation.{SourceLocation}
 use Rattle.ast65.specs.declared.language.Statement.{Statement}
-use Rattle.semantics65.specs.Layout.{Layout, layout_behind, nothing_laid, line_fault}
+use Rattle.semantics65.specs.Layout.{Layout, layout_after, nothing_laid, line_fault}
 use Rattle.semantics65.specs.Symbols.{symbols_of}
-use Rattle.whole65.specs.Segments.{Line, end_of, largest_multiple, lines_in, part_of}
+use Rattle.whole65.specs.Segments.{SegmentLine, end_of, largest_multiple, lines_in, part_of}
 
 pub record IsMultiple (n of : ℕ) : Type 0 where
   pub factor : ℕ
@@ -18,18 +18,18 @@ pub record IsPower (n : ℕ) : Type 0 where
   pub below : exponent < 16
   pub power : n ≡ 2 ^ exponent
 
-abbrev pub ArePowers : List Line → Type 0
-ArePowers xs = AllByRecursion (λ x. IsPower x.multiple) xs
+abbrev pub ArePowers : List SegmentLine → Type 0
+ArePowers xs = AllByRecursion (λ x. IsPower x.alignment) xs
 
 -- statements laid one behind the other, none of which has a fault at its line
-pub data IsLaidOut : Layout → Type 0 where
-  begun : IsLaidOut nothing_laid
-  behind :
-      (y : Layout) (place : Place) (x : Statement) →
-      IsLaidOut y → line_fault (symbols_of y.laid) y.cursor x ≡ None → IsLaidOut (layout_behind y place x)
+pub data IsSoundLayoutOf : Layout → Type 0 where
+  begun : IsSoundLayoutOf nothing_laid
+  following :
+      (y : Layout) (place : SourceLocation) (x : Statement) →
+      IsSoundLayoutOf y → line_fault (symbols_of y.laid) y.cursor x ≡ None → IsSoundLayoutOf (layout_after y place x)
 
 -- the lines of a module that stand in its segment of a number
-abbrev pub lines_at : ℕ → List Line → List Line
+abbrev pub lines_at : ℕ → List SegmentLine → List SegmentLine
 lines_at g xs = filter (λ x. nat_eq x.laid.context.segment g) xs
 
 -- where the section of the module at a place begins, in a segment that has reached a position before the first module

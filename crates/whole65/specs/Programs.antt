@@ -2,26 +2,26 @@
 use Rattle.std.specs.Prelude.{ℕ, suc, ◌+◌, ℤ, pos, List, [], ◌∷◌, find, length, slice_get, Option, Some, None, if◌then◌else◌}
 use Rattle.std.specs.Str.{bytes_eq}
 use Rattle.syntax65.specs.Trees.{Tree}
-use Rattle.base65.specs.Values.{wrapped}
+use Rattle.base65.specs.Values.{wrap_signed}
 use Rattle.script65.specs.declared.placement.Placement.{Placement}
 use Rattle.script65.specs.declared.script.Script.{Script}
-use Rattle.link65.specs.declared.parts.Definition.{Definition}
+use Rattle.link65.specs.declared.parts.ScriptSymbol.{ScriptSymbol}
 use Rattle.link65.specs.Names.{is_among, script_definitions, weak_symbols}
 use Rattle.link65.specs.Values.{run_of}
-use Rattle.semantics65.specs.Symbols.{Laid}
+use Rattle.semantics65.specs.Symbols.{LaidOutStatement}
 use Rattle.semantics65.specs.Layout.{Layout}
 use Rattle.whole65.specs.Modules.{exports_of, means_in}
 use Rattle.whole65.specs.Segments.{position_of, segment_name}
-use Rattle.whole65.specs.Values.{Provider, by_module, by_script, by_nobody, Meaning, Program}
+use Rattle.whole65.specs.Values.{Provider, by_module, by_script, by_nobody, SymbolBinding, Program}
 
 -- ---- Who gives a name.
 
 -- by the definition of that name, if there is one
-abbrev pub provider_or : Provider → Option Definition → Provider
+abbrev pub provider_or : Provider → Option ScriptSymbol → Provider
 provider_or other None = other
 provider_or other (Some d) = by_script d.value
 
-abbrev pub definition_of : List Definition → List ℕ → Option Definition
+abbrev pub definition_of : List ScriptSymbol → List ℕ → Option ScriptSymbol
 definition_of ds name = find (λ d. bytes_eq d.name name) ds
 
 -- the first module, from a place on, that exports a name
@@ -38,7 +38,7 @@ provider_of s p ys name =
 
 -- ---- Where statements lie.
 
-abbrev pub means_at : Option Layout → ℕ → Tree → Option Meaning
+abbrev pub means_at : Option Layout → ℕ → Tree → Option SymbolBinding
 means_at None place e = None
 means_at (Some y) place e = means_in y place e
 
@@ -48,13 +48,13 @@ length_of (Some y) = length y.laid
 
 -- the run address of the segment's row and the position in the segment
 abbrev pub address_in : Script → Placement → List Layout → ℕ → ℕ → List ℕ → ℤ
-address_in s p ys owner place name = wrapped (pos (run_of s.rows p.rows name + position_of ys name owner place))
+address_in s p ys owner place name = wrap_signed (pos (run_of s.rows p.rows name + position_of ys name owner place))
 
-abbrev pub statement_address : Script → Placement → List Layout → ℕ → ℕ → Option Layout → Option Laid → ℤ
+abbrev pub statement_address : Script → Placement → List Layout → ℕ → ℕ → Option Layout → Option LaidOutStatement → ℤ
 statement_address s p ys owner place (Some y) (Some l) = address_in s p ys owner place (segment_name y l.context.segment)
 statement_address s p ys owner place _ _ = pos 0
 
-abbrev pub laid_at : Option Layout → ℕ → Option Laid
+abbrev pub laid_at : Option Layout → ℕ → Option LaidOutStatement
 laid_at None place = None
 laid_at (Some y) place = slice_get y.laid place
 

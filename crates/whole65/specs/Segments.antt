@@ -4,24 +4,24 @@ use Rattle.std.specs.List.{flat_map, list_any}
 use Rattle.std.specs.Str.{bytes_eq}
 use Rattle.std.specs.Int.{next_multiple_of}
 use Rattle.script65.specs.declared.placement.SegmentNeed.{SegmentNeed}
-use Rattle.semantics65.specs.Symbols.{Laid, asks_section, symbols_of, with_new}
+use Rattle.semantics65.specs.Symbols.{LaidOutStatement, needs_section, symbols_of, with_new}
 use Rattle.ast65.specs.declared.language.Statement.{Statement}
 use Rattle.ast65.specs.declared.language.Statement.TheVariants.{Align}
 use Rattle.semantics65.specs.Layout.{Layout, multiple_of, segment_at}
 
 -- a statement, the module that has it and its place there
-pub record Line : Type 0 where
+pub record SegmentLine : Type 0 where
   pub owner : ℕ
   pub place : ℕ
   -- that to a multiple of which an `.align` rounds the position; 1 for other statements
-  pub multiple : ℕ
-  pub laid : Laid
+  pub alignment : ℕ
+  pub laid : LaidOutStatement
 
 -- what stands in the list of a segment
 pub data Item : Type 0 where
   -- before a module's statements: the position is rounded up to a multiple
   rounding : ℕ → Item
-  line : Line → Item
+  line : SegmentLine → Item
 
 -- ---- The list of a segment.
 
@@ -29,34 +29,34 @@ abbrev pub segment_name : Layout → ℕ → List ℕ
 segment_name y g = (segment_at y.cursor.segments g).name
 
 -- a module's statement behind those before it
-abbrev pub line_of : ℕ → List Laid → Laid → Line
+abbrev pub line_of : ℕ → List LaidOutStatement → LaidOutStatement → SegmentLine
 line_of owner before l = record {
   owner = owner;
   place = length before;
-  multiple = multiple_of (symbols_of before) l.context l.stated;
+  alignment = multiple_of (symbols_of before) l.context l.stated;
   laid = l;
 }
 
 -- a module's statements as lines, behind those before
-abbrev pub lines_behind : ℕ → List Laid → List Laid → List Line
-lines_behind owner before [] = []
-lines_behind owner before (l ∷ ls) = line_of owner before l ∷ lines_behind owner (before ++ l ∷ []) ls
+abbrev pub lines_after : ℕ → List LaidOutStatement → List LaidOutStatement → List SegmentLine
+lines_after owner before [] = []
+lines_after owner before (l ∷ ls) = line_of owner before l ∷ lines_after owner (before ++ l ∷ []) ls
 
-abbrev pub stands_in : Layout → List ℕ → Laid → Bool
+abbrev pub stands_in : Layout → List ℕ → LaidOutStatement → Bool
 stands_in y name l = bytes_eq (segment_name y l.context.segment) name
 
 -- the lines of a module that stand in the segment of a name
-abbrev pub lines_in : ℕ → Layout → List ℕ → List Line
-lines_in owner y name = filter (λ x. stands_in y name x.laid) (lines_behind owner [] y.laid)
+abbrev pub lines_in : ℕ → Layout → List ℕ → List SegmentLine
+lines_in owner y name = filter (λ x. stands_in y name x.laid) (lines_after owner [] y.laid)
 
 -- the module has a section of this name: one of its lines there asks for it
 abbrev pub has_section : Layout → List ℕ → Bool
-has_section y name = list_any (λ l. stands_in y name l && asks_section l.stated) y.laid
+has_section y name = list_any (λ l. stands_in y name l && needs_section l.stated) y.laid
 
 -- the largest multiple to which lines are aligned
-abbrev pub largest_multiple : List Line → ℕ
+abbrev pub largest_multiple : List SegmentLine → ℕ
 largest_multiple [] = 1
-largest_multiple (x ∷ xs) = max x.multiple (largest_multiple xs)
+largest_multiple (x ∷ xs) = max x.alignment (largest_multiple xs)
 
 -- a module's part of the list: a rounding item to its section's alignment, and then its lines
 abbrev pub part_of : ℕ → Layout → List ℕ → List Item
@@ -73,24 +73,24 @@ items_of ys name = items_from 0 ys name
 
 -- ---- Positions.
 
-abbrev pub line_end : ℕ → ℕ → Laid → ℕ
-line_end at multiple l = go l.stated
+abbrev pub line_end : ℕ → ℕ → LaidOutStatement → ℕ
+line_end at alignment l = go l.stated
   where
     go : Statement → ℕ
-    go (Align n v) = next_multiple_of at multiple
+    go (Align n v) = next_multiple_of at alignment
     go _ = at + l.length
 
 -- the position behind an item that begins at a position
-abbrev pub end_behind : ℕ → Item → ℕ
-end_behind at (rounding multiple) = next_multiple_of at multiple
-end_behind at (line x) = line_end at x.multiple x.laid
+abbrev pub end_after : ℕ → Item → ℕ
+end_after at (rounding alignment) = next_multiple_of at alignment
+end_after at (line x) = line_end at x.alignment x.laid
 
 abbrev pub end_of : ℕ → List Item → ℕ
 end_of at [] = at
-end_of at (x ∷ xs) = end_of (end_behind at x) xs
+end_of at (x ∷ xs) = end_of (end_after at x) xs
 
 abbrev pub is_line : ℕ → ℕ → Item → Bool
-is_line owner place (rounding multiple) = false
+is_line owner place (rounding alignment) = false
 is_line owner place (line x) = x.owner == owner && x.place == place
 
 -- the items before the statement at a place of a module
@@ -106,15 +106,15 @@ position_of ys name owner place = end_of 0 (items_before owner place (items_of y
 
 -- the segments of which a module has a section, in the order of the first line that asks
 abbrev pub asked_by : Layout → List (List ℕ)
-asked_by y = map (λ l. segment_name y l.context.segment) (filter (λ l. asks_section l.stated) y.laid)
+asked_by y = map (λ l. segment_name y l.context.segment) (filter (λ l. needs_section l.stated) y.laid)
 
 -- the segments of all modules, each once, in the order in which modules first show them
 abbrev pub segments_of : List Layout → List (List ℕ)
 segments_of ys = with_new [] (flat_map asked_by ys)
 
 abbrev pub item_multiple : Item → ℕ
-item_multiple (rounding multiple) = multiple
-item_multiple (line x) = x.multiple
+item_multiple (rounding alignment) = alignment
+item_multiple (line x) = x.alignment
 
 abbrev pub alignment_of : List Item → ℕ
 alignment_of [] = 1

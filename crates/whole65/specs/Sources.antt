@@ -6,11 +6,11 @@ use Rattle.semantics65.specs.Layout.{Layout}
 use Rattle.semantics65.specs.Numbering.{IsSoundLayout}
 use Rattle.link65.specs.Programs.{Module}
 use Rattle.semantics65.specs.Module.{object_of}
-use Rattle.whole65.specs.Offsets.{IsLaidOut}
+use Rattle.whole65.specs.Offsets.{IsSoundLayoutOf}
 
 -- a module's object is that of laid statements, of which no line has a fault, or that of version 1 of the same statements
 pub record IsSource (y : Layout) (m : Module) : Type 0 where
-  pub laid_out : IsLaidOut y
+  pub laid_out : IsSoundLayoutOf y
   pub sound : IsSoundLayout y
   pub written : Object
   pub object : object_of y ≡ Ok written

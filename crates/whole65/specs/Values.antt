@@ -7,13 +7,13 @@ use Rattle.base65.specs.declared.values.Op1.{Op1}
 use Rattle.base65.specs.declared.values.Op2.{Op2}
 
 -- what an operand of an expression stands for
-pub data Meaning : Type 0 where
+pub data SymbolBinding : Type 0 where
   -- a label: the statement at a place of the module
-  label_at : (place : ℕ) → Meaning
+  label_at : (place : ℕ) → SymbolBinding
   -- a constant: the expression of the statement at a place of the module
-  constant_at : (place : ℕ) → Tree → Meaning
+  constant_at : (place : ℕ) → Tree → SymbolBinding
   -- an import of a name
-  import_of : List ℕ → Meaning
+  import_of : List ℕ → SymbolBinding
 
 -- who gives a name its value
 pub data Provider : Type 0 where
@@ -27,7 +27,7 @@ pub data Provider : Type 0 where
 -- place in its module.
 pub record Program : Type 0 where
   -- what an operand means where it stands, if anything
-  pub means : (owner place : ℕ) → Tree → Option Meaning
+  pub means : (owner place : ℕ) → Tree → Option SymbolBinding
   -- the place behind the last statement of a module, in its global scope
   pub global : (owner : ℕ) → ℕ
   pub provider : List ℕ → Provider
@@ -35,7 +35,7 @@ pub record Program : Type 0 where
   pub address : (owner place : ℕ) → ℤ
 
 -- what stands for a definition: numbers, `*` and operations have values of their own
-abbrev pub meaning_in : Program → (owner place : ℕ) → Tree → Option Meaning
+abbrev pub meaning_in : Program → (owner place : ℕ) → Tree → Option SymbolBinding
 meaning_in p owner place (tree.number n) = None
 meaning_in p owner place tree.here = None
 meaning_in p owner place (tree.unary op e) = None
@@ -76,16 +76,16 @@ pub data Value (p : Program) : (owner place : ℕ) → Tree → ℤ → Type 0 w
 -- ---- What an expression needs for its value.
 
 -- an expression, and where it stands
-pub record Spot : Type 0 where
+pub record LocatedExpr : Type 0 where
   pub owner : ℕ
   pub place : ℕ
   pub tree : Tree
 
-abbrev pub at : (owner place : ℕ) → Tree → Spot
+abbrev pub at : (owner place : ℕ) → Tree → LocatedExpr
 at owner place e = record { owner = owner; place = place; tree = e }
 
 -- A constant needs its own expression, an import the name that its module exports, an operation its operands.
-pub data NeedsNext (p : Program) : Spot → Spot → Type 0 where
+pub data NeedsNext (p : Program) : LocatedExpr → LocatedExpr → Type 0 where
   of_constant :
       {owner place where_set : ℕ} {e f : Tree} →
       meaning_in p owner place e ≡ Some (constant_at where_set f) →
@@ -105,6 +105,6 @@ pub data NeedsNext (p : Program) : Spot → Spot → Type 0 where
       NeedsNext p (at owner place (tree.binary op e f)) (at owner place f)
 
 -- and what these need in turn
-pub data Needs (p : Program) : Spot → Spot → Type 0 where
-  next : {x y : Spot} → NeedsNext p x y → Needs p x y
-  behind : {x y z : Spot} → NeedsNext p x y → Needs p y z → Needs p x z
+pub data NeedsValueOf (p : Program) : LocatedExpr → LocatedExpr → Type 0 where
+  next : {x y : LocatedExpr} → NeedsNext p x y → NeedsValueOf p x y
+  following : {x y z : LocatedExpr} → NeedsNext p x y → NeedsValueOf p y z → NeedsValueOf p x z

@@ -6,7 +6,7 @@ use Rattle.object65.specs.declared.object.Action.{Action}
 use Rattle.object65.specs.declared.object.Action.TheVariants as action
 use Rattle.script65.specs.Placing.{place_of}
 use Rattle.script65.specs.declared.placement.Placement.{Placement}
-use Rattle.script65.specs.declared.script.Row.{Row}
+use Rattle.script65.specs.declared.script.SegmentRow.{SegmentRow}
 use Rattle.script65.specs.declared.script.Script.{Script}
 use Rattle.base65.specs.declared.output.OutputFile.{OutputFile}
 use Rattle.link65.specs.Files.{AddsAreas, IsAreaFile, RowBytes}
@@ -17,7 +17,7 @@ use Rattle.semantics65.specs.Layout.{Layout}
 use Rattle.whole65.specs.Contents.{AreBytes}
 use Rattle.whole65.specs.Modules.{exports_of, forced_of}
 use Rattle.whole65.specs.Programs.{program_of}
-use Rattle.whole65.specs.Segments.{Line, items_of, lines_behind, needs_of}
+use Rattle.whole65.specs.Segments.{SegmentLine, items_of, lines_after, needs_of}
 use Rattle.whole65.specs.Values.{Program, Value, by_nobody}
 
 -- ---- What has to have a value, whether or not it is used.
@@ -27,26 +27,26 @@ abbrev pub HasExport : Program → ℕ → List ℕ → Type 0
 HasExport p owner x = (v : ℤ) × Value p owner (p.global owner) (name false (x ∷ [])) v
 
 -- an error assertion has one other than 0, a warning any
-abbrev pub Passes : Action → ℤ → Type 0
-Passes action.Error v = v ≢ pos 0
-Passes action.Warning v = ⊤
+abbrev pub AssertionHolds : Action → ℤ → Type 0
+AssertionHolds action.Error v = v ≢ pos 0
+AssertionHolds action.Warning v = ⊤
 
-abbrev pub HasAssertion : Program → Line → Type 0
+abbrev pub HasAssertion : Program → SegmentLine → Type 0
 HasAssertion p x = go x.laid.stated
   where
     go : Statement → Type 0
-    go (Assert e act words) = (v : ℤ) × Value p x.owner x.place e v × Passes act v
+    go (Assert e act words) = (v : ℤ) × Value p x.owner x.place e v × AssertionHolds act v
     go _ = ⊤
 
 -- a name that is needed whether or not it is used is given
-abbrev pub IsGiven : Program → List ℕ → Type 0
-IsGiven p x = p.provider x ≢ by_nobody
+abbrev pub IsProvided : Program → List ℕ → Type 0
+IsProvided p x = p.provider x ≢ by_nobody
 
 -- what a module says to others and to the linker
 pub record IsSaid (p : Program) (owner : ℕ) (y : Layout) : Type 0 where
-  pub forced : AllByRecursion (IsGiven p) (forced_of y)
+  pub forced : AllByRecursion (IsProvided p) (forced_of y)
   pub exports : AllByRecursion (HasExport p owner) (exports_of y)
-  pub assertions : AllByRecursion (HasAssertion p) (lines_behind owner [] y.laid)
+  pub assertions : AllByRecursion (HasAssertion p) (lines_after owner [] y.laid)
 
 abbrev pub AreSaid : Program → ℕ → List Layout → Type 0
 AreSaid p owner [] = ⊤
@@ -59,12 +59,12 @@ abbrev pub given_names : Script → List Layout → List (List ℕ)
 given_names s ys = script_names s ++ flat_map exports_of ys
 
 -- the bytes of a row's segment
-abbrev pub AreRow : Program → List Layout → RowBytes → Row → Type 0
+abbrev pub AreRow : Program → List Layout → RowBytes → SegmentRow → Type 0
 AreRow p ys bytes r = AreBytes p r.fill_value 0 (items_of ys r.name) (bytes r)
 
 -- the image of a placed program
-pub record IsPlaced (output : List ℕ) (s : Script) (ys : List Layout) (placement : Placement) (p : Program) (files : List OutputFile) : Type 0 where
-  pub imports : AllByRecursion (IsGiven p) (symbol_imports s.symbols)
+pub record IsPlacedImage (output : List ℕ) (s : Script) (ys : List Layout) (placement : Placement) (p : Program) (files : List OutputFile) : Type 0 where
+  pub imports : AllByRecursion (IsProvided p) (symbol_imports s.symbols)
   pub said : AreSaid p 0 ys
   -- the bytes of each row, whether or not they are in a file
   pub bytes : RowBytes
@@ -72,11 +72,11 @@ pub record IsPlaced (output : List ℕ) (s : Script) (ys : List Layout) (placeme
   pub image : AddsAreas output (IsAreaFile s.rows placement bytes) 0 s.areas [] files
 
 -- Laid out and evaluated as one program, the modules have this image: a list of files by name.
-pub record Whole (output : List ℕ) (s : Script) (ys : List Layout) (files : List OutputFile) : Type 0 where
+pub record IsWholeProgramImage (output : List ℕ) (s : Script) (ys : List Layout) (files : List OutputFile) : Type 0 where
   pub once : first_again [] (given_names s ys) ≡ None
   pub placement : Placement
   pub placed : place_of s (needs_of ys) ≡ Ok placement
-  pub image : IsPlaced output s ys placement (program_of s placement ys) files
+  pub image : IsPlacedImage output s ys placement (program_of s placement ys) files
 
 -- The exports of modules, the first of which has this place, have values.
 abbrev pub AreExported : Program → ℕ → List Layout → Type 0
@@ -86,12 +86,12 @@ AreExported p owner (y ∷ ys) = AllByRecursion (HasExport p owner) (exports_of 
 -- The assertions of modules, the first of which has this place, have values and pass.
 abbrev pub AreAsserted : Program → ℕ → List Layout → Type 0
 AreAsserted p owner [] = ⊤
-AreAsserted p owner (y ∷ ys) = AllByRecursion (HasAssertion p) (lines_behind owner [] y.laid) × AreAsserted p (suc owner) ys
+AreAsserted p owner (y ∷ ys) = AllByRecursion (HasAssertion p) (lines_after owner [] y.laid) × AreAsserted p (suc owner) ys
 
 -- The names that modules import whether or not they use them are given.
 abbrev pub AreForced : Program → List Layout → Type 0
 AreForced p [] = ⊤
-AreForced p (y ∷ ys) = AllByRecursion (IsGiven p) (forced_of y) × AreForced p ys
+AreForced p (y ∷ ys) = AllByRecursion (IsProvided p) (forced_of y) × AreForced p ys
 
 -- The bytes of the rows of a placed program, and its files.
 pub record HasImage (output : List ℕ) (s : Script) (ys : List Layout) (placement : Placement) (p : Program) (files : List OutputFile) : Type 0 where

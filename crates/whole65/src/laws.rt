@@ -1,11 +1,11 @@
 //! What holds of whole programs, from one value to the equality. Each function's contract is a law.
 
 ghost use Rattle.whole65.specs.Equality.{EqualityLaw};
-ghost use Rattle.whole65.specs.Laws.{CircularLaw, ExportValueLaw, NeedsLaw, OffsetLaw, OneValueLaw, PlacementLaw, RowsLaw, SameValuesLaw, SourceLaw};
+ghost use Rattle.whole65.specs.Laws.{CircularLaw, ExportValueLaw, NeedsLaw, OffsetLaw, ValueIsUnique, PlacementLaw, RowsLaw, SameValuesLaw, SourceLaw};
 
 /// An expression has at most one value.
-pub fn one_value()
-    ensures { OneValueLaw }
+pub fn value_is_unique()
+    ensures { ValueIsUnique }
 {}
 
 /// What is needed for its own value has none.

@@ -2,54 +2,54 @@
 
 ghost use Rattle.std.specs.Prelude.{◌≡◌, ◌<◌, ◌∷◌, [], false, length, map, option_map, take, IfOk, IfSome, None, Ok};
 ghost use Rattle.syntax65.specs.Tokens.{lexemes};
-ghost use Rattle.ast65.specs.Items.{numbered};
-ghost use Rattle.ast65.specs.declared.reading.words.Elements.{Elements};
-ghost use Rattle.ast65.specs.Parsing.{parts_behind, parts_of, string_of, EachIs, IsDirective, IsItem, IsName, IsRange, Parses, action_word, lone_statement, words_of};
+ghost use Rattle.ast65.specs.Items.{literal_item};
+ghost use Rattle.ast65.specs.declared.reading.words.ElementKind.{ElementKind};
+ghost use Rattle.ast65.specs.Parsing.{parts_after, parts_of, string_of, EachIs, IsDirective, IsItem, IsName, IsRange, RefinesParse, action_word, lone_statement, words_of};
 ghost use Rattle.ast65.specs.declared.reading.words.Directive.TheVariants as directive;
 ghost use Rattle.ast65.specs.declared.language.Statement.TheVariants.{Segment};
 
 use super::operands::{expression, first_part, number_in, one_or_two};
-use super::tokens::{is_comma, name_of, needed, string_of, word_of};
-use super::words::{Amount, Elements, Lone, Message, Names};
+use super::tokens::{is_comma, name_of, ok_or_not_understood, string_of, word_of};
+use super::words::{BareDirective, ElementKind, Message, NameListDirective, SizedDirective};
 use crate::fault::AsmFault;
 use crate::language::{Item, Items, ItemsKind, OptionalExpr, Statement};
-use base65::Sequence;
+use base65::ListVec;
 use object65::{Action, Width};
 use std::alloc::{AllocError, Global};
 use syntax65::Token;
 
 /// An element of a list.
-fn item(alloc: Global, elements: Elements, tokens: &[Token<'_>]) -> Result<Item, AsmFault>
-    ensures { Parses result (IsItem elements (lexemes tokens.now)) }
+fn item(alloc: Global, elements: ElementKind, tokens: &[Token<'_>]) -> Result<Item, AsmFault>
+    ensures { RefinesParse result (IsItem elements (lexemes tokens.now)) }
 {
     match elements {
-        Elements::Values => Ok(Item::Value(expression(alloc, tokens)?)),
-        Elements::ValuesAndTexts => match string_of(tokens) {
-            Some(text) => Ok(Item::Text(Sequence::copy_of(alloc, text)?)),
+        ElementKind::Values => Ok(Item::Value(expression(alloc, tokens)?)),
+        ElementKind::ValuesAndTexts => match string_of(tokens) {
+            Some(text) => Ok(Item::StringLiteral(ListVec::copy_of(alloc, text)?)),
             None => Ok(Item::Value(expression(alloc, tokens)?)),
         },
     }
 }
 
 /// No elements, with room for those of so many tokens: a comma stands between each two.
-fn no_elements<T: Drop>(alloc: Global, count: usize) -> Result<Sequence<T>, AllocError>
+fn no_elements<T: Drop>(alloc: Global, count: usize) -> Result<ListVec<T>, AllocError>
     ensures { IfOk result (λ elements. elements ≡ []) }
 {
-    Ok(Sequence::from_vec(Vec::with_capacity(alloc, count / 2 + 1)?))
+    Ok(ListVec::from_vec(Vec::with_capacity(alloc, count / 2 + 1)?))
 }
 
 /// The number before the first comma, where it stands there by itself, and the tokens behind that comma, if there is one.
 #[inline(always)]
 fn first_number<'a, 'b>(tokens: &'b [Token<'a>]) -> Option<(u32, Option<&'b [Token<'a>]>)>
     ensures parts { IfSome result (λ x. parts_of (lexemes tokens.now) ≡ lexemes (take 1 tokens.now)
-        ∷ parts_behind (option_map (λ rest. lexemes rest.now) x.1)) }
-    ensures item { IfSome result (λ x. (elements : Elements) →
-        IsItem elements (lexemes (take 1 tokens.now)) (Ok (numbered x.0))) }
+        ∷ parts_after (option_map (λ rest. lexemes rest.now) x.1)) }
+    ensures item { IfSome result (λ x. (elements : ElementKind) →
+        IsItem elements (lexemes (take 1 tokens.now)) (Ok (literal_item x.0))) }
     ensures shorter { IfSome result (λ x. IfSome x.1 (λ rest. length rest.now < length tokens.now)) }
 {
-    let (first, behind) = tokens.split_first()?;
+    let (first, following) = tokens.split_first()?;
     let number = number_in(first)?;
-    match behind.split_first() {
+    match following.split_first() {
         None => Some((number, None)),
         Some((comma, rest)) => {
             if is_comma(comma) {
@@ -62,18 +62,18 @@ fn first_number<'a, 'b>(tokens: &'b [Token<'a>]) -> Option<(u32, Option<&'b [Tok
 }
 
 /// The numbers of a list that has nothing else, with a comma between each two.
-fn numbers(alloc: Global, tokens: &[Token<'_>]) -> Result<Option<Sequence<u32>>, AllocError>
-    ensures { IfOk result (λ numbers. IfSome numbers (λ ns. (elements : Elements) →
-        EachIs (IsItem elements) (parts_of (lexemes tokens.now)) (Ok (map numbered ns)))) }
+fn numbers(alloc: Global, tokens: &[Token<'_>]) -> Result<Option<ListVec<u32>>, AllocError>
+    ensures { IfOk result (λ numbers. IfSome numbers (λ ns. (elements : ElementKind) →
+        EachIs (IsItem elements) (parts_of (lexemes tokens.now)) (Ok (map literal_item ns)))) }
 {
     let mut numbers = no_elements(alloc, tokens.len())?;
     let mut rest = Some(tokens);
     'parts: while let Some(left) = rest {
-        let Some((number, behind)) = first_number(left) else {
+        let Some((number, following)) = first_number(left) else {
             return Ok(None);
         };
         numbers.push(number)?;
-        rest = behind;
+        rest = following;
     }
     Ok(Some(numbers))
 }
@@ -81,24 +81,24 @@ fn numbers(alloc: Global, tokens: &[Token<'_>]) -> Result<Option<Sequence<u32>>,
 /// The elements of a list, whatever they are.
 fn mixed(
     alloc: Global,
-    elements: Elements,
+    elements: ElementKind,
     tokens: &[Token<'_>],
-) -> Result<Sequence<Item>, AsmFault>
-    ensures { Parses result (EachIs (IsItem elements) (parts_of (lexemes tokens.now))) }
+) -> Result<ListVec<Item>, AsmFault>
+    ensures { RefinesParse result (EachIs (IsItem elements) (parts_of (lexemes tokens.now))) }
 {
     let mut items = no_elements(alloc, tokens.len())?;
     let mut rest = Some(tokens);
     'parts: while let Some(left) = rest {
-        let (part, behind) = first_part(left);
+        let (part, following) = first_part(left);
         items.push(item(alloc, elements, part)?)?;
-        rest = behind;
+        rest = following;
     }
     Ok(items)
 }
 
 /// The elements of a list, with a comma between each two.
-pub fn items(alloc: Global, elements: Elements, tokens: &[Token<'_>]) -> Result<Items, AsmFault>
-    ensures { Parses result (EachIs (IsItem elements) (parts_of (lexemes tokens.now))) }
+pub fn items(alloc: Global, elements: ElementKind, tokens: &[Token<'_>]) -> Result<Items, AsmFault>
+    ensures { RefinesParse result (EachIs (IsItem elements) (parts_of (lexemes tokens.now))) }
 {
     if let Some(numbers) = numbers(alloc, tokens)? {
         return Ok(Items::new(ItemsKind::Numbers(numbers)));
@@ -110,11 +110,11 @@ pub fn items(alloc: Global, elements: Elements, tokens: &[Token<'_>]) -> Result<
 /// `.byte` and the like.
 pub fn list(
     alloc: Global,
-    elements: Elements,
+    elements: ElementKind,
     width: Width,
     tokens: &[Token<'_>],
 ) -> Result<Statement, AsmFault>
-    ensures { Parses result (IsDirective (directive.List elements width) (lexemes tokens.now)) }
+    ensures { RefinesParse result (IsDirective (directive.List elements width) (lexemes tokens.now)) }
 {
     let items = items(alloc, elements, tokens)?;
     Ok(Statement::Values { width, items })
@@ -122,14 +122,14 @@ pub fn list(
 
 /// `.asciiz`: a string and a 0.
 pub fn ended_text(alloc: Global, tokens: &[Token<'_>]) -> Result<Statement, AsmFault>
-    ensures { Parses result (IsDirective directive.EndedText (lexemes tokens.now)) }
+    ensures { RefinesParse result (IsDirective directive.Asciiz (lexemes tokens.now)) }
 {
-    let text = needed(string_of(tokens))?;
-    let mut bytes = Sequence::new(alloc);
+    let text = ok_or_not_understood(string_of(tokens))?;
+    let mut bytes = ListVec::new(alloc);
     bytes.extend_from_slice(text)?;
     bytes.push(0)?;
-    let mut items = Sequence::new(alloc);
-    items.push(Item::Text(bytes))?;
+    let mut items = ListVec::new(alloc);
+    items.push(Item::StringLiteral(bytes))?;
     Ok(Statement::Values {
         width: Width::Byte,
         items: Items::new(ItemsKind::Mixed(items)),
@@ -137,29 +137,33 @@ pub fn ended_text(alloc: Global, tokens: &[Token<'_>]) -> Result<Statement, AsmF
 }
 
 /// Names, with a comma between each two.
-fn names(alloc: Global, tokens: &[Token<'_>]) -> Result<Sequence<Sequence<u8>>, AsmFault>
-    ensures { Parses result (EachIs IsName (parts_of (lexemes tokens.now))) }
+fn names(alloc: Global, tokens: &[Token<'_>]) -> Result<ListVec<ListVec<u8>>, AsmFault>
+    ensures { RefinesParse result (EachIs IsName (parts_of (lexemes tokens.now))) }
 {
-    let mut names = Sequence::new(alloc);
+    let mut names = ListVec::new(alloc);
     let mut rest = Some(tokens);
     'parts: while let Some(left) = rest {
-        let (part, behind) = first_part(left);
-        names.push(Sequence::copy_of(alloc, name_of(part)?)?)?;
-        rest = behind;
+        let (part, following) = first_part(left);
+        names.push(ListVec::copy_of(alloc, name_of(part)?)?)?;
+        rest = following;
     }
     Ok(names)
 }
 
 /// `.import` and the like.
-pub fn name_list(alloc: Global, which: Names, tokens: &[Token<'_>]) -> Result<Statement, AsmFault>
-    ensures { Parses result (IsDirective (directive.Names which) (lexemes tokens.now)) }
+pub fn name_list(
+    alloc: Global,
+    which: NameListDirective,
+    tokens: &[Token<'_>],
+) -> Result<Statement, AsmFault>
+    ensures { RefinesParse result (IsDirective (directive.Names which) (lexemes tokens.now)) }
 {
     let names = names(alloc, tokens)?;
     Ok(match which {
-        Names::Import(size) => Statement::Import { size, names },
-        Names::Export => Statement::Export(names),
-        Names::Global(size) => Statement::Global { size, names },
-        Names::ForceImport => Statement::ForceImport(names),
+        NameListDirective::Import(size) => Statement::Import { size, names },
+        NameListDirective::Export => Statement::Export(names),
+        NameListDirective::Global(size) => Statement::Global { size, names },
+        NameListDirective::ForceImport => Statement::ForceImport(names),
     })
 }
 
@@ -167,39 +171,43 @@ pub fn name_list(alloc: Global, which: Names, tokens: &[Token<'_>]) -> Result<St
 type PartRange = (OptionalExpr, OptionalExpr);
 
 /// What stands behind a file's name.
-fn range(alloc: Global, behind: Option<&[Token<'_>]>) -> Result<PartRange, AsmFault>
-    ensures { Parses result (IsRange (parts_behind (option_map (λ rest. lexemes rest.now) behind.entry))) }
+fn range(alloc: Global, following: Option<&[Token<'_>]>) -> Result<PartRange, AsmFault>
+    ensures { RefinesParse result (IsRange (parts_after (option_map (λ rest. lexemes rest.now) following.entry))) }
 {
-    let Some(behind) = behind else {
+    let Some(following) = following else {
         return Ok((OptionalExpr::none(), OptionalExpr::none()));
     };
-    let (start, len) = one_or_two(alloc, behind)?;
+    let (start, len) = one_or_two(alloc, following)?;
     Ok((OptionalExpr::some(alloc, start)?, len))
 }
 
 /// `.incbin`
 pub fn file_part(alloc: Global, tokens: &[Token<'_>]) -> Result<Statement, AsmFault>
-    ensures { Parses result (IsDirective directive.FilePart (lexemes tokens.now)) }
+    ensures { RefinesParse result (IsDirective directive.Incbin (lexemes tokens.now)) }
 {
-    let (name, behind) = first_part(tokens);
-    let name = needed(string_of(name))?;
-    let (start, len) = range(alloc, behind)?;
-    let name = Sequence::copy_of(alloc, name)?;
-    Ok(Statement::NamedPart { name, start, len })
+    let (name, following) = first_part(tokens);
+    let name = ok_or_not_understood(string_of(name))?;
+    let (start, len) = range(alloc, following)?;
+    let name = ListVec::copy_of(alloc, name)?;
+    Ok(Statement::IncbinPath { name, start, len })
 }
 
 /// `n[,v]`
-pub fn amount(alloc: Global, which: Amount, tokens: &[Token<'_>]) -> Result<Statement, AsmFault>
-    ensures { Parses result (IsDirective (directive.Amount which) (lexemes tokens.now)) }
+pub fn amount(
+    alloc: Global,
+    which: SizedDirective,
+    tokens: &[Token<'_>],
+) -> Result<Statement, AsmFault>
+    ensures { RefinesParse result (IsDirective (directive.Amount which) (lexemes tokens.now)) }
 {
     let (amount, value) = one_or_two(alloc, tokens)?;
     Ok(match which {
-        Amount::Reserve => Statement::Reserve {
+        SizedDirective::Reserve => Statement::Reserve {
             count: amount,
             value,
         },
-        Amount::Align => Statement::Align {
-            multiple: amount,
+        SizedDirective::Align => Statement::Align {
+            alignment: amount,
             value,
         },
     })
@@ -221,25 +229,25 @@ fn action_word(word: &[u8]) -> Result<Action, AsmFault>
 }
 
 /// An assertion's own text.
-fn own_text(alloc: Global, tokens: &[Token<'_>]) -> Result<Sequence<u8>, AsmFault>
-    ensures { Parses result (λ r. r ≡ words_of (lexemes tokens.now ∷ [])) }
+fn own_text(alloc: Global, tokens: &[Token<'_>]) -> Result<ListVec<u8>, AsmFault>
+    ensures { RefinesParse result (λ r. r ≡ words_of (lexemes tokens.now ∷ [])) }
 {
-    let text = needed(string_of(tokens))?;
+    let text = ok_or_not_understood(string_of(tokens))?;
     if text.len() > MAX_TEXT {
         return Err(AsmFault::NotUnderstood);
     }
-    Ok(Sequence::copy_of(alloc, text)?)
+    Ok(ListVec::copy_of(alloc, text)?)
 }
 
 /// An assertion's text, if it has one of its own.
-fn text_of(alloc: Global, rest: Option<&[Token<'_>]>) -> Result<Sequence<u8>, AsmFault>
-    ensures { Parses result (λ r. r ≡ words_of (parts_behind (option_map (λ rest. lexemes rest.now) rest.entry))) }
+fn text_of(alloc: Global, rest: Option<&[Token<'_>]>) -> Result<ListVec<u8>, AsmFault>
+    ensures { RefinesParse result (λ r. r ≡ words_of (parts_after (option_map (λ rest. lexemes rest.now) rest.entry))) }
 {
     let Some(rest) = rest else {
-        return Ok(Sequence::copy_of(alloc, b"assertion failed")?);
+        return Ok(ListVec::copy_of(alloc, b"assertion failed")?);
     };
-    let (part, behind) = first_part(rest);
-    match behind {
+    let (part, following) = first_part(rest);
+    match following {
         Some(_) => Err(AsmFault::NotUnderstood),
         None => own_text(alloc, part),
     }
@@ -247,15 +255,15 @@ fn text_of(alloc: Global, rest: Option<&[Token<'_>]>) -> Result<Sequence<u8>, As
 
 /// `.assert`
 pub fn assertion(alloc: Global, tokens: &[Token<'_>]) -> Result<Statement, AsmFault>
-    ensures { Parses result (IsDirective directive.Assert (lexemes tokens.now)) }
+    ensures { RefinesParse result (IsDirective directive.Assert (lexemes tokens.now)) }
 {
-    let (value, behind) = first_part(tokens);
-    let Some(behind) = behind else {
+    let (value, following) = first_part(tokens);
+    let Some(following) = following else {
         return Err(AsmFault::NotUnderstood);
     };
-    let (action, rest) = first_part(behind);
+    let (action, rest) = first_part(following);
     let value = expression(alloc, value)?;
-    let action = action_word(needed(word_of(action))?)?;
+    let action = action_word(ok_or_not_understood(word_of(action))?)?;
     let text = text_of(alloc, rest)?;
     Ok(Statement::Assert {
         value,
@@ -265,34 +273,38 @@ pub fn assertion(alloc: Global, tokens: &[Token<'_>]) -> Result<Statement, AsmFa
 }
 
 fn standard_segment(alloc: Global, name: &[u8]) -> Result<Statement, AsmFault>
-    ensures { Parses result (λ r. r ≡ Ok (Segment name.now None)) }
+    ensures { RefinesParse result (λ r. r ≡ Ok (Segment name.now None)) }
 {
     Ok(Statement::Segment {
-        name: Sequence::copy_of(alloc, name)?,
+        name: ListVec::copy_of(alloc, name)?,
         size: None,
     })
 }
 
-fn lone_statement(alloc: Global, which: Lone) -> Result<Statement, AsmFault>
-    ensures { Parses result (λ r. r ≡ Ok (lone_statement which)) }
+fn lone_statement(alloc: Global, which: BareDirective) -> Result<Statement, AsmFault>
+    ensures { RefinesParse result (λ r. r ≡ Ok (lone_statement which)) }
 {
     match which {
-        Lone::PushSegment => Ok(Statement::PushSegment),
-        Lone::PopSegment => Ok(Statement::PopSegment),
-        Lone::EndScope => Ok(Statement::CloseScope),
-        Lone::EndProc => Ok(Statement::CloseProc),
-        Lone::Processor => Ok(Statement::Nothing),
-        Lone::Code => standard_segment(alloc, b"CODE"),
-        Lone::Rodata => standard_segment(alloc, b"RODATA"),
-        Lone::Data => standard_segment(alloc, b"DATA"),
-        Lone::Bss => standard_segment(alloc, b"BSS"),
-        Lone::ZeroPage => standard_segment(alloc, b"ZEROPAGE"),
+        BareDirective::PushSegment => Ok(Statement::PushSegment),
+        BareDirective::PopSegment => Ok(Statement::PopSegment),
+        BareDirective::EndScope => Ok(Statement::CloseScope),
+        BareDirective::EndProc => Ok(Statement::CloseProc),
+        BareDirective::Processor => Ok(Statement::Nothing),
+        BareDirective::Code => standard_segment(alloc, b"CODE"),
+        BareDirective::Rodata => standard_segment(alloc, b"RODATA"),
+        BareDirective::Data => standard_segment(alloc, b"DATA"),
+        BareDirective::Bss => standard_segment(alloc, b"BSS"),
+        BareDirective::ZeroPage => standard_segment(alloc, b"ZEROPAGE"),
     }
 }
 
 /// A statement without operands.
-pub fn lone(alloc: Global, which: Lone, tokens: &[Token<'_>]) -> Result<Statement, AsmFault>
-    ensures { Parses result (IsDirective (directive.Lone which) (lexemes tokens.now)) }
+pub fn lone(
+    alloc: Global,
+    which: BareDirective,
+    tokens: &[Token<'_>],
+) -> Result<Statement, AsmFault>
+    ensures { RefinesParse result (IsDirective (directive.Lone which) (lexemes tokens.now)) }
 {
     if tokens.is_empty() {
         lone_statement(alloc, which)
@@ -303,9 +315,9 @@ pub fn lone(alloc: Global, which: Lone, tokens: &[Token<'_>]) -> Result<Statemen
 
 /// `.out` and `.warning`
 pub fn message(alloc: Global, which: Message, tokens: &[Token<'_>]) -> Result<Statement, AsmFault>
-    ensures { Parses result (IsDirective (directive.Message which) (lexemes tokens.now)) }
+    ensures { RefinesParse result (IsDirective (directive.Message which) (lexemes tokens.now)) }
 {
-    let text = Sequence::copy_of(alloc, needed(string_of(tokens))?)?;
+    let text = ListVec::copy_of(alloc, ok_or_not_understood(string_of(tokens))?)?;
     Ok(match which {
         Message::Out => Statement::Out(text),
         Message::Warning => Statement::Warning(text),
@@ -314,9 +326,9 @@ pub fn message(alloc: Global, which: Message, tokens: &[Token<'_>]) -> Result<St
 
 /// `.setcpu`
 pub fn processor(tokens: &[Token<'_>]) -> Result<Statement, AsmFault>
-    ensures { Parses result (IsDirective directive.SetProcessor (lexemes tokens.now)) }
+    ensures { RefinesParse result (IsDirective directive.SetProcessor (lexemes tokens.now)) }
 {
-    if needed(string_of(tokens))? == b"6502".as_slice() {
+    if ok_or_not_understood(string_of(tokens))? == b"6502".as_slice() {
         Ok(Statement::Nothing)
     } else {
         Err(AsmFault::NotUnderstood)

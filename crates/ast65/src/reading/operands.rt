@@ -3,19 +3,19 @@
 ghost use Rattle.std.specs.Prelude.{◌≡◌, ◌<◌, ◌≤◌, ◌∷◌, [], false, length, not, option_map, IfOk, IfSome, IsTrue, None, Ok, Some};
 ghost use Rattle.std.specs.List.{prefix_len};
 ghost use Rattle.syntax65.specs.Expressions.{IsParsed, binary_at, opening_of};
-ghost use Rattle.syntax65.specs.Faults.{is_expr_outside};
-ghost use Rattle.base65.specs.Relations.{Answers};
+ghost use Rattle.syntax65.specs.Faults.{is_expr_system_error};
+ghost use Rattle.base65.specs.Relations.{RefinesRel};
 ghost use Rattle.syntax65.specs.Tokens.{lexeme_of, lexemes};
 ghost use Rattle.syntax65.specs.Trees.{number};
-ghost use Rattle.syntax65.specs.declared.expressions.words.Opening.TheVariants.{Number};
-ghost use Rattle.ast65.specs.Parsing.{is_comma, parts_behind, parts_of, quoted_in, IsExpression, IsFront, IsOneOrTwo, Parses, closing_of, index_of, indirect_by, IsEnded, IsOperand, IsPlainOperand, ParsesAs};
+ghost use Rattle.syntax65.specs.declared.expressions.words.OperandStart.TheVariants.{Number};
+ghost use Rattle.ast65.specs.Parsing.{is_comma, parts_after, parts_of, quoted_in, IsExpression, IsFront, IsOneOrTwo, RefinesParse, closing_of, index_of, indirect_by, IsEnded, IsOperand, IsPlainOperand, ParsesAs};
 ghost use Rattle.ast65.specs.declared.language.Operand.TheVariants.{Address};
 
 use super::tokens::{is_close, is_comma, is_spelled, spells, word_of};
 use crate::fault::AsmFault;
 use crate::language::{Index, Operand, OptionalExpr};
 use std::alloc::Global;
-use syntax65::{AddressSize, Expr, ExprFault, ExprKind, Mark, Token, TokenKind, read_expr};
+use syntax65::{AddressSize, Expr, ExprFault, ExprKind, Punctuation, Token, TokenKind, read_expr};
 
 /// The value of a number.
 pub fn number_in(token: &Token<'_>) -> Option<u32>
@@ -45,10 +45,10 @@ fn lone_number(tokens: &[Token<'_>]) -> Option<u32>
     ensures read { IfSome result (λ v. IsParsed (lexemes tokens.now) (Ok (number v, 1))) }
     ensures some { IfSome result (λ _. 0 < length tokens.now) }
 {
-    let Some((first, behind)) = tokens.split_first() else {
+    let Some((first, following)) = tokens.split_first() else {
         return None;
     };
-    if end_expression(behind) {
+    if end_expression(following) {
         number_in(first)
     } else {
         None
@@ -57,7 +57,7 @@ fn lone_number(tokens: &[Token<'_>]) -> Option<u32>
 
 /// The expression at the front, and how many tokens it has. Most are one number, in which no operators are looked for.
 fn parsed(alloc: Global, tokens: &[Token<'_>]) -> Result<(Expr, usize), ExprFault>
-    ensures read { Answers is_expr_outside (λ r. r) result (IsParsed (lexemes tokens.now)) }
+    ensures read { RefinesRel is_expr_system_error (λ r. r) result (IsParsed (lexemes tokens.now)) }
     ensures bound { IfOk result (λ r. r.1 ≤ length tokens.now) }
 {
     match lone_number(tokens) {
@@ -68,7 +68,7 @@ fn parsed(alloc: Global, tokens: &[Token<'_>]) -> Result<(Expr, usize), ExprFaul
 
 /// An expression of all the tokens.
 pub fn expression(alloc: Global, tokens: &[Token<'_>]) -> Result<Expr, AsmFault>
-    ensures { Parses result (IsExpression (lexemes tokens.now)) }
+    ensures { RefinesParse result (IsExpression (lexemes tokens.now)) }
 {
     let (value, count) = parsed(alloc, tokens)?;
     if count == tokens.len() {
@@ -87,7 +87,7 @@ fn part_len(tokens: &[Token<'_>]) -> usize
 
 /// The tokens before the first comma, and those behind it, if there is one.
 pub fn first_part<'a, 'b>(tokens: &'b [Token<'a>]) -> (&'b [Token<'a>], Option<&'b [Token<'a>]>)
-    ensures parts { parts_of (lexemes tokens.now) ≡ lexemes result.0.now ∷ parts_behind (option_map (λ rest. lexemes rest.now) result.1) }
+    ensures parts { parts_of (lexemes tokens.now) ≡ lexemes result.0.now ∷ parts_after (option_map (λ rest. lexemes rest.now) result.1) }
     ensures shorter { IfSome result.1 (λ rest. length rest.now < length tokens.now) }
 {
     let len = part_len(tokens);
@@ -115,7 +115,7 @@ fn two(
     first: &[Token<'_>],
     second: &[Token<'_>],
 ) -> Result<(Expr, OptionalExpr), AsmFault>
-    ensures { Parses result (IsOneOrTwo (lexemes first.now ∷ lexemes second.now ∷ [])) }
+    ensures { RefinesParse result (IsOneOrTwo (lexemes first.now ∷ lexemes second.now ∷ [])) }
 {
     let first = expression(alloc, first)?;
     let second = expression(alloc, second)?;
@@ -124,14 +124,14 @@ fn two(
 
 /// One expression or two, with a comma between them.
 pub fn one_or_two(alloc: Global, tokens: &[Token<'_>]) -> Result<(Expr, OptionalExpr), AsmFault>
-    ensures { Parses result (IsOneOrTwo (parts_of (lexemes tokens.now))) }
+    ensures { RefinesParse result (IsOneOrTwo (parts_of (lexemes tokens.now))) }
 {
-    let (first, behind) = first_part(tokens);
-    let Some(behind) = behind else {
+    let (first, following) = first_part(tokens);
+    let Some(following) = following else {
         return Ok((expression(alloc, first)?, OptionalExpr::none()));
     };
-    let (second, behind) = first_part(behind);
-    match behind {
+    let (second, following) = first_part(following);
+    match following {
         None => two(alloc, first, second),
         Some(_) => Err(AsmFault::NotUnderstood),
     }
@@ -155,10 +155,10 @@ fn address(
     prefix: Option<AddressSize>,
     tokens: &[Token<'_>],
 ) -> Result<Operand, AsmFault>
-    ensures { Parses result (IsEnded index_of (Address prefix) (lexemes tokens.now)) }
+    ensures { RefinesParse result (IsEnded index_of (Address prefix) (lexemes tokens.now)) }
 {
-    let (value, behind) = front(alloc, tokens)?;
-    let index = index_of(behind)?;
+    let (value, following) = front(alloc, tokens)?;
+    let index = index_of(following)?;
     Ok(Operand::Address {
         prefix,
         value,
@@ -197,17 +197,17 @@ fn indirect_by(value: Expr, index: Option<Index>) -> Operand
 
 /// What stands behind a `(`.
 fn indirect(alloc: Global, tokens: &[Token<'_>]) -> Result<Operand, AsmFault>
-    ensures { Parses result (IsEnded closing_of indirect_by (lexemes tokens.now)) }
+    ensures { RefinesParse result (IsEnded closing_of indirect_by (lexemes tokens.now)) }
 {
-    let (value, behind) = front(alloc, tokens)?;
-    let index = closing_of(behind)?;
+    let (value, following) = front(alloc, tokens)?;
+    let index = closing_of(following)?;
     Ok(indirect_by(value, index))
 }
 
 /// `a`, or an address without a prefix.
 #[tactic(auto, unfolding(crate::specs::Parsing::IsPlainOperand))]
 fn plain_operand(alloc: Global, tokens: &[Token<'_>]) -> Result<Operand, AsmFault>
-    ensures { Parses result (IsPlainOperand (lexemes tokens.now)) }
+    ensures { RefinesParse result (IsPlainOperand (lexemes tokens.now)) }
 {
     if is_spelled(word_of(tokens), b"a") {
         Ok(Operand::Accumulator)
@@ -219,15 +219,17 @@ fn plain_operand(alloc: Global, tokens: &[Token<'_>]) -> Result<Operand, AsmFaul
 /// What stands behind a mnemonic.
 #[inline(always)]
 pub fn operand(alloc: Global, tokens: &[Token<'_>]) -> Result<Operand, AsmFault>
-    ensures { Parses result (IsOperand (lexemes tokens.now)) }
+    ensures { RefinesParse result (IsOperand (lexemes tokens.now)) }
 {
-    let Some((first, behind)) = tokens.split_first() else {
+    let Some((first, following)) = tokens.split_first() else {
         return Ok(Operand::Absent);
     };
     match first.kind {
-        TokenKind::Symbol(Mark::Hash) => Ok(Operand::Immediate(expression(alloc, behind)?)),
-        TokenKind::Symbol(Mark::OpenParenthesis) => indirect(alloc, behind),
-        TokenKind::SizePrefix(size) => address(alloc, Some(size), behind),
+        TokenKind::Symbol(Punctuation::Hash) => Ok(Operand::Immediate(expression(
+            alloc, following,
+        )?)),
+        TokenKind::Symbol(Punctuation::OpenParenthesis) => indirect(alloc, following),
+        TokenKind::SizePrefix(size) => address(alloc, Some(size), following),
         _ => plain_operand(alloc, tokens),
     }
 }

@@ -2,7 +2,7 @@
 
 ghost use Rattle.std.specs.Prelude.{◌≡◌, ◌∷◌, false, Ok, option_map, IfSome, Result, Some};
 ghost use Rattle.syntax65.specs.Tokens.{lexeme_of, lexemes};
-ghost use Rattle.ast65.specs.Parsing.{label_before, label_of, named_label, Parses, IsConstant, IsInstruction, IsNamed, IsStatement, ParsesAs};
+ghost use Rattle.ast65.specs.Parsing.{label_before, label_of, named_label, RefinesParse, IsConstant, IsInstruction, IsNamed, IsStatement, ParsesAs};
 ghost use Rattle.syntax65.specs.Mnemonics.{mnemonic_of};
 ghost use Rattle.syntax65.specs.declared.lexing.tokens.TokenKind.TheVariants as token;
 ghost use Rattle.ast65.specs.declared.fault.AsmFault.{AsmFault};
@@ -16,13 +16,13 @@ use super::tokens::{defines, is_colon, proc, scope, segment};
 use super::words::{Directive, directive_of};
 use crate::fault::AsmFault;
 use crate::language::Statement;
-use base65::Sequence;
+use base65::ListVec;
 use std::alloc::Global;
 use syntax65::{Identifier, Mnemonic, Token, TokenKind, is_reserved, mnemonic};
 
 /// The label that a token before a `:` is, if it is one.
 fn named_label(alloc: Global, token: &Token<'_>) -> Result<Option<Statement>, AsmFault>
-    ensures { Parses result (λ r. r ≡ Ok (named_label (lexeme_of token.now).0 (lexeme_of token.now).1)) }
+    ensures { RefinesParse result (λ r. r ≡ Ok (named_label (lexeme_of token.now).0 (lexeme_of token.now).1)) }
 {
     match token.kind {
         TokenKind::Identifier => {
@@ -43,11 +43,11 @@ fn named_label(alloc: Global, token: &Token<'_>) -> Result<Option<Statement>, As
 fn label_before<'a, 'b>(
     alloc: Global,
     token: &Token<'a>,
-    behind: &'b [Token<'a>],
+    following: &'b [Token<'a>],
 ) -> Result<Option<(Statement, &'b [Token<'a>])>, AsmFault>
-    ensures { ParsesAs (λ label. option_map (λ x. (x.0, lexemes x.1.now)) label) result (λ r. r ≡ Ok (label_before (lexeme_of token.now) (lexemes behind.now))) }
+    ensures { ParsesAs (λ label. option_map (λ x. (x.0, lexemes x.1.now)) label) result (λ r. r ≡ Ok (label_before (lexeme_of token.now) (lexemes following.now))) }
 {
-    let Some((colon, rest)) = behind.split_first() else {
+    let Some((colon, rest)) = following.split_first() else {
         return Ok(None);
     };
     if !is_colon(colon) {
@@ -66,14 +66,14 @@ pub fn label<'a, 'b>(
 ) -> Result<(Option<Statement>, &'b [Token<'a>]), AsmFault>
     ensures { ParsesAs (λ x. (x.0, lexemes x.1.now)) result (λ r. r ≡ Ok (label_of (lexemes tokens.now))) }
 {
-    let Some((first, behind)) = tokens.split_first() else {
+    let Some((first, following)) = tokens.split_first() else {
         return Ok((None, tokens));
     };
     if is_colon(first) {
-        return Ok((Some(Statement::UnnamedLabel), behind));
+        return Ok((Some(Statement::UnnamedLabel), following));
     }
-    match label_before(alloc, first, behind)? {
-        Some((label, behind)) => Ok((Some(label), behind)),
+    match label_before(alloc, first, following)? {
+        Some((label, following)) => Ok((Some(label), following)),
         None => Ok((None, tokens)),
     }
 }
@@ -84,16 +84,16 @@ fn directive_statement(
     word: &[u8],
     tokens: &[Token<'_>],
 ) -> Result<Statement, AsmFault>
-    ensures { Parses result (IsStatement ((token.Directive, word.now) ∷ lexemes tokens.now)) }
+    ensures { RefinesParse result (IsStatement ((token.Directive, word.now) ∷ lexemes tokens.now)) }
 {
     let Some(directive) = directive_of(word) else {
         return Err(AsmFault::NotUnderstood);
     };
     match directive {
         Directive::List(elements, width) => list(alloc, elements, width, tokens),
-        Directive::EndedText => ended_text(alloc, tokens),
+        Directive::Asciiz => ended_text(alloc, tokens),
         Directive::Amount(which) => amount(alloc, which, tokens),
-        Directive::FilePart => file_part(alloc, tokens),
+        Directive::Incbin => file_part(alloc, tokens),
         Directive::Segment => segment(alloc, tokens),
         Directive::Lone(which) => lone(alloc, which, tokens),
         Directive::Scope => scope(alloc, tokens),
@@ -107,7 +107,7 @@ fn directive_statement(
 
 /// `name = e`, by the name and what stands behind the mark.
 fn constant(alloc: Global, name: &[u8], tokens: &[Token<'_>]) -> Result<Statement, AsmFault>
-    ensures { Parses result (IsConstant name.now (lexemes tokens.now)) }
+    ensures { RefinesParse result (IsConstant name.now (lexemes tokens.now)) }
 {
     if is_reserved(name) {
         return Err(AsmFault::NotUnderstood);
@@ -119,7 +119,7 @@ fn constant(alloc: Global, name: &[u8], tokens: &[Token<'_>]) -> Result<Statemen
 
 /// An instruction, by its name and its operand.
 fn instruction(alloc: Global, name: &[u8], tokens: &[Token<'_>]) -> Result<Statement, AsmFault>
-    ensures { Parses result (IsInstruction (mnemonic_of name.now) (lexemes tokens.now)) }
+    ensures { RefinesParse result (IsInstruction (mnemonic_of name.now) (lexemes tokens.now)) }
 {
     let Some(mnemonic) = mnemonic(name) else {
         return Err(AsmFault::NotUnderstood);
@@ -135,27 +135,27 @@ pub fn instruction_front<'a, 'b>(tokens: &'a [Token<'b>]) -> Option<(Mnemonic, &
     ensures { IfSome result (λ x. (r : Result Statement AsmFault) →
         IsInstruction (Some x.0) (lexemes x.1.now) r → IsStatement (lexemes tokens.now) r) }
 {
-    let (first, behind) = tokens.split_first()?;
+    let (first, following) = tokens.split_first()?;
     if !matches!(first.kind, TokenKind::Identifier) {
         return None;
     }
-    if let Some((next, _)) = behind.split_first() {
+    if let Some((next, _)) = following.split_first() {
         if defines(next) {
             return None;
         }
     }
     let mnemonic = mnemonic(first.text)?;
-    Some((mnemonic, behind))
+    Some((mnemonic, following))
 }
 
 /// A statement that begins with an identifier.
 fn named(alloc: Global, name: &[u8], tokens: &[Token<'_>]) -> Result<Statement, AsmFault>
-    ensures { Parses result (IsNamed name.now (lexemes tokens.now)) }
+    ensures { RefinesParse result (IsNamed name.now (lexemes tokens.now)) }
 {
     match tokens.split_first() {
-        Some((first, behind)) => {
+        Some((first, following)) => {
             if defines(first) {
-                constant(alloc, name, behind)
+                constant(alloc, name, following)
             } else {
                 instruction(alloc, name, tokens)
             }
@@ -171,14 +171,14 @@ fn named(alloc: Global, name: &[u8], tokens: &[Token<'_>]) -> Result<Statement, 
 /// Tokens that are no statement aren't understood.
 #[inline(never)]
 pub fn statement(alloc: Global, tokens: &[Token<'_>]) -> Result<Statement, AsmFault>
-    ensures { Parses result (IsStatement (lexemes tokens.now)) }
+    ensures { RefinesParse result (IsStatement (lexemes tokens.now)) }
 {
-    let Some((first, behind)) = tokens.split_first() else {
+    let Some((first, following)) = tokens.split_first() else {
         return Err(AsmFault::NotUnderstood);
     };
     match first.kind {
-        TokenKind::Identifier => named(alloc, first.text, behind),
-        TokenKind::Directive => directive_statement(alloc, first.text, behind),
+        TokenKind::Identifier => named(alloc, first.text, following),
+        TokenKind::Directive => directive_statement(alloc, first.text, following),
         _ => Err(AsmFault::NotUnderstood),
     }
 }

@@ -3,40 +3,43 @@
 ghost use Rattle.std.specs.Prelude.{◌≡◌, false, option_map};
 ghost use Rattle.syntax65.specs.Tokens.{lexeme_of, lexemes};
 ghost use Rattle.std.specs.List.{list_all};
-ghost use Rattle.ast65.specs.Parsing.{defines, inner, is_close, is_colon, is_comma, name_of, quoted_in, spelled, spells, string_of, understood, word_in, word_of, IsDirective, Parses, ParsesAs, is_identifier, is_letter, size_behind, size_word};
+ghost use Rattle.ast65.specs.Parsing.{defines, inner, is_close, is_colon, is_comma, name_of, quoted_in, is_spelled_as, is_word_of, string_of, ok_or_not_understood, word_in, word_of, IsDirective, RefinesParse, ParsesAs, is_identifier, is_letter, size_after, size_word};
 ghost use Rattle.ast65.specs.declared.reading.words.Directive.TheVariants as directive;
 ghost use Rattle.syntax65.specs.Forms.{is_word};
 
 use crate::fault::AsmFault;
 use crate::language::Statement;
-use base65::Sequence;
+use base65::ListVec;
 use std::alloc::Global;
-use syntax65::{AddressSize, Identifier, MAX_NAME, Mark, Token, TokenKind, is_reserved};
+use syntax65::{AddressSize, Identifier, MAX_NAME, Punctuation, Token, TokenKind, is_reserved};
 
 pub fn is_comma(token: &Token<'_>) -> bool
     ensures { result ≡ is_comma (lexeme_of token.now) }
 {
-    matches!(token.kind, TokenKind::Symbol(Mark::Comma))
+    matches!(token.kind, TokenKind::Symbol(Punctuation::Comma))
 }
 
 pub fn is_colon(token: &Token<'_>) -> bool
     ensures { result ≡ is_colon (lexeme_of token.now) }
 {
-    matches!(token.kind, TokenKind::Symbol(Mark::Colon))
+    matches!(token.kind, TokenKind::Symbol(Punctuation::Colon))
 }
 
 /// Whether a token is a `)`.
 pub fn is_close(token: &Token<'_>) -> bool
     ensures { result ≡ is_close (lexeme_of token.now) }
 {
-    matches!(token.kind, TokenKind::Symbol(Mark::CloseParenthesis))
+    matches!(token.kind, TokenKind::Symbol(Punctuation::CloseParenthesis))
 }
 
 /// Whether a token is `=` or `:=`.
 pub fn defines(token: &Token<'_>) -> bool
     ensures { result ≡ defines (lexeme_of token.now) }
 {
-    matches!(token.kind, TokenKind::Symbol(Mark::Equal | Mark::Define))
+    matches!(
+        token.kind,
+        TokenKind::Symbol(Punctuation::Equal | Punctuation::Define)
+    )
 }
 
 /// The bytes between the quotes of a string.
@@ -55,7 +58,7 @@ pub fn quoted_in<'a>(token: &Token<'a>) -> Option<&'a [u8]>
     ensures { option_map (λ s. s.now) result ≡ quoted_in (lexeme_of token.now) }
 {
     match token.kind {
-        TokenKind::Text => Some(inner(token.text)),
+        TokenKind::StringLiteral => Some(inner(token.text)),
         _ => None,
     }
 }
@@ -92,7 +95,7 @@ pub fn word_of<'a>(tokens: &[Token<'a>]) -> Option<&'a [u8]>
 
 /// Whether an identifier, if there is one, is this name in either case.
 pub fn is_spelled(word: Option<&[u8]>, name: &[u8]) -> bool
-    ensures { result ≡ spelled (option_map (λ s. s.now) word.entry) name.now }
+    ensures { result ≡ is_spelled_as (option_map (λ s. s.now) word.entry) name.now }
 {
     match word {
         Some(word) => word.eq_ignore_ascii_case(name),
@@ -102,15 +105,15 @@ pub fn is_spelled(word: Option<&[u8]>, name: &[u8]) -> bool
 
 /// Whether a token is this identifier, in either case.
 pub fn spells(token: &Token<'_>, name: &[u8]) -> bool
-    ensures { result ≡ spells (lexeme_of token.now) name.now }
+    ensures { result ≡ is_word_of (lexeme_of token.now) name.now }
 {
     is_spelled(word_in(token), name)
 }
 
 /// What was looked for, which has to be there.
-pub fn needed(found: Option<&[u8]>) -> Result<&[u8], AsmFault>
+pub fn ok_or_not_understood(found: Option<&[u8]>) -> Result<&[u8], AsmFault>
     ensures { ParsesAs (λ s. s.now) result
-        (λ r. r ≡ understood (option_map (λ s. s.now) found.entry)) }
+        (λ r. r ≡ ok_or_not_understood (option_map (λ s. s.now) found.entry)) }
 {
     match found {
         Some(text) => Ok(text),
@@ -122,7 +125,7 @@ pub fn needed(found: Option<&[u8]>) -> Result<&[u8], AsmFault>
 pub fn name_of<'a>(tokens: &[Token<'a>]) -> Result<&'a [u8], AsmFault>
     ensures { ParsesAs (λ s. s.now) result (λ r. r ≡ name_of (lexemes tokens.now)) }
 {
-    let name = needed(word_of(tokens))?;
+    let name = ok_or_not_understood(word_of(tokens))?;
     if is_reserved(name) {
         return Err(AsmFault::NotUnderstood);
     }
@@ -142,16 +145,16 @@ fn size_word(word: &[u8]) -> Result<AddressSize, AsmFault>
 }
 
 /// Nothing, or `: zeropage` or `: absolute`.
-fn size_behind(tokens: &[Token<'_>]) -> Result<Option<AddressSize>, AsmFault>
-    ensures { Parses result (λ r. r ≡ size_behind (lexemes tokens.now)) }
+fn size_after(tokens: &[Token<'_>]) -> Result<Option<AddressSize>, AsmFault>
+    ensures { RefinesParse result (λ r. r ≡ size_after (lexemes tokens.now)) }
 {
-    let Some((colon, behind)) = tokens.split_first() else {
+    let Some((colon, following)) = tokens.split_first() else {
         return Ok(None);
     };
     if !is_colon(colon) {
         return Err(AsmFault::NotUnderstood);
     }
-    let word = needed(word_of(behind))?;
+    let word = ok_or_not_understood(word_of(following))?;
     Ok(Some(size_word(word)?))
 }
 
@@ -177,31 +180,31 @@ fn are_letters_or_digits(bytes: &[u8]) -> bool
 fn is_identifier(bytes: &[u8]) -> bool
     ensures { result ≡ is_identifier bytes.now }
 {
-    let [first, behind @ ..] = bytes else {
+    let [first, following @ ..] = bytes else {
         return false;
     };
-    is_letter(*first) && are_letters_or_digits(behind) && bytes.len() <= MAX_NAME
+    is_letter(*first) && are_letters_or_digits(following) && bytes.len() <= MAX_NAME
 }
 
 /// `.segment`
 pub fn segment(alloc: Global, tokens: &[Token<'_>]) -> Result<Statement, AsmFault>
-    ensures { Parses result (IsDirective directive.Segment (lexemes tokens.now)) }
+    ensures { RefinesParse result (IsDirective directive.Segment (lexemes tokens.now)) }
 {
-    let Some((first, behind)) = tokens.split_first() else {
+    let Some((first, following)) = tokens.split_first() else {
         return Err(AsmFault::NotUnderstood);
     };
-    let name = needed(quoted_in(first))?;
-    let size = size_behind(behind)?;
+    let name = ok_or_not_understood(quoted_in(first))?;
+    let size = size_after(following)?;
     if !is_identifier(name) {
         return Err(AsmFault::NotUnderstood);
     }
-    let name = Sequence::copy_of(alloc, name)?;
+    let name = ListVec::copy_of(alloc, name)?;
     Ok(Statement::Segment { name, size })
 }
 
 /// `.scope`
 pub fn scope(alloc: Global, tokens: &[Token<'_>]) -> Result<Statement, AsmFault>
-    ensures { Parses result (IsDirective directive.Scope (lexemes tokens.now)) }
+    ensures { RefinesParse result (IsDirective directive.Scope (lexemes tokens.now)) }
 {
     if tokens.is_empty() {
         return Ok(Statement::OpenScope(None));
@@ -212,7 +215,7 @@ pub fn scope(alloc: Global, tokens: &[Token<'_>]) -> Result<Statement, AsmFault>
 
 /// `.proc`
 pub fn proc(alloc: Global, tokens: &[Token<'_>]) -> Result<Statement, AsmFault>
-    ensures { Parses result (IsDirective directive.Proc (lexemes tokens.now)) }
+    ensures { RefinesParse result (IsDirective directive.Proc (lexemes tokens.now)) }
 {
     let name = Identifier::copy_of(alloc, name_of(tokens)?)?;
     Ok(Statement::OpenProc(name))

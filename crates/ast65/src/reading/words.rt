@@ -8,21 +8,21 @@ use syntax65::AddressSize;
 
 /// What the elements of a list of data are.
 #[derive(Clone, Copy)]
-pub enum Elements {
+pub enum ElementKind {
     Values,
     ValuesAndTexts,
 }
 
 /// A statement that places so many bytes, or bytes up to a multiple.
 #[derive(Clone, Copy)]
-pub enum Amount {
+pub enum SizedDirective {
     Reserve,
     Align,
 }
 
 /// A statement without operands.
 #[derive(Clone, Copy)]
-pub enum Lone {
+pub enum BareDirective {
     PushSegment,
     PopSegment,
     EndScope,
@@ -38,7 +38,7 @@ pub enum Lone {
 
 /// A statement with a list of names.
 #[derive(Clone, Copy)]
-pub enum Names {
+pub enum NameListDirective {
     Import(AddressSize),
     Export,
     Global(AddressSize),
@@ -55,17 +55,17 @@ pub enum Message {
 /// What a directive asks for.
 #[derive(Clone, Copy)]
 pub enum Directive {
-    List(Elements, Width),
+    List(ElementKind, Width),
     /// `.asciiz`
-    EndedText,
-    Amount(Amount),
+    Asciiz,
+    Amount(SizedDirective),
     /// `.incbin`
-    FilePart,
+    Incbin,
     Segment,
-    Lone(Lone),
+    Lone(BareDirective),
     Scope,
     Proc,
-    Names(Names),
+    Names(NameListDirective),
     Assert,
     Message(Message),
     /// `.setcpu`
@@ -76,58 +76,64 @@ pub enum Directive {
 static WORDS: [(&[u8], Directive); 34] = [
     (
         b".byte",
-        Directive::List(Elements::ValuesAndTexts, Width::Byte),
+        Directive::List(ElementKind::ValuesAndTexts, Width::Byte),
     ),
     (
         b".byt",
-        Directive::List(Elements::ValuesAndTexts, Width::Byte),
+        Directive::List(ElementKind::ValuesAndTexts, Width::Byte),
     ),
-    (b".word", Directive::List(Elements::Values, Width::Word)),
-    (b".addr", Directive::List(Elements::Values, Width::Word)),
+    (b".word", Directive::List(ElementKind::Values, Width::Word)),
+    (b".addr", Directive::List(ElementKind::Values, Width::Word)),
     (
         b".dbyt",
-        Directive::List(Elements::Values, Width::HighFirst),
+        Directive::List(ElementKind::Values, Width::BigEndianWord),
     ),
-    (b".dword", Directive::List(Elements::Values, Width::Dword)),
-    (b".asciiz", Directive::EndedText),
-    (b".res", Directive::Amount(Amount::Reserve)),
-    (b".align", Directive::Amount(Amount::Align)),
-    (b".incbin", Directive::FilePart),
+    (
+        b".dword",
+        Directive::List(ElementKind::Values, Width::Dword),
+    ),
+    (b".asciiz", Directive::Asciiz),
+    (b".res", Directive::Amount(SizedDirective::Reserve)),
+    (b".align", Directive::Amount(SizedDirective::Align)),
+    (b".incbin", Directive::Incbin),
     (b".segment", Directive::Segment),
-    (b".pushseg", Directive::Lone(Lone::PushSegment)),
-    (b".popseg", Directive::Lone(Lone::PopSegment)),
-    (b".code", Directive::Lone(Lone::Code)),
-    (b".rodata", Directive::Lone(Lone::Rodata)),
-    (b".data", Directive::Lone(Lone::Data)),
-    (b".bss", Directive::Lone(Lone::Bss)),
-    (b".zeropage", Directive::Lone(Lone::ZeroPage)),
+    (b".pushseg", Directive::Lone(BareDirective::PushSegment)),
+    (b".popseg", Directive::Lone(BareDirective::PopSegment)),
+    (b".code", Directive::Lone(BareDirective::Code)),
+    (b".rodata", Directive::Lone(BareDirective::Rodata)),
+    (b".data", Directive::Lone(BareDirective::Data)),
+    (b".bss", Directive::Lone(BareDirective::Bss)),
+    (b".zeropage", Directive::Lone(BareDirective::ZeroPage)),
     (b".scope", Directive::Scope),
-    (b".endscope", Directive::Lone(Lone::EndScope)),
+    (b".endscope", Directive::Lone(BareDirective::EndScope)),
     (b".proc", Directive::Proc),
-    (b".endproc", Directive::Lone(Lone::EndProc)),
+    (b".endproc", Directive::Lone(BareDirective::EndProc)),
     (
         b".import",
-        Directive::Names(Names::Import(AddressSize::Absolute)),
+        Directive::Names(NameListDirective::Import(AddressSize::Absolute)),
     ),
     (
         b".importzp",
-        Directive::Names(Names::Import(AddressSize::ZeroPage)),
+        Directive::Names(NameListDirective::Import(AddressSize::ZeroPage)),
     ),
-    (b".export", Directive::Names(Names::Export)),
-    (b".exportzp", Directive::Names(Names::Export)),
+    (b".export", Directive::Names(NameListDirective::Export)),
+    (b".exportzp", Directive::Names(NameListDirective::Export)),
     (
         b".global",
-        Directive::Names(Names::Global(AddressSize::Absolute)),
+        Directive::Names(NameListDirective::Global(AddressSize::Absolute)),
     ),
     (
         b".globalzp",
-        Directive::Names(Names::Global(AddressSize::ZeroPage)),
+        Directive::Names(NameListDirective::Global(AddressSize::ZeroPage)),
     ),
-    (b".forceimport", Directive::Names(Names::ForceImport)),
+    (
+        b".forceimport",
+        Directive::Names(NameListDirective::ForceImport),
+    ),
     (b".assert", Directive::Assert),
     (b".out", Directive::Message(Message::Out)),
     (b".warning", Directive::Message(Message::Warning)),
-    (b".p02", Directive::Lone(Lone::Processor)),
+    (b".p02", Directive::Lone(BareDirective::Processor)),
     (b".setcpu", Directive::SetProcessor),
 ];
 

@@ -2,43 +2,45 @@
 
 ghost use Rattle.std.specs.Prelude.{◌≡◌, ◌++◌, [], map, nat_eq, IfOk, OnOk};
 ghost use Rattle.std.specs.List.{flat_map, IsDistinct};
-ghost use Rattle.emit65.specs.Inner.Drafts.{draft_of, sayings_of, segment_of, with_entry};
+ghost use Rattle.emit65.specs.Internal.Drafts.{draft_of, sayings_of, segment_of, with_entry};
 
-use crate::entries::{Entry, Saying};
-use base65::Sequence;
+use crate::entries::{LocatedDeclaration, SectionEntry};
+use base65::ListVec;
 use indexmap::IndexSet;
 use std::alloc::{AllocError, Global};
 
 /// A section in the making: the entries that put something into a segment.
 #[derive(Drop)]
-pub struct Draft {
+pub struct SectionDraft {
     pub segment: u32,
-    pub entries: Sequence<Entry>,
+    pub entries: ListVec<SectionEntry>,
 }
 
 /// What was fed, by section, and what is said.
 #[derive(Drop)]
-pub struct Parted {
-    pub drafts: Vec<Draft>,
-    pub told: Sequence<Saying>,
+pub struct EntriesBySection {
+    pub drafts: Vec<SectionDraft>,
+    pub declarations: ListVec<LocatedDeclaration>,
 }
 
 /// The segment into whose section an entry puts something.
-fn segment_of(entry: &Entry) -> Option<u32>
+fn segment_of(entry: &SectionEntry) -> Option<u32>
     ensures { result ≡ segment_of entry.now }
 {
     match entry {
-        Entry::Bytes { segment, .. } | Entry::Room { segment, .. } => Some(*segment),
-        Entry::Value { segment, .. } => Some(*segment),
-        Entry::Told(_) | Entry::Waits(_) => None,
+        SectionEntry::Bytes { segment, .. } | SectionEntry::Reserve { segment, .. } => Some(
+            *segment,
+        ),
+        SectionEntry::Value { segment, .. } => Some(*segment),
+        SectionEntry::DeclarationEntry(_) | SectionEntry::FixupEntry(_) => None,
     }
 }
 
 /// Puts an entry into the section of its segment, if there is one.
 fn add_put(
     sections: &IndexSet<u32>,
-    drafts: &mut Vec<Draft>,
-    entry: Entry,
+    drafts: &mut Vec<SectionDraft>,
+    entry: SectionEntry,
 ) -> Result<(), AllocError>
     requires keys { map (λ d. d.segment) drafts.old.items ≡ sections.now.keys }
     requires distinct { IsDistinct nat_eq sections.now.keys }
@@ -55,46 +57,50 @@ fn add_put(
 }
 
 /// Adds an entry to those of its kind.
-fn add_entry(sections: &IndexSet<u32>, parted: &mut Parted, entry: Entry) -> Result<(), AllocError>
+fn add_entry(
+    sections: &IndexSet<u32>,
+    parted: &mut EntriesBySection,
+    entry: SectionEntry,
+) -> Result<(), AllocError>
     requires keys { map (λ d. d.segment) parted.old.drafts.items ≡ sections.now.keys }
     requires distinct { IsDistinct nat_eq sections.now.keys }
     ensures drafts { OnOk result (parted.new.drafts.items ≡
         map (with_entry entry) parted.old.drafts.items) }
-    ensures told { OnOk result (parted.new.told ≡ parted.old.told ++ sayings_of entry) }
+    ensures declarations { OnOk result (parted.new.declarations ≡ parted.old.declarations ++ sayings_of entry) }
 {
     match entry {
-        Entry::Told(saying) => parted.told.push(Box::into_inner(saying)),
+        SectionEntry::DeclarationEntry(saying) => parted.declarations.push(Box::into_inner(saying)),
         put => add_put(sections, &mut parted.drafts, put),
     }
 }
 
 /// A section in the making for each key, with nothing in it.
-fn new_drafts(alloc: Global, keys: &[u32]) -> Result<Vec<Draft>, AllocError>
+fn new_drafts(alloc: Global, keys: &[u32]) -> Result<Vec<SectionDraft>, AllocError>
     ensures { IfOk result (λ drafts. drafts.items ≡ map (draft_of []) keys.now) }
 {
     let mut drafts = Vec::new(alloc);
     for key in keys {
-        drafts.push(Draft {
+        drafts.push(SectionDraft {
             segment: *key,
-            entries: Sequence::new(alloc),
+            entries: ListVec::new(alloc),
         })?;
     }
     Ok(drafts)
 }
 
 /// Entries by the sections of these segments, and what is said.
-pub fn part(
+pub fn group_by_section(
     alloc: Global,
     sections: &IndexSet<u32>,
-    entries: Vec<Entry>,
-) -> Result<Parted, AllocError>
+    entries: Vec<SectionEntry>,
+) -> Result<EntriesBySection, AllocError>
     ensures drafts { IfOk result (λ p. p.drafts.items ≡
         map (draft_of entries.items) sections.now.keys) }
-    ensures told { IfOk result (λ p. p.told ≡ flat_map sayings_of entries.items) }
+    ensures declarations { IfOk result (λ p. p.declarations ≡ flat_map sayings_of entries.items) }
 {
-    let mut parted = Parted {
+    let mut parted = EntriesBySection {
         drafts: new_drafts(alloc, sections.as_slice())?,
-        told: Sequence::new(alloc),
+        declarations: ListVec::new(alloc),
     };
     for entry in entries {
         add_entry(sections, &mut parted, entry)?;

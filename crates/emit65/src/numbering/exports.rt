@@ -1,28 +1,28 @@
 //! The exports of an object and its assertions.
 
 ghost use Rattle.std.specs.Prelude.{◌≡◌, ◌++◌, ◌∷◌, [], filter_map, IfOk, OnOk};
-ghost use Rattle.emit65.specs.Inner.Drafts.{assert_by, DeclaredFits, export_by};
+ghost use Rattle.emit65.specs.Internal.Drafts.{assert_by, DeclaredFits, export_by};
 
 use super::keys::{Numbers, numbered, origin_of};
-use crate::entries::Saying;
-use base65::Sequence;
+use crate::entries::LocatedDeclaration;
+use base65::ListVec;
 use object65::{Assert, Export};
 use semantics65::Declaration;
 use std::alloc::{AllocError, Global};
 
 /// Exports and assertions.
 #[derive(Drop)]
-pub struct Declared {
-    pub exports: Sequence<Export>,
-    pub asserts: Sequence<Assert>,
+pub struct DeclarationTables {
+    pub exports: ListVec<Export>,
+    pub asserts: ListVec<Assert>,
 }
 
 /// Adds an export, or an assertion.
 fn add_saying(
     alloc: Global,
     numbers: &Numbers,
-    declared: &mut Declared,
-    saying: Saying,
+    declared: &mut DeclarationTables,
+    saying: LocatedDeclaration,
 ) -> Result<(), AllocError>
     ensures exports { OnOk result (declared.new.exports ≡ declared.old.exports ++
         filter_map (export_by numbers.now) (saying ∷ [])) }
@@ -53,17 +53,17 @@ fn add_saying(
 pub fn declared_by(
     alloc: Global,
     numbers: &Numbers,
-    told: Sequence<Saying>,
-) -> Result<Declared, AllocError>
-    ensures exports { IfOk result (λ d. d.exports ≡ filter_map (export_by numbers.now) told) }
-    ensures asserts { IfOk result (λ d. d.asserts ≡ filter_map (assert_by numbers.now) told) }
+    declarations: ListVec<LocatedDeclaration>,
+) -> Result<DeclarationTables, AllocError>
+    ensures exports { IfOk result (λ d. d.exports ≡ filter_map (export_by numbers.now) declarations) }
+    ensures asserts { IfOk result (λ d. d.asserts ≡ filter_map (assert_by numbers.now) declarations) }
     ensures fits { IfOk result DeclaredFits }
 {
-    let mut declared = Declared {
-        exports: Sequence::new(alloc),
-        asserts: Sequence::new(alloc),
+    let mut declared = DeclarationTables {
+        exports: ListVec::new(alloc),
+        asserts: ListVec::new(alloc),
     };
-    for saying in told.into_vec() {
+    for saying in declarations.into_vec() {
         add_saying(alloc, numbers, &mut declared, saying)?;
     }
     Ok(declared)

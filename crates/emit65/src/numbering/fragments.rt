@@ -4,26 +4,26 @@ ghost use Rattle.std.specs.Prelude.{◌≡◌, IfOk, OnOk};
 ghost use Rattle.std.specs.List.{AllByRecursion};
 ghost use Rattle.object65.specs.Objects.{FragmentFits};
 ghost use Rattle.object65.specs.declared.object.Fragment.TheVariants.{Fill, Literal};
-ghost use Rattle.emit65.specs.Inner.Drafts.{all_of, begun, fragment_of, fragments_of, JoinedFits, with_fragment};
+ghost use Rattle.emit65.specs.Internal.Drafts.{all_of, with_new_fragment, fragment_of, fragments_of, JoinedFits, with_fragment};
 
 use super::keys::{Numbers, numbered, origin_of};
-use crate::entries::{Entry, sum_of};
-use base65::Sequence;
+use crate::entries::{SectionEntry, sum_of};
+use base65::ListVec;
 use object65::Fragment;
 use std::alloc::{AllocError, Global};
 use std::mem;
 
 /// Fragments in the making.
 #[derive(Drop)]
-pub struct Joined {
-    pub done: Sequence<Fragment>,
+pub struct FragmentMerger {
+    pub done: ListVec<Fragment>,
     /// The fragment behind these, to which the next one may be joined.
     pub last: Option<Fragment>,
 }
 
 /// Puts a fragment behind the others.
-fn begin(joined: &mut Joined, fragment: Fragment) -> Result<(), AllocError>
-    ensures { OnOk result (joined.new ≡ begun joined.old fragment) }
+fn begin(joined: &mut FragmentMerger, fragment: Fragment) -> Result<(), AllocError>
+    ensures { OnOk result (joined.new ≡ with_new_fragment joined.old fragment) }
 {
     if let Some(last) = mem::replace(&mut joined.last, Some(fragment)) {
         joined.done.push(last)?;
@@ -32,7 +32,7 @@ fn begin(joined: &mut Joined, fragment: Fragment) -> Result<(), AllocError>
 }
 
 /// Adds bytes.
-fn add_bytes(joined: &mut Joined, bytes: Sequence<u8>) -> Result<(), AllocError>
+fn add_bytes(joined: &mut FragmentMerger, bytes: ListVec<u8>) -> Result<(), AllocError>
     ensures { OnOk result (joined.new ≡ with_fragment joined.old (Literal bytes)) }
 {
     if bytes.len() == 0 {
@@ -45,7 +45,7 @@ fn add_bytes(joined: &mut Joined, bytes: Sequence<u8>) -> Result<(), AllocError>
 }
 
 /// Adds so many bytes of the linker's fill value.
-fn add_fill(joined: &mut Joined, count: u32) -> Result<(), AllocError>
+fn add_fill(joined: &mut FragmentMerger, count: u32) -> Result<(), AllocError>
     ensures added { OnOk result (joined.new ≡ with_fragment joined.old (Fill count)) }
     ensures fits { OnOk result (JoinedFits joined.old → JoinedFits joined.new) }
 {
@@ -63,17 +63,17 @@ fn add_fill(joined: &mut Joined, count: u32) -> Result<(), AllocError>
 fn add_entry(
     alloc: Global,
     numbers: &Numbers,
-    joined: &mut Joined,
-    entry: Entry,
+    joined: &mut FragmentMerger,
+    entry: SectionEntry,
 ) -> Result<(), AllocError>
     ensures added { OnOk result (joined.new ≡
         with_fragment joined.old (fragment_of numbers.now entry)) }
     ensures fits { OnOk result (JoinedFits joined.old → JoinedFits joined.new) }
 {
     match entry {
-        Entry::Bytes { segment: _, bytes } => add_bytes(joined, bytes),
-        Entry::Room { segment: _, count } => add_fill(joined, count),
-        Entry::Value {
+        SectionEntry::Bytes { segment: _, bytes } => add_bytes(joined, bytes),
+        SectionEntry::Reserve { segment: _, count } => add_fill(joined, count),
+        SectionEntry::Value {
             width,
             segment: _,
             pos,
@@ -90,15 +90,15 @@ fn add_entry(
                 },
             )
         }
-        Entry::Told(_) | Entry::Waits(_) => Ok(()),
+        SectionEntry::DeclarationEntry(_) | SectionEntry::FixupEntry(_) => Ok(()),
     }
 }
 
 /// All fragments.
-fn all_of(joined: Joined) -> Result<Sequence<Fragment>, AllocError>
+fn all_of(joined: FragmentMerger) -> Result<ListVec<Fragment>, AllocError>
     ensures { IfOk result (λ fragments. fragments ≡ all_of joined) }
 {
-    let Joined { done, last } = joined;
+    let FragmentMerger { done, last } = joined;
     let mut fragments = done;
     if let Some(last) = last {
         fragments.push(last)?;
@@ -110,13 +110,13 @@ fn all_of(joined: Joined) -> Result<Sequence<Fragment>, AllocError>
 pub fn fragments_of(
     alloc: Global,
     numbers: &Numbers,
-    entries: Sequence<Entry>,
-) -> Result<Sequence<Fragment>, AllocError>
+    entries: ListVec<SectionEntry>,
+) -> Result<ListVec<Fragment>, AllocError>
     ensures fragments { IfOk result (λ fs. fs ≡ fragments_of numbers.now entries) }
     ensures fits { IfOk result (AllByRecursion FragmentFits) }
 {
-    let mut joined = Joined {
-        done: Sequence::new(alloc),
+    let mut joined = FragmentMerger {
+        done: ListVec::new(alloc),
         last: None,
     };
     for entry in entries.into_vec() {

@@ -1,14 +1,14 @@
 //! The keys of imports, by name and in the order of their numbers, and the numbers of sections and files.
 
 ghost use Rattle.std.specs.Prelude.{◌≡◌, IfOk, [], map, nat_eq, OnOk};
-ghost use Rattle.emit65.specs.Inner.Drafts.{anywhere, origin_of};
-ghost use Rattle.semantics65.specs.Numbering.{key_of, number_of, numbered, content_imports, import_keys, imports_in, once, optional_key, said_imports};
+ghost use Rattle.emit65.specs.Internal.Drafts.{anywhere, origin_of};
+ghost use Rattle.semantics65.specs.Numbering.{key_of, number_of, renumbered_form, content_imports, import_keys, imports_in, distinct_keys, optional_key, said_imports};
 ghost use Rattle.object65.specs.Objects.{FitsBits, OriginFits};
 ghost use Rattle.indexmap.specs.IndexSet.{IsUnique};
-ghost use Rattle.emit65.specs.Fed.{content_of, names_of};
+ghost use Rattle.emit65.specs.SectionContents.{content_of, names_of};
 ghost use Rattle.semantics65.specs.Views.{said_at};
 
-use crate::entries::{Entry, SourcePos};
+use crate::entries::{SectionEntry, SourcePos};
 use base65::Seed;
 use indexmap::IndexSet;
 use object65::{Node, Norm, Origin};
@@ -63,13 +63,16 @@ pub fn origin_of(numbers: &Numbers, pos: SourcePos) -> Result<Origin, AllocError
 
 /// The form with the numbers of its sections and imports.
 pub fn numbered(alloc: Global, numbers: &Numbers, form: &Norm) -> Result<Norm, AllocError>
-    ensures form { IfOk result (λ f. f ≡ numbered numbers.now.sections.keys numbers.now.imports.keys form.now) }
+    ensures form { IfOk result (λ f. f ≡ renumbered_form numbers.now.sections.keys numbers.now.imports.keys form.now) }
     ensures bits { IfOk result FitsBits }
 {
     let node = match form.node() {
-        Node::Lit(value) => Node::Lit(*value),
-        Node::Sec(segment, offset) => Node::Sec(number_of(&numbers.sections, *segment)?, *offset),
-        Node::Imp(key) => Node::Imp(number_of(&numbers.imports, *key)?),
+        Node::NumberNode(value) => Node::NumberNode(*value),
+        Node::SectionOffset(segment, offset) => Node::SectionOffset(
+            number_of(&numbers.sections, *segment)?,
+            *offset,
+        ),
+        Node::ImportedName(key) => Node::ImportedName(number_of(&numbers.imports, *key)?),
         Node::Prefix(op, part) => {
             let part = numbered(alloc, numbers, part)?;
             Node::Prefix(*op, Box::new(alloc, part)?)
@@ -86,11 +89,11 @@ pub fn numbered(alloc: Global, numbers: &Numbers, form: &Norm) -> Result<Norm, A
 /// Adds the imports that a form holds.
 #[tactic(auto, using(crate::proofs::Keys::once_append))]
 fn add_form(keys: &mut IndexSet<u32>, form: &Norm) -> Result<(), AllocError>
-    ensures { OnOk result (keys.new.keys ≡ once keys.old.keys (imports_in form.now)) }
+    ensures { OnOk result (keys.new.keys ≡ distinct_keys keys.old.keys (imports_in form.now)) }
 {
     match form.node() {
-        Node::Lit(_) | Node::Sec(_, _) => Ok(()),
-        Node::Imp(key) => {
+        Node::NumberNode(_) | Node::SectionOffset(_, _) => Ok(()),
+        Node::ImportedName(key) => {
             keys.insert(*key)?;
             Ok(())
         }
@@ -104,7 +107,7 @@ fn add_form(keys: &mut IndexSet<u32>, form: &Norm) -> Result<(), AllocError>
 
 /// Adds the import of a name, if there is one.
 fn add_name(keys: &mut IndexSet<u32>, imports: &Imports, name: &[u8]) -> Result<(), AllocError>
-    ensures { OnOk result (keys.new.keys ≡ once keys.old.keys
+    ensures { OnOk result (keys.new.keys ≡ distinct_keys keys.old.keys
         (optional_key (key_of (names_of imports.now) name.now))) }
 {
     if let Some(place) = imports.get_index_of(name) {
@@ -119,7 +122,7 @@ fn add_saying(
     imports: &Imports,
     said: &Declaration,
 ) -> Result<(), AllocError>
-    ensures { OnOk result (keys.new.keys ≡ once keys.old.keys
+    ensures { OnOk result (keys.new.keys ≡ distinct_keys keys.old.keys
         (said_imports (names_of imports.now) (said_at anywhere said.now))) }
 {
     match said {
@@ -131,14 +134,19 @@ fn add_saying(
 }
 
 /// Adds the imports of an entry.
-fn add_entry(keys: &mut IndexSet<u32>, imports: &Imports, entry: &Entry) -> Result<(), AllocError>
+fn add_entry(
+    keys: &mut IndexSet<u32>,
+    imports: &Imports,
+    entry: &SectionEntry,
+) -> Result<(), AllocError>
     ensures { OnOk result (keys.new.keys
-        ≡ once keys.old.keys (content_imports (names_of imports.now) (content_of [] entry.now))) }
+        ≡ distinct_keys keys.old.keys (content_imports (names_of imports.now) (content_of [] entry.now))) }
 {
     match entry {
-        Entry::Value { form, .. } => add_form(keys, form),
-        Entry::Told(saying) => add_saying(keys, imports, &saying.said),
-        Entry::Bytes { .. } | Entry::Room { .. } | Entry::Waits(_) => Ok(()),
+        SectionEntry::Value { form, .. } => add_form(keys, form),
+        SectionEntry::DeclarationEntry(saying) => add_saying(keys, imports, &saying.said),
+        SectionEntry::Bytes { .. } | SectionEntry::Reserve { .. } | SectionEntry::FixupEntry(_) =>
+            Ok(()),
     }
 }
 
@@ -146,7 +154,7 @@ fn add_entry(keys: &mut IndexSet<u32>, imports: &Imports, entry: &Entry) -> Resu
 pub fn import_keys(
     alloc: Global,
     imports: &Imports,
-    entries: &[Entry],
+    entries: &[SectionEntry],
 ) -> Result<IndexSet<u32>, AllocError>
     ensures { IfOk result (λ s. s.keys ≡
         import_keys (names_of imports.now) (map (content_of []) entries.now)) }

@@ -3,12 +3,12 @@
 ghost use Rattle.std.specs.Prelude.{◌≡◌, ◌∷◌, [], map, string_bytes, true, IfOk, OnOk};
 ghost use Rattle.std.specs.List.{AllByRecursion, flat_map};
 ghost use Rattle.std.specs.Str.{is_utf8};
-ghost use Rattle.semantics65.specs.Numbering.{name_of, once};
-ghost use Rattle.emit65.specs.Inner.Drafts.{assert_keys, draft_keys, export_keys, HasLast, order_of, value_keys};
+ghost use Rattle.semantics65.specs.Numbering.{name_of, distinct_keys};
+ghost use Rattle.emit65.specs.Internal.Drafts.{assert_keys, draft_keys, export_keys, HasLast, order_of, value_keys};
 
-use super::drafts::{Draft, Parted};
-use crate::entries::{Entry, Saying, SourcePos};
-use base65::Sequence;
+use super::drafts::{EntriesBySection, SectionDraft};
+use crate::entries::{LocatedDeclaration, SectionEntry, SourcePos};
+use base65::ListVec;
 use indexmap::IndexSet;
 use semantics65::Declaration;
 use std::alloc::{AllocError, Global};
@@ -24,7 +24,7 @@ pub struct Order {
 /// Names the file in which something stands. It is mostly the one before, and then it isn't looked up.
 fn name_file(order: &mut Order, pos: SourcePos) -> Result<(), AllocError>
     requires { HasLast order.old }
-    ensures named { OnOk result (order.new.files.keys ≡ once order.old.files.keys
+    ensures named { OnOk result (order.new.files.keys ≡ distinct_keys order.old.files.keys
         (pos.file ∷ [])) }
     ensures last { OnOk result (HasLast order.new) }
 {
@@ -39,14 +39,14 @@ fn name_file(order: &mut Order, pos: SourcePos) -> Result<(), AllocError>
 }
 
 /// Names the files of a section's values.
-fn name_values(order: &mut Order, entries: &[Entry]) -> Result<(), AllocError>
+fn name_values(order: &mut Order, entries: &[SectionEntry]) -> Result<(), AllocError>
     requires { HasLast order.old }
-    ensures named { OnOk result (order.new.files.keys ≡ once order.old.files.keys
+    ensures named { OnOk result (order.new.files.keys ≡ distinct_keys order.old.files.keys
         (flat_map value_keys entries.now)) }
     ensures last { OnOk result (HasLast order.new) }
 {
     for entry in entries {
-        if let Entry::Value { pos, .. } = entry {
+        if let SectionEntry::Value { pos, .. } = entry {
             name_file(order, *pos)?;
         }
     }
@@ -54,9 +54,9 @@ fn name_values(order: &mut Order, entries: &[Entry]) -> Result<(), AllocError>
 }
 
 /// Names the files of sections.
-fn name_drafts(order: &mut Order, drafts: &[Draft]) -> Result<(), AllocError>
+fn name_drafts(order: &mut Order, drafts: &[SectionDraft]) -> Result<(), AllocError>
     requires { HasLast order.old }
-    ensures named { OnOk result (order.new.files.keys ≡ once order.old.files.keys
+    ensures named { OnOk result (order.new.files.keys ≡ distinct_keys order.old.files.keys
         (flat_map draft_keys drafts.now)) }
     ensures last { OnOk result (HasLast order.new) }
 {
@@ -67,13 +67,13 @@ fn name_drafts(order: &mut Order, drafts: &[Draft]) -> Result<(), AllocError>
 }
 
 /// Names the files of exports.
-fn name_exports(order: &mut Order, told: &[Saying]) -> Result<(), AllocError>
+fn name_exports(order: &mut Order, declarations: &[LocatedDeclaration]) -> Result<(), AllocError>
     requires { HasLast order.old }
-    ensures named { OnOk result (order.new.files.keys ≡ once order.old.files.keys
-        (flat_map export_keys told.now)) }
+    ensures named { OnOk result (order.new.files.keys ≡ distinct_keys order.old.files.keys
+        (flat_map export_keys declarations.now)) }
     ensures last { OnOk result (HasLast order.new) }
 {
-    for saying in told {
+    for saying in declarations {
         if let Declaration::Exported { .. } = &saying.said {
             name_file(order, saying.pos)?;
         }
@@ -82,13 +82,13 @@ fn name_exports(order: &mut Order, told: &[Saying]) -> Result<(), AllocError>
 }
 
 /// Names the files of assertions.
-fn name_asserts(order: &mut Order, told: &[Saying]) -> Result<(), AllocError>
+fn name_asserts(order: &mut Order, declarations: &[LocatedDeclaration]) -> Result<(), AllocError>
     requires { HasLast order.old }
-    ensures named { OnOk result (order.new.files.keys ≡ once order.old.files.keys
-        (flat_map assert_keys told.now)) }
+    ensures named { OnOk result (order.new.files.keys ≡ distinct_keys order.old.files.keys
+        (flat_map assert_keys declarations.now)) }
     ensures last { OnOk result (HasLast order.new) }
 {
-    for saying in told {
+    for saying in declarations {
         if let Declaration::Asserted { .. } = &saying.said {
             name_file(order, saying.pos)?;
         }
@@ -97,28 +97,28 @@ fn name_asserts(order: &mut Order, told: &[Saying]) -> Result<(), AllocError>
 }
 
 /// The files that an object names, in its order.
-pub fn order_of(alloc: Global, parted: &Parted) -> Result<IndexSet<u32>, AllocError>
-    ensures { IfOk result (λ s. s.keys ≡ order_of parted.now.drafts.items parted.now.told) }
+pub fn order_of(alloc: Global, parted: &EntriesBySection) -> Result<IndexSet<u32>, AllocError>
+    ensures { IfOk result (λ s. s.keys ≡ order_of parted.now.drafts.items parted.now.declarations) }
 {
     let mut order = Order {
         files: IndexSet::new(alloc),
         last: None,
     };
     name_drafts(&mut order, parted.drafts.as_slice())?;
-    name_exports(&mut order, parted.told.as_slice())?;
-    name_asserts(&mut order, parted.told.as_slice())?;
+    name_exports(&mut order, parted.declarations.as_slice())?;
+    name_asserts(&mut order, parted.declarations.as_slice())?;
     let Order { files, last: _ } = order;
     Ok(files)
 }
 
 /// The name of a file, by its place in the table.
-fn file_name(alloc: Global, table: &[String], place: u32) -> Result<Sequence<u8>, AllocError>
+fn file_name(alloc: Global, table: &[String], place: u32) -> Result<ListVec<u8>, AllocError>
     ensures name { IfOk result (λ name. name ≡ name_of (map string_bytes table.now) place) }
     ensures text { IfOk result (λ name. is_utf8 name ≡ true) }
 {
     match table.get(place as usize) {
-        Some(name) => Sequence::copy_of(alloc, name.as_str().as_bytes()),
-        None => Ok(Sequence::new(alloc)),
+        Some(name) => ListVec::copy_of(alloc, name.as_str().as_bytes()),
+        None => Ok(ListVec::new(alloc)),
     }
 }
 
@@ -127,11 +127,11 @@ pub fn file_names(
     alloc: Global,
     table: &[String],
     places: &[u32],
-) -> Result<Sequence<Sequence<u8>>, AllocError>
+) -> Result<ListVec<ListVec<u8>>, AllocError>
     ensures names { IfOk result (λ names. names ≡ map (name_of (map string_bytes table.now)) places.now) }
     ensures texts { IfOk result (AllByRecursion (λ name. is_utf8 name ≡ true)) }
 {
-    let mut names = Sequence::new(alloc);
+    let mut names = ListVec::new(alloc);
     for place in places {
         names.push(file_name(alloc, table, *place)?)?;
     }

@@ -2,7 +2,7 @@
 
 ghost use Rattle.std.specs.Prelude.{◌≤◌, IfOk, length};
 
-use base65::Text;
+use base65::PathString;
 use std::alloc::{AllocError, Global};
 use std::io;
 use std::io::{Read, Seek, SeekFrom};
@@ -15,7 +15,7 @@ const LARGE: usize = 4096;
 /// An open file, with a buffer that holds what it has from a place on once a small part of it was read.
 #[derive(Drop)]
 pub struct ReadAhead<F> {
-    name: Text,
+    name: PathString,
     file: F,
     buffer: Vec<u8>,
     start: u64,
@@ -31,7 +31,7 @@ impl<F: Read + Seek + Drop> ReadAhead<F> {
     /// Nothing is read yet.
     pub fn new(alloc: Global, name: &str, file: F) -> Result<Self, AllocError> {
         Ok(ReadAhead {
-            name: Text::copy_of(alloc, name)?,
+            name: PathString::copy_of(alloc, name)?,
             buffer: Vec::new(alloc),
             file,
             start: 0,
@@ -42,7 +42,7 @@ impl<F: Read + Seek + Drop> ReadAhead<F> {
     }
 
     /// Another file of this name, of which nothing is read yet, with the same buffer.
-    pub fn with_file(self, name: Text, file: F) -> Self {
+    pub fn with_file(self, name: PathString, file: F) -> Self {
         let ReadAhead { buffer, .. } = self;
         ReadAhead {
             name,

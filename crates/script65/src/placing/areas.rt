@@ -4,23 +4,23 @@ ghost use Rattle.std.specs.Prelude.{◌≡◌, ℕ, List, IfOk, map, ◌<◌, �
 ghost use Rattle.std.specs.Str.{bytes_eq};
 ghost use Rattle.indexmap.specs.IndexMap.{get_by};
 ghost use Rattle.indexmap.specs.IndexSet.{contains_by};
-ghost use Rattle.base65.specs.Outcome.{Gives};
-ghost use Rattle.script65.specs.Faults.{is_place_outside};
-ghost use Rattle.script65.specs.Placing.{has_row, rows_exist, size_of, unplaced, is_in, places_in, areas_from, row_place, rows_from, spots_after};
+ghost use Rattle.base65.specs.Outcome.{Refines};
+ghost use Rattle.script65.specs.Faults.{is_place_system_error};
+ghost use Rattle.script65.specs.Placing.{has_row, rows_exist, size_of, unplaced_row, is_in, places_in, areas_from, row_place, rows_from, spots_after};
 ghost use Rattle.std.specs.Option.{option_map};
-ghost use Rattle.script65.specs.declared.placing.site.Spot.{Spot};
-ghost use Rattle.script65.specs.declared.script.Row.{Row};
+ghost use Rattle.script65.specs.declared.placing.site.RowState.{RowState};
+ghost use Rattle.script65.specs.declared.script.SegmentRow.{SegmentRow};
 
-use crate::placement::{AreaPlace, PlaceFault, RowPlace, SegmentNeed};
-use crate::placing::site::{Site, Spot};
-use crate::placing::sums::{Standing, row_place};
-use crate::script::{Area, Row};
-use base65::Sequence;
+use crate::placement::{AreaPlacement, PlaceFault, RowPlacement, SegmentNeed};
+use crate::placing::site::{AreaContext, RowState};
+use crate::placing::sums::{SumContext, row_place};
+use crate::script::{MemoryArea, SegmentRow};
+use base65::ListVec;
 use indexmap::{IndexMap, IndexSet};
 use std::alloc::{AllocError, Global};
 
 // The names of rows.
-fn names_of<'a>(alloc: Global, rows: &'a [Row]) -> Result<IndexSet<&'a [u8]>, AllocError>
+fn names_of<'a>(alloc: Global, rows: &'a [SegmentRow]) -> Result<IndexSet<&'a [u8]>, AllocError>
     ensures { IfOk result (λ s. (name : List ℕ) →
         contains_by (λ k. bytes_eq name k.now) s ≡ has_row rows.now name) }
 {
@@ -32,13 +32,17 @@ fn names_of<'a>(alloc: Global, rows: &'a [Row]) -> Result<IndexSet<&'a [u8]>, Al
 }
 
 /// Refuses the first need that no row has.
-pub fn check_rows(alloc: Global, rows: &[Row], needs: &[SegmentNeed]) -> Result<(), PlaceFault>
-    ensures { Gives is_place_outside (λ x. x) result (rows_exist rows.now needs.now) }
+pub fn check_rows(
+    alloc: Global,
+    rows: &[SegmentRow],
+    needs: &[SegmentNeed],
+) -> Result<(), PlaceFault>
+    ensures { Refines is_place_system_error (λ x. x) result (rows_exist rows.now needs.now) }
 {
     let names = names_of(alloc, rows)?;
     for need in needs {
         if !names.contains(need.name.as_slice()) {
-            return Err(PlaceFault::NoRow(Sequence::copy_of(alloc, need.name.as_slice())?));
+            return Err(PlaceFault::NoRow(ListVec::copy_of(alloc, need.name.as_slice())?));
         }
     }
     Ok(())
@@ -63,15 +67,15 @@ fn sizes_of<'a>(
 /// The rows before any is placed.
 pub fn unplaced_rows(
     alloc: Global,
-    rows: &[Row],
+    rows: &[SegmentRow],
     needs: &[SegmentNeed],
-) -> Result<Vec<Spot>, AllocError>
-    ensures { IfOk result (λ spots. spots.items ≡ map (unplaced needs.now) rows.now) }
+) -> Result<Vec<RowState>, AllocError>
+    ensures { IfOk result (λ spots. spots.items ≡ map (unplaced_row needs.now) rows.now) }
 {
     let sizes = sizes_of(alloc, needs)?;
     let mut spots = Vec::new(alloc);
     for row in rows {
-        spots.push(Spot {
+        spots.push(RowState {
             size: sizes.get(row.name.as_slice()).copied(),
             run: 0,
             load: 0,
@@ -81,18 +85,18 @@ pub fn unplaced_rows(
 }
 
 // As many empty sequences as there are areas.
-fn no_members(alloc: Global, areas: usize) -> Result<Vec<Sequence<usize>>, AllocError>
+fn no_members(alloc: Global, areas: usize) -> Result<Vec<ListVec<usize>>, AllocError>
     ensures { IfOk result (λ v. (k : ℕ) → k < areas → slice_get v.items k ≡ Some []) }
 {
     let mut members = Vec::new(alloc);
     for _ in 0..areas {
-        members.push(Sequence::new(alloc))?;
+        members.push(ListVec::new(alloc))?;
     }
     Ok(members)
 }
 
 // Adds a row to the members of an area, if there is such an area.
-fn add_member(members: &mut Vec<Sequence<usize>>, area: usize, row: usize) -> Result<(), AllocError>
+fn add_member(members: &mut Vec<ListVec<usize>>, area: usize, row: usize) -> Result<(), AllocError>
     ensures { OnOk result ((k : ℕ) → slice_get members.new.items k
         ≡ option_map (λ m. if area == k then m ++ row ∷ [] else m) (slice_get members.old.items k)) }
 {
@@ -103,7 +107,11 @@ fn add_member(members: &mut Vec<Sequence<usize>>, area: usize, row: usize) -> Re
 }
 
 // Adds a row to the members of the areas in which it runs and loads.
-fn add_row(members: &mut Vec<Sequence<usize>>, row: &Row, place: usize) -> Result<(), AllocError>
+fn add_row(
+    members: &mut Vec<ListVec<usize>>,
+    row: &SegmentRow,
+    place: usize,
+) -> Result<(), AllocError>
     ensures { OnOk result ((k : ℕ) → slice_get members.new.items k
         ≡ option_map (λ m. if is_in k row.now then m ++ place ∷ [] else m) (slice_get members.old.items k)) }
 {
@@ -118,8 +126,8 @@ fn add_row(members: &mut Vec<Sequence<usize>>, row: &Row, place: usize) -> Resul
 pub fn members_of(
     alloc: Global,
     areas: usize,
-    rows: &[Row],
-) -> Result<Vec<Sequence<usize>>, AllocError>
+    rows: &[SegmentRow],
+) -> Result<Vec<ListVec<usize>>, AllocError>
     ensures { IfOk result (λ v. (k : ℕ) → k < areas → slice_get v.items k ≡ Some (places_in k 0 rows.now)) }
 {
     let mut members = no_members(alloc, areas)?;
@@ -132,10 +140,10 @@ pub fn members_of(
 // Places a row of an area, and answers the address behind it.
 fn place_member(
     alloc: Global,
-    site: &Site,
-    rows: &[Row],
+    site: &AreaContext,
+    rows: &[SegmentRow],
     member: usize,
-    spots: &mut [Spot],
+    spots: &mut [RowState],
     cursor: u64,
 ) -> Result<u64, PlaceFault>
     requires row { member < length rows.now }
@@ -143,9 +151,9 @@ fn place_member(
     requires room { cursor ≤ site.now.bounds.end }
     requires order { site.now.bounds.start ≤ site.now.bounds.end }
     requires small { site.now.bounds.end ≤ 8589934592 }
-    ensures value { (r : Row) → (s : Spot) →
+    ensures value { (r : SegmentRow) → (s : RowState) →
         slice_get rows.now member ≡ Some r → slice_get spots.old member ≡ Some s →
-        Gives is_place_outside (λ end. (spots.new, end)) result
+        Refines is_place_system_error (λ end. (spots.new, end)) result
         (spots_after site.now.place site.now.area.now site.now.bounds r s cursor member spots.old) }
     ensures bound { IfOk result (λ end. end ≤ site.now.bounds.end) }
 {
@@ -157,16 +165,16 @@ fn place_member(
 // Places the rows of an area, and answers the address behind them.
 fn place_area(
     alloc: Global,
-    site: &Site,
-    rows: &[Row],
+    site: &AreaContext,
+    rows: &[SegmentRow],
     members: &[usize],
-    spots: &mut [Spot],
+    spots: &mut [RowState],
 ) -> Result<u64, PlaceFault>
     requires members { members.now ≡ places_in site.now.place 0 rows.now }
     requires count { length spots.old ≡ length rows.now }
     requires order { site.now.bounds.start ≤ site.now.bounds.end }
     requires small { site.now.bounds.end ≤ 8589934592 }
-    ensures { Gives is_place_outside (λ last. (spots.new, last)) result
+    ensures { Refines is_place_system_error (λ last. (spots.new, last)) result
         (rows_from site.now.place site.now.area.now site.now.bounds rows.now spots.old site.now.bounds.start) }
 {
     let mut cursor = site.bounds.start;
@@ -179,19 +187,19 @@ fn place_area(
 /// Places all areas and their rows, each area with its members, and answers where the areas are.
 pub fn place_areas(
     alloc: Global,
-    areas: &[Area],
-    rows: &[Row],
-    members: &[Sequence<usize>],
-    spots: &mut [Spot],
-) -> Result<Sequence<AreaPlace>, PlaceFault>
+    areas: &[MemoryArea],
+    rows: &[SegmentRow],
+    members: &[ListVec<usize>],
+    spots: &mut [RowState],
+) -> Result<ListVec<AreaPlacement>, PlaceFault>
     requires members { (k : ℕ) → k < length areas.now → slice_get members.now k ≡ Some (places_in k 0 rows.now) }
     requires count { length spots.old ≡ length rows.now }
-    ensures { Gives is_place_outside (λ places. record { areas = places; rows = map row_place spots.new }) result
+    ensures { Refines is_place_system_error (λ places. record { areas = places; rows = map row_place spots.new }) result
         (areas_from 0 areas.now rows.now areas.now [] spots.old) }
 {
-    let mut places = Sequence::new(alloc);
+    let mut places = ListVec::new(alloc);
     for (place, area) in areas.iter().enumerate() {
-        let bounds = Standing {
+        let bounds = SumContext {
             place,
             area,
             areas,
@@ -201,13 +209,13 @@ pub fn place_areas(
             start: None,
         }
         .bounds(alloc)?;
-        let site = Site {
+        let site = AreaContext {
             place,
             area,
             bounds,
         };
         let last = place_area(alloc, &site, rows, members[place].as_slice(), spots)?;
-        places.push(AreaPlace {
+        places.push(AreaPlacement {
             start: bounds.start,
             size: bounds.end - bounds.start,
             last,
@@ -217,10 +225,10 @@ pub fn place_areas(
 }
 
 /// The places of all rows.
-pub fn row_places(alloc: Global, spots: &[Spot]) -> Result<Sequence<RowPlace>, AllocError>
+pub fn row_places(alloc: Global, spots: &[RowState]) -> Result<ListVec<RowPlacement>, AllocError>
     ensures { IfOk result (λ places. places ≡ map row_place spots.now) }
 {
-    let mut places = Sequence::new(alloc);
+    let mut places = ListVec::new(alloc);
     for spot in spots {
         places.push(row_place(*spot))?;
     }

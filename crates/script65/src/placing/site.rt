@@ -1,13 +1,13 @@
 //! A row in an area.
 
 ghost use Rattle.std.specs.Prelude.{◌≡◌, ◌≤◌, ◌+◌, Some, IfOk};
-ghost use Rattle.base65.specs.Outcome.{Gives};
-ghost use Rattle.script65.specs.Faults.{is_place_outside};
-ghost use Rattle.script65.specs.Placing.{begin_in, moved, rounded_up, row_after, sized_row};
+ghost use Rattle.base65.specs.Outcome.{Refines};
+ghost use Rattle.script65.specs.Faults.{is_place_system_error};
+ghost use Rattle.script65.specs.Placing.{begin_in, state_after_row, rounded_up, row_after, sized_row};
 
 use crate::placement::PlaceFault;
-use crate::script::{Area, Begin, Row};
-use base65::Sequence;
+use crate::script::{MemoryArea, RowStart, SegmentRow};
+use base65::ListVec;
 use std::alloc::Global;
 
 /// The first address of an area, and the one behind its last.
@@ -19,7 +19,7 @@ pub struct Bounds {
 
 /// What is known of a row: its size, if a module has its segment, and where it runs and loads, once it is placed.
 #[derive(Clone, Copy)]
-pub struct Spot {
+pub struct RowState {
     pub size: Option<u64>,
     pub run: u64,
     pub load: u64,
@@ -27,9 +27,9 @@ pub struct Spot {
 
 /// An area in which rows are placed, by its place in the script.
 #[derive(Clone, Copy)]
-pub struct Site<'a> {
+pub struct AreaContext<'a> {
     pub place: usize,
-    pub area: &'a Area,
+    pub area: &'a MemoryArea,
     pub bounds: Bounds,
 }
 
@@ -48,7 +48,7 @@ fn rounded_up(at: u64, align: u32) -> u64
 
 // Where a row begins.
 #[tactic(auto, unfolding(crate::specs::Placing::begin_in))]
-fn begin_in(place: usize, bounds: Bounds, row: &Row, cursor: u64) -> u64
+fn begin_in(place: usize, bounds: Bounds, row: &SegmentRow, cursor: u64) -> u64
     requires room { cursor ≤ 8589934592 }
     requires small { bounds.start ≤ 8589934592 }
     ensures value { result ≡ begin_in place bounds row.now cursor }
@@ -58,48 +58,48 @@ fn begin_in(place: usize, bounds: Bounds, row: &Row, cursor: u64) -> u64
         return rounded_up(cursor, row.align_load);
     }
     match row.begin {
-        Begin::Aligned => rounded_up(cursor, row.align),
-        Begin::Start(start) => u64::from(start),
-        Begin::Offset(offset) => bounds.start + u64::from(offset),
+        RowStart::Aligned => rounded_up(cursor, row.align),
+        RowStart::Start(start) => u64::from(start),
+        RowStart::Offset(offset) => bounds.start + u64::from(offset),
     }
 }
 
-#[tactic(auto, unfolding(crate::specs::Placing::moved))]
-fn moved(place: usize, row: &Row, at: u64, spot: Spot) -> Spot
-    ensures { result ≡ moved place row.now at spot }
+#[tactic(auto, unfolding(crate::specs::Placing::state_after_row))]
+fn moved(place: usize, row: &SegmentRow, at: u64, spot: RowState) -> RowState
+    ensures { result ≡ state_after_row place row.now at spot }
 {
-    Spot {
+    RowState {
         size: spot.size,
         run: if row.run == place { at } else { spot.run },
         load: if row.load == place { at } else { spot.load },
     }
 }
 
-impl Site<'_> {
+impl AreaContext<'_> {
     // A row of a size behind the cursor.
-    #[tactic(auto, unfolding(crate::specs::Placing::fitted))]
+    #[tactic(auto, unfolding(crate::specs::Placing::place_sized_row))]
     fn fit(
         &self,
         alloc: Global,
-        row: &Row,
-        spot: Spot,
+        row: &SegmentRow,
+        spot: RowState,
         size: u64,
         cursor: u64,
-    ) -> Result<(Spot, u64), PlaceFault>
+    ) -> Result<(RowState, u64), PlaceFault>
         requires room { cursor ≤ 8589934592 }
         requires small { self.now.bounds.start ≤ 8589934592 }
-        ensures value { Gives is_place_outside (λ x. x) result
+        ensures value { Refines is_place_system_error (λ x. x) result
             (sized_row self.now.place self.now.area.now self.now.bounds row.now spot (Some size) cursor) }
         ensures bound { IfOk result (λ x. x.1 ≤ self.now.bounds.end) }
     {
         let at = begin_in(self.place, self.bounds, row, cursor);
         if at < cursor {
-            return Err(PlaceFault::StartBelow(Sequence::copy_of(alloc, row.name.as_slice())?));
+            return Err(PlaceFault::StartBelow(ListVec::copy_of(alloc, row.name.as_slice())?));
         }
         let limit = u128::from(self.bounds.end);
         let end = u128::from(at) + u128::from(size);
         if limit < end {
-            let name = Sequence::copy_of(alloc, self.area.name.as_slice())?;
+            let name = ListVec::copy_of(alloc, self.area.name.as_slice())?;
             return Err(PlaceFault::Overflow(name, end - limit));
         }
         Ok((moved(self.place, row, at, spot), at + size))
@@ -110,19 +110,19 @@ impl Site<'_> {
     pub fn place_row(
         &self,
         alloc: Global,
-        row: &Row,
-        spot: Spot,
+        row: &SegmentRow,
+        spot: RowState,
         cursor: u64,
-    ) -> Result<(Spot, u64), PlaceFault>
+    ) -> Result<(RowState, u64), PlaceFault>
         requires room { cursor ≤ self.now.bounds.end }
         requires order { self.now.bounds.start ≤ self.now.bounds.end }
         requires small { self.now.bounds.end ≤ 8589934592 }
-        ensures value { Gives is_place_outside (λ x. x) result
+        ensures value { Refines is_place_system_error (λ x. x) result
             (row_after self.now.place self.now.area.now self.now.bounds row.now spot cursor) }
         ensures bound { IfOk result (λ x. x.1 ≤ self.now.bounds.end) }
     {
         if self.area.read_only && row.run == self.place && !row.access.is_read_only() {
-            return Err(PlaceFault::ReadOnlyArea(Sequence::copy_of(alloc, row.name.as_slice())?));
+            return Err(PlaceFault::ReadOnlyArea(ListVec::copy_of(alloc, row.name.as_slice())?));
         }
         match spot.size {
             None => Ok((moved(self.place, row, cursor, spot), cursor)),

@@ -1,38 +1,38 @@
 //! What the sums of areas come to.
 
 ghost use Rattle.std.specs.Prelude.{◌≡◌, ◌≤◌, ◌++◌, ◌^◌, IfOk, codes, is_some, map, slice_get};
-ghost use Rattle.script65.specs.declared.script.Area.{Area};
-ghost use Rattle.script65.specs.declared.script.Row.{Row};
-ghost use Rattle.base65.specs.Outcome.{Gives};
-ghost use Rattle.script65.specs.Faults.{is_place_outside};
-ghost use Rattle.script65.specs.Inner.Standing.{standing_in};
+ghost use Rattle.script65.specs.declared.script.MemoryArea.{MemoryArea};
+ghost use Rattle.script65.specs.declared.script.SegmentRow.{SegmentRow};
+ghost use Rattle.base65.specs.Outcome.{Refines};
+ghost use Rattle.script65.specs.Faults.{is_place_system_error};
+ghost use Rattle.script65.specs.Internal.Standing.{standing_in};
 ghost use Rattle.script65.specs.Placing.{row_place};
 ghost use Rattle.script65.specs.AreaSums.{bounds_in, is_known, operand_name, operand_value, places_there, sum_by, sum_in, unknown};
 
-use crate::placement::{AreaPlace, PlaceFault, RowPlace};
-use crate::placing::site::{Bounds, Spot};
-use crate::script::{Area, AreaPart, Operand, Row, RowPart, Term};
+use crate::placement::{AreaPlacement, PlaceFault, RowPlacement};
+use crate::placing::site::{Bounds, RowState};
+use crate::script::{AreaAttribute, MemoryArea, Operand, RowAttribute, SegmentRow, Term};
 use crate::sums::difference;
-use base65::Sequence;
+use base65::ListVec;
 use std::alloc::{AllocError, Global};
 
 /// Where the sums of an area are asked for: the area and its place in the script, the script's areas and rows, where those
 /// before it are placed, and its own start, once that is found.
 #[derive(Clone, Copy)]
-pub struct Standing<'a> {
+pub struct SumContext<'a> {
     pub place: usize,
-    pub area: &'a Area,
-    pub areas: &'a [Area],
-    pub rows: &'a [Row],
-    pub area_places: &'a [AreaPlace],
-    pub spots: &'a [Spot],
+    pub area: &'a MemoryArea,
+    pub areas: &'a [MemoryArea],
+    pub rows: &'a [SegmentRow],
+    pub area_places: &'a [AreaPlacement],
+    pub spots: &'a [RowState],
     pub start: Option<u64>,
 }
 
-pub fn row_place(spot: Spot) -> RowPlace
+pub fn row_place(spot: RowState) -> RowPlacement
     ensures { result ≡ row_place spot }
 {
-    RowPlace {
+    RowPlacement {
         load: spot.load,
         run: spot.run,
         size: spot.size.unwrap_or(0),
@@ -40,22 +40,22 @@ pub fn row_place(spot: Spot) -> RowPlace
 }
 
 // `__N_PART__`, by what stands behind the name.
-fn part_name(alloc: Global, name: &[u8], ending: &[u8]) -> Result<Sequence<u8>, AllocError>
+fn attribute_name(alloc: Global, name: &[u8], ending: &[u8]) -> Result<ListVec<u8>, AllocError>
     ensures { IfOk result (λ text. text ≡ codes "__" ++ (name.now ++ ending.now)) }
 {
-    let mut text = Sequence::copy_of(alloc, b"__")?;
+    let mut text = ListVec::copy_of(alloc, b"__")?;
     text.extend_from_slice(name)?;
     text.extend_from_slice(ending)?;
     Ok(text)
 }
 
-impl Standing<'_> {
+impl SumContext<'_> {
     // Where the area at another place is, as far as that is known.
-    fn area_place(&self, place: usize) -> Option<AreaPlace>
+    fn area_place(&self, place: usize) -> Option<AreaPlacement>
         ensures { result ≡ slice_get (places_there (standing_in self.now)) place }
     {
         match self.start {
-            Some(start) if place == self.area_places.len() => Some(AreaPlace {
+            Some(start) if place == self.area_places.len() => Some(AreaPlacement {
                 start,
                 size: 0,
                 last: start,
@@ -71,17 +71,17 @@ impl Standing<'_> {
             Operand::Number(number) => u64::from(number),
             Operand::Area(place, part) => match self.area_place(place) {
                 Some(place) => match part {
-                    AreaPart::Start => place.start,
-                    AreaPart::Size => place.size,
-                    AreaPart::Last => place.last,
+                    AreaAttribute::Start => place.start,
+                    AreaAttribute::Size => place.size,
+                    AreaAttribute::Last => place.last,
                 },
                 None => 0,
             },
             Operand::Row(row, part) => match self.spots.get(row) {
                 Some(spot) => match part {
-                    RowPart::Load => spot.load,
-                    RowPart::Run => spot.run,
-                    RowPart::Size => spot.size.unwrap_or(0),
+                    RowAttribute::Load => spot.load,
+                    RowAttribute::Run => spot.run,
+                    RowAttribute::Size => spot.size.unwrap_or(0),
                 },
                 None => 0,
             },
@@ -94,16 +94,16 @@ impl Standing<'_> {
         match term.operand {
             Operand::Number(_) => true,
             Operand::Area(place, part) => match part {
-                AreaPart::Start => {
+                AreaAttribute::Start => {
                     place < self.place || (self.start.is_some() && place == self.place)
                 }
-                AreaPart::Size | AreaPart::Last => place < self.place,
+                AreaAttribute::Size | AreaAttribute::Last => place < self.place,
             },
             Operand::Row(row, part) => match self.rows.get(row) {
                 Some(row) => match part {
-                    RowPart::Load => row.load < self.place,
-                    RowPart::Run => row.run < self.place,
-                    RowPart::Size => true,
+                    RowAttribute::Load => row.load < self.place,
+                    RowAttribute::Run => row.run < self.place,
+                    RowAttribute::Size => true,
                 },
                 None => false,
             },
@@ -123,18 +123,18 @@ impl Standing<'_> {
     }
 
     // The name that an operand was written as.
-    fn operand_name(&self, alloc: Global, operand: Operand) -> Result<Sequence<u8>, AllocError>
+    fn operand_name(&self, alloc: Global, operand: Operand) -> Result<ListVec<u8>, AllocError>
         ensures { IfOk result (λ name. name ≡ operand_name self.now.areas.now self.now.rows.now operand) }
     {
         match operand {
-            Operand::Number(_) => Ok(Sequence::new(alloc)),
+            Operand::Number(_) => Ok(ListVec::new(alloc)),
             Operand::Area(place, part) => match self.areas.get(place) {
-                Some(area) => part_name(alloc, area.name.as_slice(), part.ending()),
-                None => part_name(alloc, b"", part.ending()),
+                Some(area) => attribute_name(alloc, area.name.as_slice(), part.ending()),
+                None => attribute_name(alloc, b"", part.ending()),
             },
             Operand::Row(row, part) => match self.rows.get(row) {
-                Some(row) => part_name(alloc, row.name.as_slice(), part.ending()),
-                None => part_name(alloc, b"", part.ending()),
+                Some(row) => attribute_name(alloc, row.name.as_slice(), part.ending()),
+                None => attribute_name(alloc, b"", part.ending()),
             },
         }
     }
@@ -158,7 +158,7 @@ impl Standing<'_> {
 
     // The sum of terms, or the fault of the first that isn't known, or else that of the sum.
     fn sum(&self, alloc: Global, terms: &[Term]) -> Result<u32, PlaceFault>
-        ensures { Gives is_place_outside (λ n. n) result (sum_in (standing_in self.now) terms.now) }
+        ensures { Refines is_place_system_error (λ n. n) result (sum_in (standing_in self.now) terms.now) }
     {
         if let Some(term) = self.unknown(terms) {
             return Err(PlaceFault::NotPlaced(self.operand_name(alloc, term.operand)?));
@@ -166,7 +166,7 @@ impl Standing<'_> {
         match self.sum_by(terms) {
             Some(sum) => Ok(sum),
             None => {
-                let name = Sequence::copy_of(alloc, self.area.name.as_slice())?;
+                let name = ListVec::copy_of(alloc, self.area.name.as_slice())?;
                 Err(PlaceFault::AreaOutOfRange(name))
             }
         }
@@ -175,12 +175,12 @@ impl Standing<'_> {
     /// The first address of the area, and the one behind its last.
     pub fn bounds(&self, alloc: Global) -> Result<Bounds, PlaceFault>
         requires { self.now.start ≡ None }
-        ensures value { Gives is_place_outside (λ b. b) result (bounds_in (standing_in self.now)) }
+        ensures value { Refines is_place_system_error (λ b. b) result (bounds_in (standing_in self.now)) }
         ensures order { IfOk result (λ b. b.start ≤ b.end) }
         ensures small { IfOk result (λ b. b.end ≤ 2 ^ 32) }
     {
         let start = self.sum(alloc, self.area.start.as_slice())?;
-        let begun = Standing {
+        let begun = SumContext {
             start: Some(u64::from(start)),
             ..*self
         };
@@ -188,7 +188,7 @@ impl Standing<'_> {
         let start = u64::from(start);
         let end = start + u64::from(size);
         if end > 1 << 32 {
-            let name = Sequence::copy_of(alloc, self.area.name.as_slice())?;
+            let name = ListVec::copy_of(alloc, self.area.name.as_slice())?;
             return Err(PlaceFault::AreaOutOfRange(name));
         }
         Ok(Bounds { start, end })

@@ -4,15 +4,15 @@ ghost use Rattle.std.specs.Prelude.{◌≡◌, ◌++◌, ◌∷◌, [], position
 ghost use Rattle.std.specs.List.{list_any};
 ghost use Rattle.std.specs.Option.{option_and_then, option_copied, option_map};
 ghost use Rattle.std.specs.Str.{bytes_eq};
-ghost use Rattle.script65.specs.Entries.{closing_fault, given_for, has_name, is_given, no_entries, number_for, parts_for, role_for, value_for, with_entry};
-ghost use Rattle.script65.specs.Scripts.{access_of, as_area, fill_or, number_or, says_yes};
-ghost use Rattle.script65.specs.declared.reading.entries.Entry.{Entry};
+ghost use Rattle.script65.specs.Entries.{entry_fault, given_for, has_name, is_given, no_entries, number_for, parts_for, role_for, value_for, with_entry};
+ghost use Rattle.script65.specs.Scripts.{access_of, as_area, fill_or, number_or, flag_for};
+ghost use Rattle.script65.specs.declared.reading.entries.ConfigEntry.{ConfigEntry};
 
 use crate::fault::Fault;
 use crate::reading::tokens::Bytes;
-use crate::reading::words::{Block, Meaning, Role};
-use crate::script::Access;
-use base65::Sequence;
+use crate::reading::words::{Block, KeywordValue, SymbolType};
+use crate::script::SegmentType;
+use base65::ListVec;
 use indexmap::IndexMap;
 use std::alloc::{AllocError, Global};
 use std::marker::Model;
@@ -24,7 +24,7 @@ pub enum Value<'a> {
     Number(u32),
     Byte(u8),
     Sum,
-    Said(Meaning),
+    Said(KeywordValue),
     /// The name of an area.
     Area(Bytes<'a>),
     File(Bytes<'a>),
@@ -34,7 +34,7 @@ pub enum Value<'a> {
 
 /// A term of a sum: a number, or else a name, and its place.
 #[derive(Drop)]
-pub struct Part<'a> {
+pub struct ParsedTerm<'a> {
     /// Whether a `-` stands before it.
     pub minus: bool,
     pub number: Option<u32>,
@@ -44,23 +44,23 @@ pub struct Part<'a> {
 
 /// An attribute, what is given for it, and of a sum its terms.
 #[derive(Drop)]
-pub struct Given<'a> {
+pub struct AttributeValue<'a> {
     pub word: Bytes<'a>,
     pub value: Value<'a>,
-    pub parts: Sequence<Part<'a>>,
+    pub parts: ListVec<ParsedTerm<'a>>,
 }
 
 /// An entry: its name, the place of that, and its attributes.
 #[derive(Drop)]
-pub struct Entry<'a> {
+pub struct ConfigEntry<'a> {
     pub name: Bytes<'a>,
     pub at: usize,
-    pub given: Sequence<Given<'a>>,
+    pub given: ListVec<AttributeValue<'a>>,
 }
 
-impl<'a> Entry<'a> {
+impl<'a> ConfigEntry<'a> {
     /// What the entry gives for an attribute.
-    pub fn given_for(&self, word: &str) -> Option<&Given<'a>>
+    pub fn given_for(&self, word: &str) -> Option<&AttributeValue<'a>>
         ensures { option_map (λ g. g.now) result ≡ given_for word.now self.now }
     {
         for given in self.given.as_slice() {
@@ -78,7 +78,7 @@ impl<'a> Entry<'a> {
     }
 
     /// The terms of its sum, if it is one.
-    pub fn parts_for(&self, word: &str) -> &[Part<'a>]
+    pub fn parts_for(&self, word: &str) -> &[ParsedTerm<'a>]
         ensures { result.now ≡ parts_for word.now self.now }
     {
         for given in self.given.as_slice() {
@@ -104,11 +104,11 @@ impl<'a> Entry<'a> {
         }
     }
 
-    pub fn role(&self) -> Option<Role>
+    pub fn role(&self) -> Option<SymbolType>
         ensures { result ≡ role_for self.now }
     {
         match self.value_for("type") {
-            Some(Value::Said(Meaning::Role(role))) => Some(*role),
+            Some(Value::Said(KeywordValue::Role(role))) => Some(*role),
             _ => None,
         }
     }
@@ -141,27 +141,27 @@ impl<'a> Entry<'a> {
     }
 
     /// Whether an attribute says yes.
-    pub fn says_yes(&self, word: &str) -> bool
-        ensures { result ≡ says_yes word.now self.now }
+    pub fn flag_for(&self, word: &str) -> bool
+        ensures { result ≡ flag_for word.now self.now }
     {
         match self.value_for(word) {
-            Some(Value::Said(Meaning::Flag(flag))) => *flag,
+            Some(Value::Said(KeywordValue::Flag(flag))) => *flag,
             _ => false,
         }
     }
 
-    pub fn access(&self) -> Access
+    pub fn access(&self) -> SegmentType
         ensures { result ≡ access_of self.now }
     {
         match self.value_for("type") {
-            Some(Value::Said(Meaning::Access(access))) => *access,
-            _ => Access::ReadWrite,
+            Some(Value::Said(KeywordValue::Access(access))) => *access,
+            _ => SegmentType::ReadWrite,
         }
     }
 
     /// What is wrong with an entry of a block, at its end.
-    pub fn closing_fault(&self, block: Block) -> Option<Fault>
-        ensures { result ≡ closing_fault block self.now }
+    pub fn entry_fault(&self, block: Block) -> Option<Fault>
+        ensures { result ≡ entry_fault block self.now }
     {
         match block {
             Block::Memory => {
@@ -175,7 +175,7 @@ impl<'a> Entry<'a> {
             Block::Segments => (!self.is_given("load")).then_some(Fault::AttributeMissing),
             Block::Symbols => match self.role() {
                 None => Some(Fault::AttributeMissing),
-                Some(Role::Import) => self.is_given("value").then_some(Fault::Excluded),
+                Some(SymbolType::Import) => self.is_given("value").then_some(Fault::Excluded),
                 Some(_) => (!self.is_given("value")).then_some(Fault::AttributeMissing),
             },
         }
@@ -185,20 +185,20 @@ impl<'a> Entry<'a> {
 /// Entries in their order, each found by its name at once, which contracts see as a list.
 #[derive(Drop)]
 pub struct Table<'a> {
-    entries: IndexMap<&'a [u8], Entry<'a>>,
+    entries: IndexMap<&'a [u8], ConfigEntry<'a>>,
 }
 
 impl<'a> Model for Table<'a> {
     ghost use Rattle.std.specs.Prelude.{List, map};
-    ghost use Rattle.script65.specs.declared.reading.entries.Entry.{Entry};
+    ghost use Rattle.script65.specs.declared.reading.entries.ConfigEntry.{ConfigEntry};
 
-    ghost Value = { List Entry };
+    ghost Value = { List ConfigEntry };
 
-    ghost use Rattle.script65.specs.Inner.Tables.{AreNamed};
+    ghost use Rattle.script65.specs.Internal.Tables.{KeysMatchNames};
 
     ghost view = { λ t. map (λ e. e.1) t.entries.entries };
 
-    ghost invariant = { λ t. AreNamed (map (λ e. (e.0.now, e.1)) t.entries.entries) };
+    ghost invariant = { λ t. KeysMatchNames (map (λ e. (e.0.now, e.1)) t.entries.entries) };
 }
 
 impl<'a> Table<'a> {
@@ -212,20 +212,20 @@ impl<'a> Table<'a> {
 
     /// Whether an entry has this name.
     pub fn has(&self, name: &[u8]) -> bool
-        ensures { result ≡ list_any (λ (e : Entry). bytes_eq name.now e.name) self.now }
+        ensures { result ≡ list_any (λ (e : ConfigEntry). bytes_eq name.now e.name) self.now }
     {
         self.entries.contains_key(name)
     }
 
     /// The place of the entry of this name.
     pub fn place_of(&self, name: &[u8]) -> Option<usize>
-        ensures { result ≡ position (λ (e : Entry). bytes_eq name.now e.name) self.now }
+        ensures { result ≡ position (λ (e : ConfigEntry). bytes_eq name.now e.name) self.now }
     {
         self.entries.get_index_of(name)
     }
 
     /// The entry at a place.
-    pub fn get(&self, place: usize) -> Option<&Entry<'a>>
+    pub fn get(&self, place: usize) -> Option<&ConfigEntry<'a>>
         ensures { option_map (λ e. e.now) result ≡ slice_get self.now place }
     {
         let (_, entry) = self.entries.get_index(place)?;
@@ -233,8 +233,8 @@ impl<'a> Table<'a> {
     }
 
     /// Adds an entry of a new name behind the others.
-    pub fn push(&mut self, entry: Entry<'a>) -> Result<(), AllocError>
-        requires { list_any (λ (e : Entry). bytes_eq entry.name e.name) self.old ≡ false }
+    pub fn push(&mut self, entry: ConfigEntry<'a>) -> Result<(), AllocError>
+        requires { list_any (λ (e : ConfigEntry). bytes_eq entry.name e.name) self.old ≡ false }
         ensures ok { OnOk result (self.new ≡ self.old ++ entry.entry ∷ []) }
     {
         self.entries.insert(entry.name.as_slice(), entry)?;
@@ -273,7 +273,7 @@ impl<'a> Entries<'a> {
     }
 
     /// Adds an entry of a new name to those of a block's kind.
-    pub fn push(&mut self, block: Block, entry: Entry<'a>) -> Result<(), AllocError>
+    pub fn push(&mut self, block: Block, entry: ConfigEntry<'a>) -> Result<(), AllocError>
         requires { has_name entry.name block self.old ≡ false }
         ensures ok { OnOk result (self.new ≡ with_entry block entry.entry self.old) }
     {

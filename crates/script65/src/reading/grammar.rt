@@ -2,69 +2,69 @@
 
 ghost use Rattle.std.specs.Prelude.{◌≡◌, false};
 ghost use Rattle.script65.specs.Tokens.{word};
-ghost use Rattle.base65.specs.Outcome.{Finds};
-ghost use Rattle.script65.specs.Breaks.{add_part, attribute_or_end, attribute_value, comma_or_next, entry_name, move, sign_or_end};
+ghost use Rattle.base65.specs.Outcome.{RefinesProp};
+ghost use Rattle.script65.specs.SyntaxErrors.{add_part, attribute_or_end, attribute_value, comma_or_next, entry_name, token_move, sign_or_end};
 ghost use Rattle.script65.specs.Entries.{has_name};
-ghost use Rattle.script65.specs.Faults.{is_outside};
+ghost use Rattle.script65.specs.Faults.{is_system_error};
 ghost use Rattle.script65.specs.Scripts.{HasEntries};
-ghost use Rattle.script65.specs.Inner.Reading.{Does, Goes, IsFresh};
+ghost use Rattle.script65.specs.Internal.Reading.{RefinesMoveOrEnd, RefinesMove, IsFresh};
 ghost use Rattle.script65.specs.Entries.{Entries};
 
-use crate::fault::{Fault, Stop};
-use crate::reading::entries::{Entries, Entry, Given, Part};
+use crate::fault::{Fault, FaultAt};
+use crate::reading::entries::{AttributeValue, ConfigEntry, Entries, ParsedTerm};
 use crate::reading::tokens::{Bytes, Lexeme, token_at};
-use crate::reading::values::{last_part, part_of, sum_of_parts, value_of};
-use crate::reading::words::{BLOCKS, Block, Takes, attributes, row_of};
-use base65::Sequence;
+use crate::reading::values::{last_part, sum_of_parts, term_of, value_of};
+use crate::reading::words::{BLOCKS, Block, ValueKind, attributes, find_keyword};
+use base65::ListVec;
 use std::alloc::Global;
 
 /// Where a token may stand, and what is read there of an entry that isn't closed yet.
 #[derive(Drop)]
-pub enum Place<'a> {
+pub enum ParseState<'a> {
     BetweenBlocks,
-    BehindBlockWord(Block),
+    AfterBlockWord(Block),
     BetweenEntries(Block),
-    BehindName(Block, Entry<'a>),
-    BetweenAttributes(Block, Entry<'a>),
+    AfterName(Block, ConfigEntry<'a>),
+    BetweenAttributes(Block, ConfigEntry<'a>),
     /// Behind the word of an attribute that takes this.
-    BehindWord(Block, Entry<'a>, (Bytes<'a>, Takes)),
+    AfterWord(Block, ConfigEntry<'a>, (Bytes<'a>, ValueKind)),
     /// Behind its `=`.
-    BeforeValue(Block, Entry<'a>, (Bytes<'a>, Takes)),
+    BeforeValue(Block, ConfigEntry<'a>, (Bytes<'a>, ValueKind)),
     /// Before a term of an attribute's sum, and whether a `-` stands before that.
-    BeforeTerm(Block, Entry<'a>, Bytes<'a>, Sequence<Part<'a>>, bool),
-    BehindTerm(Block, Entry<'a>, Bytes<'a>, Sequence<Part<'a>>),
-    BehindValue(Block, Entry<'a>),
+    BeforeTerm(Block, ConfigEntry<'a>, Bytes<'a>, ListVec<ParsedTerm<'a>>, bool),
+    AfterTerm(Block, ConfigEntry<'a>, Bytes<'a>, ListVec<ParsedTerm<'a>>),
+    AfterValue(Block, ConfigEntry<'a>),
 }
 
 // An attribute, or the `;` of the entry.
 fn attribute_or_end<'a>(
     entries: &mut Entries<'a>,
     block: Block,
-    entry: Entry<'a>,
+    entry: ConfigEntry<'a>,
     lexeme: Lexeme<'a>,
     at: usize,
-) -> Result<Place<'a>, Stop>
+) -> Result<ParseState<'a>, FaultAt>
     requires { has_name entry.name block entries.old ≡ false }
-    ensures { Goes entries.new result
+    ensures { RefinesMove entries.new result
         (attribute_or_end entries.old block entry.entry lexeme.entry at) }
 {
     match lexeme {
-        Lexeme::Word(word) => match row_of(attributes(block), word.as_slice()) {
-            None => Err(Stop::new(Fault::UnknownAttribute, at)),
-            Some((word, _)) if entry.is_given(word) => Err(Stop::new(Fault::AttributeTwice, at)),
+        Lexeme::Word(word) => match find_keyword(attributes(block), word.as_slice()) {
+            None => Err(FaultAt::new(Fault::UnknownAttribute, at)),
+            Some((word, _)) if entry.is_given(word) => Err(FaultAt::new(Fault::AttributeTwice, at)),
             Some((word, takes)) => {
                 let word = Bytes::of(word.as_bytes());
-                Ok(Place::BehindWord(block, entry, (word, takes)))
+                Ok(ParseState::AfterWord(block, entry, (word, takes)))
             }
         },
-        Lexeme::Semicolon => match entry.closing_fault(block) {
-            Some(fault) => Err(Stop::new(fault, at)),
+        Lexeme::Semicolon => match entry.entry_fault(block) {
+            Some(fault) => Err(FaultAt::new(fault, at)),
             None => {
                 entries.push(block, entry)?;
-                Ok(Place::BetweenEntries(block))
+                Ok(ParseState::BetweenEntries(block))
             }
         },
-        _ => Err(Stop::new(Fault::SyntaxError, at)),
+        _ => Err(FaultAt::new(Fault::SyntaxError, at)),
     }
 }
 
@@ -72,16 +72,16 @@ fn attribute_or_end<'a>(
 fn comma_or_next<'a>(
     entries: &mut Entries<'a>,
     block: Block,
-    entry: Entry<'a>,
+    entry: ConfigEntry<'a>,
     lexeme: Lexeme<'a>,
     at: usize,
-) -> Result<Place<'a>, Stop>
+) -> Result<ParseState<'a>, FaultAt>
     requires { has_name entry.name block entries.old ≡ false }
-    ensures { Goes entries.new result
+    ensures { RefinesMove entries.new result
         (comma_or_next entries.old block entry.entry lexeme.entry at) }
 {
     match lexeme {
-        Lexeme::Comma => Ok(Place::BetweenAttributes(block, entry)),
+        Lexeme::Comma => Ok(ParseState::BetweenAttributes(block, entry)),
         lexeme => attribute_or_end(entries, block, entry, lexeme, at),
     }
 }
@@ -89,21 +89,21 @@ fn comma_or_next<'a>(
 // A term of a sum behind others.
 fn add_part<'a>(
     block: Block,
-    entry: Entry<'a>,
+    entry: ConfigEntry<'a>,
     word: Bytes<'a>,
-    mut parts: Sequence<Part<'a>>,
-    part: Result<Part<'a>, Fault>,
+    mut parts: ListVec<ParsedTerm<'a>>,
+    part: Result<ParsedTerm<'a>, Fault>,
     at: usize,
-) -> Result<Place<'a>, Stop>
+) -> Result<ParseState<'a>, FaultAt>
     ensures { (es : Entries) →
-        Goes es result (add_part es block entry.entry word.entry parts.entry at part.entry) }
+        RefinesMove es result (add_part es block entry.entry word.entry parts.entry at part.entry) }
 {
     match part {
         Ok(part) => {
             parts.push(part)?;
-            Ok(Place::BehindTerm(block, entry, word, parts))
+            Ok(ParseState::AfterTerm(block, entry, word, parts))
         }
-        Err(fault) => Err(Stop::new(fault, at)),
+        Err(fault) => Err(FaultAt::new(fault, at)),
     }
 }
 
@@ -111,26 +111,26 @@ fn add_part<'a>(
 fn attribute_value<'a>(
     alloc: Global,
     block: Block,
-    mut entry: Entry<'a>,
-    row: (Bytes<'a>, Takes),
+    mut entry: ConfigEntry<'a>,
+    row: (Bytes<'a>, ValueKind),
     lexeme: Lexeme<'a>,
     at: usize,
-) -> Result<Place<'a>, Stop>
+) -> Result<ParseState<'a>, FaultAt>
     ensures { (es : Entries) →
-        Goes es result
+        RefinesMove es result
         (attribute_value es block entry.entry row.entry.0 row.entry.1 lexeme.entry at) }
 {
     let (word, takes) = row;
-    let parts = Sequence::new(alloc);
-    if let Takes::Sum = takes {
-        return add_part(block, entry, word, parts, part_of(false, at, lexeme), at);
+    let parts = ListVec::new(alloc);
+    if let ValueKind::Sum = takes {
+        return add_part(block, entry, word, parts, term_of(false, at, lexeme), at);
     }
     match value_of(takes, lexeme) {
         Ok(value) => {
-            entry.given.push(Given { word, value, parts })?;
-            Ok(Place::BehindValue(block, entry))
+            entry.given.push(AttributeValue { word, value, parts })?;
+            Ok(ParseState::AfterValue(block, entry))
         }
-        Err(fault) => Err(Stop::new(fault, at)),
+        Err(fault) => Err(FaultAt::new(fault, at)),
     }
 }
 
@@ -138,25 +138,25 @@ fn attribute_value<'a>(
 fn sign_or_end<'a>(
     entries: &mut Entries<'a>,
     block: Block,
-    mut entry: Entry<'a>,
-    sum: (Bytes<'a>, Sequence<Part<'a>>),
+    mut entry: ConfigEntry<'a>,
+    sum: (Bytes<'a>, ListVec<ParsedTerm<'a>>),
     lexeme: Lexeme<'a>,
     at: usize,
-) -> Result<Place<'a>, Stop>
+) -> Result<ParseState<'a>, FaultAt>
     requires { has_name entry.name block entries.old ≡ false }
-    ensures { Goes entries.new result
+    ensures { RefinesMove entries.new result
         (sign_or_end entries.old block entry.entry sum.entry.0 sum.entry.1 lexeme.entry at) }
 {
     let (word, parts) = sum;
     match lexeme {
-        Lexeme::Plus => Ok(Place::BeforeTerm(block, entry, word, parts, false)),
-        Lexeme::Minus => Ok(Place::BeforeTerm(block, entry, word, parts, true)),
+        Lexeme::Plus => Ok(ParseState::BeforeTerm(block, entry, word, parts, false)),
+        Lexeme::Minus => Ok(ParseState::BeforeTerm(block, entry, word, parts, true)),
         lexeme => match sum_of_parts(parts.as_slice()) {
             Some(value) => {
-                entry.given.push(Given { word, value, parts })?;
+                entry.given.push(AttributeValue { word, value, parts })?;
                 comma_or_next(entries, block, entry, lexeme, at)
             }
-            None => Err(Stop::new(Fault::OutOfRange, last_part(parts.as_slice()))),
+            None => Err(FaultAt::new(Fault::OutOfRange, last_part(parts.as_slice()))),
         },
     }
 }
@@ -168,79 +168,79 @@ fn entry_name<'a>(
     block: Block,
     name: Bytes<'a>,
     at: usize,
-) -> Result<Place<'a>, Stop>
-    ensures { Goes entries.now result (entry_name entries.now block (word name.entry) at) }
+) -> Result<ParseState<'a>, FaultAt>
+    ensures { RefinesMove entries.now result (entry_name entries.now block (word name.entry) at) }
 {
     if entries.has(block, name.as_slice()) {
-        return Err(Stop::new(Fault::NameTwice, at));
+        return Err(FaultAt::new(Fault::NameTwice, at));
     }
-    let given = Sequence::new(alloc);
-    Ok(Place::BehindName(block, Entry { name, at, given }))
+    let given = ListVec::new(alloc);
+    Ok(ParseState::AfterName(block, ConfigEntry { name, at, given }))
 }
 
 // What a token does at a place: the next place, if the script doesn't end.
 fn step<'a>(
     alloc: Global,
     entries: &mut Entries<'a>,
-    place: Place<'a>,
+    place: ParseState<'a>,
     lexeme: Lexeme<'a>,
     at: usize,
-) -> Result<Option<Place<'a>>, Stop>
+) -> Result<Option<ParseState<'a>>, FaultAt>
     requires { IsFresh entries.old place }
-    ensures { Does entries.new result (move entries.old place.entry lexeme.entry at) }
+    ensures { RefinesMoveOrEnd entries.new result (token_move entries.old place.entry lexeme.entry at) }
 {
     let next = match place {
-        Place::BetweenBlocks => match lexeme {
-            Lexeme::Word(word) => match row_of(&BLOCKS, word.as_slice()) {
-                Some((_, block)) => Place::BehindBlockWord(block),
-                None => return Err(Stop::new(Fault::SyntaxError, at)),
+        ParseState::BetweenBlocks => match lexeme {
+            Lexeme::Word(word) => match find_keyword(&BLOCKS, word.as_slice()) {
+                Some((_, block)) => ParseState::AfterBlockWord(block),
+                None => return Err(FaultAt::new(Fault::SyntaxError, at)),
             },
             Lexeme::End => return Ok(None),
-            _ => return Err(Stop::new(Fault::SyntaxError, at)),
+            _ => return Err(FaultAt::new(Fault::SyntaxError, at)),
         },
-        Place::BehindBlockWord(block) => match lexeme {
-            Lexeme::Open => Place::BetweenEntries(block),
-            _ => return Err(Stop::new(Fault::SyntaxError, at)),
+        ParseState::AfterBlockWord(block) => match lexeme {
+            Lexeme::Open => ParseState::BetweenEntries(block),
+            _ => return Err(FaultAt::new(Fault::SyntaxError, at)),
         },
-        Place::BetweenEntries(block) => match lexeme {
+        ParseState::BetweenEntries(block) => match lexeme {
             Lexeme::Word(name) => entry_name(alloc, entries, block, name, at)?,
-            Lexeme::Close => Place::BetweenBlocks,
-            _ => return Err(Stop::new(Fault::SyntaxError, at)),
+            Lexeme::Close => ParseState::BetweenBlocks,
+            _ => return Err(FaultAt::new(Fault::SyntaxError, at)),
         },
-        Place::BehindName(block, entry) => match lexeme {
-            Lexeme::Colon => Place::BetweenAttributes(block, entry),
-            _ => return Err(Stop::new(Fault::SyntaxError, at)),
+        ParseState::AfterName(block, entry) => match lexeme {
+            Lexeme::Colon => ParseState::BetweenAttributes(block, entry),
+            _ => return Err(FaultAt::new(Fault::SyntaxError, at)),
         },
-        Place::BetweenAttributes(block, entry) => {
+        ParseState::BetweenAttributes(block, entry) => {
             attribute_or_end(entries, block, entry, lexeme, at)?
         }
-        Place::BehindWord(block, entry, row) => match lexeme {
-            Lexeme::Equals => Place::BeforeValue(block, entry, row),
+        ParseState::AfterWord(block, entry, row) => match lexeme {
+            Lexeme::Equals => ParseState::BeforeValue(block, entry, row),
             lexeme => attribute_value(alloc, block, entry, row, lexeme, at)?,
         },
-        Place::BeforeValue(block, entry, row) => {
+        ParseState::BeforeValue(block, entry, row) => {
             attribute_value(alloc, block, entry, row, lexeme, at)?
         }
-        Place::BeforeTerm(block, entry, word, parts, minus) => {
-            add_part(block, entry, word, parts, part_of(minus, at, lexeme), at)?
+        ParseState::BeforeTerm(block, entry, word, parts, minus) => {
+            add_part(block, entry, word, parts, term_of(minus, at, lexeme), at)?
         }
-        Place::BehindTerm(block, entry, word, parts) => {
+        ParseState::AfterTerm(block, entry, word, parts) => {
             sign_or_end(entries, block, entry, (word, parts), lexeme, at)?
         }
-        Place::BehindValue(block, entry) => comma_or_next(entries, block, entry, lexeme, at)?,
+        ParseState::AfterValue(block, entry) => comma_or_next(entries, block, entry, lexeme, at)?,
     };
     Ok(Some(next))
 }
 
 /// The entries of a text, or its first fault before its last byte.
-pub fn read_entries(alloc: Global, bytes: &[u8]) -> Result<Entries<'_>, Stop>
-    ensures { Finds is_outside (HasEntries bytes.now) result }
+pub fn read_entries(alloc: Global, bytes: &[u8]) -> Result<Entries<'_>, FaultAt>
+    ensures { RefinesProp is_system_error (HasEntries bytes.now) result }
 {
     let mut entries = Entries::new(alloc);
     if bytes.len() > 1_048_576 {
-        return Err(Stop::new(Fault::TooLong, 0));
+        return Err(FaultAt::new(Fault::TooLong, 0));
     }
-    let mut place = Place::BetweenBlocks;
+    let mut place = ParseState::BetweenBlocks;
     let mut at = 0;
     'tokens: loop {
         let token = token_at(bytes, at);
@@ -248,6 +248,6 @@ pub fn read_entries(alloc: Global, bytes: &[u8]) -> Result<Entries<'_>, Stop>
             return Ok(entries);
         };
         place = next;
-        at = token.behind;
+        at = token.following;
     }
 }

@@ -1,16 +1,16 @@
 //! Says what the names of sums stand for.
 
 ghost use Rattle.std.specs.Prelude.{◌≡◌, ◌≢◌, ◌++◌, ℕ, List, MatchOption, codes};
-ghost use Rattle.base65.specs.Outcome.{Gives};
-ghost use Rattle.script65.specs.Faults.{is_outside};
-ghost use Rattle.script65.specs.Inner.Tables.{part_at};
+ghost use Rattle.base65.specs.Outcome.{Refines};
+ghost use Rattle.script65.specs.Faults.{is_system_error};
+ghost use Rattle.script65.specs.Internal.Tables.{part_at};
 ghost use Rattle.script65.specs.Scripts.{as_area_part, as_export, as_row_part, is_start_first, operand_for, sum_for, sums_of};
 
-use crate::fault::{Fault, Stop};
-use crate::reading::entries::{Entries, Entry, Part, Table};
-use crate::reading::words::Role;
-use crate::script::{AreaPart, Operand, RowPart, Term};
-use base65::Sequence;
+use crate::fault::{Fault, FaultAt};
+use crate::reading::entries::{ConfigEntry, Entries, ParsedTerm, Table};
+use crate::reading::words::SymbolType;
+use crate::script::{AreaAttribute, Operand, RowAttribute, Term};
+use base65::ListVec;
 use std::alloc::Global;
 
 // The value of a symbol of this name that the script exports.
@@ -20,7 +20,7 @@ fn export_named(symbols: &Table, name: &[u8]) -> Option<Operand>
     let entry = symbols.get(symbols.place_of(name)?)?;
     let value = entry.number_or(0, "value");
     match entry.role() {
-        Some(Role::Export) => Some(Operand::Number(value)),
+        Some(SymbolType::Export) => Some(Operand::Number(value)),
         _ => None,
     }
 }
@@ -40,14 +40,14 @@ fn place_of_part(table: &Table, name: &[u8], ending: &[u8]) -> Option<usize>
     table.place_of(inside(name, ending)?)
 }
 
-fn area_named(areas: &Table, name: &[u8], part: AreaPart) -> Option<Operand>
+fn area_named(areas: &Table, name: &[u8], part: AreaAttribute) -> Option<Operand>
     ensures { result ≡ as_area_part areas.now name.now part }
 {
     let place = place_of_part(areas, name, part.ending())?;
     Some(Operand::Area(place, part))
 }
 
-fn row_named(rows: &Table, name: &[u8], part: RowPart) -> Option<Operand>
+fn row_named(rows: &Table, name: &[u8], part: RowAttribute) -> Option<Operand>
     ensures { result ≡ as_row_part rows.now name.now part }
 {
     let place = place_of_part(rows, name, part.ending())?;
@@ -61,12 +61,12 @@ fn operand_for(entries: &Entries, number: Option<u32>, name: &[u8]) -> Result<Op
     if let Some(number) = number {
         return Ok(Operand::Number(number));
     }
-    let start = area_named(&entries.areas, name, AreaPart::Start);
-    let size = area_named(&entries.areas, name, AreaPart::Size);
-    let last = area_named(&entries.areas, name, AreaPart::Last);
-    let load = row_named(&entries.rows, name, RowPart::Load);
-    let run = row_named(&entries.rows, name, RowPart::Run);
-    let row_size = row_named(&entries.rows, name, RowPart::Size);
+    let start = area_named(&entries.areas, name, AreaAttribute::Start);
+    let size = area_named(&entries.areas, name, AreaAttribute::Size);
+    let last = area_named(&entries.areas, name, AreaAttribute::Last);
+    let load = row_named(&entries.rows, name, RowAttribute::Load);
+    let run = row_named(&entries.rows, name, RowAttribute::Run);
+    let row_size = row_named(&entries.rows, name, RowAttribute::Size);
     let export = export_named(&entries.symbols, name);
     match (export, start.or(size.or(last)), load.or(run.or(row_size))) {
         (None, None, None) => Err(Fault::NoSuchName),
@@ -82,25 +82,25 @@ fn sum_for(
     alloc: Global,
     entries: &Entries,
     word: &str,
-    entry: &Entry,
-) -> Result<Sequence<Term>, Stop>
-    ensures { Gives is_outside (λ x. x) result (sum_for entries.now word.now entry.now) }
+    entry: &ConfigEntry,
+) -> Result<ListVec<Term>, FaultAt>
+    ensures { Refines is_system_error (λ x. x) result (sum_for entries.now word.now entry.now) }
 {
-    let mut terms = Sequence::new(alloc);
+    let mut terms = ListVec::new(alloc);
     for part in entry.parts_for(word) {
         match operand_for(entries, part.number, part.name.as_slice()) {
             Ok(operand) => terms.push(Term {
                 minus: part.minus,
                 operand,
             })?,
-            Err(fault) => return Err(Stop::new(fault, part.at)),
+            Err(fault) => return Err(FaultAt::new(fault, part.at)),
         }
     }
     Ok(terms)
 }
 
 // Whether `start` stands before `size` in the text.
-fn is_start_first(entry: &Entry) -> bool
+fn is_start_first(entry: &ConfigEntry) -> bool
     ensures { result ≡ is_start_first entry.now }
 {
     for given in entry.given.as_slice() {
@@ -119,9 +119,9 @@ fn is_start_first(entry: &Entry) -> bool
 pub fn sums_of(
     alloc: Global,
     entries: &Entries,
-    entry: &Entry,
-) -> Result<(Sequence<Term>, Sequence<Term>), Stop>
-    ensures { Gives is_outside (λ x. x) result (sums_of entries.now entry.now) }
+    entry: &ConfigEntry,
+) -> Result<(ListVec<Term>, ListVec<Term>), FaultAt>
+    ensures { Refines is_system_error (λ x. x) result (sums_of entries.now entry.now) }
 {
     if is_start_first(entry) {
         let start = sum_for(alloc, entries, "start", entry)?;

@@ -3,7 +3,7 @@
 ghost use Rattle.std.specs.Prelude.{◌≡◌, ◌≢◌, ◌≤◌, ◌<◌, ◌+◌, ◌==◌, false, length};
 ghost use Rattle.std.specs.List.{prefix_len, list_any, take_while};
 ghost use Rattle.std.specs.Char.{is_ascii_digit, is_ascii_hexdigit};
-ghost use Rattle.script65.specs.Tokens.{front, gap, hex_behind, is_letter, is_string_byte, is_word_byte, mark, string_behind, the_end, token, written};
+ghost use Rattle.script65.specs.Tokens.{front, gap, hex_after, is_letter, is_string_byte, is_word_byte, mark, string_after, the_end, token, token_bytes};
 ghost use Rattle.script65.specs.Scripts.{line_at};
 
 use base65::{digits, is_utf8};
@@ -46,7 +46,7 @@ impl<'a> Bytes<'a> {
 pub enum Lexeme<'a> {
     Word(Bytes<'a>),
     Number(Option<u32>),
-    Text(Bytes<'a>),
+    StringLiteral(Bytes<'a>),
     Output,
     Colon,
     Semicolon,
@@ -65,7 +65,7 @@ pub enum Lexeme<'a> {
 pub struct Token<'a> {
     pub lexeme: Lexeme<'a>,
     pub at: usize,
-    pub behind: usize,
+    pub following: usize,
 }
 
 fn is_letter(b: u8) -> bool
@@ -134,14 +134,14 @@ fn has_percent(bytes: &[u8]) -> bool
 
 // The token whose `"` stands before these bytes, and of how many bytes it is.
 fn string(rest: &[u8]) -> (Lexeme<'_>, usize)
-    ensures value { result ≡ string_behind (take_while is_string_byte rest.now) rest.now }
+    ensures value { result ≡ string_after (take_while is_string_byte rest.now) rest.now }
     ensures within { result.1 ≤ 1 + length rest.now }
     ensures some { 0 < result.1 }
 {
-    let (inside, behind) = rest.split_at(string_len(rest));
-    match behind {
+    let (inside, following) = rest.split_at(string_len(rest));
+    match following {
         [b'"', ..] if is_utf8(inside) && !has_percent(inside) => {
-            (Lexeme::Text(Bytes::of(inside)), 2 + inside.len())
+            (Lexeme::StringLiteral(Bytes::of(inside)), 2 + inside.len())
         }
         _ => (Lexeme::Bad, 1),
     }
@@ -149,7 +149,7 @@ fn string(rest: &[u8]) -> (Lexeme<'_>, usize)
 
 // The token whose `$` stands before these bytes, and of how many bytes it is.
 fn hex(rest: &[u8]) -> (Lexeme<'_>, usize)
-    ensures value { result ≡ hex_behind (take_while is_ascii_hexdigit rest.now) }
+    ensures value { result ≡ hex_after (take_while is_ascii_hexdigit rest.now) }
     ensures within { result.1 ≤ 1 + length rest.now }
     ensures some { 0 < result.1 }
 {
@@ -209,29 +209,29 @@ fn front(here: &[u8]) -> (Lexeme<'_>, usize)
 pub fn token_at(bytes: &[u8], place: usize) -> Token<'_>
     requires { place ≤ length bytes.now }
     ensures value { result ≡ token bytes.now place }
-    ensures within { result.behind ≤ length bytes.now }
-    ensures order { result.at ≤ result.behind }
-    ensures some { result.lexeme ≢ the_end → place < result.behind }
+    ensures within { result.following ≤ length bytes.now }
+    ensures order { result.at ≤ result.following }
+    ensures some { result.lexeme ≢ the_end → place < result.following }
 {
     let at = place + gap_len(&bytes[place..]);
     let (lexeme, len) = front(&bytes[at..]);
     Token {
         lexeme,
         at,
-        behind: at + len,
+        following: at + len,
     }
 }
 
 /// The bytes of the token at a place.
-#[tactic(auto, using(crate::proofs::Front::none_behind))]
+#[tactic(auto, using(crate::proofs::Front::none_after))]
 pub fn written(bytes: &[u8], place: usize) -> &[u8]
-    ensures { result.now ≡ written bytes.now (token bytes.now place) }
+    ensures { result.now ≡ token_bytes bytes.now (token bytes.now place) }
 {
     if place > bytes.len() {
         return &[];
     }
     let token = token_at(bytes, place);
-    &bytes[token.at..token.behind]
+    &bytes[token.at..token.following]
 }
 
 /// The line of a place.

@@ -2,14 +2,14 @@
 
 ghost use Rattle.std.specs.Prelude.{◌≡◌, ◌≤◌, IfOk, is_some, not, unwrap_or};
 ghost use Rattle.std.specs.List.{list_any};
-ghost use Rattle.script65.specs.declared.reading.entries.Part.{Part};
+ghost use Rattle.script65.specs.declared.reading.entries.ParsedTerm.{ParsedTerm};
 ghost use Rattle.script65.specs.AreaSums.{sum_of};
 ghost use Rattle.script65.specs.Entries.{in_range, last_part, part_of, sum_of_parts, value_of};
 
 use crate::fault::Fault;
-use crate::reading::entries::{Part, Value};
+use crate::reading::entries::{ParsedTerm, Value};
 use crate::reading::tokens::{Bytes, Lexeme};
-use crate::reading::words::{Takes, meanings, row_of};
+use crate::reading::words::{ValueKind, find_keyword, keywords};
 use crate::sums::difference;
 
 // A number from one to another.
@@ -24,19 +24,19 @@ fn in_range(low: u32, high: u32, number: Option<u32>) -> Result<u32, Fault>
 }
 
 /// What a token is to an attribute that takes this and no sum.
-pub fn value_of<'a>(takes: Takes, lexeme: Lexeme<'a>) -> Result<Value<'a>, Fault>
+pub fn value_of<'a>(takes: ValueKind, lexeme: Lexeme<'a>) -> Result<Value<'a>, Fault>
     ensures { result ≡ value_of takes lexeme.entry }
 {
     match (takes, lexeme) {
-        (Takes::Number(low, high), Lexeme::Number(n)) => {
+        (ValueKind::Number(low, high), Lexeme::Number(n)) => {
             Ok(Value::Number(in_range(low, high, n)?))
         }
-        (Takes::Byte, Lexeme::Number(n)) => Ok(Value::Byte(in_range(0, 255, n)? as u8)),
-        (Takes::Area, Lexeme::Word(word)) => Ok(Value::Area(word)),
-        (Takes::File, Lexeme::Text(text)) => Ok(Value::File(text)),
-        (Takes::File, Lexeme::Output) => Ok(Value::Output),
-        (Takes::OneOf(words), Lexeme::Word(word)) => match row_of(
-            meanings(words),
+        (ValueKind::Byte, Lexeme::Number(n)) => Ok(Value::Byte(in_range(0, 255, n)? as u8)),
+        (ValueKind::Area, Lexeme::Word(word)) => Ok(Value::Area(word)),
+        (ValueKind::File, Lexeme::StringLiteral(text)) => Ok(Value::File(text)),
+        (ValueKind::File, Lexeme::Output) => Ok(Value::Output),
+        (ValueKind::OneOf(words), Lexeme::Word(word)) => match find_keyword(
+            keywords(words),
             word.as_slice(),
         ) {
             Some((_, meaning)) => Ok(Value::Said(meaning)),
@@ -47,7 +47,7 @@ pub fn value_of<'a>(takes: Takes, lexeme: Lexeme<'a>) -> Result<Value<'a>, Fault
 }
 
 /// A token as a term of a sum.
-pub fn part_of<'a>(minus: bool, at: usize, lexeme: Lexeme<'a>) -> Result<Part<'a>, Fault>
+pub fn term_of<'a>(minus: bool, at: usize, lexeme: Lexeme<'a>) -> Result<ParsedTerm<'a>, Fault>
     ensures { result ≡ part_of minus at lexeme.entry }
 {
     let (number, name) = match lexeme {
@@ -55,7 +55,7 @@ pub fn part_of<'a>(minus: bool, at: usize, lexeme: Lexeme<'a>) -> Result<Part<'a
         Lexeme::Word(word) => (None, word),
         _ => return Err(Fault::SyntaxError),
     };
-    Ok(Part {
+    Ok(ParsedTerm {
         minus,
         number,
         name,
@@ -63,15 +63,15 @@ pub fn part_of<'a>(minus: bool, at: usize, lexeme: Lexeme<'a>) -> Result<Part<'a
     })
 }
 
-fn has_name(parts: &[Part]) -> bool
-    ensures { result ≡ list_any (λ (p : Part). not (is_some p.number)) parts.now }
+fn has_name(parts: &[ParsedTerm]) -> bool
+    ensures { result ≡ list_any (λ (p : ParsedTerm). not (is_some p.number)) parts.now }
 {
     parts.iter().any(|p| p.number.is_none())
 }
 
 // What terms come to that are all numbers.
-fn number_of(parts: &[Part]) -> Option<u32>
-    ensures { result ≡ sum_of (λ (p : Part). p.minus) (λ (p : Part). unwrap_or p.number 0) parts.now }
+fn number_of(parts: &[ParsedTerm]) -> Option<u32>
+    ensures { result ≡ sum_of (λ (p : ParsedTerm). p.minus) (λ (p : ParsedTerm). unwrap_or p.number 0) parts.now }
 {
     let mut added = 0u128;
     let mut taken = 0u128;
@@ -87,7 +87,7 @@ fn number_of(parts: &[Part]) -> Option<u32>
 }
 
 /// What a sum comes to, if that is in range. It is unknown where a term is a name.
-pub fn sum_of_parts(parts: &[Part]) -> Option<Value<'static>>
+pub fn sum_of_parts(parts: &[ParsedTerm]) -> Option<Value<'static>>
     ensures { result ≡ sum_of_parts parts.now }
 {
     if has_name(parts) {
@@ -100,7 +100,7 @@ pub fn sum_of_parts(parts: &[Part]) -> Option<Value<'static>>
 }
 
 /// Where the last term of a sum stands.
-pub fn last_part(parts: &[Part]) -> usize
+pub fn last_part(parts: &[ParsedTerm]) -> usize
     ensures { result ≡ last_part parts.now }
 {
     parts.last().map_or(0, |part| part.at)

@@ -3,9 +3,9 @@
 ghost use Rattle.std.specs.Prelude.{◌≡◌, map};
 ghost use Rattle.std.specs.Option.{option_map};
 ghost use Rattle.std.specs.Str.{str_eq_ignore_ascii_case};
-ghost use Rattle.script65.specs.Attributes.{attributes, meanings, row_of};
+ghost use Rattle.script65.specs.Attributes.{attributes, keywords, find_keyword};
 
-use crate::script::Access;
+use crate::script::SegmentType;
 
 /// A kind of block.
 #[derive(Clone, Copy)]
@@ -17,7 +17,7 @@ pub enum Block {
 
 /// What the type of a symbol says.
 #[derive(Clone, Copy)]
-pub enum Role {
+pub enum SymbolType {
     Export,
     Weak,
     Import,
@@ -25,14 +25,14 @@ pub enum Role {
 
 /// What an attribute takes.
 #[derive(Clone, Copy)]
-pub enum Takes {
+pub enum ValueKind {
     /// A number between two others, these among them.
     Number(u32, u32),
     /// A number from 0 to 255.
     Byte,
     /// Numbers and names, one behind the other with `+` or `-` between them.
     Sum,
-    OneOf(Words),
+    OneOf(KeywordSet),
     /// The name of an area.
     Area,
     File,
@@ -40,7 +40,7 @@ pub enum Takes {
 
 /// Words of which an attribute takes one.
 #[derive(Clone, Copy)]
-pub enum Words {
+pub enum KeywordSet {
     /// `yes` or `no`.
     Flag,
     AreaAccess,
@@ -52,10 +52,10 @@ pub enum Words {
 
 /// What a word says that an attribute takes.
 #[derive(Clone, Copy)]
-pub enum Meaning {
+pub enum KeywordValue {
     Flag(bool),
-    Access(Access),
-    Role(Role),
+    Access(SegmentType),
+    Role(SymbolType),
     Width,
 }
 
@@ -67,8 +67,8 @@ fn same_word(text: &[u8], word: &str) -> bool
 }
 
 /// The row of a word, of these.
-pub fn row_of<T: Copy>(rows: &[(&'static str, T)], word: &[u8]) -> Option<(&'static str, T)>
-    ensures { option_map (λ r. (r.0.now, r.1)) result ≡ row_of word.now (map (λ r. (r.0.now, r.1)) rows.now) }
+pub fn find_keyword<T: Copy>(rows: &[(&'static str, T)], word: &[u8]) -> Option<(&'static str, T)>
+    ensures { option_map (λ r. (r.0.now, r.1)) result ≡ find_keyword word.now (map (λ r. (r.0.now, r.1)) rows.now) }
 {
     for (name, value) in rows {
         if same_word(word, name) {
@@ -86,65 +86,68 @@ pub const BLOCKS: [(&str, Block); 3] = [
 ];
 
 /// The attributes of a block, and what they take.
-pub fn attributes(block: Block) -> &'static [(&'static str, Takes)]
+pub fn attributes(block: Block) -> &'static [(&'static str, ValueKind)]
     ensures { map (λ r. (r.0.now, r.1)) result.now ≡ attributes block }
 {
     match block {
         Block::Memory => &[
-            ("start", Takes::Sum),
-            ("size", Takes::Sum),
-            ("type", Takes::OneOf(Words::AreaAccess)),
-            ("file", Takes::File),
-            ("fill", Takes::OneOf(Words::Flag)),
-            ("fillval", Takes::Byte),
-            ("define", Takes::OneOf(Words::Flag)),
+            ("start", ValueKind::Sum),
+            ("size", ValueKind::Sum),
+            ("type", ValueKind::OneOf(KeywordSet::AreaAccess)),
+            ("file", ValueKind::File),
+            ("fill", ValueKind::OneOf(KeywordSet::Flag)),
+            ("fillval", ValueKind::Byte),
+            ("define", ValueKind::OneOf(KeywordSet::Flag)),
         ],
         Block::Segments => &[
-            ("load", Takes::Area),
-            ("run", Takes::Area),
-            ("type", Takes::OneOf(Words::RowAccess)),
-            ("align", Takes::Number(1, 65536)),
-            ("align_load", Takes::Number(1, 65536)),
-            ("start", Takes::Number(0, 0xffff_ffff)),
-            ("offset", Takes::Number(0, 0xffff_ffff)),
-            ("fillval", Takes::Byte),
-            ("define", Takes::OneOf(Words::Flag)),
-            ("optional", Takes::OneOf(Words::Flag)),
+            ("load", ValueKind::Area),
+            ("run", ValueKind::Area),
+            ("type", ValueKind::OneOf(KeywordSet::RowAccess)),
+            ("align", ValueKind::Number(1, 65536)),
+            ("align_load", ValueKind::Number(1, 65536)),
+            ("start", ValueKind::Number(0, 0xffff_ffff)),
+            ("offset", ValueKind::Number(0, 0xffff_ffff)),
+            ("fillval", ValueKind::Byte),
+            ("define", ValueKind::OneOf(KeywordSet::Flag)),
+            ("optional", ValueKind::OneOf(KeywordSet::Flag)),
         ],
         Block::Symbols => &[
-            ("type", Takes::OneOf(Words::Role)),
-            ("value", Takes::Number(0, 0xffff_ffff)),
-            ("addrsize", Takes::OneOf(Words::Width)),
+            ("type", ValueKind::OneOf(KeywordSet::Role)),
+            ("value", ValueKind::Number(0, 0xffff_ffff)),
+            ("addrsize", ValueKind::OneOf(KeywordSet::Width)),
         ],
     }
 }
 
 /// These words, and what they say.
-pub fn meanings(words: Words) -> &'static [(&'static str, Meaning)]
-    ensures { map (λ r. (r.0.now, r.1)) result.now ≡ meanings words }
+pub fn keywords(words: KeywordSet) -> &'static [(&'static str, KeywordValue)]
+    ensures { map (λ r. (r.0.now, r.1)) result.now ≡ keywords words }
 {
     match words {
-        Words::Flag => &[("yes", Meaning::Flag(true)), ("no", Meaning::Flag(false))],
-        Words::AreaAccess => &[
-            ("ro", Meaning::Access(Access::ReadOnly)),
-            ("rw", Meaning::Access(Access::ReadWrite)),
+        KeywordSet::Flag => &[
+            ("yes", KeywordValue::Flag(true)),
+            ("no", KeywordValue::Flag(false)),
         ],
-        Words::RowAccess => &[
-            ("ro", Meaning::Access(Access::ReadOnly)),
-            ("rw", Meaning::Access(Access::ReadWrite)),
-            ("bss", Meaning::Access(Access::Bss)),
-            ("zp", Meaning::Access(Access::ZeroPage)),
+        KeywordSet::AreaAccess => &[
+            ("ro", KeywordValue::Access(SegmentType::ReadOnly)),
+            ("rw", KeywordValue::Access(SegmentType::ReadWrite)),
         ],
-        Words::Role => &[
-            ("export", Meaning::Role(Role::Export)),
-            ("weak", Meaning::Role(Role::Weak)),
-            ("import", Meaning::Role(Role::Import)),
+        KeywordSet::RowAccess => &[
+            ("ro", KeywordValue::Access(SegmentType::ReadOnly)),
+            ("rw", KeywordValue::Access(SegmentType::ReadWrite)),
+            ("bss", KeywordValue::Access(SegmentType::Bss)),
+            ("zp", KeywordValue::Access(SegmentType::ZeroPage)),
         ],
-        Words::Width => &[
-            ("zp", Meaning::Width),
-            ("zeropage", Meaning::Width),
-            ("abs", Meaning::Width),
-            ("absolute", Meaning::Width),
+        KeywordSet::Role => &[
+            ("export", KeywordValue::Role(SymbolType::Export)),
+            ("weak", KeywordValue::Role(SymbolType::Weak)),
+            ("import", KeywordValue::Role(SymbolType::Import)),
+        ],
+        KeywordSet::Width => &[
+            ("zp", KeywordValue::Width),
+            ("zeropage", KeywordValue::Width),
+            ("abs", KeywordValue::Width),
+            ("absolute", KeywordValue::Width),
         ],
     }
 }

@@ -1,28 +1,28 @@
 //! Statements that place bytes which they name, or a part of a file.
 
 ghost use Rattle.std.specs.Prelude.{◌≡◌, ◌≤◌, IfOk, not, OnOk, Some, ◌+◌, ◌<◌, MatchOption, sum_by};
-ghost use Rattle.base65.specs.Outcome.{Gives};
+ghost use Rattle.base65.specs.Outcome.{Refines};
 ghost use Rattle.ast65.specs.declared.fault.AsmFault.TheVariants.{BadPart};
 ghost use Rattle.ast65.specs.Faults.{is_memory};
-ghost use Rattle.ast65.specs.declared.language.Statement.TheVariants.{FilePart, Instruction, Values};
+ghost use Rattle.ast65.specs.declared.language.Statement.TheVariants.{Incbin, Instruction, Values};
 ghost use Rattle.semantics65.specs.Layout.{when, unless_fault};
-ghost use Rattle.semantics65.specs.Norms.{counted, optional_value, item_len, mode_len};
+ghost use Rattle.semantics65.specs.Norms.{byte_count, optional_value, item_len, mode_len};
 ghost use Rattle.symbols65.specs.Resolving.{IsTable};
 ghost use Rattle.symbols65.specs.Views.{table_of};
-ghost use Rattle.symbols65.specs.Measuring.{IsFound, is_within, Places, placed, ranged, unread_fault};
+ghost use Rattle.symbols65.specs.Measuring.{IsFound, is_within, LaysOutStatement, layout_or_error, range_in_file, unread_fault};
 ghost use Rattle.object65.specs.Objects.{width_len};
 ghost use Rattle.semantics65.specs.Symbols.{Symbols as Table};
 
 use super::trees::check_range;
+use crate::constants;
 use crate::cursor::Cursor;
-use crate::knowing;
-use crate::measuring::{Before, Measured, fit, nothing};
+use crate::measuring::{LineState, StatementLayout, fit, nothing};
 use crate::resolving::NormCache;
 use crate::table::Symbols;
-use ast65::{AsmFault, Item, Items, ItemsKind, Operand, OptionalExpr, PartRange};
-use base65::Sequence;
+use ast65::{AsmFault, IncbinRange, Item, Items, ItemsKind, Operand, OptionalExpr};
+use base65::ListVec;
 use object65::Width;
-use semantics65::{Context, Settled};
+use semantics65::{Context, EncodingChoice};
 use std::alloc::Global;
 use syntax65::{MAX_FILE, Mnemonic, Mode};
 
@@ -42,7 +42,7 @@ fn named(
     let Some(value) = value.get() else {
         return Ok(None);
     };
-    match knowing::constant(alloc, symbols, known, context, value)? {
+    match constants::constant(alloc, symbols, known, context, value)? {
         Some(value) => Ok(Some(value)),
         None => Err(AsmFault::BadOperand),
     }
@@ -53,12 +53,12 @@ fn named(
 #[inline(never)]
 pub fn check_unread(
     alloc: Global,
-    before: Before<'_>,
+    before: LineState<'_>,
     known: &mut NormCache,
-    range: PartRange<'_>,
+    range: IncbinRange<'_>,
 ) -> Result<(), AsmFault>
     requires table { IsTable (table_of before.symbols.now) known.old.states.items }
-    ensures checked { Gives is_memory (λ u. u) result (unless_fault (unread_fault
+    ensures checked { Refines is_memory (λ u. u) result (unless_fault (unread_fault
         (table_of before.entry.symbols.now) before.entry.cursor.now
         range.entry.start.now range.entry.len.now) tt) }
     ensures table { OnOk result
@@ -73,8 +73,8 @@ pub fn check_unread(
 
 /// A value as a place among so many, or behind the last one.
 fn place_in(count: usize, value: i64) -> Result<usize, AsmFault>
-    ensures place { Gives is_memory (λ n. n) result
-        (unless_fault (when (not (is_within count value)) BadPart) (counted (Some value))) }
+    ensures place { Refines is_memory (λ n. n) result
+        (unless_fault (when (not (is_within count value)) BadPart) (byte_count (Some value))) }
     ensures within { IfOk result (λ n. n ≤ count) }
 {
     if 0 <= value && value as u64 <= count as u64 {
@@ -86,7 +86,7 @@ fn place_in(count: usize, value: i64) -> Result<usize, AsmFault>
 
 /// The start and the length of a part of a file of so many bytes.
 fn ranged(count: usize, start: Option<i64>, len: Option<i64>) -> Result<(usize, usize), AsmFault>
-    ensures part { Gives is_memory (λ p. p) result (ranged count start len) }
+    ensures part { Refines is_memory (λ p. p) result (range_in_file count start len) }
     ensures few { IfOk result (λ p. p.0 ≤ 16777216) }
 {
     if count > MAX_FILE as usize {
@@ -102,14 +102,14 @@ fn ranged(count: usize, start: Option<i64>, len: Option<i64>) -> Result<(usize, 
 #[inline(never)]
 pub fn file_part(
     alloc: Global,
-    before: Before<'_>,
+    before: LineState<'_>,
     known: &mut NormCache,
-    bytes: &Option<Sequence<u8>>,
-    range: PartRange<'_>,
-) -> Result<Measured, AsmFault>
+    bytes: &Option<ListVec<u8>>,
+    range: IncbinRange<'_>,
+) -> Result<StatementLayout, AsmFault>
     requires table { IsTable (table_of before.symbols.now) known.old.states.items }
-    ensures placed { Places before.entry result
-        (FilePart bytes.now range.entry.start.now range.entry.len.now) }
+    ensures placed { LaysOutStatement before.entry result
+        (Incbin bytes.now range.entry.start.now range.entry.len.now) }
     ensures table { OnOk result
         (IsTable (table_of before.entry.symbols.now) known.new.states.items) }
 {
@@ -121,9 +121,9 @@ pub fn file_part(
     };
     let (start, len) = ranged(bytes.len(), start, len)?;
     let length = fit(before.cursor, len)?;
-    Ok(Measured {
+    Ok(StatementLayout {
         length,
-        settled: Settled::FromByte(start as u32),
+        settled: EncodingChoice::FileOffset(start as u32),
         ..nothing(before.cursor)
     })
 }
@@ -142,19 +142,19 @@ fn mode_len(mode: Mode) -> usize
 /// What an instruction places.
 pub fn instruction(
     alloc: Global,
-    before: Before<'_>,
+    before: LineState<'_>,
     known: &mut NormCache,
     mnemonic: Mnemonic,
     operand: &Operand,
-) -> Result<Measured, AsmFault>
+) -> Result<StatementLayout, AsmFault>
     requires table { IsTable (table_of before.symbols.now) known.old.states.items }
-    ensures placed { Places before.entry result (Instruction mnemonic operand.now) }
+    ensures placed { LaysOutStatement before.entry result (Instruction mnemonic operand.now) }
     ensures table { OnOk result
         (IsTable (table_of before.entry.symbols.now) known.new.states.items) }
 {
     let own = before.cursor.segment().size;
     let context = before.cursor.context();
-    let mode = knowing::mode(
+    let mode = constants::mode(
         alloc,
         before.symbols,
         known,
@@ -167,11 +167,11 @@ pub fn instruction(
         return Err(AsmFault::NoSuchForm);
     };
     let length = fit(before.cursor, mode_len(mode))?;
-    Ok(Measured {
+    Ok(StatementLayout {
         length,
         size: own,
-        multiple: 1,
-        settled: Settled::InMode(mode),
+        alignment: 1,
+        settled: EncodingChoice::InMode(mode),
     })
 }
 
@@ -181,7 +181,7 @@ fn width_len(width: Width) -> usize
 {
     match width {
         Width::Byte | Width::Branch => 1,
-        Width::Word | Width::HighFirst => 2,
+        Width::Word | Width::BigEndianWord => 2,
         Width::Dword => 4,
     }
 }
@@ -191,12 +191,12 @@ fn item_len(width: Width, item: &Item) -> usize
 {
     match item {
         Item::Value(_) => width_len(width),
-        Item::Text(bytes) => bytes.len(),
+        Item::StringLiteral(bytes) => bytes.len(),
     }
 }
 
 /// What is left of some room behind a list of any elements, if it is enough.
-fn room_behind_mixed(width: Width, items: &[Item], room: usize) -> Option<usize>
+fn room_after_mixed(width: Width, items: &[Item], room: usize) -> Option<usize>
     ensures { MatchOption result (room < sum_by (item_len width) items.now)
         (λ left. left + sum_by (item_len width) items.now ≡ room) }
 {
@@ -208,7 +208,7 @@ fn room_behind_mixed(width: Width, items: &[Item], room: usize) -> Option<usize>
 }
 
 /// What is left of some room behind a list, if it is enough.
-fn room_behind(width: Width, items: &Items, room: usize) -> Option<usize>
+fn room_after(width: Width, items: &Items, room: usize) -> Option<usize>
     ensures { MatchOption result (room < sum_by (item_len width) items.now)
         (λ left. left + sum_by (item_len width) items.now ≡ room) }
 {
@@ -217,22 +217,22 @@ fn room_behind(width: Width, items: &Items, room: usize) -> Option<usize>
             let length = numbers.as_slice().len().checked_mul(width_len(width))?;
             room.checked_sub(length)
         }
-        ItemsKind::Mixed(items) => room_behind_mixed(width, items.as_slice(), room),
+        ItemsKind::Mixed(items) => room_after_mixed(width, items.as_slice(), room),
     }
 }
 
 /// What a list of values places, if the section has room for them.
 #[inline(never)]
 #[tactic(auto, using(crate::proofs::Measures::same_test))]
-pub fn values(cursor: &Cursor, width: Width, items: &Items) -> Result<Measured, AsmFault>
-    ensures { (y : Table) → Gives is_memory (λ m. m) result (placed y
+pub fn values(cursor: &Cursor, width: Width, items: &Items) -> Result<StatementLayout, AsmFault>
+    ensures { (y : Table) → Refines is_memory (λ m. m) result (layout_or_error y
         cursor.now (Values width items.now)) }
 {
-    let room = cursor.room();
-    let Some(left) = room_behind(width, items, room as usize) else {
+    let room = cursor.remaining_bytes();
+    let Some(left) = room_after(width, items, room as usize) else {
         return Err(AsmFault::SectionTooLarge);
     };
-    Ok(Measured {
+    Ok(StatementLayout {
         length: room - left as u32,
         ..nothing(cursor)
     })

@@ -3,28 +3,28 @@
 ghost use Rattle.std.specs.Prelude.{◌≡◌, ◌&&◌, ℕ, List, OnOk, true};
 ghost use Rattle.ast65.specs.declared.fault.AsmFault.TheVariants.{DefinedTwice, NotUnderstood, ScopeTwice};
 ghost use Rattle.semantics65.specs.Layout.{defined_twice, is_open, opened_twice, scope_name, stands_outside, when, where_there};
-ghost use Rattle.semantics65.specs.Symbols.{scope_in, defined, key_defined, asks_section, has_here};
+ghost use Rattle.semantics65.specs.Symbols.{scope_in, definition_index, key_defined, needs_section, has_here};
 ghost use Rattle.symbols65.specs.Tables.{key_of};
 ghost use Rattle.symbols65.specs.Views.{table_of};
 ghost use Rattle.ast65.specs.declared.language.Statement.TheVariants.{Constant};
 ghost use Rattle.symbols65.specs.Resolving.{IsTable};
-ghost use Rattle.symbols65.specs.Measuring.{Checks, Places};
+ghost use Rattle.symbols65.specs.Measuring.{ChecksStatement, LaysOutStatement};
 
 use super::bytes::{file_part, instruction, values};
 use super::rooms::{align, check_segment, is_scope, reserve};
-use crate::knowing;
-use crate::measuring::{Before, Measured, nothing};
+use crate::constants;
+use crate::measuring::{LineState, StatementLayout, nothing};
 use crate::resolving::NormCache;
 use crate::table::{Key, Symbols};
-use ast65::{AsmFault, PartRange, Statement};
-use base65::Sequence;
+use ast65::{AsmFault, IncbinRange, Statement};
+use base65::ListVec;
 use semantics65::Context;
 use std::alloc::Global;
 use syntax65::{Expr, ExprKind};
 
 /// Refuses a statement with names of the global scope where another one is open.
 pub fn check_outside(scope: usize, statement: &Statement) -> Result<(), AsmFault>
-    ensures { Checks result (when (stands_outside statement.now && is_open scope) NotUnderstood) }
+    ensures { ChecksStatement result (when (stands_outside statement.now && is_open scope) NotUnderstood) }
 {
     match statement {
         Statement::Import { .. }
@@ -44,14 +44,14 @@ fn check_new_scope(
     scope: usize,
     name: &[u8],
 ) -> Result<(), AsmFault>
-    ensures { Checks result (where_there (scope_in (table_of symbols.now).scopes scope name.now)
+    ensures { ChecksStatement result (where_there (scope_in (table_of symbols.now).scopes scope name.now)
         (ScopeTwice name.now)) }
 {
     match symbols.scope_in(scope, name) {
         None => Ok(()),
         Some(_) => {
             let name = Vec::from_slice(alloc, name)?;
-            Err(AsmFault::ScopeTwice(Sequence::from_vec(name)))
+            Err(AsmFault::ScopeTwice(ListVec::from_vec(name)))
         }
     }
 }
@@ -63,7 +63,7 @@ pub fn check_opened(
     scope: usize,
     statement: &Statement,
 ) -> Result<(), AsmFault>
-    ensures { Checks result (opened_twice (table_of symbols.now).scopes scope
+    ensures { ChecksStatement result (opened_twice (table_of symbols.now).scopes scope
         (scope_name statement.now)) }
 {
     match statement {
@@ -77,14 +77,14 @@ pub fn check_opened(
 /// Refuses a name whose key has a definition already.
 #[inline(never)]
 fn check_key(alloc: Global, symbols: &Symbols, key: Key<'_>, name: &[u8]) -> Result<(), AsmFault>
-    ensures { Checks result (where_there (defined (table_of symbols.now) (key_of key.entry))
+    ensures { ChecksStatement result (where_there (definition_index (table_of symbols.now) (key_of key.entry))
         (DefinedTwice name.now)) }
 {
     match symbols.defined(key) {
         None => Ok(()),
         Some(_) => {
             let name = Vec::from_slice(alloc, name)?;
-            Err(AsmFault::DefinedTwice(Sequence::from_vec(name)))
+            Err(AsmFault::DefinedTwice(ListVec::from_vec(name)))
         }
     }
 }
@@ -96,7 +96,7 @@ pub fn check_defined(
     context: Context,
     statement: &Statement,
 ) -> Result<(), AsmFault>
-    ensures { Checks result (defined_twice (table_of symbols.now)
+    ensures { ChecksStatement result (defined_twice (table_of symbols.now)
         (key_defined context statement.now)) }
 {
     let scope = context.scope as usize;
@@ -129,8 +129,8 @@ fn has_here(value: &Expr) -> bool
 }
 
 /// Whether a statement asks for a section of the segment in which it stands.
-pub fn asks_section(statement: &Statement) -> bool
-    ensures { result ≡ asks_section statement.now }
+pub fn needs_section(statement: &Statement) -> bool
+    ensures { result ≡ needs_section statement.now }
 {
     match statement {
         Statement::Label(_)
@@ -141,7 +141,7 @@ pub fn asks_section(statement: &Statement) -> bool
         | Statement::Values { .. }
         | Statement::Reserve { .. }
         | Statement::Align { .. }
-        | Statement::FilePart { .. } => true,
+        | Statement::Incbin { .. } => true,
         Statement::Constant { value, .. } | Statement::Assert { value, .. } => has_here(value),
         _ => false,
     }
@@ -151,30 +151,30 @@ pub fn asks_section(statement: &Statement) -> bool
 #[inline(never)]
 fn constant(
     alloc: Global,
-    before: Before<'_>,
+    before: LineState<'_>,
     known: &mut NormCache,
     value: &Expr,
-) -> Result<Measured, AsmFault>
+) -> Result<StatementLayout, AsmFault>
     requires table { IsTable (table_of before.symbols.now) known.old.states.items }
-    ensures placed { (name : List ℕ) → Places before.entry result (Constant name value.now) }
+    ensures placed { (name : List ℕ) → LaysOutStatement before.entry result (Constant name value.now) }
     ensures table { OnOk result
         (IsTable (table_of before.entry.symbols.now) known.new.states.items) }
 {
     let measure = nothing(before.cursor);
     let context = before.cursor.context();
-    let size = knowing::size(alloc, before.symbols, known, context, measure.size, value)?;
-    Ok(Measured { size, ..measure })
+    let size = constants::size(alloc, before.symbols, known, context, measure.size, value)?;
+    Ok(StatementLayout { size, ..measure })
 }
 
 /// What a statement whose names are understood places, or its first fault.
 pub fn place(
     alloc: Global,
-    before: Before<'_>,
+    before: LineState<'_>,
     known: &mut NormCache,
     statement: &Statement,
-) -> Result<Measured, AsmFault>
+) -> Result<StatementLayout, AsmFault>
     requires table { IsTable (table_of before.symbols.now) known.old.states.items }
-    ensures placed { Places before.entry result statement.now }
+    ensures placed { LaysOutStatement before.entry result statement.now }
     ensures table { OnOk result
         (IsTable (table_of before.entry.symbols.now) known.new.states.items) }
 {
@@ -185,16 +185,16 @@ pub fn place(
         }
         Statement::Values { width, items } => values(before.cursor, *width, items),
         Statement::Reserve { count, value } => reserve(alloc, before, known, count, value),
-        Statement::Align { multiple, value } => align(alloc, before, known, multiple, value),
-        Statement::FilePart { bytes, start, len } => {
-            file_part(alloc, before, known, bytes, PartRange { start, len })
+        Statement::Align { alignment, value } => align(alloc, before, known, alignment, value),
+        Statement::Incbin { bytes, start, len } => {
+            file_part(alloc, before, known, bytes, IncbinRange { start, len })
         }
         Statement::Constant { name: _, value } => constant(alloc, before, known, value),
         Statement::Segment { name, size } => {
             check_segment(before.cursor, name.as_slice(), *size)?;
             Ok(nothing(before.cursor))
         }
-        Statement::PopSegment if !before.cursor.has_kept() => Err(AsmFault::PopWithoutPush),
+        Statement::PopSegment if !before.cursor.has_pushed() => Err(AsmFault::PopWithoutPush),
         Statement::CloseScope if scope == 0 || !is_scope(before.symbols, scope) => {
             Err(AsmFault::BadScope)
         }

@@ -4,20 +4,20 @@ ghost use Rattle.std.specs.Prelude.{◌≡◌, not, slice_get, ◌<◌, ◌≤�
 ghost use Rattle.semantics65.specs.Layout.{place_of, segment_at, context_of as cursor_context, changed_size, is_scope, opened_as, same_size, when, unless_fault, is_byte_value, is_count, multiple_fault};
 ghost use Rattle.ast65.specs.declared.fault.AsmFault.TheVariants.{BadOperand};
 ghost use Rattle.symbols65.specs.Views.{table_of};
-ghost use Rattle.symbols65.specs.Measuring.{Places};
-ghost use Rattle.base65.specs.Outcome.{Gives};
+ghost use Rattle.symbols65.specs.Measuring.{LaysOutStatement};
+ghost use Rattle.base65.specs.Outcome.{Refines};
 ghost use Rattle.ast65.specs.Faults.{is_memory};
 ghost use Rattle.ast65.specs.declared.language.Statement.TheVariants.{Align, Reserve};
-ghost use Rattle.semantics65.specs.Norms.{counted, fill_settled, gap, optional_value};
+ghost use Rattle.semantics65.specs.Norms.{byte_count, fill_settled, gap, optional_value};
 ghost use Rattle.symbols65.specs.Resolving.{IsTable};
 
+use crate::constants;
 use crate::cursor::Cursor;
-use crate::knowing;
-use crate::measuring::{Before, Measured, fit, nothing};
+use crate::measuring::{LineState, StatementLayout, fit, nothing};
 use crate::resolving::NormCache;
 use crate::table::Symbols;
 use ast65::{AsmFault, OptionalExpr};
-use semantics65::{Context, Segment, Settled};
+use semantics65::{Context, EncodingChoice, Segment};
 use std::alloc::Global;
 use syntax65::{AddressSize, Expr};
 
@@ -89,9 +89,9 @@ fn fill(
     known: &mut NormCache,
     context: Context,
     value: &OptionalExpr,
-) -> Result<Settled, AsmFault>
+) -> Result<EncodingChoice, AsmFault>
     requires { IsTable (table_of symbols.now) known.old.states.items }
-    ensures byte { Gives is_memory (λ _. tt {0}) result (unless_fault
+    ensures byte { Refines is_memory (λ _. tt {0}) result (unless_fault
         (when (not (is_byte_value (optional_value (table_of symbols.now) context
         value.now (pos 0)))) BadOperand) tt) }
     ensures settled { IfOk result (λ s. s
@@ -99,18 +99,18 @@ fn fill(
     ensures table { OnOk result (IsTable (table_of symbols.now) known.new.states.items) }
 {
     let Some(value) = value.get() else {
-        return Ok(Settled::Unsettled);
+        return Ok(EncodingChoice::Undecided);
     };
-    match knowing::constant(alloc, symbols, known, context, value)? {
-        Some(value) if 0 <= value && value < 256 => Ok(Settled::FilledWith(value as u8)),
+    match constants::constant(alloc, symbols, known, context, value)? {
+        Some(value) if 0 <= value && value < 256 => Ok(EncodingChoice::FillByte(value as u8)),
         _ => Err(AsmFault::BadOperand),
     }
 }
 
 /// A value as a number of bytes.
 fn count_of(value: Option<i64>) -> Result<usize, AsmFault>
-    ensures { Gives is_memory (λ n. n) result (unless_fault
-        (when (not (is_count value)) BadOperand) (counted value)) }
+    ensures { Refines is_memory (λ n. n) result (unless_fault
+        (when (not (is_count value)) BadOperand) (byte_count value)) }
 {
     match value {
         Some(value) if 0 <= value => Ok(value as usize),
@@ -122,21 +122,21 @@ fn count_of(value: Option<i64>) -> Result<usize, AsmFault>
 #[inline(never)]
 pub fn reserve(
     alloc: Global,
-    before: Before<'_>,
+    before: LineState<'_>,
     known: &mut NormCache,
     count: &Expr,
     value: &OptionalExpr,
-) -> Result<Measured, AsmFault>
+) -> Result<StatementLayout, AsmFault>
     requires table { IsTable (table_of before.symbols.now) known.old.states.items }
-    ensures placed { Places before.entry result (Reserve count.now value.now) }
+    ensures placed { LaysOutStatement before.entry result (Reserve count.now value.now) }
     ensures table { OnOk result
         (IsTable (table_of before.entry.symbols.now) known.new.states.items) }
 {
     let context = before.cursor.context();
-    let count = count_of(knowing::constant(alloc, before.symbols, known, context, count)?)?;
+    let count = count_of(constants::constant(alloc, before.symbols, known, context, count)?)?;
     let settled = fill(alloc, before.symbols, known, context, value)?;
     let length = fit(before.cursor, count)?;
-    Ok(Measured {
+    Ok(StatementLayout {
         length,
         settled,
         ..nothing(before.cursor)
@@ -145,8 +145,8 @@ pub fn reserve(
 
 /// A value as a multiple to which sections are aligned.
 fn multiple_of(value: Option<i64>) -> Result<u32, AsmFault>
-    ensures multiple { Gives is_memory (λ n. n) result (unless_fault
-        (multiple_fault value) (counted value)) }
+    ensures alignment { Refines is_memory (λ n. n) result (unless_fault
+        (multiple_fault value) (byte_count value)) }
     ensures bounds { IfOk result (λ n. n ≤ 32768) }
     ensures positive { IfOk result (λ n. 0 < n) }
 {
@@ -174,40 +174,40 @@ fn multiple_of(value: Option<i64>) -> Result<u32, AsmFault>
 }
 
 /// How far the end of the section moves up to a multiple.
-fn gap(cursor: &Cursor, multiple: u32) -> u32
-    requires bounds { multiple ≤ 32768 }
-    requires positive { 0 < multiple }
-    ensures { result ≡ gap (cursor_context cursor.now).offset (Some (pos multiple)) }
+fn gap(cursor: &Cursor, alignment: u32) -> u32
+    requires bounds { alignment ≤ 32768 }
+    requires positive { 0 < alignment }
+    ensures { result ≡ gap (cursor_context cursor.now).offset (Some (pos alignment)) }
 {
     let offset = cursor.segment().end;
-    offset.next_multiple_of(multiple) - offset
+    offset.next_multiple_of(alignment) - offset
 }
 
 /// What `.align` places.
 #[inline(never)]
 pub fn align(
     alloc: Global,
-    before: Before<'_>,
+    before: LineState<'_>,
     known: &mut NormCache,
-    multiple: &Expr,
+    alignment: &Expr,
     value: &OptionalExpr,
-) -> Result<Measured, AsmFault>
+) -> Result<StatementLayout, AsmFault>
     requires table { IsTable (table_of before.symbols.now) known.old.states.items }
-    ensures placed { Places before.entry result (Align multiple.now value.now) }
+    ensures placed { LaysOutStatement before.entry result (Align alignment.now value.now) }
     ensures table { OnOk result
         (IsTable (table_of before.entry.symbols.now) known.new.states.items) }
 {
     let context = before.cursor.context();
-    let multiple = knowing::constant(alloc, before.symbols, known, context, multiple)?;
-    let Some(_) = multiple else {
+    let alignment = constants::constant(alloc, before.symbols, known, context, alignment)?;
+    let Some(_) = alignment else {
         return Err(AsmFault::BadOperand);
     };
     let settled = fill(alloc, before.symbols, known, context, value)?;
-    let multiple = multiple_of(multiple)?;
-    let length = fit(before.cursor, gap(before.cursor, multiple) as usize)?;
-    Ok(Measured {
+    let alignment = multiple_of(alignment)?;
+    let length = fit(before.cursor, gap(before.cursor, alignment) as usize)?;
+    Ok(StatementLayout {
         length,
-        multiple,
+        alignment,
         settled,
         ..nothing(before.cursor)
     })

@@ -5,11 +5,11 @@ ghost use Rattle.syntax65.specs.Trees.{name};
 ghost use Rattle.semantics65.specs.Layout.{lost_scope, item_trees, lost_scopes, operand_trees, optional_tree, trees_of};
 ghost use Rattle.semantics65.specs.Symbols.{Scope};
 ghost use Rattle.symbols65.specs.Views.{table_of};
-ghost use Rattle.symbols65.specs.Measuring.{Checks};
+ghost use Rattle.symbols65.specs.Measuring.{ChecksStatement};
 
 use crate::resolving::{plain_part, scope_of, scopes_in, shown};
 use crate::table::Symbols;
-use ast65::{AsmFault, Item, ItemsKind, Operand, OptionalExpr, PartRange, Statement};
+use ast65::{AsmFault, IncbinRange, Item, ItemsKind, Operand, OptionalExpr, Statement};
 use std::alloc::Global;
 use syntax65::{Expr, ExprKind, Name};
 
@@ -21,7 +21,7 @@ fn check_name(
     scope: usize,
     written: &Name,
 ) -> Result<(), AsmFault>
-    ensures { Checks result (lost_scope (table_of symbols.now).scopes scope
+    ensures { ChecksStatement result (lost_scope (table_of symbols.now).scopes scope
         (name written.now.is_global written.now.parts)) }
 {
     if plain_part(written).is_some() {
@@ -60,7 +60,7 @@ pub fn check_scopes(
     scope: usize,
     value: &Expr,
 ) -> Result<(), AsmFault>
-    ensures { Checks result (lost_scope (table_of symbols.now).scopes scope value.now) }
+    ensures { ChecksStatement result (lost_scope (table_of symbols.now).scopes scope value.now) }
 {
     match value.kind() {
         ExprKind::Scoped(name) => check_name(alloc, symbols, scope, name),
@@ -74,7 +74,7 @@ pub fn check_scopes(
 }
 
 fn check_one(alloc: Global, symbols: &Symbols, scope: usize, value: &Expr) -> Result<(), AsmFault>
-    ensures { Checks result (lost_scopes (table_of symbols.now).scopes scope (value.now ∷ [])) }
+    ensures { ChecksStatement result (lost_scopes (table_of symbols.now).scopes scope (value.now ∷ [])) }
 {
     if !names_scopes(value) {
         return Ok(());
@@ -88,7 +88,7 @@ fn check_optional(
     scope: usize,
     value: &OptionalExpr,
 ) -> Result<(), AsmFault>
-    ensures { Checks result (lost_scopes (table_of symbols.now).scopes scope
+    ensures { ChecksStatement result (lost_scopes (table_of symbols.now).scopes scope
         (optional_tree value.now)) }
 {
     match value.get() {
@@ -105,7 +105,7 @@ fn check_two(
     value: &Expr,
     other: &OptionalExpr,
 ) -> Result<(), AsmFault>
-    ensures { Checks result (lost_scopes (table_of symbols.now).scopes scope
+    ensures { ChecksStatement result (lost_scopes (table_of symbols.now).scopes scope
         (value.now ∷ optional_tree other.now)) }
 {
     check_scopes(alloc, symbols, scope, value)?;
@@ -117,9 +117,9 @@ pub fn check_range(
     alloc: Global,
     symbols: &Symbols,
     scope: usize,
-    range: PartRange<'_>,
+    range: IncbinRange<'_>,
 ) -> Result<(), AsmFault>
-    ensures { Checks result (lost_scopes (table_of symbols.now).scopes scope
+    ensures { ChecksStatement result (lost_scopes (table_of symbols.now).scopes scope
         (optional_tree range.entry.start.now ++ optional_tree range.entry.len.now)) }
 {
     match range.start.get() {
@@ -134,7 +134,7 @@ pub fn check_operand(
     scope: usize,
     operand: &Operand,
 ) -> Result<(), AsmFault>
-    ensures { Checks result (lost_scopes (table_of symbols.now).scopes scope
+    ensures { ChecksStatement result (lost_scopes (table_of symbols.now).scopes scope
         (operand_trees operand.now)) }
 {
     match operand {
@@ -148,7 +148,7 @@ pub fn check_operand(
 }
 
 fn check_item(alloc: Global, symbols: &Symbols, scope: usize, item: &Item) -> Result<(), AsmFault>
-    ensures { Checks result (lost_scopes (table_of symbols.now).scopes scope
+    ensures { ChecksStatement result (lost_scopes (table_of symbols.now).scopes scope
         (item_trees (item.now ∷ []))) }
 {
     match item {
@@ -156,7 +156,7 @@ fn check_item(alloc: Global, symbols: &Symbols, scope: usize, item: &Item) -> Re
             ExprKind::Number(_) => Ok(()),
             _ => check_one(alloc, symbols, scope, value),
         },
-        Item::Text(_) => Ok(()),
+        Item::StringLiteral(_) => Ok(()),
     }
 }
 
@@ -167,7 +167,7 @@ fn check_mixed(
     scope: usize,
     items: &[Item],
 ) -> Result<(), AsmFault>
-    ensures { Checks result (lost_scopes (table_of symbols.now).scopes scope
+    ensures { ChecksStatement result (lost_scopes (table_of symbols.now).scopes scope
         (item_trees items.now)) }
 {
     for item in items {
@@ -183,7 +183,7 @@ pub fn check_trees(
     scope: usize,
     statement: &Statement,
 ) -> Result<(), AsmFault>
-    ensures { Checks result (lost_scopes (table_of symbols.now).scopes scope
+    ensures { ChecksStatement result (lost_scopes (table_of symbols.now).scopes scope
         (trees_of statement.now)) }
 {
     match statement {
@@ -196,9 +196,9 @@ pub fn check_trees(
             ItemsKind::Mixed(items) => check_mixed(alloc, symbols, scope, items.as_slice()),
         },
         Statement::Reserve { count, value } => check_two(alloc, symbols, scope, count, value),
-        Statement::Align { multiple, value } => check_two(alloc, symbols, scope, multiple, value),
-        Statement::FilePart { start, len, .. } => {
-            check_range(alloc, symbols, scope, PartRange { start, len })
+        Statement::Align { alignment, value } => check_two(alloc, symbols, scope, alignment, value),
+        Statement::Incbin { start, len, .. } => {
+            check_range(alloc, symbols, scope, IncbinRange { start, len })
         }
         _ => Ok(()),
     }

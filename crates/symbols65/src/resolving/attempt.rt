@@ -2,16 +2,16 @@
 
 ghost use Rattle.std.specs.Prelude.{◌≡◌, OnOk, false, slice_get};
 ghost use Rattle.std.specs.Option.{option_map};
-ghost use Rattle.base65.specs.Outcome.{Gives};
+ghost use Rattle.base65.specs.Outcome.{Refines};
 ghost use Rattle.ast65.specs.declared.fault.AsmFault.TheVariants.{OutOfMemory};
 ghost use Rattle.ast65.specs.Faults.{is_memory};
 ghost use Rattle.semantics65.specs.Norms.{address_of};
-ghost use Rattle.symbols65.specs.declared.resolving.attempt.Stop.TheVariants.{Fault};
+ghost use Rattle.symbols65.specs.declared.resolving.attempt.AttemptError.TheVariants.{Fault};
 ghost use Rattle.symbols65.specs.declared.resolving.attempt.State.TheVariants.{Found};
-ghost use Rattle.symbols65.specs.Resolving.{attempt_definition, known_form, lacks_memory, meaning_form, meaning_in, tried, tried_at, tried_last};
+ghost use Rattle.symbols65.specs.Resolving.{attempt_definition, known_form, lacks_memory, meaning_form, meaning_in, form_attempt, tried_at, tried_last};
 ghost use Rattle.symbols65.specs.Views.{known_by, table_of};
 
-use super::meaning::{Meaning, folded, meaning_of};
+use super::meaning::{Binding, binding_of, folded};
 use crate::table::Symbols;
 use ast65::AsmFault;
 use object65::{Node, Norm};
@@ -26,13 +26,13 @@ pub enum State {
     /// It is being looked for.
     Waiting,
     /// Whatever statements follow, the constant has each fault of the constant at this place.
-    Hangs(usize),
+    BlockedOn(usize),
     Found(Norm),
 }
 
 /// By what the forms of constants are known.
 #[derive(Clone, Copy, Drop)]
-pub enum Source<'a> {
+pub enum FormSource<'a> {
     /// By the final forms that are kept with definitions.
     Finals,
     /// By a table of forms that were found.
@@ -41,25 +41,25 @@ pub enum Source<'a> {
 
 /// Why an attempt stops.
 #[derive(Drop)]
-pub enum Stop {
+pub enum AttemptError {
     /// The form of the constant at this place isn't known.
     Needs(usize),
     Fault(AsmFault),
 }
 
-impl From<AllocError> for Stop {
+impl From<AllocError> for AttemptError {
     ghost from_gives = { λ _ e. e ≡ Fault OutOfMemory };
 
-    fn from(_e: AllocError) -> Stop {
-        Stop::Fault(AsmFault::OutOfMemory)
+    fn from(_e: AllocError) -> AttemptError {
+        AttemptError::Fault(AsmFault::OutOfMemory)
     }
 }
 
-impl From<AsmFault> for Stop {
+impl From<AsmFault> for AttemptError {
     ghost from_gives = { λ f e. e ≡ Fault f };
 
-    fn from(fault: AsmFault) -> Stop {
-        Stop::Fault(fault)
+    fn from(fault: AsmFault) -> AttemptError {
+        AttemptError::Fault(fault)
     }
 }
 
@@ -67,7 +67,7 @@ impl From<AsmFault> for Stop {
 pub fn address(context: Context) -> Norm
     ensures { result ≡ address_of context }
 {
-    Norm::new(Node::Sec(context.segment, i64::from(context.offset)))
+    Norm::new(Node::SectionOffset(context.segment, i64::from(context.offset)))
 }
 
 /// Passes on want of memory, and takes any other fault for a form that is missing.
@@ -81,22 +81,22 @@ pub fn pass_on_memory(fault: &AsmFault) -> Result<(), AllocError>
 }
 
 /// The form of the constant at a place, if a table has it.
-fn found_form(alloc: Global, states: &[State], place: usize) -> Result<Norm, Stop>
-    ensures { Gives lacks_memory (λ f. f) result (known_form place (slice_get states.now place)) }
+fn found_form(alloc: Global, states: &[State], place: usize) -> Result<Norm, AttemptError>
+    ensures { Refines lacks_memory (λ f. f) result (known_form place (slice_get states.now place)) }
 {
     match states.get(place) {
         Some(State::Found(form)) => Ok(Norm::copy_of(alloc, form)?),
-        _ => Err(Stop::Needs(place)),
+        _ => Err(AttemptError::Needs(place)),
     }
 }
 
 /// The form that is kept with the definition at a place, if there is one.
-fn kept_form(alloc: Global, place: usize, kept: &Option<Norm>) -> Result<Norm, Stop>
-    ensures { Gives lacks_memory (λ f. f) result (known_form place (option_map Found kept.now)) }
+fn kept_form(alloc: Global, place: usize, kept: &Option<Norm>) -> Result<Norm, AttemptError>
+    ensures { Refines lacks_memory (λ f. f) result (known_form place (option_map Found kept.now)) }
 {
     match kept {
         Some(form) => Ok(Norm::copy_of(alloc, form)?),
-        None => Err(Stop::Needs(place)),
+        None => Err(AttemptError::Needs(place)),
     }
 }
 
@@ -104,18 +104,18 @@ fn kept_form(alloc: Global, place: usize, kept: &Option<Norm>) -> Result<Norm, S
 pub fn defined(
     alloc: Global,
     symbols: &Symbols,
-    source: Source<'_>,
+    source: FormSource<'_>,
     place: usize,
-) -> Result<Norm, Stop>
-    ensures { Gives lacks_memory (λ f. f) result (attempt_definition (λ s e. known_form place (known_by symbols.now source.entry place)) (slice_get (table_of symbols.now).definitions place)) }
+) -> Result<Norm, AttemptError>
+    ensures { Refines lacks_memory (λ f. f) result (attempt_definition (λ s e. known_form place (known_by symbols.now source.entry place)) (slice_get (table_of symbols.now).definitions place)) }
 {
     match symbols.definition(place) {
-        None => Err(Stop::Fault(AsmFault::NoSuchLabel)),
+        None => Err(AttemptError::Fault(AsmFault::NoSuchLabel)),
         Some(definition) => match &definition.value {
             None => Ok(address(definition.context)),
             Some(_) => match source {
-                Source::Finals => kept_form(alloc, place, &definition.form),
-                Source::Table(states) => found_form(alloc, states, place),
+                FormSource::Finals => kept_form(alloc, place, &definition.form),
+                FormSource::Table(states) => found_form(alloc, states, place),
             },
         },
     }
@@ -125,17 +125,17 @@ pub fn defined(
 fn meant(
     alloc: Global,
     symbols: &Symbols,
-    source: Source<'_>,
-    meaning: Meaning,
-) -> Result<Norm, Stop>
-    ensures { Gives lacks_memory (λ f. f) result (meaning_form (known_by symbols.now source.entry) (table_of symbols.now) (meaning_in meaning)) }
+    source: FormSource<'_>,
+    meaning: Binding,
+) -> Result<Norm, AttemptError>
+    ensures { Refines lacks_memory (λ f. f) result (meaning_form (known_by symbols.now source.entry) (table_of symbols.now) (meaning_in meaning)) }
 {
     match meaning {
-        Meaning::Defined(place) => defined(alloc, symbols, source, place),
+        Binding::Defined(place) => defined(alloc, symbols, source, place),
         // No memory holds more imports than have a number.
-        Meaning::Imported(key) => match u32::try_from(key) {
-            Ok(key) => Ok(Norm::new(Node::Imp(key))),
-            Err(_) => Err(Stop::Fault(AsmFault::OutOfMemory)),
+        Binding::Imported(key) => match u32::try_from(key) {
+            Ok(key) => Ok(Norm::new(Node::ImportedName(key))),
+            Err(_) => Err(AttemptError::Fault(AsmFault::OutOfMemory)),
         },
     }
 }
@@ -144,14 +144,14 @@ fn meant(
 pub fn try_norm(
     alloc: Global,
     symbols: &Symbols,
-    source: Source<'_>,
+    source: FormSource<'_>,
     context: Context,
     value: &Expr,
-) -> Result<Norm, Stop>
-    ensures { Gives lacks_memory (λ f. f) result (tried (known_by symbols.now source.entry) (table_of symbols.now) context value.now) }
+) -> Result<Norm, AttemptError>
+    ensures { Refines lacks_memory (λ f. f) result (form_attempt (known_by symbols.now source.entry) (table_of symbols.now) context value.now) }
 {
     match value.kind() {
-        ExprKind::Number(number) => Ok(Norm::new(Node::Lit(i64::from(*number)))),
+        ExprKind::Number(number) => Ok(Norm::new(Node::NumberNode(i64::from(*number)))),
         ExprKind::Here => Ok(address(context)),
         ExprKind::Prefix(op, part) => {
             let part = try_norm(alloc, symbols, source, context, part)?;
@@ -167,18 +167,23 @@ pub fn try_norm(
         | ExprKind::Cheap(_)
         | ExprKind::Forward(_)
         | ExprKind::Backward(_) => {
-            let meaning = meaning_of(alloc, symbols, context, value)?;
+            let meaning = binding_of(alloc, symbols, context, value)?;
             meant(alloc, symbols, source, meaning)
         }
     }
 }
 
 /// The form of what is defined at a place, by its own expression.
-fn try_at(alloc: Global, symbols: &Symbols, source: Source<'_>, place: usize) -> Result<Norm, Stop>
-    ensures { Gives lacks_memory (λ f. f) result (tried_at (known_by symbols.now source.entry) (table_of symbols.now) place) }
+fn try_at(
+    alloc: Global,
+    symbols: &Symbols,
+    source: FormSource<'_>,
+    place: usize,
+) -> Result<Norm, AttemptError>
+    ensures { Refines lacks_memory (λ f. f) result (tried_at (known_by symbols.now source.entry) (table_of symbols.now) place) }
 {
     match symbols.definition(place) {
-        None => Err(Stop::Fault(AsmFault::NoSuchLabel)),
+        None => Err(AttemptError::Fault(AsmFault::NoSuchLabel)),
         Some(definition) => match &definition.value {
             None => Ok(address(definition.context)),
             Some(value) => try_norm(alloc, symbols, source, definition.context, value),
@@ -194,10 +199,10 @@ pub fn try_last(
     context: Context,
     value: &Expr,
     waiting: &[usize],
-) -> Result<Norm, Stop>
-    ensures { Gives lacks_memory (λ f. f) result (tried_last (slice_get states.now) (table_of symbols.now) (tried (slice_get states.now) (table_of symbols.now) context value.now) waiting.now) }
+) -> Result<Norm, AttemptError>
+    ensures { Refines lacks_memory (λ f. f) result (tried_last (slice_get states.now) (table_of symbols.now) (form_attempt (slice_get states.now) (table_of symbols.now) context value.now) waiting.now) }
 {
-    let source = Source::Table(states);
+    let source = FormSource::Table(states);
     match waiting.last() {
         None => try_norm(alloc, symbols, source, context, value),
         Some(last) => try_at(alloc, symbols, source, *last),

@@ -1,17 +1,17 @@
 //! Forms of constants that were found by a symbol table, and constants that hang on others.
 
 ghost use Rattle.std.specs.Prelude.{◌≡◌, IfOk, IfSome, map, slice_get, ◌+◌, ◌<◌, OnOk, Some, [], length, ℕ, slice_set, true};
-ghost use Rattle.symbols65.specs.declared.resolving.attempt.Source.TheVariants.{Finals};
-ghost use Rattle.symbols65.specs.Resolving.{AreHung, HangsOn, Reaches, bare, hung_on, needed_in, may_be_looked_for, tried, IsTable, KeepsFound};
+ghost use Rattle.symbols65.specs.declared.resolving.attempt.FormSource.TheVariants.{Finals};
+ghost use Rattle.symbols65.specs.Resolving.{BlocksAreSound, IsBlockedOn, IsSameOrBlockedOn, bare, blocker_of, needed_in, may_be_looked_for, form_attempt, IsTable, KeepsFound};
 ghost use Rattle.symbols65.specs.Views.{known_by, AreNoted, is_found, without, table_of, with_definition, with_scope};
 ghost use Rattle.symbols65.specs.Tables.{key_of};
-ghost use Rattle.base65.specs.Outcome.{Finds, Gives};
+ghost use Rattle.base65.specs.Outcome.{RefinesProp, Refines};
 ghost use Rattle.ast65.specs.Faults.{is_memory};
 ghost use Rattle.symbols65.specs.declared.resolving.attempt.State.TheVariants.{Unknown, Waiting, Found};
 ghost use Rattle.semantics65.specs.Norms.{Extends, norm_of};
 ghost use Rattle.semantics65.specs.Symbols.{Definition, Scope, Symbols as Table, symbols_of};
 
-use super::attempt::{Source, State, Stop, pass_on_memory, try_last, try_norm};
+use super::attempt::{AttemptError, FormSource, State, pass_on_memory, try_last, try_norm};
 use super::finals::are_final;
 use super::keeping::{all_stand_near, any_mentions};
 use crate::table::{Key, Symbols};
@@ -32,12 +32,12 @@ fn needed_by(
     value: &Expr,
 ) -> Result<Option<usize>, AllocError>
     ensures { IfOk result (λ o. o ≡ needed_in
-        (tried (known_by symbols.now Finals) (table_of symbols.now) context value.now)) }
+        (form_attempt (known_by symbols.now Finals) (table_of symbols.now) context value.now)) }
 {
-    match try_norm(alloc, symbols, Source::Finals, context, value) {
+    match try_norm(alloc, symbols, FormSource::Finals, context, value) {
         Ok(_) => Ok(None),
-        Err(Stop::Needs(place)) => Ok(Some(place)),
-        Err(Stop::Fault(fault)) => {
+        Err(AttemptError::Needs(place)) => Ok(Some(place)),
+        Err(AttemptError::Fault(fault)) => {
             pass_on_memory(&fault)?;
             Ok(None)
         }
@@ -46,7 +46,7 @@ fn needed_by(
 
 /// The constant on which the one at a place hangs, where that is plain already.
 fn needed_at(alloc: Global, symbols: &Symbols, place: usize) -> Result<Option<usize>, AllocError>
-    ensures { IfOk result (λ o. IfSome o (λ k. HangsOn (table_of symbols.now) place k)) }
+    ensures { IfOk result (λ o. IfSome o (λ k. IsBlockedOn (table_of symbols.now) place k)) }
 {
     let Some(definition) = symbols.definition(place) else {
         return Ok(None);
@@ -63,18 +63,21 @@ fn needed_at(alloc: Global, symbols: &Symbols, place: usize) -> Result<Option<us
 pub fn may_be_looked_for(states: &[State], place: usize) -> bool
     ensures { result ≡ may_be_looked_for (slice_get states.now place) }
 {
-    matches!(states.get(place), Some(State::Unknown | State::Hangs(_)))
+    matches!(
+        states.get(place),
+        Some(State::Unknown | State::BlockedOn(_))
+    )
 }
 
 /// Lets constants hang on others, where their forms aren't found.
-pub fn hang_all(
+pub fn mark_blocked(
     alloc: Global,
     symbols: &Symbols,
     states: &mut [State],
     places: &[usize],
 ) -> Result<(), AllocError>
     ensures same { map bare states.new ≡ map bare states.old }
-    ensures hung { AreHung (table_of symbols.now) states.old → AreHung (table_of symbols.now) states.new }
+    ensures hung { BlocksAreSound (table_of symbols.now) states.old → BlocksAreSound (table_of symbols.now) states.new }
 {
     for place in places {
         if !may_be_looked_for(states, *place) {
@@ -83,47 +86,47 @@ pub fn hang_all(
         let Some(next) = needed_at(alloc, symbols, *place)? else {
             continue;
         };
-        states[*place] = State::Hangs(next);
+        states[*place] = State::BlockedOn(next);
     }
     Ok(())
 }
 
 /// The constant on which the one at a place hangs, if it does.
-fn hung_on(states: &[State], place: usize) -> Option<usize>
-    ensures { result ≡ hung_on (slice_get states.now place) }
+fn blocker_of(states: &[State], place: usize) -> Option<usize>
+    ensures { result ≡ blocker_of (slice_get states.now place) }
 {
     match states.get(place) {
-        Some(State::Hangs(next)) => Some(*next),
+        Some(State::BlockedOn(next)) => Some(*next),
         _ => None,
     }
 }
 
 /// From a constant that hangs on another to that one, or to the one on which that hangs, on which it then hangs itself:
 /// so the way becomes shorter each time.
-fn hop(states: &mut [State], place: usize) -> Option<usize>
+fn halve_path(states: &mut [State], place: usize) -> Option<usize>
     ensures same { map bare states.new ≡ map bare states.old }
-    ensures hung { (y : Table) → AreHung y states.old → AreHung y states.new }
-    ensures next { IfSome result (λ k. (y : Table) → AreHung y states.old → HangsOn y place k) }
+    ensures hung { (y : Table) → BlocksAreSound y states.old → BlocksAreSound y states.new }
+    ensures next { IfSome result (λ k. (y : Table) → BlocksAreSound y states.old → IsBlockedOn y place k) }
 {
-    let next = hung_on(states, place)?;
-    match hung_on(states, next) {
-        Some(behind) => {
-            states[place] = State::Hangs(behind);
-            Some(behind)
+    let next = blocker_of(states, place)?;
+    match blocker_of(states, next) {
+        Some(following) => {
+            states[place] = State::BlockedOn(following);
+            Some(following)
         }
         None => Some(next),
     }
 }
 
 /// The last of the constants of which each hangs on the next, from one on.
-pub fn root(states: &mut [State], place: usize) -> usize
+pub fn find_root(states: &mut [State], place: usize) -> usize
     ensures same { map bare states.new ≡ map bare states.old }
-    ensures hung { (y : Table) → AreHung y states.old → AreHung y states.new }
-    ensures root { (y : Table) → AreHung y states.old → Reaches y place result }
+    ensures hung { (y : Table) → BlocksAreSound y states.old → BlocksAreSound y states.new }
+    ensures root { (y : Table) → BlocksAreSound y states.old → IsSameOrBlockedOn y place result }
 {
     let mut last = place;
     for _ in 0..states.len() {
-        match hop(states, last) {
+        match halve_path(states, last) {
             Some(next) => last = next,
             None => return last,
         }
@@ -212,7 +215,7 @@ impl NormCache {
     pub fn forget(&mut self)
         requires { (j : ℕ) → slice_get self.old.states.items j ≡ Some Waiting → ⊥ }
         ensures long { length self.new.states.items ≡ length self.old.states.items }
-        ensures table { (x y : Table) → AreHung x self.old.states.items → Extends x y → length self.old.states.items ≡ length y.definitions → IsTable y self.new.states.items }
+        ensures table { (x y : Table) → BlocksAreSound x self.old.states.items → Extends x y → length self.old.states.items ≡ length y.definitions → IsTable y self.new.states.items }
     {
         forget_noted(&mut self.states, &mut self.noted);
     }
@@ -243,25 +246,25 @@ impl NormCache {
         waiting: &[usize],
     ) -> Result<(), AllocError>
         ensures same { map bare self.new.states.items ≡ map bare (without self.old.states.items waiting.now) }
-        ensures hung { AreHung (table_of symbols.now) (without self.old.states.items waiting.now) → AreHung (table_of symbols.now) self.new.states.items }
+        ensures hung { BlocksAreSound (table_of symbols.now) (without self.old.states.items waiting.now) → BlocksAreSound (table_of symbols.now) self.new.states.items }
     {
         lose_all(&mut self.states, waiting);
         // The last one's fault is its own.
         match waiting.split_last() {
-            Some((_, others)) => hang_all(alloc, symbols, &mut self.states, others),
+            Some((_, others)) => mark_blocked(alloc, symbols, &mut self.states, others),
             None => Ok(()),
         }
     }
 
     /// The constant whose form is looked for where that of another is needed: the last on which it hangs, or itself if
     /// that one's form is found.
-    fn behind(&mut self, place: usize) -> usize
+    fn following(&mut self, place: usize) -> usize
         ensures same { map bare self.new.states.items ≡ map bare self.old.states.items }
-        ensures hung { (y : Table) → AreHung y self.old.states.items → AreHung y self.new.states.items }
-        ensures reached { (y : Table) → AreHung y self.old.states.items → Reaches y place result }
+        ensures hung { (y : Table) → BlocksAreSound y self.old.states.items → BlocksAreSound y self.new.states.items }
+        ensures reached { (y : Table) → BlocksAreSound y self.old.states.items → IsSameOrBlockedOn y place result }
         ensures found { is_found (slice_get self.new.states.items result) ≡ true → result ≡ place }
     {
-        let last = root(&mut self.states, place);
+        let last = find_root(&mut self.states, place);
         if is_found(&self.states, last) {
             place
         } else {
@@ -279,8 +282,8 @@ impl NormCache {
         value: &Expr,
     ) -> Result<Norm, AsmFault>
         requires table { IsTable (table_of symbols.now) self.old.states.items }
-        ensures form { Gives is_memory (λ f. f) result (norm_of (table_of symbols.now) context value.now) }
-        ensures table { Finds is_memory (λ _. IsTable (table_of symbols.now) self.new.states.items) result }
+        ensures form { Refines is_memory (λ f. f) result (norm_of (table_of symbols.now) context value.now) }
+        ensures table { RefinesProp is_memory (λ _. IsTable (table_of symbols.now) self.new.states.items) result }
     {
         let mut waiting: Vec<usize> = Vec::new(alloc);
         'find: loop {
@@ -290,12 +293,12 @@ impl NormCache {
                     None => return Ok(form),
                     Some(last) => self.settle(last, form)?,
                 },
-                Err(Stop::Fault(fault)) => {
+                Err(AttemptError::Fault(fault)) => {
                     self.give_up(alloc, symbols, &waiting)?;
                     return Err(fault);
                 }
-                Err(Stop::Needs(place)) => {
-                    let next = self.behind(place);
+                Err(AttemptError::Needs(place)) => {
+                    let next = self.following(place);
                     if !may_be_looked_for(&self.states, next) {
                         self.give_up(alloc, symbols, &waiting)?;
                         return Err(AsmFault::Circular);
@@ -340,7 +343,7 @@ fn forget_noted(states: &mut [State], noted: &mut Vec<usize>)
     ensures noted { AreNoted states.new noted.new.items }
     ensures idle { (j : ℕ) → slice_get states.new j ≡ Some Waiting → ⊥ }
     ensures none { noted.new.items ≡ [] }
-    ensures hung { (y : Table) → AreHung y states.old → AreHung y states.new }
+    ensures hung { (y : Table) → BlocksAreSound y states.old → BlocksAreSound y states.new }
 {
     'places: while let Some(place) = noted.pop() {
         lose(states, place);

@@ -1,9 +1,9 @@
 //! Forms that are final: that stay whatever statements follow; and those of numbers alone.
 
 ghost use Rattle.std.specs.Prelude.{IfSome, ◌≡◌, IfOk, Result, ◌∷◌, [], None, Some, false, length, true};
-ghost use Rattle.symbols65.specs.Resolving.{IsNumber, MeansAlways, MeansFinally, Operands, binary_form, prefix_form, IsFinalWithin, plain_part};
+ghost use Rattle.symbols65.specs.Resolving.{IsNumber, MeansAlways, MeansFinally, EachOperand, binary_form, prefix_form, IsFinalWithin, plain_part};
 ghost use Rattle.std.specs.Result.{result_ok};
-ghost use Rattle.base65.specs.Outcome.{Gives};
+ghost use Rattle.base65.specs.Outcome.{Refines};
 ghost use Rattle.object65.specs.Form.{Form};
 ghost use Rattle.object65.specs.Folding.{lacks_memory};
 ghost use Rattle.object65.specs.declared.folding.FormFault.{FormFault};
@@ -11,7 +11,7 @@ ghost use Rattle.syntax65.specs.Trees.{name as name_tree};
 ghost use Rattle.semantics65.specs.Norms.{IsFinal};
 ghost use Rattle.symbols65.specs.Views.{table_of};
 
-use super::attempt::{Source, Stop, address, defined, pass_on_memory};
+use super::attempt::{AttemptError, FormSource, address, defined, pass_on_memory};
 use super::meaning::{last_in, plain_part, scopes_in};
 use super::scopes::scope_of;
 use crate::table::{Key, Symbols};
@@ -42,7 +42,7 @@ pub fn number_of(value: &Expr) -> Option<i64>
 
 /// What folding gives, if anything.
 fn folded(form: Result<Norm, FormFault>) -> Result<Option<Norm>, AllocError>
-    ensures { (r : Result Form FormFault) → Gives lacks_memory (λ f. f) form r →
+    ensures { (r : Result Form FormFault) → Refines lacks_memory (λ f. f) form r →
         IfOk result (λ f. f ≡ result_ok r) }
 {
     match form {
@@ -136,7 +136,7 @@ fn final_place(symbols: &Symbols, context: Context, operand: &Expr) -> Option<us
 /// Whether each operand of an expression means the same whatever statements follow.
 pub fn are_final(symbols: &Symbols, context: Context, value: &Expr) -> bool
     ensures { result ≡ true →
-        Operands (MeansFinally (table_of symbols.now) context) value.now }
+        EachOperand (MeansFinally (table_of symbols.now) context) value.now }
 {
     match value.kind() {
         ExprKind::Number(_) | ExprKind::Here => true,
@@ -167,10 +167,10 @@ fn final_operand(
     let Some(place) = final_place(symbols, context, operand) else {
         return Ok(None);
     };
-    match defined(alloc, symbols, Source::Finals, place) {
+    match defined(alloc, symbols, FormSource::Finals, place) {
         Ok(form) => Ok(Some(form)),
-        Err(Stop::Needs(_)) => Ok(None),
-        Err(Stop::Fault(fault)) => {
+        Err(AttemptError::Needs(_)) => Ok(None),
+        Err(AttemptError::Fault(fault)) => {
             pass_on_memory(&fault)?;
             // A fault is found behind the last line.
             Ok(None)
@@ -190,7 +190,7 @@ fn lasting_form(
         (table_of symbols.now) context value.now f) }
 {
     match value.kind() {
-        ExprKind::Number(number) => Ok(Some(Norm::new(Node::Lit(i64::from(*number))))),
+        ExprKind::Number(number) => Ok(Some(Norm::new(Node::NumberNode(i64::from(*number))))),
         ExprKind::Here => Ok(Some(address(context))),
         ExprKind::Prefix(op, part) => {
             let part = lasting_form(alloc, symbols, context, part)?;
@@ -227,7 +227,7 @@ pub fn stable_form(
         (table_of symbols.now) context value.now f) }
 {
     if let Some(number) = number_of(value) {
-        return Ok(Some(Norm::new(Node::Lit(number))));
+        return Ok(Some(Norm::new(Node::NumberNode(number))));
     }
     lasting_form(alloc, symbols, context, value)
 }

@@ -1,15 +1,15 @@
 //! What operands and the definitions of names mean.
 
-ghost use Rattle.base65.specs.Outcome.{Gives};
+ghost use Rattle.base65.specs.Outcome.{Refines};
 ghost use Rattle.object65.specs.Folding.{lacks_memory};
 ghost use Rattle.object65.specs.Form.{Form};
 ghost use Rattle.object65.specs.declared.folding.FormFault.{FormFault};
 ghost use Rattle.semantics65.specs.Contents.{operand_form};
 ghost use Rattle.ast65.specs.Faults.{is_memory};
-ghost use Rattle.semantics65.specs.Norms.{folded};
+ghost use Rattle.semantics65.specs.Norms.{fold_result};
 ghost use Rattle.std.specs.Prelude.{◌≡◌, ◌+◌, ◌-◌, Result, Some};
 ghost use Rattle.syntax65.specs.Trees.{name as name_tree};
-ghost use Rattle.semantics65.specs.Symbols.{meaning_of, scoped_meaning, backward_meaning, last_of, member_meaning, or_fault, plain_meaning, scopes_of, unnamed_meaning, imported};
+ghost use Rattle.semantics65.specs.Symbols.{binding_of, scoped_meaning, backward_meaning, last_of, member_meaning, or_fault, plain_meaning, scopes_of, unnamed_meaning, import_index};
 ghost use Rattle.symbols65.specs.Resolving.{defined_place, meaning_in, plain_part};
 ghost use Rattle.symbols65.specs.Views.{table_of};
 ghost use Rattle.std.specs.Option.{ok_or, option_map};
@@ -19,7 +19,7 @@ ghost use Rattle.ast65.specs.declared.fault.AsmFault.TheVariants.{NoSuchLabel, U
 use super::scopes::{defined_outward, scope_of, shown};
 use crate::table::{Key, Symbols};
 use ast65::AsmFault;
-use base65::{Op2, Sequence};
+use base65::{ListVec, Op2};
 use object65::{FormFault, Node, Norm, Width};
 use semantics65::Context;
 use std::alloc::Global;
@@ -27,8 +27,8 @@ use syntax65::{Expr, ExprKind, Name};
 
 /// What folding gives, or its fault.
 pub fn folded(form: Result<Norm, FormFault>) -> Result<Norm, AsmFault>
-    ensures { (r : Result Form FormFault) → Gives lacks_memory (λ f. f) form r →
-        Gives is_memory (λ f. f) result (folded r) }
+    ensures { (r : Result Form FormFault) → Refines lacks_memory (λ f. f) form r →
+        Refines is_memory (λ f. f) result (fold_result r) }
 {
     match form {
         Ok(form) => Ok(form),
@@ -45,12 +45,15 @@ pub fn operand_form(
     context: Context,
     form: Norm,
 ) -> Result<Norm, AsmFault>
-    ensures { Gives is_memory (λ f. f) result (operand_form width context form) }
+    ensures { Refines is_memory (λ f. f) result (operand_form width context form) }
 {
     match width {
         Width::Branch => {
-            let behind = Norm::new(Node::Sec(context.segment, i64::from(context.offset) + 2));
-            folded(Norm::binary(alloc, Op2::Subtract, form, behind))
+            let following = Norm::new(Node::SectionOffset(
+                context.segment,
+                i64::from(context.offset) + 2,
+            ));
+            folded(Norm::binary(alloc, Op2::Subtract, form, following))
         }
         _ => Ok(form),
     }
@@ -58,7 +61,7 @@ pub fn operand_form(
 
 /// The place of the definition that a name means where it stands, if it means one: none where it is imported.
 pub fn definition_of(symbols: &Symbols, context: Context, name: &Name) -> Option<usize>
-    ensures { result ≡ defined_place (meaning_of (table_of symbols.now) context
+    ensures { result ≡ defined_place (binding_of (table_of symbols.now) context
         (name_tree name.now.is_global name.now.parts)) }
 {
     match plain_part(name) {
@@ -76,7 +79,7 @@ pub fn definition_of(symbols: &Symbols, context: Context, name: &Name) -> Option
 
 /// What a name means.
 #[derive(Clone, Copy)]
-pub enum Meaning {
+pub enum Binding {
     /// The definition at this place.
     Defined(usize),
     /// An import, by its place among the imports in the order in which they were first named.
@@ -84,18 +87,18 @@ pub enum Meaning {
 }
 
 /// What is defined at a place, or imported by a name where nothing is.
-fn defined_or_imported(symbols: &Symbols, defined: Option<usize>, name: &[u8]) -> Option<Meaning>
-    ensures { (fault : AsmFault) → or_fault fault defined (imported (table_of symbols.now) name.now) ≡ ok_or (option_map meaning_in result) fault }
+fn defined_or_imported(symbols: &Symbols, defined: Option<usize>, name: &[u8]) -> Option<Binding>
+    ensures { (fault : AsmFault) → or_fault fault defined (import_index (table_of symbols.now) name.now) ≡ ok_or (option_map meaning_in result) fault }
 {
     if let Some(place) = defined {
-        return Some(Meaning::Defined(place));
+        return Some(Binding::Defined(place));
     }
     let key = symbols.imported(name)?;
-    Some(Meaning::Imported(key))
+    Some(Binding::Imported(key))
 }
 
 /// What a name means in one scope.
-fn member(symbols: &Symbols, scope: usize, name: &[u8]) -> Option<Meaning>
+fn member(symbols: &Symbols, scope: usize, name: &[u8]) -> Option<Binding>
     ensures { (absent lost : AsmFault) → member_meaning (table_of symbols.now) name.now absent lost (Some scope) ≡ ok_or (option_map meaning_in result) absent }
 {
     let defined = symbols.defined(Key::Named { scope, name });
@@ -103,20 +106,20 @@ fn member(symbols: &Symbols, scope: usize, name: &[u8]) -> Option<Meaning>
         return defined_or_imported(symbols, defined, name);
     }
     match defined {
-        Some(place) => Some(Meaning::Defined(place)),
+        Some(place) => Some(Binding::Defined(place)),
         None => None,
     }
 }
 
 /// A meaning of a name that was looked for.
-fn named(alloc: Global, meaning: Option<Meaning>, name: &[u8]) -> Result<Meaning, AsmFault>
-    ensures { Gives is_memory meaning_in result (ok_or (option_map meaning_in meaning) (Undefined name.now)) }
+fn named(alloc: Global, meaning: Option<Binding>, name: &[u8]) -> Result<Binding, AsmFault>
+    ensures { Refines is_memory meaning_in result (ok_or (option_map meaning_in meaning) (Undefined name.now)) }
 {
     match meaning {
         Some(meaning) => Ok(meaning),
         None => {
             let name = Vec::from_slice(alloc, name)?;
-            Err(AsmFault::Undefined(Sequence::from_vec(name)))
+            Err(AsmFault::Undefined(ListVec::from_vec(name)))
         }
     }
 }
@@ -127,8 +130,8 @@ fn plain_meaning(
     symbols: &Symbols,
     scope: usize,
     name: &[u8],
-) -> Result<Meaning, AsmFault>
-    ensures { Gives is_memory meaning_in result (plain_meaning (table_of symbols.now) scope name.now) }
+) -> Result<Binding, AsmFault>
+    ensures { Refines is_memory meaning_in result (plain_meaning (table_of symbols.now) scope name.now) }
 {
     let defined = defined_outward(symbols, scope, name);
     named(alloc, defined_or_imported(symbols, defined, name), name)
@@ -140,8 +143,8 @@ fn scoped_meaning(
     symbols: &Symbols,
     context: Context,
     name: &Name,
-) -> Result<Meaning, AsmFault>
-    ensures { Gives is_memory meaning_in result (scoped_meaning (table_of symbols.now) context name.now.is_global name.now.parts) }
+) -> Result<Binding, AsmFault>
+    ensures { Refines is_memory meaning_in result (scoped_meaning (table_of symbols.now) context name.now.is_global name.now.parts) }
 {
     let parts = name.parts.as_slice();
     let opened = context.opened as usize;
@@ -162,7 +165,7 @@ fn scoped_meaning(
 }
 
 /// The parts that name scopes: all but the last.
-pub fn scopes_in(parts: &[Sequence<u8>]) -> &[Sequence<u8>]
+pub fn scopes_in(parts: &[ListVec<u8>]) -> &[ListVec<u8>]
     ensures { result.now ≡ scopes_of parts.now }
 {
     match parts.split_last() {
@@ -171,7 +174,7 @@ pub fn scopes_in(parts: &[Sequence<u8>]) -> &[Sequence<u8>]
     }
 }
 
-pub fn last_in(parts: &[Sequence<u8>]) -> &[u8]
+pub fn last_in(parts: &[ListVec<u8>]) -> &[u8]
     ensures { result.now ≡ last_of parts.now }
 {
     match parts.split_last() {
@@ -191,15 +194,15 @@ pub fn plain_part(name: &Name) -> Option<&[u8]>
 }
 
 /// The unnamed label before which so many stand.
-fn unnamed_label(symbols: &Symbols, count: usize) -> Option<Meaning>
+fn unnamed_label(symbols: &Symbols, count: usize) -> Option<Binding>
     ensures { unnamed_meaning (table_of symbols.now) count ≡ ok_or (option_map meaning_in result) NoSuchLabel }
 {
     let place = symbols.defined(Key::Unnamed(count))?;
-    Some(Meaning::Defined(place))
+    Some(Binding::Defined(place))
 }
 
 /// An unnamed label behind a use before which so many stand.
-fn label_behind(symbols: &Symbols, before: u32, steps: usize) -> Option<Meaning>
+fn label_after(symbols: &Symbols, before: u32, steps: usize) -> Option<Binding>
     ensures { unnamed_meaning (table_of symbols.now) (before + steps - 1) ≡ ok_or (option_map meaning_in result) NoSuchLabel }
 {
     let count = match steps.checked_sub(1) {
@@ -211,7 +214,7 @@ fn label_behind(symbols: &Symbols, before: u32, steps: usize) -> Option<Meaning>
 }
 
 /// An unnamed label before a use before which so many stand.
-fn label_before(symbols: &Symbols, before: u32, steps: usize) -> Option<Meaning>
+fn label_before(symbols: &Symbols, before: u32, steps: usize) -> Option<Binding>
     ensures { backward_meaning (table_of symbols.now) before steps ≡ ok_or (option_map meaning_in result) NoSuchLabel }
 {
     let count = (before as usize).checked_sub(steps)?;
@@ -219,13 +222,13 @@ fn label_before(symbols: &Symbols, before: u32, steps: usize) -> Option<Meaning>
 }
 
 /// What an operand means where it stands. No memory is taken where it means something.
-pub fn meaning_of(
+pub fn binding_of(
     alloc: Global,
     symbols: &Symbols,
     context: Context,
     operand: &Expr,
-) -> Result<Meaning, AsmFault>
-    ensures { Gives is_memory meaning_in result (meaning_of (table_of symbols.now) context operand.now) }
+) -> Result<Binding, AsmFault>
+    ensures { Refines is_memory meaning_in result (binding_of (table_of symbols.now) context operand.now) }
 {
     match operand.kind() {
         ExprKind::Plain(name) => {
@@ -239,12 +242,12 @@ pub fn meaning_of(
             let region = context.region as usize;
             let name = name.as_slice();
             match symbols.defined(Key::Cheap { region, name }) {
-                Some(place) => Ok(Meaning::Defined(place)),
+                Some(place) => Ok(Binding::Defined(place)),
                 None => named(alloc, None, name),
             }
         }
         ExprKind::Forward(steps) => {
-            label_behind(symbols, context.unnamed, *steps).ok_or(AsmFault::NoSuchLabel)
+            label_after(symbols, context.unnamed, *steps).ok_or(AsmFault::NoSuchLabel)
         }
         ExprKind::Backward(steps) => {
             label_before(symbols, context.unnamed, *steps).ok_or(AsmFault::NoSuchLabel)

@@ -2,11 +2,11 @@
 
 ghost use Rattle.std.specs.Prelude.{◌≡◌, ◌++◌, IfOk, None, OnOk, Some, take, false, ℕ, suc, List, position};
 ghost use Rattle.std.specs.Str.{bytes_eq};
-ghost use Rattle.semantics65.specs.Symbols.{joined, shown, enclosing, first_found, inside, scope_from, scope_in, scopes_from, defined, named};
+ghost use Rattle.semantics65.specs.Symbols.{qualified_name, display_name, enclosing, first_found, nested_scope, scope_from, scope_in, scopes_from, definition_index, named};
 ghost use Rattle.symbols65.specs.Views.{table_of, words_of};
 
 use crate::table::Symbols;
-use base65::Sequence;
+use base65::ListVec;
 use semantics65::GLOBAL_SCOPE;
 use std::alloc::{AllocError, Global};
 
@@ -14,14 +14,14 @@ use std::alloc::{AllocError, Global};
 const BETWEEN: &[u8] = b"::";
 
 /// Adds parts with `::` between them.
-fn add_joined(text: &mut Sequence<u8>, parts: &[Sequence<u8>]) -> Result<(), AllocError>
-    ensures { OnOk result (text.new ≡ text.old ++ joined parts.now) }
+fn add_joined(text: &mut ListVec<u8>, parts: &[ListVec<u8>]) -> Result<(), AllocError>
+    ensures { OnOk result (text.new ≡ text.old ++ qualified_name parts.now) }
 {
-    let Some((first, behind)) = parts.split_first() else {
+    let Some((first, following)) = parts.split_first() else {
         return Ok(());
     };
     text.extend_from_slice(first.as_slice())?;
-    for part in behind {
+    for part in following {
         text.extend_from_slice(BETWEEN)?;
         text.extend_from_slice(part.as_slice())?;
     }
@@ -32,11 +32,11 @@ fn add_joined(text: &mut Sequence<u8>, parts: &[Sequence<u8>]) -> Result<(), All
 pub fn shown(
     alloc: Global,
     is_global: bool,
-    parts: &[Sequence<u8>],
-) -> Result<Sequence<u8>, AllocError>
-    ensures { IfOk result (λ text. text ≡ shown is_global parts.now) }
+    parts: &[ListVec<u8>],
+) -> Result<ListVec<u8>, AllocError>
+    ensures { IfOk result (λ text. text ≡ display_name is_global parts.now) }
 {
-    let mut text = Sequence::new(alloc);
+    let mut text = ListVec::new(alloc);
     if is_global {
         text.extend_from_slice(BETWEEN)?;
     }
@@ -49,8 +49,8 @@ const GLOBAL: usize = GLOBAL_SCOPE as usize;
 
 /// The place of the definition of a word in a scope, where it is known whether only the global one has one.
 fn defined_in(symbols: &Symbols, scope: usize, word: usize, is_inner: bool) -> Option<usize>
-    requires { is_inner ≡ false → (inner : ℕ) (n : List ℕ) → position (bytes_eq n) (words_of symbols.now) ≡ Some word → defined (table_of symbols.now) (named (suc inner) n) ≡ None }
-    ensures { (n : List ℕ) → position (bytes_eq n) (words_of symbols.now) ≡ Some word → result ≡ defined (table_of symbols.now) (named scope n) }
+    requires { is_inner ≡ false → (inner : ℕ) (n : List ℕ) → position (bytes_eq n) (words_of symbols.now) ≡ Some word → definition_index (table_of symbols.now) (named (suc inner) n) ≡ None }
+    ensures { (n : List ℕ) → position (bytes_eq n) (words_of symbols.now) ≡ Some word → result ≡ definition_index (table_of symbols.now) (named scope n) }
 {
     if !is_inner && scope != GLOBAL {
         return None;
@@ -60,7 +60,7 @@ fn defined_in(symbols: &Symbols, scope: usize, word: usize, is_inner: bool) -> O
 
 /// The place of what a name means that is defined: in the innermost scope that defines it, from one outward.
 pub fn defined_outward(symbols: &Symbols, scope: usize, name: &[u8]) -> Option<usize>
-    ensures { result ≡ first_found (λ s. defined (table_of symbols.now) (named s name.now)) (scopes_from (table_of symbols.now).scopes scope) }
+    ensures { result ≡ first_found (λ s. definition_index (table_of symbols.now) (named s name.now)) (scopes_from (table_of symbols.now).scopes scope) }
 {
     let word = symbols.word(name)?;
     let is_inner = symbols.is_inner(word);
@@ -123,9 +123,9 @@ fn inner_scope(
     symbols: &Symbols,
     opened: usize,
     scope: usize,
-    names: &[Sequence<u8>],
+    names: &[ListVec<u8>],
 ) -> Option<usize>
-    ensures { result ≡ inside (take opened (table_of symbols.now).scopes) names.now (Some scope) }
+    ensures { result ≡ nested_scope (take opened (table_of symbols.now).scopes) names.now (Some scope) }
 {
     let mut scope = scope;
     for name in names {
@@ -140,7 +140,7 @@ pub fn scope_of(
     opened: usize,
     scope: usize,
     is_global: bool,
-    names: &[Sequence<u8>],
+    names: &[ListVec<u8>],
 ) -> Option<usize>
     ensures { result ≡ scope_from (take opened (table_of symbols.now).scopes) scope is_global names.now }
 {

@@ -1,12 +1,12 @@
 //! Normal forms by those that are final, and else by a search.
 
-ghost use Rattle.base65.specs.Outcome.{Finds, Gives};
+ghost use Rattle.base65.specs.Outcome.{RefinesProp, Refines};
 ghost use Rattle.ast65.specs.Faults.{is_memory};
 ghost use Rattle.semantics65.specs.Norms.{defined_form, norm_of};
-ghost use Rattle.symbols65.specs.Resolving.{IsTable, Settles};
+ghost use Rattle.symbols65.specs.Resolving.{IsTable, RefinesAttempt};
 ghost use Rattle.symbols65.specs.Views.{table_of};
 
-use super::attempt::{Source, Stop, address, try_norm};
+use super::attempt::{AttemptError, FormSource, address, try_norm};
 use super::cache::NormCache;
 use crate::table::Symbols;
 use ast65::AsmFault;
@@ -21,10 +21,10 @@ pub fn settled(
     symbols: &Symbols,
     context: Context,
     value: &Expr,
-) -> Result<Norm, Stop>
-    ensures { Settles (norm_of (table_of symbols.now) context value.now) result }
+) -> Result<Norm, AttemptError>
+    ensures { RefinesAttempt (norm_of (table_of symbols.now) context value.now) result }
 {
-    try_norm(alloc, symbols, Source::Finals, context, value)
+    try_norm(alloc, symbols, FormSource::Finals, context, value)
 }
 
 /// The normal form of an expression. After a fault the table of forms is one still.
@@ -36,15 +36,15 @@ pub fn norm(
     value: &Expr,
 ) -> Result<Norm, AsmFault>
     requires { IsTable (table_of symbols.now) known.old.states.items }
-    ensures form { Gives is_memory (λ f. f) result
+    ensures form { Refines is_memory (λ f. f) result
         (norm_of (table_of symbols.now) context value.now) }
-    ensures table { Finds is_memory
+    ensures table { RefinesProp is_memory
         (λ _. IsTable (table_of symbols.now) known.new.states.items) result }
 {
     match settled(alloc, symbols, context, value) {
         Ok(form) => Ok(form),
-        Err(Stop::Fault(fault)) => Err(fault),
-        Err(Stop::Needs(_)) => known.find(alloc, symbols, context, value),
+        Err(AttemptError::Fault(fault)) => Err(fault),
+        Err(AttemptError::Needs(_)) => known.find(alloc, symbols, context, value),
     }
 }
 
@@ -56,8 +56,8 @@ pub fn defined_norm(
     place: usize,
 ) -> Result<Norm, AsmFault>
     requires { IsTable (table_of symbols.now) known.old.states.items }
-    ensures form { Gives is_memory (λ f. f) result (defined_form (table_of symbols.now) place) }
-    ensures table { Finds is_memory
+    ensures form { Refines is_memory (λ f. f) result (defined_form (table_of symbols.now) place) }
+    ensures table { RefinesProp is_memory
         (λ _. IsTable (table_of symbols.now) known.new.states.items) result }
 {
     match symbols.definition(place) {

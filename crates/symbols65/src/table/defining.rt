@@ -2,11 +2,11 @@
 
 ghost use Rattle.std.specs.Prelude.{◌≡◌, ◌++◌, ◌∷◌, [], IfOk, None, OnErr, OnOk, Some, length, position, slice_get, true, ℕ};
 ghost use Rattle.indexmap.specs.IndexMap.{keys};
-ghost use Rattle.semantics65.specs.Symbols.{defined};
+ghost use Rattle.semantics65.specs.Symbols.{definition_index};
 ghost use Rattle.symbols65.specs.Tables.{IsCounted, IsInnerKnown, KeepsFinal, definition_in, definition_seen, entry_of, first_number, key_of, same_entry, word_of};
 ghost use Rattle.symbols65.specs.Views.{table_of, with_definition, words_of};
 
-use super::symbols::{Definition, Entry, Key, Symbols};
+use super::symbols::{Definition, InternedKey, Key, Symbols};
 use base65::Seed;
 use indexmap::IndexMap;
 use semantics65::GLOBAL_SCOPE;
@@ -16,7 +16,7 @@ use std::alloc::{AllocError, Global};
 const GLOBAL: usize = GLOBAL_SCOPE as usize;
 
 /// The entry of a key, whose name is put in where it is new.
-fn entry(alloc: Global, symbols: &mut Symbols, key: Key<'_>) -> Result<Entry, AllocError>
+fn entry(alloc: Global, symbols: &mut Symbols, key: Key<'_>) -> Result<InternedKey, AllocError>
     ensures table { table_of symbols.new ≡ table_of symbols.old }
     ensures definitions { symbols.new.definitions ≡ symbols.old.definitions }
     ensures entry { IfOk result (λ e. entry_of (words_of symbols.new) (key_of key.entry) ≡ Some e) }
@@ -25,20 +25,20 @@ fn entry(alloc: Global, symbols: &mut Symbols, key: Key<'_>) -> Result<Entry, Al
     match key {
         Key::Named { scope, name } => {
             let word = symbols.number(alloc, name)?;
-            Ok(Entry::Named { scope, word })
+            Ok(InternedKey::Named { scope, word })
         }
         Key::Cheap { region, name } => {
             let word = symbols.number(alloc, name)?;
-            Ok(Entry::Cheap { region, word })
+            Ok(InternedKey::Cheap { region, word })
         }
-        Key::Unnamed(count) => Ok(Entry::Unnamed(count)),
+        Key::Unnamed(count) => Ok(InternedKey::Unnamed(count)),
     }
 }
 
 /// Adds a definition behind all others, where there is none by its entry.
 fn push(
-    definitions: &mut IndexMap<Entry, Definition, Seed>,
-    entry: Entry,
+    definitions: &mut IndexMap<InternedKey, Definition, Seed>,
+    entry: InternedKey,
     definition: Definition,
 ) -> Result<(), AllocError>
     requires { position (same_entry entry) (keys definitions.old) ≡ None }
@@ -65,18 +65,18 @@ fn note_inner(inner: &mut Vec<bool>, word: usize) -> Result<(), AllocError>
 }
 
 /// Notes what is known of words by a definition.
-fn note(inner: &mut Vec<bool>, entry: Entry) -> Result<(), AllocError>
+fn note(inner: &mut Vec<bool>, entry: InternedKey) -> Result<(), AllocError>
     ensures noted { OnOk result (IsInnerKnown inner.new.items entry) }
     ensures kept { (w : ℕ) → slice_get inner.old.items w ≡ Some true → slice_get inner.new.items w ≡ Some true }
 {
     match entry {
-        Entry::Named { scope, word } if scope != GLOBAL => note_inner(inner, word),
+        InternedKey::Named { scope, word } if scope != GLOBAL => note_inner(inner, word),
         _ => Ok(()),
     }
 }
 
 /// Adds a definition behind all others, where its entry has none.
-fn put(symbols: &mut Symbols, entry: Entry, definition: Definition) -> Result<(), AllocError>
+fn put(symbols: &mut Symbols, entry: InternedKey, definition: Definition) -> Result<(), AllocError>
     requires number { first_number (words_of symbols.old) (word_of entry) ≡ word_of entry }
     requires counted { IsCounted entry }
     requires form { KeepsFinal (table_of symbols.old) (length symbols.old.definitions.entries)
@@ -103,7 +103,7 @@ pub fn define(
 ) -> Result<(), AllocError>
     requires { KeepsFinal (table_of symbols.old) (length (table_of symbols.old).definitions)
         (definition_seen (key_of key) definition) definition.form }
-    ensures { OnOk result (defined (table_of symbols.old) (key_of key.entry) ≡ None →
+    ensures { OnOk result (definition_index (table_of symbols.old) (key_of key.entry) ≡ None →
         table_of symbols.new ≡ with_definition (table_of symbols.old)
         (definition_seen (key_of key.entry) definition)) }
 {

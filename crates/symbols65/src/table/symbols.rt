@@ -4,7 +4,7 @@ ghost use Rattle.std.specs.Prelude.{map};
 ghost use Rattle.indexmap.specs.IndexMap.{keys};
 ghost use Rattle.symbols65.specs.Tables.{AreCounted, AreDistinct, AreFinal, AreFinal-prop, AreInnerKnown, AreNumbered, word_of, word_opened};
 
-use super::words::Word;
+use super::words::InternedName;
 use base65::Seed;
 use indexmap::{IndexMap, IndexSet};
 use object65::Norm;
@@ -36,7 +36,7 @@ pub enum Key<'a> {
 
 /// A key, with its name by its number among the words of a table.
 #[derive(Clone, Copy, PartialEq, Eq, Hash)]
-pub enum Entry {
+pub enum InternedKey {
     Named { scope: usize, word: usize },
     Cheap { region: usize, word: usize },
     Unnamed(usize),
@@ -44,7 +44,7 @@ pub enum Entry {
 
 /// By what a scope is found: the scope in which it was opened, and its name. One without a name has a number of its own.
 #[derive(Clone, Copy, PartialEq, Eq, Hash)]
-pub enum Opening {
+pub enum ScopeKey {
     Named { within: usize, word: usize },
     Nameless { within: usize, number: usize },
 }
@@ -53,12 +53,12 @@ pub enum Opening {
 #[derive(Drop)]
 pub struct Symbols {
     /// Each name once. It is looked up as it stands, so no search makes a copy of one.
-    pub words: IndexSet<Word, Seed>,
+    pub words: IndexSet<InternedName, Seed>,
     /// Each definition, in the order of the source.
-    pub definitions: IndexMap<Entry, Definition, Seed>,
+    pub definitions: IndexMap<InternedKey, Definition, Seed>,
     /// Each scope but the global one, in the order in which they were opened, and whether it was opened by `.proc`. The
     /// one of number i + 1 is at i.
-    pub scopes: IndexMap<Opening, bool, Seed>,
+    pub scopes: IndexMap<ScopeKey, bool, Seed>,
     /// The imports in the order in which they were first named.
     pub imports: IndexSet<Vec<u8>, Seed>,
     /// Those that were imported for the zero page.

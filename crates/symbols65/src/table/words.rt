@@ -13,13 +13,13 @@ use std::hash::Hash;
 const SHORT: usize = 16;
 
 /// A name; for most nothing is allocated.
-pub type Word = SmallVec<u8, SHORT>;
+pub type InternedName = SmallVec<u8, SHORT>;
 
 /// A name that is looked up.
 #[derive(Clone, Copy, PartialEq, Eq, Hash)]
-pub struct Spelled<'a, T>(pub &'a [T]);
+pub struct NameQuery<'a, T>(pub &'a [T]);
 
-impl<T: Copy + Eq + Hash> Equivalent<SmallVec<T, SHORT>> for Spelled<'_, T> {
+impl<T: Copy + Eq + Hash> Equivalent<SmallVec<T, SHORT>> for NameQuery<'_, T> {
     ghost equivalent = { λ q k. pointwise T.eq q.0.now k.items };
 
     ghost respects_hash = { λ q k. (items_Alike (record { fed = T.respects_eq })).fed q.0.now k.items };

@@ -3,15 +3,16 @@
 ghost use Rattle.std.specs.Prelude.{◌<◌, ◌≤◌, length, IfOk, ◌≡◌};
 ghost use Rattle.syntax65.specs.Expressions.{AreNames, IsLevel, IsParsed, opening_at, leaf_of};
 ghost use Rattle.syntax65.specs.Tokens.{lexemes};
-ghost use Rattle.syntax65.specs.Faults.{is_expr_outside};
-ghost use Rattle.base65.specs.Relations.{Answers};
-ghost use Rattle.syntax65.specs.declared.expressions.words.Opening.TheVariants as opening;
+ghost use Rattle.syntax65.specs.Faults.{is_expr_system_error};
+ghost use Rattle.base65.specs.Relations.{RefinesRel};
+ghost use Rattle.syntax65.specs.declared.expressions.words.OperandStart.TheVariants as opening;
 
 use super::trees::{Expr, ExprKind, Identifier, Name, Operands};
 use super::words::{
-    ExprFault, Opening, closes_at, is_name, is_negation, is_scope, opening_at, operator_at, text_at,
+    ExprFault, OperandStart, closes_at, is_name, is_negation, is_scope, opening_at, operator_at,
+    text_at,
 };
-use crate::{Op1, Sequence, Token};
+use crate::{ListVec, Op1, Token};
 use std::alloc::{AllocError, Global};
 
 /// The names from a place on, as far as `::` goes on, and where they end.
@@ -19,20 +20,20 @@ pub fn read_parts(
     alloc: Global,
     tokens: &[Token<'_>],
     at: usize,
-) -> Result<(Sequence<Sequence<u8>>, usize), ExprFault>
+) -> Result<(ListVec<ListVec<u8>>, usize), ExprFault>
     requires { at ≤ length tokens.now }
-    ensures parts { Answers is_expr_outside (λ r. r) result (AreNames (lexemes tokens.now) at) }
+    ensures parts { RefinesRel is_expr_system_error (λ r. r) result (AreNames (lexemes tokens.now) at) }
     ensures further { IfOk result (λ r. at < r.1) }
     ensures inside { IfOk result (λ r. r.1 ≤ length tokens.now) }
 {
-    let mut parts = Sequence::new(alloc);
+    let mut parts = ListVec::new(alloc);
     let mut end = at;
     'parts: loop {
         if !is_name(tokens, end) {
             return Err(ExprFault::OperandExpected);
         }
         let part = Vec::from_slice(alloc, text_at(tokens, end))?;
-        parts.push(Sequence::from_vec(part))?;
+        parts.push(ListVec::from_vec(part))?;
         if !is_scope(tokens, end + 1) {
             return Ok((parts, end + 1));
         }
@@ -49,7 +50,7 @@ pub const MAX_DEPTH: u8 = 64;
 ///
 /// The fault of the first place where no expression can go on.
 pub fn read_expr(alloc: Global, tokens: &[Token<'_>]) -> Result<(Expr, usize), ExprFault>
-    ensures read { Answers is_expr_outside (λ r. r) result (IsParsed (lexemes tokens.now)) }
+    ensures read { RefinesRel is_expr_system_error (λ r. r) result (IsParsed (lexemes tokens.now)) }
     ensures further { IfOk result (λ r. 0 < r.1) }
     ensures bound { IfOk result (λ r. r.1 ≤ length tokens.now) }
 {
@@ -64,7 +65,7 @@ fn read_whole(
     at: usize,
     room: u8,
 ) -> Result<(Expr, usize), ExprFault>
-    ensures phrase { Answers is_expr_outside (λ r. r) result (IsLevel (lexemes tokens.now) room 6 at) }
+    ensures phrase { RefinesRel is_expr_system_error (λ r. r) result (IsLevel (lexemes tokens.now) room 6 at) }
     ensures further { IfOk result (λ r. at < r.1) }
     ensures inside { IfOk result (λ r. r.1 ≤ length tokens.now) }
 {
@@ -84,7 +85,7 @@ fn read_negated(
 ) -> Result<(Expr, usize), ExprFault>
     requires inside { at < length tokens.now }
     requires negation { opening_at (lexemes tokens.now) at ≡ opening.Negation }
-    ensures phrase { Answers is_expr_outside (λ r. r) result (IsLevel (lexemes tokens.now) room 6 at) }
+    ensures phrase { RefinesRel is_expr_system_error (λ r. r) result (IsLevel (lexemes tokens.now) room 6 at) }
     ensures further { IfOk result (λ r. at < r.1) }
     ensures inside { IfOk result (λ r. r.1 ≤ length tokens.now) }
 {
@@ -108,7 +109,7 @@ fn read_level(
     room: u8,
 ) -> Result<(Expr, usize), ExprFault>
     requires { level ≤ 5 }
-    ensures phrase { Answers is_expr_outside (λ r. r) result (IsLevel (lexemes tokens.now) room level at) }
+    ensures phrase { RefinesRel is_expr_system_error (λ r. r) result (IsLevel (lexemes tokens.now) room level at) }
     ensures further { IfOk result (λ r. at < r.1) }
     ensures inside { IfOk result (λ r. r.1 ≤ length tokens.now) }
 {
@@ -131,7 +132,7 @@ fn read_operand(
     at: usize,
     room: u8,
 ) -> Result<(Expr, usize), ExprFault>
-    ensures phrase { Answers is_expr_outside (λ r. r) result (IsLevel (lexemes tokens.now) room 0 at) }
+    ensures phrase { RefinesRel is_expr_system_error (λ r. r) result (IsLevel (lexemes tokens.now) room 0 at) }
     ensures further { IfOk result (λ r. at < r.1) }
     ensures inside { IfOk result (λ r. r.1 ≤ length tokens.now) }
 {
@@ -140,24 +141,24 @@ fn read_operand(
         return Ok((leaf, at + 1));
     }
     match opening {
-        Opening::Name => read_name(alloc, tokens, at, room),
-        Opening::Scope => read_global(alloc, tokens, at, room),
-        Opening::Prefix(op) => read_prefixed(alloc, tokens, at, room, op),
-        Opening::Parenthesis => read_enclosed(alloc, tokens, at, room),
+        OperandStart::Name => read_name(alloc, tokens, at, room),
+        OperandStart::Scope => read_global(alloc, tokens, at, room),
+        OperandStart::Prefix(op) => read_prefixed(alloc, tokens, at, room, op),
+        OperandStart::Parenthesis => read_enclosed(alloc, tokens, at, room),
         _ => Err(ExprFault::OperandExpected),
     }
 }
 
 /// The operand of one token.
-fn leaf_of(alloc: Global, opening: Opening, text: &[u8]) -> Result<Option<Expr>, AllocError>
+fn leaf_of(alloc: Global, opening: OperandStart, text: &[u8]) -> Result<Option<Expr>, AllocError>
     ensures { IfOk result (λ leaf. leaf ≡ leaf_of opening text.now) }
 {
     let kind = match opening {
-        Opening::Number(value) => ExprKind::Number(value),
-        Opening::Here => ExprKind::Here,
-        Opening::Cheap => ExprKind::Cheap(Identifier::copy_of(alloc, text)?),
-        Opening::Forward(count) => ExprKind::Forward(count),
-        Opening::Backward(count) => ExprKind::Backward(count),
+        OperandStart::Number(value) => ExprKind::Number(value),
+        OperandStart::Here => ExprKind::Here,
+        OperandStart::Cheap => ExprKind::Cheap(Identifier::copy_of(alloc, text)?),
+        OperandStart::Forward(count) => ExprKind::Forward(count),
+        OperandStart::Backward(count) => ExprKind::Backward(count),
         _ => return Ok(None),
     };
     Ok(Some(Expr::new(kind)))
@@ -171,7 +172,7 @@ fn read_name(
 ) -> Result<(Expr, usize), ExprFault>
     requires inside { at < length tokens.now }
     requires name { opening_at (lexemes tokens.now) at ≡ opening.Name }
-    ensures phrase { Answers is_expr_outside (λ r. r) result (IsLevel (lexemes tokens.now) room 0 at) }
+    ensures phrase { RefinesRel is_expr_system_error (λ r. r) result (IsLevel (lexemes tokens.now) room 0 at) }
     ensures further { IfOk result (λ r. at < r.1) }
     ensures inside { IfOk result (λ r. r.1 ≤ length tokens.now) }
 {
@@ -195,7 +196,7 @@ fn read_global(
 ) -> Result<(Expr, usize), ExprFault>
     requires inside { at < length tokens.now }
     requires scope { opening_at (lexemes tokens.now) at ≡ opening.Scope }
-    ensures phrase { Answers is_expr_outside (λ r. r) result (IsLevel (lexemes tokens.now) room 0 at) }
+    ensures phrase { RefinesRel is_expr_system_error (λ r. r) result (IsLevel (lexemes tokens.now) room 0 at) }
     ensures further { IfOk result (λ r. at < r.1) }
     ensures inside { IfOk result (λ r. r.1 ≤ length tokens.now) }
 {
@@ -217,7 +218,7 @@ fn read_prefixed(
 ) -> Result<(Expr, usize), ExprFault>
     requires inside { at < length tokens.now }
     requires prefix { opening_at (lexemes tokens.now) at ≡ opening.Prefix op }
-    ensures phrase { Answers is_expr_outside (λ r. r) result (IsLevel (lexemes tokens.now) room 0 at) }
+    ensures phrase { RefinesRel is_expr_system_error (λ r. r) result (IsLevel (lexemes tokens.now) room 0 at) }
     ensures further { IfOk result (λ r. at < r.1) }
     ensures inside { IfOk result (λ r. r.1 ≤ length tokens.now) }
 {
@@ -240,7 +241,7 @@ fn read_enclosed(
 ) -> Result<(Expr, usize), ExprFault>
     requires inside { at < length tokens.now }
     requires open { opening_at (lexemes tokens.now) at ≡ opening.Parenthesis }
-    ensures phrase { Answers is_expr_outside (λ r. r) result (IsLevel (lexemes tokens.now) room 0 at) }
+    ensures phrase { RefinesRel is_expr_system_error (λ r. r) result (IsLevel (lexemes tokens.now) room 0 at) }
     ensures further { IfOk result (λ r. at < r.1) }
     ensures inside { IfOk result (λ r. r.1 ≤ length tokens.now) }
 {

@@ -3,7 +3,7 @@
 ghost use Rattle.std.specs.Prelude.{◌≡◌, IfOk};
 ghost use Rattle.syntax65.specs.Kinds.{tree_of};
 
-use crate::{Op1, Op2, Sequence};
+use crate::{ListVec, Op1, Op2};
 use smallvec::SmallVec;
 use std::alloc::{AllocError, Global};
 use std::marker::Model;
@@ -52,7 +52,7 @@ pub struct Name {
     /// Whether it begins with `::`.
     pub is_global: bool,
     /// One name at least.
-    pub parts: Sequence<Sequence<u8>>,
+    pub parts: ListVec<ListVec<u8>>,
 }
 
 impl Name {
@@ -62,8 +62,8 @@ impl Name {
     pub fn of(alloc: Global, text: &[u8]) -> Result<Self, AllocError>
         ensures { IfOk result (λ n. n ≡ record { is_global = false; parts = text.now ∷ [] }) }
     {
-        let mut parts = Sequence::new(alloc);
-        parts.push(Sequence::copy_of(alloc, text)?)?;
+        let mut parts = ListVec::new(alloc);
+        parts.push(ListVec::copy_of(alloc, text)?)?;
         Ok(Name {
             is_global: false,
             parts,

@@ -3,11 +3,11 @@
 ghost use Rattle.std.specs.Prelude.{◌≡◌, ◌≢◌, ◌<◌, ◌≤◌, ◌↔◌, length, slice_get, IfSome, IsSome, IsTrue, MatchOption, Some};
 ghost use Rattle.syntax65.specs.declared.expressions.words.ExprFault.TheVariants.{OutOfMemory};
 ghost use Rattle.std.specs.Option.{option_map};
-ghost use Rattle.syntax65.specs.Expressions.{opening_at, binary_at, text_at, closes_at, NoOperator, is_register, is_reserved, unnamed, opening_of_mark, opening_of_word, opening_of, binary_of_mark, binary_of_word, binary_of, level_of};
+ghost use Rattle.syntax65.specs.Expressions.{opening_at, binary_at, text_at, closes_at, NoOperator, is_register, is_reserved, unnamed_start, opening_of_mark, opening_of_word, opening_of, binary_of_mark, binary_of_word, binary_of, level_of};
 ghost use Rattle.syntax65.specs.Tokens.{lexeme_of, lexemes};
 
 use crate::spelling::is_word;
-use crate::{Mark, Op1, Op2, Token, TokenKind, mnemonic};
+use crate::{Op1, Op2, Punctuation, Token, TokenKind, mnemonic};
 use std::alloc::{AllocError, AllocFailed};
 use std::fmt;
 
@@ -73,38 +73,38 @@ fn token_at<'a>(tokens: &[Token<'a>], at: usize) -> Option<Token<'a>>
 }
 
 /// How the token at a place can begin an operand.
-pub fn opening_at(tokens: &[Token<'_>], at: usize) -> Opening
+pub fn opening_at(tokens: &[Token<'_>], at: usize) -> OperandStart
     ensures value { result ≡ opening_at (lexemes tokens.now) at }
-    ensures inside { result ≢ Opening.Nothing → at < length tokens.now }
+    ensures inside { result ≢ OperandStart.Nothing → at < length tokens.now }
 {
     match token_at(tokens, at) {
         Some(token) => opening_of(token.kind, token.text),
-        None => Opening::Nothing,
+        None => OperandStart::Nothing,
     }
 }
 
 /// Whether a name stands at a place.
 pub fn is_name(tokens: &[Token<'_>], at: usize) -> bool
-    ensures value { IsTrue result ↔ (opening_at (lexemes tokens.now) at ≡ Opening.Name) }
+    ensures value { IsTrue result ↔ (opening_at (lexemes tokens.now) at ≡ OperandStart.Name) }
     ensures inside { IsTrue result → at < length tokens.now }
 {
-    matches!(opening_at(tokens, at), Opening::Name)
+    matches!(opening_at(tokens, at), OperandStart::Name)
 }
 
 /// Whether a `::` stands at a place.
 pub fn is_scope(tokens: &[Token<'_>], at: usize) -> bool
-    ensures value { IsTrue result ↔ (opening_at (lexemes tokens.now) at ≡ Opening.Scope) }
+    ensures value { IsTrue result ↔ (opening_at (lexemes tokens.now) at ≡ OperandStart.Scope) }
     ensures inside { IsTrue result → at < length tokens.now }
 {
     match token_at(tokens, at) {
-        Some(token) => matches!(token.kind, TokenKind::Symbol(Mark::Scope)),
+        Some(token) => matches!(token.kind, TokenKind::Symbol(Punctuation::Scope)),
         None => false,
     }
 }
 
 /// Whether a `!` stands at a place.
 pub fn is_negation(tokens: &[Token<'_>], at: usize) -> bool
-    ensures value { IsTrue result ↔ (opening_at (lexemes tokens.now) at ≡ Opening.Negation) }
+    ensures value { IsTrue result ↔ (opening_at (lexemes tokens.now) at ≡ OperandStart.Negation) }
     ensures inside { IsTrue result → at < length tokens.now }
 {
     match token_at(tokens, at) {
@@ -113,13 +113,13 @@ pub fn is_negation(tokens: &[Token<'_>], at: usize) -> bool
                 kind: TokenKind::Symbol(mark),
                 ..
             },
-        ) => matches!(mark, Mark::Exclamation),
+        ) => matches!(mark, Punctuation::Exclamation),
         Some(
             Token {
                 kind: TokenKind::Directive,
                 text,
             },
-        ) => matches!(opening_of_word(text), Opening::Negation),
+        ) => matches!(opening_of_word(text), OperandStart::Negation),
         _ => false,
     }
 }
@@ -160,14 +160,14 @@ pub fn closes_at(tokens: &[Token<'_>], at: usize) -> bool
     ensures inside { IsTrue result → at < length tokens.now }
 {
     match token_at(tokens, at) {
-        Some(token) => matches!(token.kind, TokenKind::Symbol(Mark::CloseParenthesis)),
+        Some(token) => matches!(token.kind, TokenKind::Symbol(Punctuation::CloseParenthesis)),
         None => false,
     }
 }
 
 /// How a token can begin an operand, or what it is in its place.
 #[derive(Clone, Copy)]
-pub enum Opening {
+pub enum OperandStart {
     Number(u32),
     Here,
     Cheap,
@@ -195,71 +195,71 @@ fn is_register(text: &[u8]) -> bool
 }
 
 /// How a token can begin an operand.
-pub fn opening_of(kind: TokenKind, text: &[u8]) -> Opening
+pub fn opening_of(kind: TokenKind, text: &[u8]) -> OperandStart
     ensures { result ≡ opening_of kind text.now }
 {
     match kind {
         TokenKind::Identifier => {
             if is_reserved(text) {
-                Opening::Nothing
+                OperandStart::Nothing
             } else {
-                Opening::Name
+                OperandStart::Name
             }
         }
-        TokenKind::CheapName => Opening::Cheap,
+        TokenKind::CheapName => OperandStart::Cheap,
         TokenKind::Directive => opening_of_word(text),
-        TokenKind::Number(value) => Opening::Number(value),
-        TokenKind::Character(byte) => Opening::Number(u32::from(byte)),
+        TokenKind::Number(value) => OperandStart::Number(value),
+        TokenKind::Character(byte) => OperandStart::Number(u32::from(byte)),
         TokenKind::Unnamed => unnamed(text),
         TokenKind::Symbol(mark) => opening_of_mark(mark),
-        TokenKind::Text | TokenKind::SizePrefix(_) => Opening::Nothing,
+        TokenKind::StringLiteral | TokenKind::SizePrefix(_) => OperandStart::Nothing,
     }
 }
 
-fn unnamed(text: &[u8]) -> Opening
-    ensures { result ≡ unnamed text.now }
+fn unnamed(text: &[u8]) -> OperandStart
+    ensures { result ≡ unnamed_start text.now }
 {
     let count = text.len().saturating_sub(1);
     if count > 0 && text[1] == b'+' {
-        Opening::Forward(count)
+        OperandStart::Forward(count)
     } else {
-        Opening::Backward(count)
+        OperandStart::Backward(count)
     }
 }
 
-fn opening_of_mark(mark: Mark) -> Opening
+fn opening_of_mark(mark: Punctuation) -> OperandStart
     ensures { result ≡ opening_of_mark mark }
 {
     match mark {
-        Mark::Star => Opening::Here,
-        Mark::Scope => Opening::Scope,
-        Mark::OpenParenthesis => Opening::Parenthesis,
-        Mark::Exclamation => Opening::Negation,
-        Mark::Plus => Opening::Prefix(Op1::Plus),
-        Mark::Minus => Opening::Prefix(Op1::Negate),
-        Mark::Tilde => Opening::Prefix(Op1::BitNot),
-        Mark::Less => Opening::Prefix(Op1::LowByte),
-        Mark::Greater => Opening::Prefix(Op1::HighByte),
-        Mark::Caret => Opening::Prefix(Op1::BankByte),
-        _ => Opening::Nothing,
+        Punctuation::Star => OperandStart::Here,
+        Punctuation::Scope => OperandStart::Scope,
+        Punctuation::OpenParenthesis => OperandStart::Parenthesis,
+        Punctuation::Exclamation => OperandStart::Negation,
+        Punctuation::Plus => OperandStart::Prefix(Op1::Plus),
+        Punctuation::Minus => OperandStart::Prefix(Op1::Negate),
+        Punctuation::Tilde => OperandStart::Prefix(Op1::BitNot),
+        Punctuation::Less => OperandStart::Prefix(Op1::LowByte),
+        Punctuation::Greater => OperandStart::Prefix(Op1::HighByte),
+        Punctuation::Caret => OperandStart::Prefix(Op1::BankByte),
+        _ => OperandStart::Nothing,
     }
 }
 
-fn opening_of_word(text: &[u8]) -> Opening
+fn opening_of_word(text: &[u8]) -> OperandStart
     ensures { result ≡ opening_of_word text.now }
 {
     if is_word(text, b".bitnot") {
-        Opening::Prefix(Op1::BitNot)
+        OperandStart::Prefix(Op1::BitNot)
     } else if is_word(text, b".lobyte") {
-        Opening::Prefix(Op1::LowByte)
+        OperandStart::Prefix(Op1::LowByte)
     } else if is_word(text, b".hibyte") {
-        Opening::Prefix(Op1::HighByte)
+        OperandStart::Prefix(Op1::HighByte)
     } else if is_word(text, b".bankbyte") {
-        Opening::Prefix(Op1::BankByte)
+        OperandStart::Prefix(Op1::BankByte)
     } else if is_word(text, b".not") {
-        Opening::Negation
+        OperandStart::Negation
     } else {
-        Opening::Nothing
+        OperandStart::Nothing
     }
 }
 
@@ -274,27 +274,27 @@ pub fn binary_of(kind: TokenKind, text: &[u8]) -> Option<Op2>
     }
 }
 
-fn binary_of_mark(mark: Mark) -> Option<Op2>
+fn binary_of_mark(mark: Punctuation) -> Option<Op2>
     ensures { result ≡ binary_of_mark mark }
 {
     Some(match mark {
-        Mark::Star => Op2::Multiply,
-        Mark::Slash => Op2::Divide,
-        Mark::Ampersand => Op2::BitAnd,
-        Mark::Caret => Op2::BitXor,
-        Mark::ShiftLeft => Op2::ShiftLeft,
-        Mark::ShiftRight => Op2::ShiftRight,
-        Mark::Plus => Op2::Add,
-        Mark::Minus => Op2::Subtract,
-        Mark::Bar => Op2::BitOr,
-        Mark::Equal => Op2::Equal,
-        Mark::NotEqual => Op2::NotEqual,
-        Mark::Less => Op2::Less,
-        Mark::Greater => Op2::Greater,
-        Mark::LessOrEqual => Op2::LessOrEqual,
-        Mark::GreaterOrEqual => Op2::GreaterOrEqual,
-        Mark::BothTrue => Op2::And,
-        Mark::EitherTrue => Op2::Or,
+        Punctuation::Star => Op2::Multiply,
+        Punctuation::Slash => Op2::Divide,
+        Punctuation::Ampersand => Op2::BitAnd,
+        Punctuation::Caret => Op2::BitXor,
+        Punctuation::ShiftLeft => Op2::ShiftLeft,
+        Punctuation::ShiftRight => Op2::ShiftRight,
+        Punctuation::Plus => Op2::Add,
+        Punctuation::Minus => Op2::Subtract,
+        Punctuation::Bar => Op2::BitOr,
+        Punctuation::Equal => Op2::Equal,
+        Punctuation::NotEqual => Op2::NotEqual,
+        Punctuation::Less => Op2::Less,
+        Punctuation::Greater => Op2::Greater,
+        Punctuation::LessOrEqual => Op2::LessOrEqual,
+        Punctuation::GreaterOrEqual => Op2::GreaterOrEqual,
+        Punctuation::AndAnd => Op2::And,
+        Punctuation::OrOr => Op2::Or,
         _ => return None,
     })
 }

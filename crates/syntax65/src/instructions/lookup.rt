@@ -2,14 +2,14 @@
 
 ghost use Rattle.std.specs.Prelude.{◌≡◌};
 ghost use Rattle.syntax65.specs.Forms.{IsFound};
-ghost use Rattle.syntax65.specs.Mnemonics.{Spells, mnemonic_of, name_of};
+ghost use Rattle.syntax65.specs.Mnemonics.{SpellsMnemonic, mnemonic_of, name_of};
 
 use super::names::Mnemonic;
 
 /// The mnemonic that these bytes spell, in either case.
 pub fn mnemonic(bytes: &[u8]) -> Option<Mnemonic>
     ensures value { result ≡ mnemonic_of bytes.now }
-    ensures spelled { IsFound (Spells bytes.now) result }
+    ensures spelled { IsFound (SpellsMnemonic bytes.now) result }
 {
     match bytes {
         [first, second, third] => of_letters([

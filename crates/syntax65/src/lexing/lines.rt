@@ -2,9 +2,9 @@
 
 ghost use Rattle.std.specs.Prelude.{◌≡◌, ◌≤◌, ◌↔◌, ◌++◌, ◌∷◌, [], IsTrue, ◌<◌, IfOk, IfSome, MatchResult, length, List, true, Ok, Err};
 ghost use Rattle.syntax65.specs.declared.lexing.tokens.LexFault.TheVariants.{LineTooLong};
-ghost use Rattle.syntax65.specs.Faults.{is_lex_outside};
-ghost use Rattle.base65.specs.Relations.{Answers};
-ghost use Rattle.syntax65.specs.Tokens.{ReadsOn, after_blanks, lexeme_of, lexemes, IsEnd, IsRead, IsCutOff, IsNext, Lexeme, IsFront, HoldsNothing, held};
+ghost use Rattle.syntax65.specs.Faults.{is_lex_system_error};
+ghost use Rattle.base65.specs.Relations.{RefinesRel};
+ghost use Rattle.syntax65.specs.Tokens.{ReadsOn, after_blanks, lexeme_of, lexemes, IsEnd, IsRead, IsCutOff, IsNextToken, Lexeme, IsFront, HoldsNothing, stored_lexemes};
 
 use super::places::{blank_len, token_at};
 use super::tokens::{LexFault, Token, TokenKind};
@@ -52,7 +52,7 @@ impl<'a> LineTokens<'a> {
     #[inline(always)]
     pub fn as_slice(&self) -> &[Token<'a>]
         requires { self.now.few.count ≤ 8 }
-        ensures { lexemes result.now ≡ held self.now }
+        ensures { lexemes result.now ≡ stored_lexemes self.now }
     {
         match &self.many {
             Some(many) => many.as_slice(),
@@ -68,7 +68,7 @@ impl<'a> LineTokens<'a> {
     #[inline(always)]
     pub fn read(&mut self, alloc: Global, line: &'a [u8]) -> Result<(), LexFault>
         requires { HoldsNothing self.old }
-        ensures tokens { Answers is_lex_outside (λ _. held self.new) result (IsRead line.now) }
+        ensures tokens { RefinesRel is_lex_system_error (λ _. stored_lexemes self.new) result (IsRead line.now) }
         ensures within { self.new.few.count ≤ 8 }
     {
         let mut lexer = Lexer::new(line)?;
@@ -126,7 +126,7 @@ fn read_on<'a>(mut lexer: Lexer<'a>, tokens: &mut Vec<Token<'a>>) -> Result<(), 
 ///
 /// `LineTooLong`, or else the fault of the first place where no token stands.
 pub fn line_tokens(alloc: Global, line: &[u8]) -> Result<Vec<Token<'_>>, LexFault>
-    ensures { Answers is_lex_outside (λ tokens. lexemes tokens.items) result (IsRead line.now) }
+    ensures { RefinesRel is_lex_system_error (λ tokens. lexemes tokens.items) result (IsRead line.now) }
 {
     let lexer = Lexer::new(line)?;
     // A token and what parts it from the next take two bytes or more, but in lists of marks.
@@ -188,7 +188,7 @@ impl<'a> Lexer<'a> {
     /// The fault of the place where no token stands.
     #[inline(always)]
     pub fn next(&mut self) -> Result<Option<Token<'a>>, LexFault>
-        ensures next { IsNext self.old.first self.old.rest.now result self.new.first self.new.rest.now }
+        ensures next { IsNextToken self.old.first self.old.rest.now result self.new.first self.new.rest.now }
         ensures cut { IfOk result (λ t. IfSome t (λ t. IsCutOff self.old.rest.now t.text.now self.new.rest.now)) }
         ensures less { IfOk result (λ t. IfSome t (λ _. length self.new.rest.now < length self.old.rest.now)) }
     {
@@ -197,9 +197,9 @@ impl<'a> Lexer<'a> {
             return Ok(None);
         }
         let (kind, len) = token_at(self.first, here)?;
-        let (text, behind) = here.split_at(len);
+        let (text, following) = here.split_at(len);
         self.first = false;
-        self.rest = behind;
+        self.rest = following;
         Ok(Some(Token { kind, text }))
     }
 }

@@ -2,14 +2,14 @@
 
 ghost use Rattle.std.specs.Prelude.{◌≡◌, ◌==◌, ◌≤◌, length, ◌∷◌, [], ◌<◌, ◌+◌, IfSome, ◌↔◌, Bool, None, IsTrue};
 ghost use Rattle.base65.specs.Digit.{IsRadix, digits};
-ghost use Rattle.syntax65.specs.Forms.{class_of, is_word, is_blank, is_no_quote, spelling, Begins, IsFound, IsSizeLetter, NotColonOrEqual, Stands, number_of, plain_number_of};
+ghost use Rattle.syntax65.specs.Forms.{class_of, is_word, is_blank, is_no_quote, spelling, BeginsWithClass, IsFound, IsSizeLetter, NotColonOrEqual, TokenMatchesAt, number_of, plain_number_of};
 ghost use Rattle.syntax65.specs.declared.lexing.tokens.TokenKind.TheVariants.{SizePrefix};
 ghost use Rattle.std.specs.List.{prefix_len};
-ghost use Rattle.syntax65.specs.Inner.Places.{AreDigitsAhead, IsPlainNumber, IsAt, IsLongMarkAt, BeginsNumber, BeginsSigned, BeginsMark};
+ghost use Rattle.syntax65.specs.Internal.Places.{AreDigitsAhead, IsPlainNumber, IsAt, IsLongMarkAt, BeginsNumber, BeginsSigned, BeginsMark};
 ghost use Rattle.syntax65.specs.Tokens.{IsEnd};
 ghost use Rattle.syntax65.specs.declared.lexing.places.Class.TheVariants.{Letter, Apostrophe, Quote, Colon, Blank};
 
-use super::tokens::{AddressSize, LexFault, Mark, TokenKind};
+use super::tokens::{AddressSize, LexFault, Punctuation, TokenKind};
 use base65::digits;
 
 /// What a byte may begin.
@@ -124,48 +124,48 @@ pub fn text_len(bytes: &[u8]) -> usize
 }
 
 /// The mark of these two bytes.
-pub fn mark_of_two(first: u8, second: u8) -> Option<Mark>
+pub fn mark_of_two(first: u8, second: u8) -> Option<Punctuation>
     ensures { IsFound (λ mark. spelling mark ≡ first ∷ second ∷ []) result }
 {
     match (first, second) {
-        (b':', b':') => Some(Mark::Scope),
-        (b':', b'=') => Some(Mark::Define),
-        (b'<', b'>') => Some(Mark::NotEqual),
-        (b'<', b'=') => Some(Mark::LessOrEqual),
-        (b'>', b'=') => Some(Mark::GreaterOrEqual),
-        (b'<', b'<') => Some(Mark::ShiftLeft),
-        (b'>', b'>') => Some(Mark::ShiftRight),
-        (b'&', b'&') => Some(Mark::BothTrue),
-        (b'|', b'|') => Some(Mark::EitherTrue),
+        (b':', b':') => Some(Punctuation::Scope),
+        (b':', b'=') => Some(Punctuation::Define),
+        (b'<', b'>') => Some(Punctuation::NotEqual),
+        (b'<', b'=') => Some(Punctuation::LessOrEqual),
+        (b'>', b'=') => Some(Punctuation::GreaterOrEqual),
+        (b'<', b'<') => Some(Punctuation::ShiftLeft),
+        (b'>', b'>') => Some(Punctuation::ShiftRight),
+        (b'&', b'&') => Some(Punctuation::AndAnd),
+        (b'|', b'|') => Some(Punctuation::OrOr),
         _ => None,
     }
 }
 
 /// The mark of this byte.
 #[inline(always)]
-pub fn mark_of_one(byte: u8) -> Option<Mark>
+pub fn mark_of_one(byte: u8) -> Option<Punctuation>
     ensures { IsFound (λ mark. spelling mark ≡ byte ∷ []) result }
 {
     Some(match byte {
-        b':' => Mark::Colon,
-        b'+' => Mark::Plus,
-        b'-' => Mark::Minus,
-        b'*' => Mark::Star,
-        b'/' => Mark::Slash,
-        b'&' => Mark::Ampersand,
-        b'|' => Mark::Bar,
-        b'^' => Mark::Caret,
-        b'~' => Mark::Tilde,
-        b'<' => Mark::Less,
-        b'>' => Mark::Greater,
-        b'=' => Mark::Equal,
-        b'!' => Mark::Exclamation,
-        b'(' => Mark::OpenParenthesis,
-        b')' => Mark::CloseParenthesis,
-        b'#' => Mark::Hash,
-        b',' => Mark::Comma,
-        b'{' => Mark::OpenBrace,
-        b'}' => Mark::CloseBrace,
+        b':' => Punctuation::Colon,
+        b'+' => Punctuation::Plus,
+        b'-' => Punctuation::Minus,
+        b'*' => Punctuation::Star,
+        b'/' => Punctuation::Slash,
+        b'&' => Punctuation::Ampersand,
+        b'|' => Punctuation::Bar,
+        b'^' => Punctuation::Caret,
+        b'~' => Punctuation::Tilde,
+        b'<' => Punctuation::Less,
+        b'>' => Punctuation::Greater,
+        b'=' => Punctuation::Equal,
+        b'!' => Punctuation::Exclamation,
+        b'(' => Punctuation::OpenParenthesis,
+        b')' => Punctuation::CloseParenthesis,
+        b'#' => Punctuation::Hash,
+        b',' => Punctuation::Comma,
+        b'{' => Punctuation::OpenBrace,
+        b'}' => Punctuation::CloseBrace,
         _ => return None,
     })
 }
@@ -186,14 +186,14 @@ pub fn plain_digits(here: &[u8]) -> Option<(u32, usize)>
     ensures { IfSome result (λ r. IsPlainNumber here.now r.0 r.1) }
 {
     match *here.first()? {
-        b'$' => behind_sign(digits_ahead(16, &here[1..])?),
-        b'%' => behind_sign(digits_ahead(2, &here[1..])?),
+        b'$' => following_sign(digits_ahead(16, &here[1..])?),
+        b'%' => following_sign(digits_ahead(2, &here[1..])?),
         _ => digits_ahead(10, here),
     }
 }
 
 /// The same with the sign before the digits.
-fn behind_sign(digits: (u32, usize)) -> Option<(u32, usize)>
+fn following_sign(digits: (u32, usize)) -> Option<(u32, usize)>
     ensures { IfSome result (λ r. (r.0 ≡ digits.0) × (r.1 ≡ 1 + digits.1)) }
 {
     Some((digits.0, digits.1.checked_add(1)?))
@@ -240,7 +240,7 @@ pub const MAX_NAME: usize = 200;
 #[inline(always)]
 pub fn token_at(first: bool, here: &[u8]) -> Result<(TokenKind, usize), LexFault>
     requires no_end { IsEnd here.now → ⊥ }
-    requires no_blank { Begins Blank here.now → ⊥ }
+    requires no_blank { BeginsWithClass Blank here.now → ⊥ }
     ensures { IsAt first here.now result }
 {
     match class_of(here[0]) {
@@ -258,7 +258,7 @@ pub fn token_at(first: bool, here: &[u8]) -> Result<(TokenKind, usize), LexFault
 /// A size prefix or an identifier.
 #[inline(always)]
 fn word_at(first: bool, here: &[u8]) -> Result<(TokenKind, usize), LexFault>
-    requires { Begins Letter here.now }
+    requires { BeginsWithClass Letter here.now }
     ensures { IsAt first here.now result }
 {
     match prefix_at(first, here) {
@@ -269,7 +269,7 @@ fn word_at(first: bool, here: &[u8]) -> Result<(TokenKind, usize), LexFault>
 
 #[inline(always)]
 fn prefix_at(first: bool, here: &[u8]) -> Option<AddressSize>
-    ensures { IsFound (λ size. Stands first (SizePrefix size) 2 here.now) result }
+    ensures { IsFound (λ size. TokenMatchesAt first (SizePrefix size) 2 here.now) result }
 {
     if first || here.len() < 2 {
         return None;
@@ -281,10 +281,10 @@ fn prefix_at(first: bool, here: &[u8]) -> Option<AddressSize>
     }
 }
 
-fn is_not_colon_or_equal(behind: &[u8]) -> bool
-    ensures { IsTrue result ↔ NotColonOrEqual behind.now }
+fn is_not_colon_or_equal(following: &[u8]) -> bool
+    ensures { IsTrue result ↔ NotColonOrEqual following.now }
 {
-    match behind.first() {
+    match following.first() {
         None => true,
         Some(byte) => *byte != b':' && *byte != b'=',
     }
@@ -302,8 +302,8 @@ fn size_of(letter: u8) -> Option<AddressSize>
 
 #[inline(always)]
 fn identifier_at(first: bool, here: &[u8]) -> Result<(TokenKind, usize), LexFault>
-    requires letter { Begins Letter here.now }
-    requires no_prefix { IsFound (λ size. Stands first (SizePrefix size) 2 here.now) None }
+    requires letter { BeginsWithClass Letter here.now }
+    requires no_prefix { IsFound (λ size. TokenMatchesAt first (SizePrefix size) 2 here.now) None }
     ensures { IsAt first here.now result }
 {
     let len = 1 + word_len(&here[1..]);
@@ -332,7 +332,7 @@ fn name_at(kind: TokenKind, here: &[u8]) -> Result<(TokenKind, usize), LexFault>
 }
 
 fn begins_name(bytes: &[u8]) -> bool
-    ensures { IsTrue result ↔ Begins Letter bytes.now }
+    ensures { IsTrue result ↔ BeginsWithClass Letter bytes.now }
 {
     match bytes.first() {
         None => false,
@@ -363,7 +363,7 @@ fn spelled_number_at(here: &[u8]) -> Result<(TokenKind, usize), LexFault>
 }
 
 fn character_at(here: &[u8]) -> Result<(TokenKind, usize), LexFault>
-    requires { Begins Apostrophe here.now }
+    requires { BeginsWithClass Apostrophe here.now }
     ensures { (first : Bool) → IsAt first here.now result }
 {
     if here.len() > 2 && here[2] == b'\'' {
@@ -374,13 +374,13 @@ fn character_at(here: &[u8]) -> Result<(TokenKind, usize), LexFault>
 }
 
 fn text_at(here: &[u8]) -> Result<(TokenKind, usize), LexFault>
-    requires { Begins Quote here.now }
+    requires { BeginsWithClass Quote here.now }
     ensures { (first : Bool) → IsAt first here.now result }
 {
     let rest = &here[1..];
     let len = text_len(rest);
     if len < rest.len() {
-        Ok((TokenKind::Text, len + 2))
+        Ok((TokenKind::StringLiteral, len + 2))
     } else {
         Err(LexFault::StringNotClosed)
     }
@@ -388,7 +388,7 @@ fn text_at(here: &[u8]) -> Result<(TokenKind, usize), LexFault>
 
 /// An unnamed reference or a mark.
 fn colon_at(here: &[u8]) -> Result<(TokenKind, usize), LexFault>
-    requires { Begins Colon here.now }
+    requires { BeginsWithClass Colon here.now }
     ensures { (first : Bool) → IsAt first here.now result }
 {
     if here.len() > 1 && (here[1] == b'+' || here[1] == b'-') {
@@ -413,7 +413,7 @@ fn mark_at(here: &[u8]) -> Result<(TokenKind, usize), LexFault>
 }
 
 /// The mark of two bytes at the front.
-fn long_mark_at(here: &[u8]) -> Option<Mark>
+fn long_mark_at(here: &[u8]) -> Option<Punctuation>
     ensures { IsLongMarkAt here.now result }
 {
     if here.len() > 1 {

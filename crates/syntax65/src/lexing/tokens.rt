@@ -73,7 +73,7 @@ pub enum AddressSize {
 
 /// An operator or a mark of punctuation.
 #[derive(Clone, Copy)]
-pub enum Mark {
+pub enum Punctuation {
     /// `::`
     Scope,
     /// `:=`
@@ -89,9 +89,9 @@ pub enum Mark {
     /// `>>`
     ShiftRight,
     /// `&&`
-    BothTrue,
+    AndAnd,
     /// `||`
-    EitherTrue,
+    OrOr,
     /// `:`
     Colon,
     /// `+`
@@ -146,13 +146,13 @@ pub enum TokenKind {
     /// One byte between `'`.
     Character(u8),
     /// A string with its `"`.
-    Text,
+    StringLiteral,
     /// `:` and one or more `+`, or one or more `-`.
     Unnamed,
     /// `z:` or `a:` before an operand.
     SizePrefix(AddressSize),
     /// An operator or a mark of punctuation.
-    Symbol(Mark),
+    Symbol(Punctuation),
 }
 
 /// A token, which borrows its bytes from the line.

@@ -3,7 +3,7 @@
 use super::values::Constants;
 use super::{ROWS, in_folder, put_lines, refuse, spell};
 use base65::{MemStore, Store};
-use expand65::{Expander, Line, Options, Statement};
+use expand65::{Expander, Options, Statement, StoredLine};
 use std::alloc::{AllocError, Global};
 use std::test::Fail;
 use syntax65::LineTokens;
@@ -30,10 +30,18 @@ fn spell_at_hand(
     };
     let (label, rest) = tokens.as_slice().split_at(len);
     if !label.is_empty() {
-        spell(alloc, &Statement::Label(Line::copy_of(alloc, label)?), out)?;
+        spell(
+            alloc,
+            &Statement::Label(StoredLine::copy_of(alloc, label)?),
+            out,
+        )?;
     }
     if !rest.is_empty() {
-        spell(alloc, &Statement::Plain(Line::copy_of(alloc, rest)?), out)?;
+        spell(
+            alloc,
+            &Statement::Plain(StoredLine::copy_of(alloc, rest)?),
+            out,
+        )?;
     }
     drop(tokens);
     expander.take_peeked(line);

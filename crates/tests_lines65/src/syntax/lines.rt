@@ -59,7 +59,7 @@ fn add_kind(text: &mut String, kind: TokenKind) -> Result<(), AllocError> {
         TokenKind::Directive => text.push_str("d"),
         TokenKind::Number(value) => write!(text, "{value}"),
         TokenKind::Character(byte) => write!(text, "h{byte}"),
-        TokenKind::Text => text.push_str("s"),
+        TokenKind::StringLiteral => text.push_str("s"),
         TokenKind::Unnamed => text.push_str("u"),
         TokenKind::SizePrefix(AddressSize::ZeroPage) => text.push_str("z"),
         TokenKind::SizePrefix(AddressSize::Absolute) => text.push_str("a"),

@@ -7,23 +7,23 @@ use std::alloc::{AllocError, Global};
 use std::test::Fail;
 
 fn lit(value: i64) -> Norm {
-    Norm::new(Node::Lit(value))
+    Norm::new(Node::NumberNode(value))
 }
 
 fn sec(section: u32, offset: i64) -> Norm {
-    Norm::new(Node::Sec(section, offset))
+    Norm::new(Node::SectionOffset(section, offset))
 }
 
 fn imp(place: u32) -> Norm {
-    Norm::new(Node::Imp(place))
+    Norm::new(Node::ImportedName(place))
 }
 
 /// The form in words: operations before their parts.
 fn add_form(text: &mut String, form: &Norm) -> Result<(), AllocError> {
     match form.node() {
-        Node::Lit(value) => write!(text, "{value}"),
-        Node::Sec(section, offset) => write!(text, "s{section}:{offset}"),
-        Node::Imp(place) => write!(text, "i{place}"),
+        Node::NumberNode(value) => write!(text, "{value}"),
+        Node::SectionOffset(section, offset) => write!(text, "s{section}:{offset}"),
+        Node::ImportedName(place) => write!(text, "i{place}"),
         Node::Prefix(op, part) => {
             write!(text, "({op:?} ")?;
             add_form(text, part)?;

@@ -179,7 +179,7 @@ fn longest_names(rt: HostRuntime) -> Result<(), Fail> {
 }
 
 #[test]
-fn takes_nothing_behind_the_end(rt: HostRuntime) -> Result<(), Fail> {
+fn takes_nothing_after_the_end(rt: HostRuntime) -> Result<(), Fail> {
     let mut builder = Builder::new(rt.alloc(), 1);
     let end = Record {
         kind: 8,

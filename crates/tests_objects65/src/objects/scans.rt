@@ -36,7 +36,7 @@ fn scan_bytes(
 }
 
 fn is_start_of_first(node: &Node) -> bool {
-    matches!(node, Node::Sec(0, 0))
+    matches!(node, Node::SectionOffset(0, 0))
 }
 
 /// Whether the item is that of the record at this place among those of the jump.

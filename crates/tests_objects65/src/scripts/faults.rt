@@ -1,5 +1,5 @@
 use super::{ROM, fault_of};
-use base65::Sequence;
+use base65::ListVec;
 use script65::{Fault, ScriptFault, read_script};
 use std::alloc::Global;
 use std::test::Fail;
@@ -46,7 +46,7 @@ fn has_words(alloc: Global, fault: Fault, words: &str) -> Result<bool, Fail> {
     let placed = ScriptFault {
         fault,
         line: 7,
-        name: Sequence::new(alloc),
+        name: ListVec::new(alloc),
     };
     Ok(fault.to_string(alloc)?.as_str() == words && placed.to_string(alloc)?.as_str() == words)
 }

@@ -1,17 +1,17 @@
 //! Files of areas, by what rows hold.
 
 use super::placed;
-use base65::{OutputFile, Sequence};
+use base65::{ListVec, OutputFile};
 use link65::files_of;
-use script65::{Placement, Row, Script, read_script};
+use script65::{Placement, Script, SegmentRow, read_script};
 use std::alloc::{AllocError, Global};
 use std::test::Fail;
 
 /// The bytes of rows that hold their names, where they are written.
-fn names_of(alloc: Global, rows: &[Row]) -> Result<Vec<Sequence<u8>>, AllocError> {
+fn names_of(alloc: Global, rows: &[SegmentRow]) -> Result<Vec<ListVec<u8>>, AllocError> {
     let mut all = Vec::new(alloc);
     for row in rows {
-        let mut bytes = Sequence::new(alloc);
+        let mut bytes = ListVec::new(alloc);
         if row.access.is_written() {
             bytes.extend_from_slice(row.name.as_slice())?;
         }
@@ -68,7 +68,7 @@ const LATER_ROW: &[u8] =
 
 /// One row that begins behind its area's start has the fill before it.
 #[test]
-fn one_row_behind_the_start(rt: HostRuntime) -> Result<(), Fail> {
+fn one_row_after_the_start(rt: HostRuntime) -> Result<(), Fail> {
     let script = read_script(rt.alloc(), LATER_ROW)?;
     let placement = placed(rt.alloc(), &script, &[("CODE", 4)])??;
     assert!(rt; make(rt.alloc(), &script, &placement, b"\0\0CODE")?);

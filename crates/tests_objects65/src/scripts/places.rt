@@ -1,12 +1,12 @@
 //! Where rows are placed, and why they can't be.
 
 use super::{ROM, place_text};
-use script65::{AreaPlace, RowPlace};
+use script65::{AreaPlacement, RowPlacement};
 use std::alloc::Global;
 use std::test::Fail;
 
-fn row(load: u64, run: u64, size: u64) -> RowPlace {
-    RowPlace { load, run, size }
+fn row(load: u64, run: u64, size: u64) -> RowPlacement {
+    RowPlacement { load, run, size }
 }
 
 /// Whether a script refuses to place segments with this text.
@@ -22,8 +22,8 @@ fn places(
     alloc: Global,
     text: &str,
     sizes: &[(&str, u64)],
-    rows: &[RowPlace],
-    areas: &[AreaPlace],
+    rows: &[RowPlacement],
+    areas: &[AreaPlacement],
 ) -> Result<bool, Fail> {
     match place_text(alloc, text, sizes)? {
         Ok(it) => Ok(it.rows.as_slice() == rows && it.areas.as_slice() == areas),
@@ -34,7 +34,7 @@ fn places(
 #[test]
 fn one_segment(rt: HostRuntime) -> Result<(), Fail> {
     let rows = [row(0x8000, 0x8000, 3), row(0x8003, 0x8003, 0)];
-    let rom = AreaPlace {
+    let rom = AreaPlacement {
         start: 0x8000,
         size: 0x10,
         last: 0x8003,
@@ -49,12 +49,12 @@ const MOVED: &str =
 #[test]
 fn load_and_run(rt: HostRuntime) -> Result<(), Fail> {
     let rows = [row(0x8000, 0x8000, 2), row(0x8002, 0x0200, 2)];
-    let ram = AreaPlace {
+    let ram = AreaPlacement {
         start: 0x0200,
         size: 0x100,
         last: 0x0202,
     };
-    let rom = AreaPlace {
+    let rom = AreaPlacement {
         start: 0x8000,
         size: 0x10,
         last: 0x8004,
@@ -77,12 +77,12 @@ fn where_rows_begin(rt: HostRuntime) -> Result<(), Fail> {
         row(0x211, 0x211, 0),
     ];
     let sizes = [("N", 1), ("O", 1), ("P", 1), ("Q", 1)];
-    let a = AreaPlace {
+    let a = AreaPlacement {
         start: 0x100,
         size: 0x100,
         last: 0x1fd,
     };
-    let b = AreaPlace {
+    let b = AreaPlacement {
         start: 0x205,
         size: 0x100,
         last: 0x211,
@@ -101,12 +101,12 @@ const AHEAD: &str =
 #[test]
 fn areas_by_sums(rt: HostRuntime) -> Result<(), Fail> {
     let rows = [row(0x10, 0x10, 3), row(0x13, 0x13, 1)];
-    let zp = AreaPlace {
+    let zp = AreaPlacement {
         start: 0x10,
         size: 0x20,
         last: 0x13,
     };
-    let ram = AreaPlace {
+    let ram = AreaPlacement {
         start: 0x13,
         size: 0x2d,
         last: 0x14,

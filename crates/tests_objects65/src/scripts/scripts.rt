@@ -2,8 +2,8 @@
 
 use super::ROM;
 use script65::{
-    Access, Area, AreaFile, AreaPart, Begin, Operand, Row, RowPart, Script, Symbol, SymbolKind,
-    Term, read_script,
+    AreaAttribute, AreaOutput, MemoryArea, Operand, RowAttribute, RowStart, Script, SegmentRow,
+    SegmentType, Symbol, SymbolKind, Term, read_script,
 };
 use std::test::Fail;
 
@@ -16,23 +16,23 @@ fn is_number(terms: &[Term], number: u32) -> bool {
 }
 
 /// Whether an area begins and is as long as these numbers say.
-fn spans(area: &Area, start: u32, size: u32) -> bool {
+fn spans(area: &MemoryArea, start: u32, size: u32) -> bool {
     is_number(area.start.as_slice(), start) && is_number(area.size.as_slice(), size)
 }
 
 /// An area of 16 bytes for the output, with what an attribute that isn't there stands for.
-fn is_plain_area(area: &Area) -> bool {
+fn is_plain_area(area: &MemoryArea) -> bool {
     area.name.as_slice() == b"ROM".as_slice()
         && spans(area, 0x8000, 0x10)
         && area.fill_value == 0
         && !(area.read_only || area.fill || area.define)
-        && matches!(area.file, AreaFile::Output)
+        && matches!(area.file, AreaOutput::Output)
 }
 
 /// A row of that area with nothing but its access.
-fn is_plain_row(row: &Row) -> bool {
+fn is_plain_row(row: &SegmentRow) -> bool {
     (row.load, row.run, row.align, row.align_load) == (0, 0, 1, 1)
-        && (row.access, row.begin) == (Access::ReadOnly, Begin::Aligned)
+        && (row.access, row.begin) == (SegmentType::ReadOnly, RowStart::Aligned)
         && row.fill_value == 0
         && !row.define
 }
@@ -74,7 +74,7 @@ SYMBOLS { i: type = import addrsize zp; }
 memory { RAM: start = 512, size = 256, type = rw, file = \"\", fill no, define No; OUT: start 0 size 0 file %O; }
 ";
 
-fn are_areas(areas: &[Area]) -> bool {
+fn are_areas(areas: &[MemoryArea]) -> bool {
     match areas {
         [rom, ram, out] => {
             spans(rom, 0x8000, 0x10)
@@ -85,16 +85,16 @@ fn are_areas(areas: &[Area]) -> bool {
                 && is_named(&rom.file, b"rom.bin")
                 && spans(ram, 512, 256)
                 && is_named(&ram.file, b"")
-                && matches!(out.file, AreaFile::Output)
+                && matches!(out.file, AreaOutput::Output)
         }
         _ => false,
     }
 }
 
-fn is_named(file: &AreaFile, wanted: &[u8]) -> bool {
+fn is_named(file: &AreaOutput, wanted: &[u8]) -> bool {
     match file {
-        AreaFile::Named(name) => name.as_slice() == wanted,
-        AreaFile::Output => false,
+        AreaOutput::Named(name) => name.as_slice() == wanted,
+        AreaOutput::Output => false,
     }
 }
 
@@ -111,15 +111,15 @@ fn are_symbols(symbols: &[Symbol]) -> bool {
 }
 
 /// The first row's fill value is its load area's.
-fn are_rows(rows: &[Row]) -> bool {
+fn are_rows(rows: &[SegmentRow]) -> bool {
     match rows {
         [data, bss, zp] => {
             (data.load, data.run, data.align, data.align_load) == (0, 1, 4, 0x100)
-                && (data.access, data.begin) == (Access::ReadWrite, Begin::Offset(2))
+                && (data.access, data.begin) == (SegmentType::ReadWrite, RowStart::Offset(2))
                 && (data.fill_value, data.define, data.optional) == (0xff, true, false)
                 && (bss.load, bss.run, bss.fill_value) == (1, 1, 3)
-                && (bss.access, bss.begin) == (Access::Bss, Begin::Start(0x210))
-                && zp.access == Access::ZeroPage
+                && (bss.access, bss.begin) == (SegmentType::Bss, RowStart::Start(0x210))
+                && zp.access == SegmentType::ZeroPage
         }
         _ => false,
     }
@@ -158,8 +158,8 @@ fn has_names(terms: &[Term]) -> bool {
             !(three.minus || last.minus)
                 && run.minus
                 && matches!(three.operand, Operand::Number(3))
-                && matches!(last.operand, Operand::Area(0, AreaPart::Last))
-                && matches!(run.operand, Operand::Row(0, RowPart::Run))
+                && matches!(last.operand, Operand::Area(0, AreaAttribute::Last))
+                && matches!(run.operand, Operand::Row(0, RowAttribute::Run))
         }
         _ => false,
     }

@@ -4,7 +4,7 @@ ghost use Rattle.std.specs.Prelude.{◌≡◌, ◌+◌, ◌-◌, ◌^◌, ◌<�
 ghost use Rattle.std.proofs.Common.{rules};
 
 use super::{alone, in_words};
-use asm65::{AsmRefusal, assemble};
+use asm65::{Diagnostic, assemble};
 use base65::{MemStore, Store, StoreFault};
 use object65::Object;
 use std::alloc::{AllocError, Global};
@@ -19,7 +19,7 @@ impl Store for Broken {
 
     ghost failures = { λ _. 18446744073709551615 };
 
-    ghost blamed = { λ _. None };
+    ghost last_failure = { λ _. None };
 
     fn read_at(&mut self, _name: &str, _at: u64, _buf: &mut [u8]) -> Result<usize, StoreFault> {
         Err(StoreFault::FileError)
@@ -45,7 +45,7 @@ impl Store for Endless {
 
     ghost failures = { λ _. 0 };
 
-    ghost blamed = { λ _. None };
+    ghost last_failure = { λ _. None };
 
     fn read_at(&mut self, _name: &str, _at: u64, buf: &mut [u8]) -> Result<usize, StoreFault> {
         Ok(buf.len())
@@ -86,7 +86,7 @@ impl Store for Alone {
 
     ghost failures = { λ s. s.failures };
 
-    ghost blamed = { λ _. None };
+    ghost last_failure = { λ _. None };
 
     fn read_at(&mut self, name: &str, at: u64, buf: &mut [u8]) -> Result<usize, StoreFault> {
         if self.failures == u64::MAX {
@@ -122,7 +122,7 @@ impl Store for Alone {
     ghost counted = { λ s. s.few };
 }
 
-fn assembled_in<S: Store>(alloc: Global, store: &mut S) -> Result<Object, AsmRefusal> {
+fn assembled_in<S: Store>(alloc: Global, store: &mut S) -> Result<Object, Diagnostic> {
     assemble(alloc, store, &alone()).result
 }
 

@@ -6,17 +6,17 @@ ghost use Rattle.cli65.specs.Defining.{defining};
 ghost use Rattle.tools65.specs.Assembling.{define_in};
 
 use asm65::Define;
-use base65::Text;
+use base65::PathString;
 use cli65::Define as Given;
 use std::alloc::{AllocError, Global};
 
 /// The folders of a line.
-pub fn folders_of(alloc: Global, include: &[&str]) -> Result<Vec<Text>, AllocError>
+pub fn folders_of(alloc: Global, include: &[&str]) -> Result<Vec<PathString>, AllocError>
     ensures { IfOk result (λ folders. folders.items ≡ map (λ s. s.now) include.now) }
 {
     let mut folders = Vec::new(alloc);
     for folder in include {
-        folders.push(Text::copy_of(alloc, folder)?)?;
+        folders.push(PathString::copy_of(alloc, folder)?)?;
     }
     Ok(folders)
 }

@@ -1,42 +1,42 @@
 //! What assembling comes to.
 
 ghost use Rattle.std.specs.Prelude.{◌≡◌, IfOk, IfSome, true};
-ghost use Rattle.object65.specs.Objects.{ObjectFits, is_good_object};
+ghost use Rattle.object65.specs.Objects.{ObjectFits, is_well_formed_object};
 ghost use Rattle.object65.specs.Spelling.{object_bytes};
 ghost use Rattle.tools65.specs.Assembling.{IsOutputName};
 ghost use Rattle.asm65.specs.Assembly.{answer_of, placed_of};
 ghost use Rattle.tools65.specs.Command.{AssemblesTo, refused_with};
 ghost use Rattle.cli65.specs.Line.{assemble, assembling};
-ghost use Rattle.tools65.specs.Inner.Computing.{Computes, Leaves};
+ghost use Rattle.tools65.specs.Internal.Computing.{ComputesOutcome, ComputeFrame};
 
+use crate::assembling::diagnostic::asm_message;
 use crate::assembling::job::{defines_of, folders_of};
 use crate::assembling::naming::object_name;
-use crate::assembling::refusal::asm_message;
-use asm65::{AsmJob, AsmRefusal, Assembly, assemble};
-use base65::{Sequence, Store, Text};
-use cli65::{AssembleLine, join};
+use asm65::{AsmJob, Assembly, Diagnostic, assemble};
+use base65::{ListVec, PathString, Store};
+use cli65::{AssembleArgs, join};
 use object65::{Object, write_object};
 use output65::{Outcome, Status, outputs_of};
 use std::alloc::{AllocError, Global};
 
 /// The name of the object's file.
-fn output_name(alloc: Global, line: &AssembleLine<'_>) -> Result<Text, AllocError>
+fn output_name(alloc: Global, line: &AssembleArgs<'_>) -> Result<PathString, AllocError>
     ensures { IfOk result (λ name. IsOutputName (assembling line.now).output line.now.source.now name) }
 {
     match line.output {
-        Some(name) => Text::copy_of(alloc, name),
-        None => Text::copy_of(alloc, object_name(alloc, line.source)?.as_str()),
+        Some(name) => PathString::copy_of(alloc, name),
+        None => PathString::copy_of(alloc, object_name(alloc, line.source)?.as_str()),
     }
 }
 
 /// The bytes of an object.
-fn object_bytes(alloc: Global, object: &Object) -> Result<Sequence<u8>, AllocError>
-    requires { is_good_object object.now ≡ true }
+fn object_bytes(alloc: Global, object: &Object) -> Result<ListVec<u8>, AllocError>
+    requires { is_well_formed_object object.now ≡ true }
     ensures { IfOk result (λ bytes. bytes ≡ object_bytes object.now) }
 {
     let mut bytes = Vec::new(alloc);
     match write_object(alloc, object, &mut bytes) {
-        Ok(()) => Ok(Sequence::from_vec(bytes)),
+        Ok(()) => Ok(ListVec::from_vec(bytes)),
         Err(_) => Err(AllocError),
     }
 }
@@ -45,16 +45,16 @@ fn object_bytes(alloc: Global, object: &Object) -> Result<Sequence<u8>, AllocErr
 fn refused(
     alloc: Global,
     source: &str,
-    texts: (Sequence<u8>, Sequence<u8>),
-    refusal: &AsmRefusal,
+    texts: (ListVec<u8>, ListVec<u8>),
+    refusal: &Diagnostic,
 ) -> Result<Outcome, AllocError>
     ensures { IfOk result (λ outcome. outcome ≡ refused_with source.now texts.0 texts.1 (placed_of refusal.now)) }
 {
     if refusal.fault.is_memory() {
         return Ok(Outcome {
-            out: Sequence::new(alloc),
+            out: ListVec::new(alloc),
             err: join(alloc, &[source.as_bytes(), b": Error: out of memory\n"])?,
-            outputs: Sequence::new(alloc),
+            outputs: ListVec::new(alloc),
             status: Status::Failure,
         });
     }
@@ -63,7 +63,7 @@ fn refused(
     Ok(Outcome {
         out,
         err,
-        outputs: Sequence::new(alloc),
+        outputs: ListVec::new(alloc),
         status: Status::Failure,
     })
 }
@@ -71,10 +71,10 @@ fn refused(
 /// What assembling does: it writes the object, or says why there is none.
 fn asm_outcome(
     alloc: Global,
-    line: &AssembleLine<'_>,
+    line: &AssembleArgs<'_>,
     assembly: Assembly,
 ) -> Result<Outcome, AllocError>
-    requires good { IfOk assembly.result (λ object. is_good_object object ≡ true) }
+    requires good { IfOk assembly.result (λ object. is_well_formed_object object ≡ true) }
     requires numbers { IfOk assembly.result ObjectFits }
     ensures { IfOk result (λ outcome. AssemblesTo (assembling line.now) (answer_of assembly assembly.result) outcome) }
 {
@@ -97,12 +97,12 @@ fn asm_outcome(
 /// Assembles, and computes what a line does.
 pub fn compute_assembly<S: Store>(
     alloc: Global,
-    line: &AssembleLine<'_>,
+    line: &AssembleArgs<'_>,
     store: &mut S,
 ) -> Result<Outcome, AllocError>
-    ensures computed { IfSome (S.files store.old) (λ m. IfOk result (Computes (assemble (assembling line.now)) m
-        (S.blamed store.new) (S.failures store.old) (S.failures store.new))) }
-    ensures kept { Leaves S.files S.failures store.old store.new result }
+    ensures computed { IfSome (S.files store.old) (λ m. IfOk result (ComputesOutcome (assemble (assembling line.now)) m
+        (S.last_failure store.new) (S.failures store.old) (S.failures store.new))) }
+    ensures frame { ComputeFrame S.files S.failures store.old store.new result }
 {
     let include = folders_of(alloc, line.include.as_slice())?;
     let defines = defines_of(alloc, line.defines.as_slice())?;

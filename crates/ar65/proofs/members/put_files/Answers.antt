@@ -9,16 +9,16 @@ returns-in-Err-clause-put g c =
     file_none _ _ c.args.library.now c.loop-place.library (map (λ s. s.now) c.args.files.now) c.loop-place.place _ c.in-Err.fault c.loop-place.invariant.files (name_next (λ s. s.now) c.args.files.now c.loop-place.place _ c.loop-place-test.true) c.loop-place.invariant.left c.in-Err.ensures.put
 
 pub returns-in-Err-clause-count : goal.returns-in-Err-clause-count
-returns-in-Err-clause-count g c = refused_count _ _ _ c.loop-place.place c.in-Err.fault c.loop-place.invariant.count c.in-Err.ensures.kept.count
+returns-in-Err-clause-count g c = refused_count _ _ _ c.loop-place.place c.in-Err.fault c.loop-place.invariant.count c.in-Err.ensures.frame.count
 
 pub loop-place-preserved : goal.loop-place-preserved
 loop-place-preserved g c = record {
-  files = c.in-Ok.ensures.kept.files ∙ c.loop-place.invariant.files;
+  files = c.in-Ok.ensures.frame.files ∙ c.loop-place.invariant.files;
   left = file_more _ _ c.args.library.now c.loop-place.library c.put_file.new.library (map (λ s. s.now) c.args.files.now) c.loop-place.place _ c.loop-place.invariant.files (name_next (λ s. s.now) c.args.files.now c.loop-place.place _ c.loop-place-test.true) c.loop-place.invariant.left c.in-Ok.ensures.put;
   bytes = left_more _ _ (map (λ s. s.now) c.args.files.now) c.loop-place.place _ c.loop-place.invariant.files (name_next (λ s. s.now) c.args.files.now c.loop-place.place _ c.loop-place-test.true) c.loop-place.invariant.bytes c.in-Ok.ensures.bytes;
-  count = same_count _ _ _ _ c.loop-place.invariant.count c.in-Ok.ensures.kept.count;
+  count = same_count _ _ _ _ c.loop-place.invariant.count c.in-Ok.ensures.frame.count;
 }
 
 pub returns-in-Err-clause-named : goal.returns-in-Err-clause-named
 returns-in-Err-clause-named g c =
-    of_file _ (map (λ s. s.now) c.args.files.now) c.loop-place.place _ c.in-Err.fault (name_there c.args.files.now c.loop-place.place _ c.loop-place-test.true) (λ h. c.in-Err.ensures.kept.blamed (ap (λ f. Err f) h))
+    of_file _ (map (λ s. s.now) c.args.files.now) c.loop-place.place _ c.in-Err.fault (name_there c.args.files.now c.loop-place.place _ c.loop-place-test.true) (λ h. c.in-Err.ensures.frame.last_failure (ap (λ f. Err f) h))

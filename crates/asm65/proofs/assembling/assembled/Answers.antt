@@ -1,8 +1,8 @@
 use Rattle.std.proofs.Common.{◌≡◌, Err, ap, true, subst}
 use Rattle.std.specs.Prelude.{IfSome, Option}
 use Rattle.base65.specs.Store.{Files}
-use Rattle.object65.specs.Objects.{ObjectFits, is_good_object}
-use Rattle.asm65.specs.declared.running.Run.{Run}
+use Rattle.object65.specs.Objects.{ObjectFits, is_well_formed_object}
+use Rattle.asm65.specs.declared.driver.Run.{Run}
 use Rattle.asm65.specs.Assembly.{job_of}
 use Rattle.asm65.proofs.Outcomes.{AnswersAll, StopsFrom, as_fault, define_answer, first_running, memory_silent, none_passed, not_answered, open_answer, passed_through, run_answer, run_stops, stops_first, stops_never_so}
 use Rattle.asm65.proofs.Refusals.{refused_asked, refused_passed}
@@ -17,8 +17,8 @@ returns-in-Err-clause-assembled g c = open_answer (g.S.Store.files c.args.store.
 pub returns-in-Err-clause-count : goal.returns-in-Err-clause-count
 returns-in-Err-clause-count g c = refused_passed _ _ c.in-Err.fault c.refused.result.result c.in-Err.ensures.count c.refused.ensures.none c.refused.ensures.failed
 
-pub returns-in-Err-clause-asked : goal.returns-in-Err-clause-asked
-returns-in-Err-clause-asked g c = refused_asked (g.S.Store.failures c.args.store.now) c.in-Err.fault c.refused.result.result c.in-Err.ensures.asked c.refused.ensures.outside
+pub returns-in-Err-clause-at_last_count : goal.returns-in-Err-clause-at_last_count
+returns-in-Err-clause-at_last_count g c = refused_asked (g.S.Store.failures c.args.store.now) c.in-Err.fault c.refused.result.result c.in-Err.ensures.at_last_count c.refused.ensures.outside
 
 pub returns-in-Err-define_all-clause-assembled : goal.returns-in-Err-define_all-clause-assembled
 returns-in-Err-define_all-clause-assembled g c =
@@ -28,7 +28,7 @@ pub returns-in-Err-define_all-clause-count : goal.returns-in-Err-define_all-clau
 returns-in-Err-define_all-clause-count g c = none_passed _ _ c.in-Ok.expander c.in-Err-define_all.fault c.refused-in-Err-define_all.result.result c.in-Ok.ensures.count c.in-Err-define_all.ensures.inside c.refused-in-Err-define_all.ensures.none c.refused-in-Err-define_all.ensures.failed
 
 pub returns-in-Err-define_all-clause-good : goal.returns-in-Err-define_all-clause-good
-returns-in-Err-define_all-clause-good g c = not_answered (λ o. is_good_object o ≡ true) c.refused-in-Err-define_all.result.result c.refused-in-Err-define_all.ensures.none
+returns-in-Err-define_all-clause-good g c = not_answered (λ o. is_well_formed_object o ≡ true) c.refused-in-Err-define_all.result.result c.refused-in-Err-define_all.ensures.none
 
 pub returns-in-Err-define_all-clause-numbers : goal.returns-in-Err-define_all-clause-numbers
 returns-in-Err-define_all-clause-numbers g c = not_answered ObjectFits c.refused-in-Err-define_all.result.result c.refused-in-Err-define_all.ensures.none
@@ -43,7 +43,7 @@ pub returns-in-Ok-define_all-clause-count : goal.returns-in-Ok-define_all-clause
 returns-in-Ok-define_all-clause-count g c = passed_through _ _ _ c.in-Ok.expander c.finished.result.result c.in-Ok.ensures.count c.finished.ensures.count
 
 pub returns-in-Err-clause-stopped : goal.returns-in-Err-clause-stopped
-returns-in-Err-clause-stopped g c = stops_first (g.S.Store.files c.args.store.now) (g.S.Store.blamed c.opened.new.store) (job_of c.args.job.now) c.in-Err.fault c.refused.result c.refused.ensures.failed c.refused.ensures.first c.refused.ensures.silent (λ same. c.in-Err.ensures.blamed (ap Err same))
+returns-in-Err-clause-stopped g c = stops_first (g.S.Store.files c.args.store.now) (g.S.Store.last_failure c.opened.new.store) (job_of c.args.job.now) c.in-Err.fault c.refused.result c.refused.ensures.failed c.refused.ensures.first c.refused.ensures.silent (λ same. c.in-Err.ensures.last_failure (ap Err same))
 
 pub returns-in-Err-clause-silent : goal.returns-in-Err-clause-silent
 returns-in-Err-clause-silent g c = memory_silent c.refused.result.result _ c.refused.ensures.silent
@@ -51,7 +51,7 @@ returns-in-Err-clause-silent g c = memory_silent c.refused.result.result _ c.ref
 pub returns-in-Err-define_all-clause-stopped : goal.returns-in-Err-define_all-clause-stopped
 returns-in-Err-define_all-clause-stopped g c =
     let a = c.refused-in-Err-define_all.result in
-    stops_never_so (g.S.Store.files c.args.store.now) (g.S.Store.blamed c.opened.new.store) (job_of c.args.job.now) a (as_fault a.result c.in-Err-define_all.fault c.in-Err-define_all.ensures.inside c.refused-in-Err-define_all.ensures.failed)
+    stops_never_so (g.S.Store.files c.args.store.now) (g.S.Store.last_failure c.opened.new.store) (job_of c.args.job.now) a (as_fault a.result c.in-Err-define_all.fault c.in-Err-define_all.ensures.inside c.refused-in-Err-define_all.ensures.failed)
 
 pub returns-in-Err-define_all-clause-silent : goal.returns-in-Err-define_all-clause-silent
 returns-in-Err-define_all-clause-silent g c = memory_silent c.refused-in-Err-define_all.result.result _ c.refused-in-Err-define_all.ensures.silent
@@ -59,5 +59,5 @@ returns-in-Err-define_all-clause-silent g c = memory_silent c.refused-in-Err-def
 pub returns-in-Ok-define_all-clause-stopped : goal.returns-in-Ok-define_all-clause-stopped
 returns-in-Ok-define_all-clause-stopped g c =
     let run : Run = record { expander = c.in-Ok.expander; assembler = c.define_all.new.assembler } in
-    let P : Option Files → Type 0 = λ o. IfSome o (λ m. StopsFrom m (g.S.Store.blamed c.finished.new.store) run c.finished.result) in
-    run_stops (g.S.Store.files c.args.store.now) (g.S.Store.blamed c.finished.new.store) (job_of c.args.job.now) c.in-Ok.expander c.define_all.new.assembler c.in-Ok-define_all.field-0 c.finished.result c.in-Ok-define_all.ensures.defined c.in-Ok.ensures.size c.in-Ok.ensures.opened c.in-Ok.ensures.placed (subst P c.in-Ok.ensures.files c.finished.ensures.stopped)
+    let P : Option Files → Type 0 = λ o. IfSome o (λ m. StopsFrom m (g.S.Store.last_failure c.finished.new.store) run c.finished.result) in
+    run_stops (g.S.Store.files c.args.store.now) (g.S.Store.last_failure c.finished.new.store) (job_of c.args.job.now) c.in-Ok.expander c.define_all.new.assembler c.in-Ok-define_all.field-0 c.finished.result c.in-Ok-define_all.ensures.defined c.in-Ok.ensures.size c.in-Ok.ensures.opened c.in-Ok.ensures.placed (subst P c.in-Ok.ensures.files c.finished.ensures.stopped)

@@ -1,11 +1,11 @@
 use Rattle.std.proofs.Common.{ℕ, ◌+◌, ◌<◌, List, subst}
 use Rattle.syntax65.specs.Trees.{Tree, number}
 use Rattle.ast65.specs.declared.language.Statement.TheVariants.{Constant}
-use Rattle.sources65.specs.Machine.{State, Takes}
-use Rattle.sources65.specs.Reading.{Answers}
+use Rattle.sources65.specs.Machine.{State, StepsTo}
+use Rattle.sources65.specs.Reading.{RepresentsOrFails}
 use Rattle.asm65.specs.Assembly.{define_of}
 use Rattle.symbols65.specs.Measuring.{opening_limit}
-use Rattle.asm65.specs.Inner.Holding.{Holds}
+use Rattle.asm65.specs.Internal.AssemblerState.{Represents}
 use Rattle.semantics65.specs.Views.{place_in}
 use Rattle.asm65.proofs.Defines.{defines_by}
 use Rattle.asm65.proofs.assembling.define_one.Goals as goal
@@ -15,8 +15,8 @@ returns-clause-taken c =
     let place = place_in c.args.at.file.now c.args.at.line in
     let d = c.args.define.now in
     let old = c.args.assembler.now in
-    let new = c.take.new.self in
-    let r = c.take.result in
-    let P : List ℕ → Tree → Type 0 = λ n e. (count : ℕ) (t : State) → Holds count t old → count < opening_limit → Answers (Takes t place (Constant n e)) (λ u. Holds (count + 0) u new) r in
-    let numbered : P c.in_ok-name.name (number d.value) = subst (P c.in_ok-name.name) c.new-value.ensures c.take.ensures.taken in
-    defines_by place (define_of d) old new r (subst (λ n. P n (number d.value)) c.in_ok-name.ensures numbered) c.take.ensures.texts
+    let new = c.assemble_statement.new.self in
+    let r = c.assemble_statement.result in
+    let P : List ℕ → Tree → Type 0 = λ n e. (count : ℕ) (t : State) → Represents count t old → count < opening_limit → RepresentsOrFails (StepsTo t place (Constant n e)) (λ u. Represents (count + 0) u new) r in
+    let numbered : P c.in_ok-name.name (number d.value) = subst (P c.in_ok-name.name) c.new-value.ensures c.assemble_statement.ensures.taken in
+    defines_by place (define_of d) old new r (subst (λ n. P n (number d.value)) c.in_ok-name.ensures numbered) c.assemble_statement.ensures.texts

@@ -3,19 +3,19 @@ use Rattle.asm65.proofs.Outcomes.{failure_outside}
 use Rattle.asm65.proofs.Refusals.{failed_as, first_as, inside_as, outside_as}
 use Rattle.asm65.proofs.assembling.refused.Goals as goal
 
-pub returns-then-is_outside-clause-outside : goal.returns-then-is_outside-clause-outside
-returns-then-is_outside-clause-outside c = outside_as c.args.fault c.refused_outside.result.result c.refused_outside.ensures.none c.refused_outside.ensures.fault
+pub returns-then-is_system_error-clause-outside : goal.returns-then-is_system_error-clause-outside
+returns-then-is_system_error-clause-outside c = outside_as c.args.fault c.refused_outside.result.result c.refused_outside.ensures.none c.refused_outside.ensures.fault
 
-pub returns-then-is_outside-clause-failed : goal.returns-then-is_outside-clause-failed
-returns-then-is_outside-clause-failed c = failed_as c.args.fault c.refused_outside.result.result c.refused_outside.ensures.fault
+pub returns-then-is_system_error-clause-failed : goal.returns-then-is_system_error-clause-failed
+returns-then-is_system_error-clause-failed c = failed_as c.args.fault c.refused_outside.result.result c.refused_outside.ensures.fault
 
-pub returns-then-is_outside-clause-first : goal.returns-then-is_outside-clause-first
-returns-then-is_outside-clause-first c = λ failed. first_as c.args.fault c.refused_outside.result.result c.refused_outside.ensures.fault c.refused_outside.ensures.placed
+pub returns-then-is_system_error-clause-first : goal.returns-then-is_system_error-clause-first
+returns-then-is_system_error-clause-first c = λ failed. first_as c.args.fault c.refused_outside.result.result c.refused_outside.ensures.fault c.refused_outside.ensures.placed
 
 pub returns-clause-failed : goal.returns-clause-failed
 returns-clause-failed c =
-    let inside = sym c.if-is_outside.ensures in
-    inside_as c.args.fault c.refuse.result.result inside (c.refuse.ensures.inside inside)
+    let inside = sym c.if-is_system_error.ensures in
+    inside_as c.args.fault c.fail_at_line.result.result inside (c.fail_at_line.ensures.inside inside)
 
 pub returns-clause-first : goal.returns-clause-first
-returns-clause-first c = λ failed. absurd (let both : false ≡ true = c.if-is_outside.ensures ∙ failure_outside c.args.fault failed in cc)
+returns-clause-first c = λ failed. absurd (let both : false ≡ true = c.if-is_system_error.ensures ∙ failure_outside c.args.fault failed in cc)

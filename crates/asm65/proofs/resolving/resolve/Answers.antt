@@ -1,9 +1,9 @@
 use Rattle.std.proofs.lemmas.Grind.{common_steps}
 use Rattle.std.proofs.Common.{arith}
 use Rattle.ast65.specs.Faults.{is_memory}
-use Rattle.semantics65.specs.Module.{asserted, used}
-use Rattle.emit65.specs.Fed.{names_of}
-use Rattle.asm65.specs.Inner.Running.{made_at, place_here}
+use Rattle.semantics65.specs.Module.{asserted, value_result}
+use Rattle.emit65.specs.SectionContents.{names_of}
+use Rattle.asm65.specs.Internal.RunState.{made_at, place_here}
 use Rattle.asm65.proofs.Exports.{names_stay, none_asserted}
 use Rattle.asm65.proofs.resolving.resolve.Goals as goal
 
@@ -18,7 +18,7 @@ returns-in_ok-form-in-Assertion-clause-more c =
     let act = c.in-Assertion.action in
     let words = c.in-Assertion.text in
     let f = c.in_ok-form-in-Assertion.form in
-    names_stay is_memory (made_at c.args.spot) (names_of c.args.exported.now) c.use_assertion.result (used place s (asserted act words) f) (none_asserted place s act words f) (c.use_assertion.ensures.made s)
+    names_stay is_memory (made_at c.args.spot) (names_of c.args.exported.now) c.use_assertion.result (value_result place s (asserted act words) f) (none_asserted place s act words f) (c.use_assertion.ensures.made s)
 
 pub returns-in-Some-defined-clause-made : goal.returns-in-Some-defined-clause-made
 returns-in-Some-defined-clause-made c = rw c.in-Export.is (c.resolve_export.ensures.made c.in-Export.must c.args.fixup.context)

@@ -1,7 +1,7 @@
 use Rattle.std.proofs.Common.{◌≡◌, ◌++◌, map}
 use Rattle.std.specs.List.{AllByRecursion}
 use Rattle.std.specs.Vec.Iter.{into_iter_items}
-use Rattle.emit65.specs.Inner.Drafts.{SectionFits, section_of}
+use Rattle.emit65.specs.Internal.Drafts.{SectionFits, section_of}
 use Rattle.emit65.proofs.numbering.finish_sections.Given as goal
 
 abbrev pub invariant-loop-draft : goal.invariant-loop-draft

@@ -1,6 +1,6 @@
 use Rattle.std.proofs.Common.{◌≡◌, ◌++◌, map, drop}
 use Rattle.semantics65.specs.Numbering.{name_of}
-use Rattle.emit65.specs.Fed.{names_of}
+use Rattle.emit65.specs.SectionContents.{names_of}
 use Rattle.emit65.proofs.numbering.import_names.Given as goal
 
 abbrev pub invariant-loop-key : goal.invariant-loop-key

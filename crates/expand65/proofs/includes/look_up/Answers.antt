@@ -3,7 +3,7 @@ use Rattle.std.proofs.Common.{◌≡◌, ◌∙◌, ℕ, List, true, false, Resu
 use Rattle.std.proofs.lemmas.Result.{err_from_is_err_and}
 use Rattle.std.specs.FinMap as fmap
 use Rattle.base65.specs.Outcome.{Unless}
-use Rattle.syntax65.specs.Faults.{is_outside}
+use Rattle.syntax65.specs.Faults.{is_system_error}
 use Rattle.expand65.specs.Expansion.{file_named, found_or}
 use Rattle.expand65.specs.Macros.{file_of, is_there}
 use Rattle.syntax65.specs.declared.fault.ExpandFault.{ExpandFault}
@@ -19,7 +19,7 @@ returns-in_err-there-clause-tries g c =
     let p = err_from_is_err_and c.from_residual.result c.from_residual.ensures.1 in
     let name = c.args.name.now in
     let f = c.in_err-there.field-0.0 in
-    rw (p.1, p.2) (where_known (g.S.Store.files c.args.store.now) (λ m. Unless (is_outside f) (is_there (fmap.get m c.in-Some.text.now) ≡ Err f)) (λ m. (others : Found) → Unless (is_outside f) (found_or name (file_named m name) others ≡ Err f)) (λ m h others. let P : List ℕ → Type 0 = λ t. Unless (is_outside f) (is_there (fmap.get m t) ≡ Err f) in is_refused m name others f c.in-Some.ensures.text.1 (subst P c.in-Some.ensures.text.0 h)) c.in_err-there.ensures.there)
+    rw (p.1, p.2) (where_known (g.S.Store.files c.args.store.now) (λ m. Unless (is_system_error f) (is_there (fmap.get m c.in-Some.text.now) ≡ Err f)) (λ m. (others : Found) → Unless (is_system_error f) (found_or name (file_named m name) others ≡ Err f)) (λ m h others. let P : List ℕ → Type 0 = λ t. Unless (is_system_error f) (is_there (fmap.get m t) ≡ Err f) in is_refused m name others f c.in-Some.ensures.text.1 (subst P c.in-Some.ensures.text.0 h)) c.in_err-there.ensures.there)
 
 pub returns-in_ok-copy_of-clause-tries : goal.returns-in_ok-copy_of-clause-tries
 returns-in_ok-copy_of-clause-tries g c =
@@ -33,5 +33,5 @@ returns-else-there-clause-tries g c =
     let there = c.in_ok-there.there in
     where_known (g.S.Store.files c.args.store.now) (λ m. is_there (fmap.get m c.in-Some.text.now) ≡ Ok there) (λ m. (others : Found) → found_or name (file_named m name) others ≡ others) (λ m h others. let P : List ℕ → Type 0 = λ t. is_there (fmap.get m t) ≡ Ok false in is_missing m name others c.in-Some.ensures.text.1 (subst P c.in-Some.ensures.text.0 (h ∙ ap Ok c.if-there.false))) c.in_ok-there.ensures.there
 
-pub returns-in_ok-copy_of-clause-leaves : goal.returns-in_ok-copy_of-clause-leaves
-returns-in_ok-copy_of-clause-leaves g c = grind (arith, common_steps)
+pub returns-in_ok-copy_of-clause-frame : goal.returns-in_ok-copy_of-clause-frame
+returns-in_ok-copy_of-clause-frame g c = grind (arith, common_steps)

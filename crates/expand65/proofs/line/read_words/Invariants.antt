@@ -1,5 +1,5 @@
 use Rattle.std.proofs.Common.{◌≡◌, ℕ, ◌≤◌, ◌++◌, List, Option, length, true}
-use Rattle.syntax65.specs.Tokens.{Lexeme, Reads}
+use Rattle.syntax65.specs.Tokens.{Lexeme, HasTokens}
 use Rattle.syntax65.specs.declared.lexing.tokens.LexFault.{LexFault}
 use Rattle.expand65.proofs.Words.{AreKept}
 use Rattle.expand65.proofs.line.read_words.Given as goal
@@ -7,7 +7,7 @@ use Rattle.expand65.proofs.line.read_words.Given as goal
 abbrev pub invariant-tokens : goal.invariant-tokens
 invariant-tokens l = record {
   short : length l.bytes ≤ 4096;
-  so_far : (ts : List Lexeme) × ((front : List ℕ) × (l.bytes ≡ front ++ l.lexer.rest.now) × AreKept l.words.items front ts) × ((us : List Lexeme) (end : Option LexFault) → Reads l.lexer.first l.lexer.rest.now us end → Reads true l.bytes (ts ++ us) end);
+  so_far : (ts : List Lexeme) × ((pending : List ℕ) × (l.bytes ≡ pending ++ l.lexer.rest.now) × AreKept l.words.items pending ts) × ((us : List Lexeme) (end : Option LexFault) → HasTokens l.lexer.first l.lexer.rest.now us end → HasTokens true l.bytes (ts ++ us) end);
 }
 
 abbrev pub decreases-tokens : goal.decreases-tokens

@@ -1,12 +1,12 @@
 use Rattle.std.proofs.lemmas.Grind.{common_steps}
 use Rattle.std.proofs.Common.{ap, arith}
-use Rattle.expand65.specs.Fronts.{understood}
+use Rattle.expand65.specs.Fronts.{ok_or_unknown}
 use Rattle.expand65.proofs.Names.{names_again, names_more}
 use Rattle.expand65.proofs.macros.distinct.Goals as goal
 
 pub returns-then-not-is_new-clause-set : goal.returns-then-not-is_new-clause-set
 returns-then-not-is_new-clause-set c =
-    ap understood (names_again c.args.names.now c.loop-name.name-index _ c.in_ok-from_slice.field-0 c.loop-name.set.keys c.in_ok-is_new.is_new c.loop-name-test.true c.in_ok-from_slice.ensures.items c.loop-name.invariant.keys c.in_ok-is_new.ensures.added c.if-not-is_new.true)
+    ap ok_or_unknown (names_again c.args.names.now c.loop-name.name-index _ c.in_ok-from_slice.field-0 c.loop-name.set.keys c.in_ok-is_new.is_new c.loop-name-test.true c.in_ok-from_slice.ensures.items c.loop-name.invariant.keys c.in_ok-is_new.ensures.added c.if-not-is_new.true)
 
 pub loop-name-preserved : goal.loop-name-preserved
 loop-name-preserved c =

@@ -3,9 +3,9 @@ use Rattle.std.proofs.lemmas.Bool.Decides.{nat_tests}
 use Rattle.std.proofs.lemmas.List.{map-append, length-map, length-drop, take-map, drop-map, drop-drop}
 use Rattle.syntax65.specs.Tokens.{lexeme_of, lexemes}
 use Rattle.syntax65.specs.declared.lexing.tokens.Token.{Token}
-use Rattle.expand65.specs.Macros.{unbraced, parts_within}
-use Rattle.expand65.specs.Playing.{tokens_in}
-use Rattle.expand65.specs.declared.line.Line.{Line}
+use Rattle.expand65.specs.Macros.{without_braces, parts_within}
+use Rattle.expand65.specs.Replay.{tokens_in}
+use Rattle.expand65.specs.declared.line.StoredLine.{StoredLine}
 use Rattle.expand65.proofs.Names.{parts_end, parts_more}
 use Rattle.expand65.proofs.macros.parts_of.Goals as goal
 
@@ -13,8 +13,8 @@ use Rattle.expand65.proofs.macros.parts_of.Goals as goal
 further : (ts : List Token) (at n : ℕ) → drop n (lexemes (drop at ts)) ≡ lexemes (drop (at + n) ts)
 further ts at n = drop-map lexeme_of n (drop at ts) ∙ ap lexemes (drop-drop n at ts)
 
-part_line : (line : Line) (part own rest behind : List Token) (n : ℕ) → tokens_in line ≡ lexemes own → lexemes own ≡ unbraced (lexemes part) → part ≡ take n behind → behind ≡ rest → tokens_in line ≡ unbraced (take n (lexemes rest))
-part_line line part own rest behind n e f g h = e ∙ f ∙ ap unbraced (ap lexemes (g ∙ ap (take n) h) ∙ sym (take-map lexeme_of n rest))
+part_line : (line : StoredLine) (part own rest following : List Token) (n : ℕ) → tokens_in line ≡ lexemes own → lexemes own ≡ without_braces (lexemes part) → part ≡ take n following → following ≡ rest → tokens_in line ≡ without_braces (take n (lexemes rest))
+part_line line part own rest following n e f g h = e ∙ f ∙ ap without_braces (ap lexemes (g ∙ ap (take n) h) ∙ sym (take-map lexeme_of n rest))
 
 pub returns-then-is_empty : goal.returns-then-is_empty
 returns-then-is_empty c =
@@ -25,7 +25,7 @@ returns-then-is_empty c =
     let gone : length (lexemes rest) ≤ c.part_len-len.result = omega (arith, length-map rest lexeme_of, ap length back, ap length c.split_at-in-parts.ensures.back, length-drop c.part_len-len.result c.split_at.result.1.now) in
     let same = part_line c.in_ok-line.line c.split_at-in-parts.result.0.now c.unbraced.result.now rest c.split_at.result.1.now c.part_len-len.result c.in_ok-line.ensures c.unbraced.ensures c.split_at-in-parts.ensures.front back in
     rw (c.in_ok-push.ensures.ok, map-append tokens_in c.parts.lines (c.in_ok-line.line ∷ []))
-    (parts_end (map tokens_in c.parts.lines) (map unbraced (parts_within 0 (lexemes c.args.tokens.now))) (lexemes rest) (tokens_in c.in_ok-line.line) c.part_len-len.result count gone same c.parts.invariant.so_far)
+    (parts_end (map tokens_in c.parts.lines) (map without_braces (parts_within 0 (lexemes c.args.tokens.now))) (lexemes rest) (tokens_in c.in_ok-line.line) c.part_len-len.result count gone same c.parts.invariant.so_far)
 
 pub parts-preserved : goal.parts-preserved
 parts-preserved c =
@@ -38,6 +38,6 @@ parts-preserved c =
     let same = part_line c.in_ok-line.line c.split_at-in-parts.result.0.now c.unbraced.result.now rest c.split_at.result.1.now c.part_len-len.result c.in_ok-line.ensures c.unbraced.ensures c.split_at-in-parts.ensures.front back in
     record {
       so_far = rw (c.in_ok-push.ensures.ok, map-append tokens_in c.parts.lines (c.in_ok-line.line ∷ []), ← further c.args.tokens.now c.parts.at (c.part_len-len.result + 1))
-          (parts_more (map tokens_in c.parts.lines) (map unbraced (parts_within 0 (lexemes c.args.tokens.now))) (lexemes rest) (tokens_in c.in_ok-line.line) c.part_len-len.result count more same c.parts.invariant.so_far);
+          (parts_more (map tokens_in c.parts.lines) (map without_braces (parts_within 0 (lexemes c.args.tokens.now))) (lexemes rest) (tokens_in c.in_ok-line.line) c.part_len-len.result count more same c.parts.invariant.so_far);
       inside = omega (arith, length-map rest lexeme_of, length-drop c.parts.at c.args.tokens.now, more);
     }

@@ -6,8 +6,8 @@ pub returns-in-Ok-clause-fed : goal.returns-in-Ok-clause-fed
 returns-in-Ok-clause-fed g c =
     file_fed _ c.args.input.now.place c.args.input.now.name.now _ c.args.linker.now c.feed_object.new.linker c.as_bytes.ensures.value c.in-Ok.ensures.fed
 
-pub returns-in-Ok-clause-kept : goal.returns-in-Ok-clause-kept
-returns-in-Ok-clause-kept g c =
+pub returns-in-Ok-clause-frame : goal.returns-in-Ok-clause-frame
+returns-in-Ok-clause-frame g c =
     let fed = c.in-Ok.ensures in
     object_left _ _ _ _ fed.keeps fed.files _ c.args.input.now.name.now fed.opened fed.kept
 
@@ -15,7 +15,7 @@ pub returns-in-Err-clause-fed : goal.returns-in-Err-clause-fed
 returns-in-Err-clause-fed g c =
     rw c.of_input.ensures (file_refused _ c.args.input.now.place c.args.input.now.name.now _ c.args.linker.now c.feed_object.new.linker c.in-Err.fault c.as_bytes.ensures.value c.in-Err.ensures.fed)
 
-pub returns-in-Err-clause-kept : goal.returns-in-Err-clause-kept
-returns-in-Err-clause-kept g c =
+pub returns-in-Err-clause-frame : goal.returns-in-Err-clause-frame
+returns-in-Err-clause-frame g c =
     let refused = c.in-Err.ensures in
     rw c.of_input.ensures (file_left _ _ _ _ refused.keeps refused.files c.args.input.now.place c.args.input.now.name.now c.in-Err.fault refused.kept)

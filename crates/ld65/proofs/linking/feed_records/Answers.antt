@@ -4,9 +4,9 @@ use Rattle.std.specs.FinMap.{get}
 use Rattle.object65.specs.Reading.{in_file, record_at}
 use Rattle.object65.specs.Record.{entry_of}
 use Rattle.object65.proofs.Records.{fresh, stays_ahead, where_ahead, kept_count}
-use Rattle.ld65.specs.Inner.Feeding.{input_of}
+use Rattle.ld65.specs.Internal.Feeding.{input_of}
 use Rattle.ld65.proofs.Fed.{is_at_first, seen, unread, untaken, ends_there, goes_further, refused_free}
-use Rattle.ld65.proofs.Leaving.{err_is, keeps_on, unread_behind, untouched}
+use Rattle.ld65.proofs.Leaving.{err_is, keeps_on, unread_after, untouched}
 use Rattle.ld65.proofs.Turns.{read_within}
 use Rattle.ld65.proofs.linking.feed_records.Goals as goal
 
@@ -33,8 +33,8 @@ returns-in_err-record-clause-fed g c =
     let read = seen _ (λ m. in_file (get m c.args.object.now.file.now) (record_at c.args.head.0 c.records.next c.args.object.now.end)) _ _ c.in_ok-next.next c.record-record.ensures (where_ahead _ c.args.object.now.file.now c.records.reader _ c.records.invariant.ahead c.in_ok-next.ensures.read) in
     rw (p.1, p.2) (untaken _ (input_of c.args.object.now) c.args.head c.records.next _ c.args.linker.now c.records.linker c.record.new.self (entry_of c.record-record.result.now, c.in_ok-next.next) c.in_err-record.field-0.0 c.records.invariant.files c.records.invariant.stands read c.in_err-record.ensures.taken)
 
-pub returns-in_err-record-clause-kept : goal.returns-in_err-record-clause-kept
-returns-in_err-record-clause-kept g c modules called entry stands =
+pub returns-in_err-record-clause-frame : goal.returns-in_err-record-clause-frame
+returns-in_err-record-clause-frame g c modules called entry stands =
     let p = err_from_is_err_and c.from_residual-in_err-record.result c.from_residual-in_err-record.ensures.1 in
     let read = c.in_ok-next.ensures.kept in
     let free = refused_free _ (input_of c.args.object.now) c.args.head c.records.next c.args.linker.now c.records.linker c.record.new.self (entry_of c.record-record.result.now) c.in_err-record.field-0.0 c.records.invariant.stands c.in_err-record.ensures.taken modules called entry stands in
@@ -59,10 +59,10 @@ records-preserved g c =
       room = λ h. c.in_ok-next.ensures.bound.1;
     }
 
-pub returns-in_err-next-clause-kept : goal.returns-in_err-next-clause-kept
-returns-in_err-next-clause-kept g c modules called entry stands =
+pub returns-in_err-next-clause-frame : goal.returns-in_err-next-clause-frame
+returns-in_err-next-clause-frame g c modules called entry stands =
     let p = err_from_is_err_and c.from_residual.result c.from_residual.ensures.1 in
-    rw (p.1, p.2) (unread_behind _ _ _ _ c.in_err-next.field-0.0 c.records.invariant.files c.records.invariant.count c.in_err-next.ensures.kept)
+    rw (p.1, p.2) (unread_after _ _ _ _ c.in_err-next.field-0.0 c.records.invariant.files c.records.invariant.count c.in_err-next.ensures.kept)
 
 pub returns-then-record-eq-END-clause-bound : goal.returns-then-record-eq-END-clause-bound
 returns-then-record-eq-END-clause-bound g c = (omega (arith, c.in_ok-next.ensures.bound.0, c.records.invariant.later), c.in_ok-next.ensures.bound.1)

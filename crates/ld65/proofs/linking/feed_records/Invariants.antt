@@ -1,7 +1,7 @@
 use Rattle.std.proofs.Common.{◌≡◌, ◌-◌, ◌≤◌, true}
 use Rattle.object65.proofs.Records.{StandsAhead}
-use Rattle.link65.specs.Standing.{Keeps, is_open}
-use Rattle.ld65.specs.Inner.Feeding.{input_of}
+use Rattle.link65.specs.Representation.{ConfigFrame, is_open}
+use Rattle.ld65.specs.Internal.Feeding.{input_of}
 use Rattle.ld65.proofs.Fed.{IsAt}
 use Rattle.ld65.proofs.linking.feed_records.Given as goal
 
@@ -11,7 +11,7 @@ invariant-records g l = record {
   ahead : StandsAhead (g.S.Store.files l.store) l.object.file.now l.reader;
   count : g.S.Store.failures l.store ≡ g.S.Store.failures l.fn.store;
   opened : is_open l.linker ≡ true;
-  keeps : Keeps l.fn.linker l.linker;
+  keeps : ConfigFrame l.fn.linker l.linker;
   stands : IsAt (g.S.Store.files l.fn.store) (input_of l.object) l.fn.head l.next l.fn.linker l.linker;
   later : l.fn.head.1 ≤ l.next;
   room : l.fn.head.1 ≤ l.object.end → l.next ≤ l.object.end;

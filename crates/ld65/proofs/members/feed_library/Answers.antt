@@ -1,28 +1,28 @@
 use Rattle.std.proofs.Common.{arith, inl, sym, Ok, Err}
 use Rattle.std.proofs.lemmas.Result.{err_from_is_err_and}
 use Rattle.script65.proofs.Eaches.{none_mapped}
-use Rattle.ld65.specs.Linkage.{chosen}
+use Rattle.ld65.specs.Linkage.{selected_entries}
 use Rattle.ld65.specs.Naming.{IsOfLibrary}
 use Rattle.ld65.proofs.Chosen.{after_all, after_none, entry_there, library_fed, none_there, turn_fed, turn_refused}
-use Rattle.ld65.proofs.Leaving.{behind_others, read_left, unasked, unread_left}
+use Rattle.ld65.proofs.Leaving.{after_others, read_left, unasked, unread_left}
 use Rattle.ld65.proofs.Turns.{first_turn, next_turn, of_needed}
 use Rattle.ld65.proofs.members.feed_library.Goals as goal
 use Rattle.ld65.proofs.members.feed_library.Goals.{in-Some+in_ok-feed_member, in_default}
 
-pub returns-in_err-index-clause-kept : goal.returns-in_err-index-clause-kept
-returns-in_err-index-clause-kept g c =
+pub returns-in_err-index-clause-frame : goal.returns-in_err-index-clause-frame
+returns-in_err-index-clause-frame g c =
     let p = err_from_is_err_and c.from_residual.result c.from_residual.ensures.1 in
-    rw (p.1, p.2) (unread_left _ _ _ _ _ c.in_err-index.field-0.0 (λ modules b h failed. inl (h failed)) c.in_err-index.ensures.kept)
+    rw (p.1, p.2) (unread_left _ _ _ _ _ c.in_err-index.field-0.0 (λ modules b h failed. inl (h failed)) c.in_err-index.ensures.frame)
 
-pub returns-in_err-places-clause-kept : goal.returns-in_err-places-clause-kept
-returns-in_err-places-clause-kept g c =
+pub returns-in_err-places-clause-frame : goal.returns-in_err-places-clause-frame
+returns-in_err-places-clause-frame g c =
     let p = err_from_is_err_and c.from_residual-in_err-places.result c.from_residual-in_err-places.ensures.1 in
-    rw (p.1, p.2) (behind_others _ _ _ _ _ _ _ _ (Err c.in_err-places.field-0.0) (λ modules stands. (modules, stands, λ h. h)) (read_left _ _ _ _ _ c.in_ok-index.index c.requires c.in_ok-index.ensures.kept) (unasked (λ before b. IsOfLibrary (g.S.Store.files c.args.store.now) c.args.linker.now.script before b c.args.input.now.place c.args.input.now.name.now) _ _ _ c.in_err-places.ensures.cause))
+    rw (p.1, p.2) (after_others _ _ _ _ _ _ _ _ (Err c.in_err-places.field-0.0) (λ modules stands. (modules, stands, λ h. h)) (read_left _ _ _ _ _ c.in_ok-index.index c.requires c.in_ok-index.ensures.frame) (unasked (λ before b. IsOfLibrary (g.S.Store.files c.args.store.now) c.args.linker.now.script before b c.args.input.now.place c.args.input.now.name.now) _ _ _ c.in_err-places.ensures.cause))
 
 pub loop-place-init : goal.loop-place-init
 loop-place-init g c = record {
-  kept = read_left _ _ _ _ _ c.in_ok-index.index c.requires c.in_ok-index.ensures.kept;
-  stands = after_none _ c.args.input.now.name.now (chosen c.as_slice-entries.result.now c.as_slice-place-items.result.now) c.args.linker.now;
+  kept = read_left _ _ _ _ _ c.in_ok-index.index c.requires c.in_ok-index.ensures.frame;
+  stands = after_none _ c.args.input.now.name.now (selected_entries c.as_slice-entries.result.now c.as_slice-place-items.result.now) c.args.linker.now;
   turned = first_turn _ c.args.input.now.name.now c.as_slice-entries.result.now c.as_slice-place-items.result.now c.args.linker.now;
 }
 
@@ -38,7 +38,7 @@ loop-place-preserved g c =
     let mid = c.loop-place.linker in
     elim c.match-entry_at.branch [
       | in-Some+in_ok-feed_member w ↦ rw (w.linker-is, w.store-is) (record {
-        kept = behind_others _ _ _ _ _ _ _ _ (Ok tt) (λ modules stands. let m = inv.stands modules stands in (m.0, m.1, λ h. tt)) inv.kept w.in_ok-feed_member.ensures.kept;
+        kept = after_others _ _ _ _ _ _ _ _ (Ok tt) (λ modules stands. let m = inv.stands modules stands in (m.0, m.1, λ h. tt)) inv.kept w.in_ok-feed_member.ensures.frame;
         stands = turn_fed _ files library entries places k 0 old mid w.feed_member.new.linker (omega arith) inv.kept.files inv.kept.keeps.script inv.stands (entry_there files library entries _ w.in-Some.entry.now mid w.feed_member.new.linker (Ok tt) w.in-Some.ensures w.in_ok-feed_member.ensures.fed);
         turned = next_turn _ files library entries places k 0 old mid w.feed_member.new.linker (omega arith) inv.kept.files inv.kept.keeps.script inv.turned (entry_there files library entries _ w.in-Some.entry.now mid w.feed_member.new.linker (Ok tt) w.in-Some.ensures w.in_ok-feed_member.ensures.fed);
       })
@@ -60,15 +60,15 @@ returns-in_err-feed_member-clause-fed g c =
     (turn_refused _ _ library entries c.as_slice-place-items.result.now c.loop-place.place-index _ c.args.linker.now c.loop-place.linker c.feed_member.new.linker (omega arith) inv.kept.files inv.kept.keeps.script inv.stands e
     (entry_there _ library entries _ c.in-Some.entry.now c.loop-place.linker c.feed_member.new.linker (Err e) c.in-Some.ensures c.in_err-feed_member.ensures.fed)))
 
-pub returns-in_err-feed_member-clause-kept : goal.returns-in_err-feed_member-clause-kept
-returns-in_err-feed_member-clause-kept g c =
+pub returns-in_err-feed_member-clause-frame : goal.returns-in_err-feed_member-clause-frame
+returns-in_err-feed_member-clause-frame g c =
     let p = err_from_is_err_and c.from_residual-in_err-feed_member.result c.from_residual-in_err-feed_member.ensures.1 in
     let inv = c.loop-place.invariant in
     let library = c.args.input.now.name.now in
     let entries = c.as_slice-entries.result.now in
     let places = c.as_slice-place-items.result.now in
     let e = c.in_err-feed_member.field-0.0 in
-    rw (p.1, p.2) (behind_others _ _ _ _ _ _ _ _ (Err e) (of_needed _ c.args.input.now.place library entries places c.loop-place.place-index _ c.in-Some.entry.now c.args.linker.now c.loop-place.linker _ e c.args.input.now.place (rw c.as_slice-entries.ensures c.in_ok-index.ensures.read) (rw (c.as_slice-entries.ensures, c.as_slice-place-items.ensures.value) c.in_ok-places.ensures.chosen) (omega arith) c.in-Some.ensures inv.turned) inv.kept c.in_err-feed_member.ensures.kept)
+    rw (p.1, p.2) (after_others _ _ _ _ _ _ _ _ (Err e) (of_needed _ c.args.input.now.place library entries places c.loop-place.place-index _ c.in-Some.entry.now c.args.linker.now c.loop-place.linker _ e c.args.input.now.place (rw c.as_slice-entries.ensures c.in_ok-index.ensures.read) (rw (c.as_slice-entries.ensures, c.as_slice-place-items.ensures.value) c.in_ok-places.ensures.chosen) (omega arith) c.in-Some.ensures inv.turned) inv.kept c.in_err-feed_member.ensures.frame)
 
 pub returns-clause-fed : goal.returns-clause-fed
 returns-clause-fed g c =

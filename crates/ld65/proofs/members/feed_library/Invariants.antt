@@ -1,14 +1,14 @@
 use Rattle.std.proofs.Common.{drop, Ok}
-use Rattle.ld65.specs.Inner.Feeding.{LeavesFed}
-use Rattle.ld65.specs.Linkage.{chosen}
-use Rattle.ld65.specs.Naming.{IsOfLibrary, Names}
+use Rattle.ld65.specs.Internal.Feeding.{FeedFrame}
+use Rattle.ld65.specs.Linkage.{selected_entries}
+use Rattle.ld65.specs.Naming.{IsOfLibrary, NamesFailure}
 use Rattle.ld65.proofs.Chosen.{IsAfter}
 use Rattle.ld65.proofs.Turns.{IsTurn}
 use Rattle.ld65.proofs.members.feed_library.Given as goal
 
 abbrev pub invariant-loop-place : goal.invariant-loop-place
 invariant-loop-place g l = record {
-  kept : LeavesFed g.S.Store.files g.S.Store.failures g.S.Store.blamed (λ before b. Names (IsOfLibrary (g.S.Store.files l.fn.store) l.fn.linker.script before b l.input.place l.input.name.now)) l.fn.store l.store l.fn.linker l.linker (Ok tt);
-  stands : IsAfter (g.S.Store.files l.fn.store) l.input.name.now (chosen l.entries l.place-items) (chosen l.entries (drop l.place-index l.place-items)) l.fn.linker l.linker;
+  kept : FeedFrame g.S.Store.files g.S.Store.failures g.S.Store.last_failure (λ before b. NamesFailure (IsOfLibrary (g.S.Store.files l.fn.store) l.fn.linker.script before b l.input.place l.input.name.now)) l.fn.store l.store l.fn.linker l.linker (Ok tt);
+  stands : IsAfter (g.S.Store.files l.fn.store) l.input.name.now (selected_entries l.entries l.place-items) (selected_entries l.entries (drop l.place-index l.place-items)) l.fn.linker l.linker;
   turned : IsTurn (g.S.Store.files l.fn.store) l.input.name.now l.entries l.place-items l.place-index l.fn.linker l.linker;
 }

@@ -13,8 +13,8 @@ pub returns-in-Ok-clause-fed : goal.returns-in-Ok-clause-fed
 returns-in-Ok-clause-fed g c =
     member_fed _ c.args.member.now.library.now c.args.member.now.entry.now c.args.linker.now c.feed_object.new.linker _ (c.as_slice.ensures ∙ c.in_ok-name.ensures) c.in-Ok.ensures.fed
 
-pub returns-in-Ok-clause-kept : goal.returns-in-Ok-clause-kept
-returns-in-Ok-clause-kept g c =
+pub returns-in-Ok-clause-frame : goal.returns-in-Ok-clause-frame
+returns-in-Ok-clause-frame g c =
     let fed = c.in-Ok.ensures in
     object_left _ _ _ _ fed.keeps fed.files _ c.args.member.now.library.now fed.opened fed.kept
 
@@ -23,7 +23,7 @@ returns-in-Err-clause-fed g c =
     let called = c.as_slice.ensures in
     rw c.of_member.ensures (member_refused _ c.args.member.now.library.now c.args.member.now.entry.now c.args.linker.now c.feed_object.new.linker _ c.in-Err.fault (c.in_ok-name.ensures) (rw called at c.in-Err.ensures.fed))
 
-pub returns-in-Err-clause-kept : goal.returns-in-Err-clause-kept
-returns-in-Err-clause-kept g c =
+pub returns-in-Err-clause-frame : goal.returns-in-Err-clause-frame
+returns-in-Err-clause-frame g c =
     let refused = c.in-Err.ensures in
     rw c.of_member.ensures (member_left _ _ _ _ refused.keeps refused.files c.args.member.now.library.now c.in_ok-name.name c.args.member.now.entry.now c.in-Err.fault c.in_ok-name.ensures refused.kept refused.within)

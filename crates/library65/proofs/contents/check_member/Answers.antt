@@ -1,5 +1,5 @@
 use Rattle.std.proofs.lemmas.Grind.{common_steps}
-use Rattle.library65.specs.Libraries.{checked, contents_in}
+use Rattle.library65.specs.Libraries.{member_contents, contents_in}
 use Rattle.library65.specs.Libraries.{contents_in}
 use Rattle.object65.specs.Reading.{object_at}
 use Rattle.std.proofs.Common.{◌≡◌, rules, true, arith}
@@ -13,13 +13,13 @@ returns-then-end-bytes-clause-checked c =
     trailing c.args.name.now c.args.bytes.now c.in_ok-version.version c.in_ok-version.first c.in_ok-contents.end c.in_ok-contents.contents named c.in_ok-version.ensures.read c.in_ok-contents.ensures.read c.if-end-bytes.true
 
 pub returns-in_err-version-clause-checked : goal.returns-in_err-version-clause-checked
-unfolding checked contents_in object_at
+unfolding member_contents contents_in object_at
 returns-in_err-version-clause-checked c = grind (arith, common_steps)
 
 pub returns-clause-checked : goal.returns-clause-checked
-unfolding checked contents_in object_at
+unfolding member_contents contents_in object_at
 returns-clause-checked c = grind (arith, common_steps)
 
 pub returns-in_err-contents-clause-checked : goal.returns-in_err-contents-clause-checked
-unfolding checked contents_in object_at
+unfolding member_contents contents_in object_at
 returns-in_err-contents-clause-checked c = grind (arith, common_steps)

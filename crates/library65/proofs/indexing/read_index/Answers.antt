@@ -4,10 +4,10 @@ use Rattle.library65.proofs.Asking.{fault_of, list_failed}
 use Rattle.library65.proofs.Steps.{kept_on}
 use Rattle.library65.proofs.indexing.read_index.Goals as goal
 
-pub returns-in_err-entries-clause-kept : goal.returns-in_err-entries-clause-kept
-returns-in_err-entries-clause-kept g c =
+pub returns-in_err-entries-clause-frame : goal.returns-in_err-entries-clause-frame
+returns-in_err-entries-clause-frame g c =
     let p = err_from_is_err_and c.from_residual-in_err-entries.result c.from_residual-in_err-entries.ensures.1 in
-    rw (p.1, p.2) (kept_on _ _ c.in_ok-members.ensures.kept (λ e. c.in_err-entries.ensures.cause (ap Err e)))
+    rw (p.1, p.2) (kept_on _ _ c.in_ok-members.ensures.frame (λ e. c.in_err-entries.ensures.cause (ap Err e)))
 
 pub returns-in_err-members-clause-before : goal.returns-in_err-members-clause-before
 returns-in_err-members-clause-before g c =

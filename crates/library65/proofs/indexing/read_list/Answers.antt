@@ -48,14 +48,14 @@ loop-preserved g c =
       read = rw c.in_ok-push.ensures.items (goes_on c.args.file.now list_at (listings_at (n - i) ms c.loop.end) (listing_at names c.loop.end) (λ m. listings_at (n - (i + 1)) (ms ++ m.0 ∷ []) m.1) (listings_more n i ms names c.loop.end c.loop.invariant.names c.loop-test.true) _ _ (c.in_ok-member.member, c.in_ok-member.next) c.loop.invariant.files c.loop.invariant.read c.in_ok-member.ensures.read);
     }
 
-pub returns-in_err-insert-clause-kept : goal.returns-in_err-insert-clause-kept
-returns-in_err-insert-clause-kept g c = grind (arith, common_steps)
+pub returns-in_err-insert-clause-frame : goal.returns-in_err-insert-clause-frame
+returns-in_err-insert-clause-frame g c = grind (arith, common_steps)
 
-pub returns-in_err-name-clause-kept : goal.returns-in_err-name-clause-kept
-returns-in_err-name-clause-kept g c = grind (arith, common_steps)
+pub returns-in_err-name-clause-frame : goal.returns-in_err-name-clause-frame
+returns-in_err-name-clause-frame g c = grind (arith, common_steps)
 
-pub returns-in_err-push-clause-kept : goal.returns-in_err-push-clause-kept
-returns-in_err-push-clause-kept g c = grind (arith, common_steps)
+pub returns-in_err-push-clause-frame : goal.returns-in_err-push-clause-frame
+returns-in_err-push-clause-frame g c = grind (arith, common_steps)
 
 pub returns-in_err-push-clause-read : goal.returns-in_err-push-clause-read
 returns-in_err-push-clause-read g c = grind (arith, common_steps)

@@ -22,25 +22,25 @@ pub returns-then-not-has_name-clause-read : goal.returns-then-not-has_name-claus
 unfolding listing_at member_name_at
 returns-then-not-has_name-clause-read g c = grind (arith, common_steps)
 
-pub returns-in_err-imports-clause-kept : goal.returns-in_err-imports-clause-kept
+pub returns-in_err-imports-clause-frame : goal.returns-in_err-imports-clause-frame
 unfolding listing_at member_name_at
-returns-in_err-imports-clause-kept g c = grind (arith, common_steps)
+returns-in_err-imports-clause-frame g c = grind (arith, common_steps)
 
-pub returns-in_err-exports-clause-kept : goal.returns-in_err-exports-clause-kept
+pub returns-in_err-exports-clause-frame : goal.returns-in_err-exports-clause-frame
 unfolding listing_at member_name_at
-returns-in_err-exports-clause-kept g c = grind (arith, common_steps)
+returns-in_err-exports-clause-frame g c = grind (arith, common_steps)
 
 pub returns-clause-read : goal.returns-clause-read
 unfolding listing_at member_name_at
 returns-clause-read g c = grind (arith, common_steps)
 
-pub returns-clause-kept : goal.returns-clause-kept
+pub returns-clause-frame : goal.returns-clause-frame
 unfolding listing_at member_name_at
-returns-clause-kept g c = grind (arith, common_steps)
+returns-clause-frame g c = grind (arith, common_steps)
 
-pub returns-in_err-size-clause-kept : goal.returns-in_err-size-clause-kept
+pub returns-in_err-size-clause-frame : goal.returns-in_err-size-clause-frame
 unfolding listing_at member_name_at
-returns-in_err-size-clause-kept g c = grind (arith, common_steps)
+returns-in_err-size-clause-frame g c = grind (arith, common_steps)
 
 pub returns-in_err-name-clause-before : goal.returns-in_err-name-clause-before
 returns-in_err-name-clause-before g c =

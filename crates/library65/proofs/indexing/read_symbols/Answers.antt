@@ -57,8 +57,8 @@ loop-preserved g c =
       read = rw (c.in_ok-push.ensures.ok) (rw good at read);
     }
 
-pub returns-then-not-is_symbol_name-clause-kept : goal.returns-then-not-is_symbol_name-clause-kept
-returns-then-not-is_symbol_name-clause-kept g c = grind (arith, common_steps)
+pub returns-then-not-is_symbol_name-clause-frame : goal.returns-then-not-is_symbol_name-clause-frame
+returns-then-not-is_symbol_name-clause-frame g c = grind (arith, common_steps)
 
 pub returns-in_err-count-clause-before : goal.returns-in_err-count-clause-before
 returns-in_err-count-clause-before g c =

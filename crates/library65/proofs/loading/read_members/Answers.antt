@@ -13,8 +13,8 @@ returns-in_err-index-clause-read g c =
 
 pub loop-entry-init : goal.loop-entry-init
 loop-entry-init g c = record {
-  files = c.in_ok-index.ensures.kept.files;
-  count = kept_count _ _ _ c.in_ok-index.ensures.kept.count;
+  files = c.in_ok-index.ensures.frame.files;
+  count = kept_count _ _ _ c.in_ok-index.ensures.frame.count;
   sound = record { names = rw c.with_hasher.ensures.empty refl; stored = rw c.with_hasher.ensures.empty tt };
   read = rw (c.with_hasher.ensures.empty, c.as_slice-entry-items.ensures) (goes_on c.args.file.now library_at library_at index_at (λ es. joined_all [] es) library_begins _ _ c.in_ok-index.index.entries refl (begins _ c.args.file.now library_at) c.in_ok-index.ensures.read);
 }

@@ -1,7 +1,7 @@
 use Rattle.std.proofs.Common.{◌≡◌, ◌<◌, ℕ, map, length, Some, slice_get, subst, ap, arith, refl}
 use Rattle.std.proofs.lemmas.List.{length-append}
 use Rattle.std.proofs.lemmas.Option.{slice_get_read}
-use Rattle.library65.specs.Inner.Searching.{Finds}
+use Rattle.library65.specs.Internal.Searching.{MarksExporters}
 use Rattle.library65.specs.Selection.{imports_at}
 use Rattle.library65.proofs.Selections.{search_goes_on}
 use Rattle.library65.proofs.selecting.find_all.Goals as goal
@@ -17,9 +17,9 @@ loop-next-preserved c =
     let place = c.index.result.now in
     let lt : next < length found = omega arith in
     let at : slice_get found next ≡ Some place = slice_get_read found (length found) next place refl lt c.index.ensures in
-    let finds : Finds es defined (imports_at es place) found new = subst (λ ns. Finds es defined ns found new) c.imports-imports.ensures c.in_ok-find_imports.ensures.found in
+    let finds : MarksExporters es defined (imports_at es place) found new = subst (λ ns. MarksExporters es defined ns found new) c.imports-imports.ensures c.in_ok-find_imports.ensures.found in
     record {
       stands = c.in_ok-find_imports.ensures.stands;
-      within = omega (arith, ap (length {A = ℕ}) finds.more, length-append found finds.behind);
+      within = omega (arith, ap (length {A = ℕ}) finds.more, length-append found finds.following);
       found = search_goes_on es wanted defined found new next place lt at c.loop-next.invariant.found finds;
     }

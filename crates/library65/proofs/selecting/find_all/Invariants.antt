@@ -1,10 +1,10 @@
 use Rattle.std.proofs.Common.{◌≤◌, ◌-◌, length, map}
-use Rattle.library65.specs.Inner.Searching.{IsSearched, Stands}
+use Rattle.library65.specs.Internal.Searching.{IsSearched, SearchInvariant}
 use Rattle.library65.proofs.selecting.find_all.Given as goal
 
 abbrev pub invariant-loop-next : goal.invariant-loop-next
 invariant-loop-next l = record {
-  stands : Stands l.exporters l.found;
+  stands : SearchInvariant l.exporters l.found;
   within : l.next ≤ length l.found.places.items;
   found : IsSearched l.exporters.entries.now (map (λ n. n.items) l.wanted.keys) (map (λ n. n.items) l.defined.keys) l.found.places.items l.next;
 }

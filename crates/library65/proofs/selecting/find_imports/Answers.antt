@@ -1,5 +1,5 @@
 use Rattle.std.proofs.Common.{◌∷◌, [], map, take, sym, subst}
-use Rattle.library65.specs.Inner.Searching.{Finds}
+use Rattle.library65.specs.Internal.Searching.{MarksExporters}
 use Rattle.library65.proofs.Selections.{finds_more}
 use Rattle.library65.proofs.Tables.{taken_more}
 use Rattle.library65.proofs.selecting.find_imports.Goals as goal
@@ -12,8 +12,8 @@ loop-name-preserved c =
     let mid = c.loop-name.found.places.items in
     let new = c.find_name.new.found.places.items in
     let i = c.loop-name.name-index in
-    let last = subst (λ n. Finds es defined (n ∷ []) mid new) c.as_slice.ensures c.in_ok-find_name.ensures.found in
+    let last = subst (λ n. MarksExporters es defined (n ∷ []) mid new) c.as_slice.ensures c.in_ok-find_name.ensures.found in
     record {
       stands = c.in_ok-find_name.ensures.stands;
-      found = subst (λ ns. Finds es defined ns old new) (sym (taken_more c.args.names.now i c.name-item.result c.loop-name-test.true c.name-item.is)) (finds_more es defined (take i c.args.names.now) c.name-item.result old mid new c.loop-name.invariant.found last);
+      found = subst (λ ns. MarksExporters es defined ns old new) (sym (taken_more c.args.names.now i c.name-item.result c.loop-name-test.true c.name-item.is)) (finds_more es defined (take i c.args.names.now) c.name-item.result old mid new c.loop-name.invariant.found last);
     }

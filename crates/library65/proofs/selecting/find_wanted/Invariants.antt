@@ -1,5 +1,5 @@
 use Rattle.std.proofs.Common.{map, take}
-use Rattle.library65.specs.Inner.Searching.{FindsMore}
+use Rattle.library65.specs.Internal.Searching.{FindsMore}
 use Rattle.library65.proofs.selecting.find_wanted.Given as goal
 
 abbrev pub invariant-loop-name : goal.invariant-loop-name

@@ -1,5 +1,5 @@
 use Rattle.std.proofs.Common.{◌≡◌, ◌++◌, drop}
-use Rattle.library65.specs.Inner.Searching.{marked_from}
+use Rattle.library65.specs.Internal.Searching.{marked_from}
 use Rattle.library65.proofs.selecting.marked_places.Given as goal
 
 abbrev pub invariant-loop-place : goal.invariant-loop-place

@@ -1,6 +1,6 @@
 use Rattle.std.proofs.Common.{◌∙◌, ◌<◌, ◌≤◌, ◌+◌, map, length, sym, subst, ap, arith}
 use Rattle.std.specs.List.{AllByRecursion}
-use Rattle.library65.specs.Inner.Searching.{marked_from}
+use Rattle.library65.specs.Internal.Searching.{marked_from}
 use Rattle.library65.specs.Selection.{IsSelection}
 use Rattle.library65.specs.declared.index.Entry.{Entry}
 use Rattle.library65.proofs.Selections.{marked_below, searched_selected}

@@ -1,6 +1,6 @@
 use Rattle.std.proofs.Common.{rules, ◌≡◌, ◌<◌, ◌++◌, [], ◌∷◌, length}
 use Rattle.std.specs.Prelude.{slice_set}
-use Rattle.link65.specs.declared.evaluation.Mark.TheVariants.{Found}
+use Rattle.link65.specs.declared.evaluation.ExportState.TheVariants.{Found}
 use Rattle.std.proofs.lemmas.List.{nil_from_length}
 use Rattle.link65.specs.Values.{linkage}
 use Rattle.link65.proofs.Walk.{Ends, next_inside, walk_down, walk_ends, walk_up, work_down, work_up}

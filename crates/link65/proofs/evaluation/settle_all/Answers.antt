@@ -1,8 +1,8 @@
 use Rattle.std.proofs.Common.{arith, ℕ, ◌≡◌, ◌∙◌, ◌++◌, List, length, take, drop, sym, append-nil}
 use Rattle.std.proofs.lemmas.Grind.{common_steps}
 use Rattle.std.proofs.lemmas.List.{drop_all}
-use Rattle.link65.specs.declared.evaluation.Mark.{Mark}
-use Rattle.link65.specs.declared.evaluation.Mark.TheVariants.{Untouched}
+use Rattle.link65.specs.declared.evaluation.ExportState.{ExportState}
+use Rattle.link65.specs.declared.evaluation.ExportState.TheVariants.{Untouched}
 use Rattle.link65.specs.Values.{linkage}
 use Rattle.link65.proofs.FinishLemmas.{below_kept, below_next, touched_found}
 use Rattle.link65.proofs.Walk.{get_or_some}
@@ -10,7 +10,7 @@ use Rattle.link65.proofs.evaluation.settle_all.Goals as goal
 use Rattle.link65.proofs.evaluation.settle_all.Goals.{in-Untouched+in_ok-settle, in_default}
 
 -- as many marks in place of others
-all_new : (old new : List Mark) (n : ℕ) → n ≡ length old → length new ≡ length old → take n (new ++ drop (length new) old) ≡ new
+all_new : (old new : List ExportState) (n : ℕ) → n ≡ length old → length new ≡ length old → take n (new ++ drop (length new) old) ≡ new
 all_new old new n all same = grind (arith, common_steps, drop_all, append-nil)
 
 pub loop-root-preserved : goal.loop-root-preserved

@@ -5,13 +5,13 @@ use Rattle.link65.specs.declared.fault.LinkFault.TheVariants.{DuplicateExport}
 use Rattle.link65.specs.Faults.{is_memory, is_of_end}
 use Rattle.link65.specs.Links.{no_name_again}
 use Rattle.link65.specs.Names.{first_again}
-use Rattle.base65.specs.Outcome.{◌>>=◌, Refuses, Unless}
-use Rattle.link65.specs.Standing.{all_once, names_in, with_each}
+use Rattle.base65.specs.Outcome.{◌>>=◌, RefinesErr, Unless}
+use Rattle.link65.specs.Representation.{all_once, names_in, with_each}
 use Rattle.std.proofs.lemmas.Grind.{common_steps}
-use Rattle.link65.specs.declared.growing.Growing.{Growing}
-use Rattle.link65.specs.Growing.{Growth, at_rest, ended}
-use Rattle.link65.specs.Grounds.{IsGrown, growth_in}
-use Rattle.link65.specs.Inner.Fields.{are_listed, exports_from}
+use Rattle.link65.specs.declared.growing.ProgramBuilder.{ProgramBuilder}
+use Rattle.link65.specs.Growing.{PartialProgram, at_rest, closed_program}
+use Rattle.link65.specs.CodeInvariants.{IsGrown, growth_in}
+use Rattle.link65.specs.Internal.Fields.{are_listed, exports_from}
 use Rattle.link65.proofs.GivenLemmas.{each_once_all}
 use Rattle.link65.proofs.Feeds.{closed_whole, cut_short, disagrees, given_twice}
 use Rattle.link65.proofs.feeding.close_module.Goals as goal
@@ -30,7 +30,7 @@ returns-then-not-are_listed-clause-ended c = λ p s comes.
     let differ = ap (λ ns. are_listed m.listed ns old.imports) (sym same) ∙ ap (are_listed m.listed _) (sym c.as_slice-imports.ensures) ∙ sym c.are_listed.ensures ∙ c.if-not-are_listed.true in
     disagrees m.listed old.imports (names_in c.args.given.now) (exports_from m.first_export old) p s old m.scan comes _ (sym c.is_ended.ensures ∙ c.if-not-is_ended.false) differ refl
 
-grown_then : (r : Result (Unit {0}) LinkFault) (g : Growing) (new : Growth) → OnOk r (IsGrown g new) → OnOk r (growth_in g ≡ new)
+grown_then : (r : Result (Unit {0}) LinkFault) (g : ProgramBuilder) (new : PartialProgram) → OnOk r (IsGrown g new) → OnOk r (growth_in g ≡ new)
 grown_then x g new h = grind (arith, common_steps)
 
 pub returns-in-Ok-clause-ended : goal.returns-in-Ok-clause-ended
@@ -42,7 +42,7 @@ returns-in-Ok-clause-ended c = λ p s comes.
     let same = ap (map (λ (e : Exported). e.name)) (c.from_place-exports.ensures ∙ ap (drop m.first_export) c.as_slice.ensures) in
     let listed = ap (λ ns. are_listed m.listed ns old.imports) (sym same) ∙ ap (are_listed m.listed _) (sym c.as_slice-imports.ensures) ∙ sym c.are_listed.ensures ∙ c.if-not-are_listed.false in
     let once = subst (λ ns. all_once before ns ≡ Ok given) same (sym (each_once_all _ before) ∙ c.in-Ok.ensures) in
-    let named = subst (λ n. OnOk c.end_module.result (growth_in c.end_module.new.growing ≡ at_rest (ended old n))) c.replace-name.ensures.value (grown_then c.end_module.result _ _ c.end_module.ensures.ended) in
+    let named = subst (λ n. OnOk c.end_module.result (growth_in c.end_module.new.growing ≡ at_rest (closed_program old n))) c.replace-name.ensures.value (grown_then c.end_module.result _ _ c.end_module.ensures.ended) in
     closed_whole m.listed old.imports before (exports_from m.first_export old) p s old m.scan comes (growth_in c.end_module.new.growing) m.name given c.end_module.result (sym c.is_ended.ensures ∙ c.if-not-is_ended.false) listed once named c.end_module.ensures.memory
 
 pub returns-in-Err-clause-ended : goal.returns-in-Err-clause-ended
@@ -52,14 +52,14 @@ returns-in-Err-clause-ended c = λ p s comes.
     let before = names_in c.args.given.now in
     let same = ap (map (λ (e : Exported). e.name)) (c.from_place-exports.ensures ∙ ap (drop m.first_export) c.as_slice.ensures) in
     let listed = ap (λ ns. are_listed m.listed ns old.imports) (sym same) ∙ ap (are_listed m.listed _) (sym c.as_slice-imports.ensures) ∙ sym c.are_listed.ensures ∙ c.if-not-are_listed.false in
-    given_twice m.listed old.imports before (exports_from m.first_export old) p s old m.scan comes c.in-Err.e (sym c.is_ended.ensures ∙ c.if-not-is_ended.false) listed (subst (λ ns. Refuses is_memory c.in-Err.e (all_once before ns)) same (subst (λ (r : Result (List (List ℕ)) LinkFault). Refuses is_memory c.in-Err.e r) (each_once_all _ before) c.in-Err.ensures))
+    given_twice m.listed old.imports before (exports_from m.first_export old) p s old m.scan comes c.in-Err.e (sym c.is_ended.ensures ∙ c.if-not-is_ended.false) listed (subst (λ ns. RefinesErr is_memory c.in-Err.e (all_once before ns)) same (subst (λ (r : Result (List (List ℕ)) LinkFault). RefinesErr is_memory c.in-Err.e r) (each_once_all _ before) c.in-Err.ensures))
 
 again_fault : (o : Option (List ℕ)) (names : List (List ℕ)) (e : LinkFault) → (no_name_again o >>= (λ u. Ok names)) ≡ Err e → is_of_end e ≡ true
 again_fault None names e h = absurd cc
 again_fault (Some name) names e h = let same : DuplicateExport name ≡ e = cc in sym (ap is_of_end same)
 
 -- a name that is given again ends the module so
-given_again : (names before : List (List ℕ)) (e : LinkFault) → Refuses is_memory e (with_each before names) → (is_memory e || is_of_end e) ≡ true
+given_again : (names before : List (List ℕ)) (e : LinkFault) → RefinesErr is_memory e (with_each before names) → (is_memory e || is_of_end e) ≡ true
 given_again names before e h = go (is_memory e) h
   where
     go : (b : Bool) → Unless b (with_each before names ≡ Err e) → (b || is_of_end e) ≡ true

@@ -1,5 +1,5 @@
 use Rattle.object65.specs.Record.{entry_of}
-use Rattle.link65.specs.Grounds.{growth_in}
+use Rattle.link65.specs.CodeInvariants.{growth_in}
 use Rattle.link65.proofs.Feeds.{took}
 use Rattle.link65.proofs.feeding.take_record.Goals as goal
 

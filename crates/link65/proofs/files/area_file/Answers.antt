@@ -3,8 +3,8 @@ use Rattle.std.proofs.lemmas.Grind.{common_steps}
 use Rattle.std.proofs.lemmas.Fn.{filter_same}
 use Rattle.std.specs.Prelude.{filter}
 use Rattle.link65.specs.Files.{IsImage}
-use Rattle.link65.specs.Inner.Loads.{IsWhole, has_bytes}
-use Rattle.link65.specs.declared.files.Load.{Load}
+use Rattle.link65.specs.Internal.Loads.{IsWhole, has_bytes}
+use Rattle.link65.specs.declared.files.RowImage.{RowImage}
 use Rattle.link65.proofs.FileLemmas.{file_of, first_bytes, pieces_in, whole_image}
 use Rattle.link65.proofs.files.area_file.Goals as goal
 
@@ -14,7 +14,7 @@ returns-then-is_whole c =
     let items = c.retain.new.self.items in
     let dropped = filter_same _ has_bytes _ (λ x b f' k. search rules) _ _ c.retain.ensures.filtered in
     let are = dropped ∙ ap (filter has_bytes) c.into_vec-loads.ensures in
-    let w : IsWhole c.in-Ok.len (pieces_in f.place.start items) = subst (λ (ls : List Load). IsWhole c.in-Ok.len (pieces_in f.place.start ls)) c.as_slice.ensures.value (c.is_whole.ensures c.if-is_whole.true) in
+    let w : IsWhole c.in-Ok.len (pieces_in f.place.start items) = subst (λ (ls : List RowImage). IsWhole c.in-Ok.len (pieces_in f.place.start ls)) c.as_slice.ensures.value (c.is_whole.ensures c.if-is_whole.true) in
     file_of f.area.now f.place f.loads items c.in-Ok.len c.replace.result are (c.in-Ok.ensures.1 ∙ c.file_len.ensures)
     (whole_image c.in-Ok.len f.area.now.fill_value (pieces_in f.place.start items) c.replace.result w (c.replace.ensures.value ∙ first_bytes c.in-Ok.len f.place.start items c.index_mut.result.now w c.index_mut.ensures.value))
 

@@ -1,19 +1,19 @@
 use Rattle.std.proofs.Common.{◌≡◌, ◌∙◌, ◌<◌, [], ℕ, List, drop, ap, arith, length, map, rules, sym, subst, slice_get}
-use Rattle.script65.specs.declared.placement.RowPlace.{RowPlace}
-use Rattle.script65.specs.declared.script.Area.{Area}
-use Rattle.script65.specs.declared.script.Row.{Row}
+use Rattle.script65.specs.declared.placement.RowPlacement.{RowPlacement}
+use Rattle.script65.specs.declared.script.MemoryArea.{MemoryArea}
+use Rattle.script65.specs.declared.script.SegmentRow.{SegmentRow}
 use Rattle.base65.specs.declared.output.OutputFile.{OutputFile}
-use Rattle.link65.specs.Files.{AddsAreas, IsAreaFile, RowBytes, written}
-use Rattle.link65.specs.Inner.Loads.{HoldsLoads, view}
+use Rattle.link65.specs.Files.{AddsAreas, IsAreaFile, RowBytes, written_row_bytes}
+use Rattle.link65.specs.Internal.Loads.{HoldsLoads, view}
 use Rattle.link65.proofs.FileLemmas.{next_area, no_area}
 use Rattle.link65.proofs.files.files_of.Goals as goal
 
 pub loop-k-init : goal.loop-k-init
 loop-k-init c =
-    let Holds : List Row → List RowPlace → Type 0 = λ rows places.
-    (bytes : RowBytes) → c.args.contents.items ≡ map (written bytes) rows → (k : ℕ) → k < length c.as_slice-areas.result.now → HoldsLoads bytes k rows places (slice_get c.in_ok-loads.loads.items k) in
-    let rows = subst (λ (rs : List Row). Holds rs c.as_slice.result.now) c.as_slice-rows.ensures c.in_ok-loads.ensures in
-    let all = subst (λ (ps : List RowPlace). Holds c.args.script.now.rows ps) c.as_slice.ensures rows in
+    let Holds : List SegmentRow → List RowPlacement → Type 0 = λ rows places.
+    (bytes : RowBytes) → c.args.contents.items ≡ map (written_row_bytes bytes) rows → (k : ℕ) → k < length c.as_slice-areas.result.now → HoldsLoads bytes k rows places (slice_get c.in_ok-loads.loads.items k) in
+    let rows = subst (λ (rs : List SegmentRow). Holds rs c.as_slice.result.now) c.as_slice-rows.ensures c.in_ok-loads.ensures in
+    let all = subst (λ (ps : List RowPlacement). Holds c.args.script.now.rows ps) c.as_slice.ensures rows in
     record {
       named = search rules;
       loads = λ bytes are j le lt. all bytes are j (omega arith);
@@ -37,7 +37,7 @@ loop-k-preserved c =
 
 pub returns : goal.returns
 returns c = λ bytes are.
-    let Adds : List Area → Type 0 = λ as'. AddsAreas c.args.output.now (IsAreaFile c.args.script.now.rows c.args.placement.now bytes) 0 as' [] c.from_vec.result in
+    let Adds : List MemoryArea → Type 0 = λ as'. AddsAreas c.args.output.now (IsAreaFile c.args.script.now.rows c.args.placement.now bytes) 0 as' [] c.from_vec.result in
     subst Adds c.as_slice-areas.ensures
     (c.loop-k.invariant.rest bytes are c.from_vec.result (let P = λ (fs : List OutputFile). AddsAreas c.args.output.now (IsAreaFile c.args.script.now.rows c.args.placement.now bytes) c.loop-k.k (drop c.loop-k.k c.as_slice-areas.result.now) fs c.from_vec.result in
     subst P c.from_vec.ensures (no_area c.args.output.now bytes c.args.script.now.rows c.args.placement.now c.as_slice-areas.result.now c.loop-k.k c.from_vec.result c.loop-k-test.false)))

@@ -1,5 +1,5 @@
 use Rattle.std.proofs.Common.{List, ℕ, drop}
-use Rattle.link65.specs.Inner.Loads.{LaysAll}
+use Rattle.link65.specs.Internal.Loads.{LaysAll}
 use Rattle.link65.proofs.FileLemmas.{pieces_in}
 use Rattle.link65.proofs.files.lay_rows.Given as goal
 

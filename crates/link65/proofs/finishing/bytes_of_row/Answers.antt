@@ -2,12 +2,12 @@ use Rattle.std.proofs.Common.{◌≡◌, ◌∙◌, ◌++◌, [], ap, sym, subst
 use Rattle.std.proofs.lemmas.List.{drop_all}
 use Rattle.std.proofs.lemmas.Result.{err_from_is_err_and}
 use Rattle.std.specs.List.{flat_map}
-use Rattle.base65.specs.Outcome.{Refuses}
+use Rattle.base65.specs.Outcome.{RefinesErr}
 use Rattle.link65.specs.declared.fault.LinkFault.{LinkFault}
-use Rattle.link65.specs.declared.parts.Piece.{Piece}
+use Rattle.link65.specs.declared.parts.SegmentPiece.{SegmentPiece}
 use Rattle.link65.specs.Links.{each_passes}
 use Rattle.link65.specs.Faults.{is_memory}
-use Rattle.link65.specs.Grounds.{cells_of, piece_fixups}
+use Rattle.link65.specs.CodeInvariants.{cells_of, piece_fixups}
 use Rattle.link65.specs.Placed.{bytes_in, cell_in, check_in, exports_in, linkage_in, segments_in}
 use Rattle.link65.specs.Values.{segment_bytes}
 use Rattle.link65.specs.Programs.{segment_of}
@@ -19,7 +19,7 @@ returns-in_err-check_pieces-clause-checked c =
     let p = err_from_is_err_and c.from_residual.result c.from_residual.ensures.1 in
     let program = c.args.program.now in
     let there = c.in-Some.ensures ∙ ap (segment_of (segments_in program)) c.as_slice.ensures in
-    rw (p.1, p.2) (subst (λ (r : Result (Unit {0}) LinkFault). Refuses is_memory c.in_err-check_pieces.field-0.0 r) (sym (content_waits (check_in program) _ c.in-Some.content.now c.as_slice-pieces.result.now there c.as_slice-pieces.ensures)) c.in_err-check_pieces.ensures)
+    rw (p.1, p.2) (subst (λ (r : Result (Unit {0}) LinkFault). RefinesErr is_memory c.in_err-check_pieces.field-0.0 r) (sym (content_waits (check_in program) _ c.in-Some.content.now c.as_slice-pieces.result.now there c.as_slice-pieces.ensures)) c.in_err-check_pieces.ensures)
 
 pub returns-then-not-is_written-clause-checked : goal.returns-then-not-is_written-clause-checked
 returns-then-not-is_written-clause-checked c =
@@ -58,13 +58,13 @@ returns c =
     let there = c.in-Some.ensures ∙ ap (segment_of (segments_in program)) c.as_slice.ensures in
     let end : drop c.loop-piece.piece-index pieces ≡ [] = drop_all c.loop-piece.piece-index pieces c.loop-piece-test.false in
     record {
-      checked = content_waits check _ c.in-Some.content.now pieces there c.as_slice-pieces.ensures ∙ sym c.loop-piece.invariant.checked ∙ ap (λ (ps : List Piece). each_passes check (flat_map piece_fixups ps)) end;
+      checked = content_waits check _ c.in-Some.content.now pieces there c.as_slice-pieces.ensures ∙ sym c.loop-piece.invariant.checked ∙ ap (λ (ps : List SegmentPiece). each_passes check (flat_map piece_fixups ps)) end;
       bytes =
           c.from_vec.ensures
           ∙ sym (append-nil c.loop-piece.bytes.items)
-          ∙ ap (λ (ps : List Piece). c.loop-piece.bytes.items ++ flat_map cell (cells_of ps)) (sym end)
+          ∙ ap (λ (ps : List SegmentPiece). c.loop-piece.bytes.items ++ flat_map cell (cells_of ps)) (sym end)
           ∙ c.loop-piece.invariant.bytes
-          ∙ ap (λ (ps : List Piece). flat_map cell (cells_of ps)) c.as_slice-pieces.ensures
+          ∙ ap (λ (ps : List SegmentPiece). flat_map cell (cells_of ps)) c.as_slice-pieces.ensures
           ∙ ap (segment_bytes (linkage_in program) (exports_in program) row.fill_value) there
           ∙ sym (ap (λ b. if b then bytes_in program row else []) (sym c.is_written.ensures ∙ c.if-not-is_written.false));
     }

@@ -1,7 +1,7 @@
 use Rattle.std.proofs.Common.{◌≡◌, ◌++◌, drop}
 use Rattle.std.specs.List.{flat_map}
 use Rattle.link65.specs.Links.{each_passes}
-use Rattle.link65.specs.Grounds.{cells_of, piece_fixups}
+use Rattle.link65.specs.CodeInvariants.{cells_of, piece_fixups}
 use Rattle.link65.specs.Placed.{cell_in, check_in}
 use Rattle.link65.proofs.finishing.bytes_of_row.Given as goal
 

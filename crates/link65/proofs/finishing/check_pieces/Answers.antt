@@ -2,20 +2,20 @@ use Rattle.std.proofs.Common.{◌≡◌, Ok, Result, ap, refl}
 use Rattle.std.specs.List.{flat_map}
 use Rattle.base65.specs.Outcome.{◌>>=◌}
 use Rattle.link65.specs.declared.fault.LinkFault.{LinkFault}
-use Rattle.link65.specs.declared.parts.Fixup.{Fixup}
-use Rattle.link65.specs.declared.parts.Piece.{Piece}
-use Rattle.link65.specs.declared.parts.Piece.TheVariants.{Known, Filled, Waits}
+use Rattle.link65.specs.declared.parts.ValueFixup.{ValueFixup}
+use Rattle.link65.specs.declared.parts.SegmentPiece.{SegmentPiece}
+use Rattle.link65.specs.declared.parts.SegmentPiece.TheVariants.{Known, Filled, Waits}
 use Rattle.link65.specs.Links.{each_passes}
-use Rattle.link65.specs.Grounds.{piece_fixups}
+use Rattle.link65.specs.CodeInvariants.{piece_fixups}
 use Rattle.link65.specs.Placed.{check_in}
 use Rattle.link65.proofs.Passes.{Check, filled_passes, flat_next, known_passes}
 use Rattle.link65.proofs.finishing.check_pieces.Goals as goal
 use Rattle.link65.proofs.finishing.check_pieces.Goals.{in-Waits+in_ok-datum_value, in_default}
 
-waits_passes : (check : Check Fixup) (p : Piece) (w : Fixup) → p ≡ Waits w → check w ≡ Ok tt → each_passes check (piece_fixups p) ≡ Ok tt
+waits_passes : (check : Check ValueFixup) (p : SegmentPiece) (w : ValueFixup) → p ≡ Waits w → check w ≡ Ok tt → each_passes check (piece_fixups p) ≡ Ok tt
 waits_passes check p w is e = rw is (ap (λ (r : Result (Unit {0}) LinkFault). r >>= (λ u. Ok tt)) e)
 
-others_pass : (check : Check Fixup) (p : Piece) → ((w : Fixup) → p ≡ Waits w → ⊥) → each_passes check (piece_fixups p) ≡ Ok tt
+others_pass : (check : Check ValueFixup) (p : SegmentPiece) → ((w : ValueFixup) → p ≡ Waits w → ⊥) → each_passes check (piece_fixups p) ≡ Ok tt
 others_pass check (Known bytes) never = known_passes check (Known bytes) bytes refl
 others_pass check (Filled n) never = filled_passes check (Filled n) n refl
 others_pass check (Waits w) never = absurd (never w refl)

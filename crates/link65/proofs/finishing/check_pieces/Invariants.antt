@@ -1,7 +1,7 @@
 use Rattle.std.proofs.Common.{◌≡◌, drop}
 use Rattle.std.specs.List.{flat_map}
 use Rattle.link65.specs.Links.{each_passes}
-use Rattle.link65.specs.Grounds.{piece_fixups}
+use Rattle.link65.specs.CodeInvariants.{piece_fixups}
 use Rattle.link65.specs.Placed.{check_in}
 use Rattle.link65.proofs.finishing.check_pieces.Given as goal
 

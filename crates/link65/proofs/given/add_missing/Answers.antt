@@ -1,6 +1,6 @@
 use Rattle.std.proofs.Common.{◌≡◌, ◌∙◌, ◌||◌, ◌∷◌, [], ◌++◌, List, ℕ, Bool, false, map, if◌then◌else◌, sym, ap}
 use Rattle.link65.specs.Names.{is_among}
-use Rattle.link65.specs.Standing.{names_in}
+use Rattle.link65.specs.Representation.{names_in}
 use Rattle.link65.proofs.GivenLemmas.{inserted}
 use Rattle.link65.proofs.given.add_missing.Goals as goal
 

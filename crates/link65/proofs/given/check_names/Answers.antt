@@ -3,10 +3,10 @@ use Rattle.std.proofs.lemmas.List.{length-map}
 use Rattle.script65.specs.declared.script.Symbol.{Symbol}
 use Rattle.link65.specs.declared.fault.LinkFault.{LinkFault}
 use Rattle.link65.specs.declared.fault.LinkFault.TheVariants.{Unresolved}
-use Rattle.link65.specs.Inner.Fields.{missing_behind}
+use Rattle.link65.specs.Internal.Fields.{missing_after}
 use Rattle.link65.specs.Links.{none_unresolved}
-use Rattle.link65.specs.Names.{each_once, unresolved, weak_symbols}
-use Rattle.link65.specs.Standing.{names_in}
+use Rattle.link65.specs.Names.{each_once, unresolved_names, weak_symbols}
+use Rattle.link65.specs.Representation.{names_in}
 use Rattle.link65.proofs.GivenLemmas.{left_none, left_some, none_gives, wanted}
 use Rattle.link65.proofs.given.check_names.Goals as goal
 
@@ -15,10 +15,10 @@ returns-then-len-eq0-clause-given c = λ p is are.
     let given = names_in c.args.given in
     let members = c.args.members.now in
     let left = map (λ n. n.items) c.in_ok-names.names.keys in
-    let same : left ≡ unresolved c.args.script.now p =
+    let same : left ≡ unresolved_names c.args.script.now p =
     c.in_ok-names.ensures
-    ∙ ap (λ g. missing_behind g [] (wanted c.as_slice-symbols.result.now members)) c.in_ok-add_weak.ensures
-    ∙ ap (λ (ss : List Symbol). missing_behind (each_once given (map (λ d. d.name) (weak_symbols ss))) [] (wanted ss members)) c.as_slice-symbols.ensures
+    ∙ ap (λ g. missing_after g [] (wanted c.as_slice-symbols.result.now members)) c.in_ok-add_weak.ensures
+    ∙ ap (λ (ss : List Symbol). missing_after (each_once given (map (λ d. d.name) (weak_symbols ss))) [] (wanted ss members)) c.as_slice-symbols.ensures
     ∙ none_gives c.args.script.now p given members is are in
     let zero : length left ≡ 0 = simp length-map (omega arith) in
     ap none_unresolved (sym same) ∙ left_none left zero
@@ -28,10 +28,10 @@ returns-clause-given c = λ p is are.
     let given = names_in c.args.given in
     let members = c.args.members.now in
     let left = map (λ n. n.items) c.in_ok-names.names.keys in
-    let same : left ≡ unresolved c.args.script.now p =
+    let same : left ≡ unresolved_names c.args.script.now p =
     c.in_ok-names.ensures
-    ∙ ap (λ g. missing_behind g [] (wanted c.as_slice-symbols.result.now members)) c.in_ok-add_weak.ensures
-    ∙ ap (λ (ss : List Symbol). missing_behind (each_once given (map (λ d. d.name) (weak_symbols ss))) [] (wanted ss members)) c.as_slice-symbols.ensures
+    ∙ ap (λ g. missing_after g [] (wanted c.as_slice-symbols.result.now members)) c.in_ok-add_weak.ensures
+    ∙ ap (λ (ss : List Symbol). missing_after (each_once given (map (λ d. d.name) (weak_symbols ss))) [] (wanted ss members)) c.as_slice-symbols.ensures
     ∙ none_gives c.args.script.now p given members is are in
     let some : length left ≡ 0 → ⊥ = λ h. (let none : length c.in_ok-names.names.keys ≡ 0 = simp length-map at h in omega arith) in
     let told : c.in_ok-copies.field-0 ≡ left = c.in_ok-copies.ensures ∙ ap (map (λ n. n.items)) c.as_slice.ensures.keys in

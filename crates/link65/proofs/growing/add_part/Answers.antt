@@ -5,9 +5,9 @@ use Rattle.std.proofs.Math.Seq.{map-set_same}
 use Rattle.std.proofs.lemmas.List.{length-map, map-set}
 use Rattle.std.proofs.lemmas.Option.{slice_get_read}
 use Rattle.object65.specs.Objects.{fragment_len}
-use Rattle.link65.specs.declared.parts.Content.{Content}
+use Rattle.link65.specs.declared.parts.SegmentContent.{SegmentContent}
 use Rattle.link65.specs.declared.parts.SectionPlace.{SectionPlace}
-use Rattle.link65.specs.Grounds.{names_in, place_in, segment_from, segments_from}
+use Rattle.link65.specs.CodeInvariants.{names_in, place_in, segment_from, segments_from}
 use Rattle.link65.specs.Growing.{longer, with_cells}
 use Rattle.link65.specs.Programs.{fragment_cells}
 use Rattle.link65.proofs.SegmentLemmas.{longer_stays, part_added, place_within, places_of, same_item, same_length, section_there}
@@ -47,12 +47,12 @@ returns c =
     let lengthened =
     ap (λ (n : ℕ). slice_set secs k (record { segment = idx.segment; offset = idx.offset; size = n })) (c.in_ok-place.ensures ∙ ap (λ l. idx.size + l) c.fragment_size-len.ensures)
     ∙ ap (λ (p : SectionPlace). slice_set secs k (longer p (fragment_len f))) was in
-    let added = λ (x : Content) (there : slice_get cs at ≡ Some x). (let same = same_item cs at c.index_mut.result.now x held c.index_mut.ensures.value there in
-    map-set segment_from cs at c.add_fragment.new.content ∙ ap (slice_set (segments_from cs) at) (c.in_ok-add_fragment.ensures.grown ∙ ap (λ (y : Content). with_cells (fragment_len f) (fragment_cells c.len-owner.result f) (segment_from y)) same)) in
+    let added = λ (x : SegmentContent) (there : slice_get cs at ≡ Some x). (let same = same_item cs at c.index_mut.result.now x held c.index_mut.ensures.value there in
+    map-set segment_from cs at c.add_fragment.new.content ∙ ap (slice_set (segments_from cs) at) (c.in_ok-add_fragment.ensures.grown ∙ ap (λ (y : SegmentContent). with_cells (fragment_len f) (fragment_cells c.len-owner.result f) (segment_from y)) same)) in
     record {
       growth = part_added g k at f s.0 _ _ c.requires.names s.1 s.2 (rw c.len-owner.ensures at added) lengthened;
       named = record {
-        names = c.requires.names ∙ sym (map-set_same (λ x. x.name) cs at c.add_fragment.new.content c.index_mut.result.now (c.in_ok-add_fragment.ensures.name ∙ ap (λ (x : Content). x.name) c.index_mut.ensures.value));
+        names = c.requires.names ∙ sym (map-set_same (λ x. x.name) cs at c.add_fragment.new.content c.index_mut.result.now (c.in_ok-add_fragment.ensures.name ∙ ap (λ (x : SegmentContent). x.name) c.index_mut.ensures.value));
         sections = ap (places_of (names_in g)) lengthened ∙ longer_stays (names_in g) secs k s.0 _ s.1 ∙ c.requires.sections;
       };
     }

@@ -1,7 +1,7 @@
 use Rattle.std.proofs.Common.{◌∙◌, List, Ok, ℕ, ap, sym, rules}
 use Rattle.std.proofs.Math.Seq.{map-set_same}
-use Rattle.link65.specs.declared.parts.Content.{Content}
-use Rattle.link65.specs.Grounds.{growth_in, names_in, place_in}
+use Rattle.link65.specs.declared.parts.SegmentContent.{SegmentContent}
+use Rattle.link65.specs.CodeInvariants.{growth_in, names_in, place_in}
 use Rattle.link65.proofs.SegmentLemmas.{bare_begun, section_more}
 use Rattle.link65.proofs.growing.begin_section.Goals as goal
 
@@ -10,7 +10,7 @@ returns c =
     let mid = c.segment_at.new.growing in
     let at = c.in_ok-at.ensures in
     let begun = bare_begun (growth_in c.args.growing.now) mid c.in_ok-at.at _ c.in_ok-begin.begin c.index_mut.result.now c.open_section.new.content c.args.name c.args.align (rw c.as_slice.ensures at at.added.growth) at.added.named.names (rw c.as_slice.ensures at at.place) at.within c.index_mut.ensures.value (search rules) c.in_ok-begin.ensures.grown (ap Ok (sym c.in_ok-begin.ensures.begin)) in
-    let same = c.in_ok-begin.ensures.name ∙ ap (λ (x : Content). x.name) c.index_mut.ensures.value in
+    let same = c.in_ok-begin.ensures.name ∙ ap (λ (x : SegmentContent). x.name) c.index_mut.ensures.value in
     let here = ap (λ (n : List ℕ). place_in n (names_in mid)) (sym c.as_slice.ensures) ∙ at.place in
     record {
       growth = rw c.in_ok-push.ensures.items begun;

@@ -4,7 +4,7 @@ use Rattle.std.proofs.lemmas.Cmp.{nat_list_eq_equiv}
 use Rattle.std.proofs.lemmas.List.{length-map, map-append}
 use Rattle.std.specs.Str.{bytes_eq}
 use Rattle.object65.proofs.Names.{pushed_name}
-use Rattle.link65.specs.Grounds.{segments_from, growth_in, having, names_in, place_in}
+use Rattle.link65.specs.CodeInvariants.{segments_from, growth_in, having, names_in, place_in}
 use Rattle.link65.proofs.SegmentLemmas.{none_among, place_last, places_of, places_stay, segment_names, with_name_new, with_name_there}
 use Rattle.link65.proofs.growing.segment_at.Goals as goal
 

@@ -1,5 +1,5 @@
 use Rattle.std.proofs.Common.{◌≡◌, map, take}
-use Rattle.link65.specs.Grounds.{segments_from}
+use Rattle.link65.specs.CodeInvariants.{segments_from}
 use Rattle.link65.specs.Values.{need_of}
 use Rattle.link65.proofs.linking.needs_of.Given as goal
 

@@ -1,14 +1,14 @@
 use Rattle.std.proofs.Common.{◌∙◌, ap, sym, subst, List, ℕ, map}
 use Rattle.std.proofs.lemmas.Result.{err_from_is_err_and}
-use Rattle.base65.specs.Outcome.{Finds}
-use Rattle.script65.specs.declared.placement.RowPlace.{RowPlace}
-use Rattle.script65.specs.declared.script.Row.{Row}
-use Rattle.link65.specs.declared.parts.Content.{Content}
-use Rattle.link65.specs.declared.evaluation.Mark.{Mark}
+use Rattle.base65.specs.Outcome.{RefinesProp}
+use Rattle.script65.specs.declared.placement.RowPlacement.{RowPlacement}
+use Rattle.script65.specs.declared.script.SegmentRow.{SegmentRow}
+use Rattle.link65.specs.declared.parts.SegmentContent.{SegmentContent}
+use Rattle.link65.specs.declared.evaluation.ExportState.{ExportState}
 use Rattle.link65.specs.declared.parts.Asserted.{Asserted}
 use Rattle.link65.specs.declared.parts.Exported.{Exported}
-use Rattle.link65.specs.declared.parts.Member.{Member}
-use Rattle.link65.specs.Grounds.{segments_from, program_in}
+use Rattle.link65.specs.declared.parts.LinkedModule.{LinkedModule}
+use Rattle.link65.specs.CodeInvariants.{segments_from, program_in}
 use Rattle.link65.specs.Faults.{is_memory}
 use Rattle.link65.specs.Names.{weak_symbols}
 use Rattle.link65.specs.Placed.{AllFound, AreAllFound, table_of, IsPassed, resolved_by}
@@ -29,8 +29,8 @@ returns-in_err-marks c =
 pub pass-requires : goal.pass-requires
 pass-requires c = record {
   ready = record {
-    found = subst (λ (ms : List Mark). AllFound ms) (sym c.as_slice-10.ensures.value) c.in_ok-marks.ensures.found;
-    named = c.requires.names ∙ sym (ap (λ (cs : List Content). map (λ x. x.name) cs) c.as_slice-8.ensures.value);
+    found = subst (λ (ms : List ExportState). AllFound ms) (sym c.as_slice-10.ensures.value) c.in_ok-marks.ensures.found;
+    named = c.requires.names ∙ sym (ap (λ (cs : List SegmentContent). map (λ x. x.name) cs) c.as_slice-8.ensures.value);
   };
   names = c.in_ok-names.ensures.names;
   own = c.in_ok-names.ensures.own ∙ c.as_slice-2.ensures ∙ c.in_ok-own.ensures;
@@ -49,22 +49,22 @@ returns c =
     let marks = c.as_slice-10.result.now in
     let run = λ (name : List ℕ).
     c.in_ok-runs.ensures name
-    ∙ ap (λ (rs : List Row). run_of rs c.as_slice-5.result.now name) c.as_slice-4.ensures
-    ∙ ap (λ (ps : List RowPlace). run_of s.rows ps name) c.as_slice-5.ensures in
+    ∙ ap (λ (rs : List SegmentRow). run_of rs c.as_slice-5.result.now name) c.as_slice-4.ensures
+    ∙ ap (λ (ps : List RowPlacement). run_of s.rows ps name) c.as_slice-5.ensures in
     let resolved =
     resolved_all s p placement names.names c.in_ok-runs.runs names.ensures.names (names.ensures.own ∙ c.as_slice-2.ensures ∙ c.in_ok-own.ensures) (names.ensures.exports ∙ c.as_slice-exports.ensures) (names.ensures.weak ∙ c.as_slice-3.ensures ∙ c.in_ok-weak.ensures ∙ ap weak_symbols c.as_slice.ensures) run g.members in
-    let same = c.as_slice-modules.ensures ∙ c.in_ok-all.ensures ∙ ap (λ (ms : List Member). map (resolved_by names.names c.in_ok-runs.runs) ms) c.as_slice-6.ensures ∙ resolved in
+    let same = c.as_slice-modules.ensures ∙ c.in_ok-all.ensures ∙ ap (λ (ms : List LinkedModule). map (resolved_by names.names c.in_ok-runs.runs) ms) c.as_slice-6.ensures ∙ resolved in
     let found : AreAllFound (linkage modules p.exports) marks =
-    subst (λ (ms : List Mark). AreAllFound (linkage modules p.exports) ms) (sym c.as_slice-10.ensures.value)
+    subst (λ (ms : List ExportState). AreAllFound (linkage modules p.exports) ms) (sym c.as_slice-10.ensures.value)
     (subst (λ (es : List Exported). AreAllFound (linkage modules es) c.in_ok-marks.marks.items) c.as_slice-exports.ensures c.in_ok-marks.ensures) in
-    let Ends : List Member → List Content → List Exported → List Asserted → Type 0 = λ ms cs es ts.
-    Finds is_memory (IsPassed s (record { members = ms; segments = segments_from cs; exports = es; asserts = ts }) placement (linkage modules es) (in_table (table_of marks))) c.pass.result in
+    let Ends : List LinkedModule → List SegmentContent → List Exported → List Asserted → Type 0 = λ ms cs es ts.
+    RefinesProp is_memory (IsPassed s (record { members = ms; segments = segments_from cs; exports = es; asserts = ts }) placement (linkage modules es) (in_table (table_of marks))) c.check_and_emit.result in
     let members : Ends g.members c.as_slice-8.result.now c.as_slice-exports.result.now c.as_slice-9.result.now =
-    subst (λ (ms : List Member). Ends ms c.as_slice-8.result.now c.as_slice-exports.result.now c.as_slice-9.result.now) c.as_slice-7.ensures c.pass.ensures in
+    subst (λ (ms : List LinkedModule). Ends ms c.as_slice-8.result.now c.as_slice-exports.result.now c.as_slice-9.result.now) c.as_slice-7.ensures c.check_and_emit.ensures in
     let contents : Ends g.members g.contents.items c.as_slice-exports.result.now c.as_slice-9.result.now =
-    subst (λ (cs : List Content). Ends g.members cs c.as_slice-exports.result.now c.as_slice-9.result.now) c.as_slice-8.ensures.value members in
+    subst (λ (cs : List SegmentContent). Ends g.members cs c.as_slice-exports.result.now c.as_slice-9.result.now) c.as_slice-8.ensures.value members in
     let exports : Ends g.members g.contents.items g.exports c.as_slice-9.result.now =
     subst (λ (es : List Exported). Ends g.members g.contents.items es c.as_slice-9.result.now) c.as_slice-exports.ensures contents in
     let passed : Ends g.members g.contents.items g.exports g.asserts =
     subst (λ (ts : List Asserted). Ends g.members g.contents.items g.exports ts) c.as_slice-9.ensures exports in
-    placed_by s p placement modules marks c.pass.result same found passed
+    placed_by s p placement modules marks c.check_and_emit.result same found passed

@@ -1,6 +1,6 @@
 use Rattle.std.proofs.Common.{◌≡◌, drop}
 use Rattle.std.specs.List.{list_any}
-use Rattle.link65.specs.Grounds.{cells_of}
+use Rattle.link65.specs.CodeInvariants.{cells_of}
 use Rattle.link65.specs.Texts.{is_data}
 use Rattle.link65.proofs.texts.has_data.Given as goal
 

@@ -1,6 +1,6 @@
 use Rattle.std.proofs.Common.{◌≡◌, ◌∙◌, ap, subst, Option, Some}
 use Rattle.std.specs.Prelude.{IfOk}
-use Rattle.link65.specs.Grounds.{segment_from}
+use Rattle.link65.specs.CodeInvariants.{segment_from}
 use Rattle.link65.specs.Placed.{segments_in}
 use Rattle.link65.specs.Programs.{Segment, segment_of}
 use Rattle.link65.specs.Texts.{row_warnings}

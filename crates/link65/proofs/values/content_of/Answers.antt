@@ -3,7 +3,7 @@ use Rattle.std.proofs.lemmas.Grind.{common_steps}
 use Rattle.std.proofs.lemmas.Option.{gets}
 use Rattle.std.specs.Option.{option_copied}
 use Rattle.std.specs.Option.{option_map}
-use Rattle.link65.specs.Grounds.{segment_from, place_in}
+use Rattle.link65.specs.CodeInvariants.{segment_from, place_in}
 use Rattle.link65.proofs.SegmentLemmas.{at_most, found_at}
 use Rattle.link65.proofs.values.content_of.Goals as goal
 

@@ -4,7 +4,7 @@ use Rattle.std.proofs.lemmas.Result.{err_from_is_err_and}
 use Rattle.base65.specs.Outcome.{◌>>=◌}
 use Rattle.base65.proofs.Outcome.{refused-then}
 use Rattle.link65.specs.declared.fault.LinkFault.{LinkFault}
-use Rattle.link65.specs.declared.fault.Site.{Site}
+use Rattle.link65.specs.declared.fault.ModuleLocation.{ModuleLocation}
 use Rattle.link65.specs.declared.parts.ValueFault.{ValueFault}
 use Rattle.link65.specs.Faults.{is_memory}
 use Rattle.link65.specs.Links.{each_passes, site, value_at}
@@ -24,7 +24,7 @@ returns-in_err-value_at-clause-checked c =
     rw (p.1, p.2) (passes_stops check all c.loop-export.export-index e (each_passes check all) c.in_err-value_at.field-0.0 c.loop-export-test.true c.export-item.is c.loop-export.invariant.checked refused)
 
 -- a value that was found is the form's
-is_value : (s : Site) (r : Result ℤ ValueFault) (v : ℤ) → value_at s r ≡ Ok v → v ≡ or_zero r
+is_value : (s : ModuleLocation) (r : Result ℤ ValueFault) (v : ℤ) → value_at s r ≡ Ok v → v ≡ or_zero r
 is_value s x v e = grind (arith, common_steps)
 
 pub loop-export-preserved : goal.loop-export-preserved

@@ -3,18 +3,18 @@ use Rattle.std.proofs.lemmas.Grind.{common_steps}
 use Rattle.std.proofs.lemmas.Option.{gets}
 use Rattle.std.specs.Option.{option_copied}
 use Rattle.object65.specs.Form.{Form}
-use Rattle.link65.specs.declared.evaluation.Stop.{Stop}
+use Rattle.link65.specs.declared.evaluation.EvalBlocked.{EvalBlocked}
 use Rattle.link65.specs.declared.parts.Resolved.{Resolved}
-use Rattle.link65.specs.declared.values.Placed.{Placed}
-use Rattle.link65.specs.Placed.{AllFound, as_outcome, exports_in, linkage_in, tried}
+use Rattle.link65.specs.declared.values.PlacedProgram.{PlacedProgram}
+use Rattle.link65.specs.Placed.{AllFound, as_outcome, exports_in, linkage_in, form_attempt}
 use Rattle.link65.specs.Values.{value_by}
 use Rattle.link65.proofs.FinishLemmas.{value_found}
 use Rattle.link65.proofs.values.value_at.Goals as goal
 
 -- what an attempt answered is what the form comes to
-came : (p : Placed) (m : Option Resolved) (owner : ℕ) (form : Form) (r : Result ℤ Stop) → AllFound p.marks.now → m ≡ slice_get p.modules.now owner → r ≡ tried m p.marks.now form → value_by (linkage_in p) (exports_in p) owner form ≡ as_outcome r
+came : (p : PlacedProgram) (m : Option Resolved) (owner : ℕ) (form : Form) (r : Result ℤ EvalBlocked) → AllFound p.marks.now → m ≡ slice_get p.modules.now owner → r ≡ form_attempt m p.marks.now form → value_by (linkage_in p) (exports_in p) owner form ≡ as_outcome r
 came p m owner form r found at e =
-    sym (value_found (linkage_in p) p.marks.now found owner form) ∙ ap (λ (o : Option Resolved). as_outcome (tried o p.marks.now form)) (sym at) ∙ ap as_outcome (sym e)
+    sym (value_found (linkage_in p) p.marks.now found owner form) ∙ ap (λ (o : Option Resolved). as_outcome (form_attempt o p.marks.now form)) (sym at) ∙ ap as_outcome (sym e)
 
 pub returns-in-Ok : goal.returns-in-Ok
 returns-in-Ok c = rw (came c.args.program.now (option_copied c.get.result) c.args.owner c.args.form.now c.try_form.result c.requires (grind (arith, common_steps, gets)) c.try_form.ensures, c.in-Ok.is) (search rules)

@@ -7,6 +7,6 @@ pub returns-in_err-check-3 : goal.returns-in_err-check-3
 unfolding room_literal
 returns-in_err-check-3 c = grind (arith, common_steps)
 
-pub room_behind-grown-requires : goal.room_behind-grown-requires
+pub room_after-grown-requires : goal.room_after-grown-requires
 unfolding room_literal
-room_behind-grown-requires c = grind (arith, common_steps)
+room_after-grown-requires c = grind (arith, common_steps)

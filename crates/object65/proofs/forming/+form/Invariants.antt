@@ -8,5 +8,5 @@ decreases-read_form l = 3 * l.depth
 abbrev pub decreases-read_operation : goal.decreases-read_operation
 decreases-read_operation l = 3 * l.depth + 1
 
-abbrev pub decreases-read_behind : goal.decreases-read_behind
-decreases-read_behind l = 3 * l.depth + 2
+abbrev pub decreases-read_after : goal.decreases-read_after
+decreases-read_after l = 3 * l.depth + 2

@@ -7,5 +7,5 @@ pub returns-clause-read : goal.returns-clause-read
 returns-clause-read g c =
     head_read (g.S.Store.files c.args.store.now) c.args.name.now c.args.at c.args.limit c.read_room.new.buf c.in_ok-n.n c.decode_head.result c.read_room.auto.buf c.in_ok-n.ensures.read c.decode_head.ensures.read
 
-pub returns-clause-kept : goal.returns-clause-kept
-returns-clause-kept g c = grind (arith, common_steps)
+pub returns-clause-frame : goal.returns-clause-frame
+returns-clause-frame g c = grind (arith, common_steps)

@@ -3,7 +3,7 @@ use Rattle.std.proofs.lemmas.Grind.{common_steps}
 use Rattle.std.proofs.Common.{◌∙◌, arith}
 use Rattle.std.proofs.lemmas.Result.{err_from_is_err_and}
 use Rattle.object65.proofs.Records.{end_refused, head_refused, object_read, records_refused}
-use Rattle.object65.proofs.Stores.{behind_answer, finish_not_stored, refuses_on, still_bytes, untouched}
+use Rattle.object65.proofs.Stores.{after_answer, finish_not_stored, refuses_on, still_bytes, untouched}
 use Rattle.object65.proofs.reading.read_object.Goals as goal
 
 pub returns-in_err-head-clause-read : goal.returns-in_err-head-clause-read
@@ -14,48 +14,48 @@ returns-in_err-head-clause-read g c =
 pub returns-in_err-builder-clause-read : goal.returns-in_err-builder-clause-read
 returns-in_err-builder-clause-read g c =
     let p = err_from_is_err_and c.from_residual-in_err-builder.result c.from_residual-in_err-builder.ensures.1 in
-    rw (p.1, p.2) (records_refused (g.S.Store.files c.args.store.now) (g.S.Store.files c.read_head.new.store) c.args.name.now c.args.at c.args.limit c.in_ok-head.head c.in_err-builder.field-0.0 c.in_ok-head.ensures.kept.files c.in_ok-head.ensures.read c.in_err-builder.ensures.read)
+    rw (p.1, p.2) (records_refused (g.S.Store.files c.args.store.now) (g.S.Store.files c.read_head.new.store) c.args.name.now c.args.at c.args.limit c.in_ok-head.head c.in_err-builder.field-0.0 c.in_ok-head.ensures.frame.files c.in_ok-head.ensures.read c.in_err-builder.ensures.read)
 
-pub returns-in_err-builder-clause-kept : goal.returns-in_err-builder-clause-kept
-returns-in_err-builder-clause-kept g c =
+pub returns-in_err-builder-clause-frame : goal.returns-in_err-builder-clause-frame
+returns-in_err-builder-clause-frame g c =
     let p = err_from_is_err_and c.from_residual-in_err-builder.result c.from_residual-in_err-builder.ensures.1 in
     let s = g.S.Store in
-    rw (p.1, p.2) (behind_answer s.files s.failures s.blamed c.args.name.now c.args.store.now c.read_head.new.store c.read_records.new.store c.in_ok-head.head _ c.in_ok-head.ensures.kept (refuses_on s.files s.failures s.blamed c.args.name.now c.read_head.new.store c.read_records.new.store c.in_err-builder.field-0.0 c.in_err-builder.ensures.kept))
+    rw (p.1, p.2) (after_answer s.files s.failures s.last_failure c.args.name.now c.args.store.now c.read_head.new.store c.read_records.new.store c.in_ok-head.head _ c.in_ok-head.ensures.frame (refuses_on s.files s.failures s.last_failure c.args.name.now c.read_head.new.store c.read_records.new.store c.in_err-builder.field-0.0 c.in_err-builder.ensures.frame))
 
 pub returns-in_err-check_end-clause-read : goal.returns-in_err-check_end-clause-read
 returns-in_err-check_end-clause-read g c =
     let r = c.from_residual-in_err-check_end in
     let p = err_from_is_err_and r.result r.ensures.1 in
-    let a = c.in_ok-head.ensures.kept.files in
-    rw (p.1, p.2) (end_refused _ _ _ c.args.name.now c.args.at c.args.limit c.in_ok-head.head c.in_ok-builder.builder c.in_ok-builder.end c.in_err-check_end.field-0.0 a (c.in_ok-builder.ensures.kept.files ∙ a) c.in_ok-head.ensures.read c.in_ok-builder.ensures.read c.in_err-check_end.ensures.read)
+    let a = c.in_ok-head.ensures.frame.files in
+    rw (p.1, p.2) (end_refused _ _ _ c.args.name.now c.args.at c.args.limit c.in_ok-head.head c.in_ok-builder.builder c.in_ok-builder.end c.in_err-check_end.field-0.0 a (c.in_ok-builder.ensures.frame.files ∙ a) c.in_ok-head.ensures.read c.in_ok-builder.ensures.read c.in_err-check_end.ensures.read)
 
-pub returns-in_err-check_end-clause-kept : goal.returns-in_err-check_end-clause-kept
-returns-in_err-check_end-clause-kept g c =
+pub returns-in_err-check_end-clause-frame : goal.returns-in_err-check_end-clause-frame
+returns-in_err-check_end-clause-frame g c =
     let r = c.from_residual-in_err-check_end in
     let p = err_from_is_err_and r.result r.ensures.1 in
     let s = g.S.Store in
     let name = c.args.name.now in
-    let last = refuses_on s.files s.failures s.blamed name c.read_records.new.store c.check_end.new.store c.in_err-check_end.field-0.0 c.in_err-check_end.ensures.kept in
-    let behind = behind_answer s.files s.failures s.blamed name c.read_head.new.store c.read_records.new.store c.check_end.new.store (c.in_ok-builder.builder, c.in_ok-builder.end) _ c.in_ok-builder.ensures.kept last in
-    rw (p.1, p.2) (behind_answer s.files s.failures s.blamed name c.args.store.now c.read_head.new.store c.check_end.new.store c.in_ok-head.head _ c.in_ok-head.ensures.kept behind)
+    let last = refuses_on s.files s.failures s.last_failure name c.read_records.new.store c.check_end.new.store c.in_err-check_end.field-0.0 c.in_err-check_end.ensures.frame in
+    let following = after_answer s.files s.failures s.last_failure name c.read_head.new.store c.read_records.new.store c.check_end.new.store (c.in_ok-builder.builder, c.in_ok-builder.end) _ c.in_ok-builder.ensures.frame last in
+    rw (p.1, p.2) (after_answer s.files s.failures s.last_failure name c.args.store.now c.read_head.new.store c.check_end.new.store c.in_ok-head.head _ c.in_ok-head.ensures.frame following)
 
 pub returns-clause-read : goal.returns-clause-read
 returns-clause-read g c =
-    let a = c.in_ok-head.ensures.kept.files in
-    object_read (g.S.Store.files c.args.store.now) (g.S.Store.files c.read_head.new.store) (g.S.Store.files c.read_records.new.store) c.args.name.now c.args.at c.args.limit c.in_ok-head.head c.in_ok-builder.builder c.in_ok-builder.end c.finish.result a (c.in_ok-builder.ensures.kept.files ∙ a) c.in_ok-head.ensures.read c.in_ok-builder.ensures.read c.in_ok-check_end.ensures.read c.finish.ensures.finished
+    let a = c.in_ok-head.ensures.frame.files in
+    object_read (g.S.Store.files c.args.store.now) (g.S.Store.files c.read_head.new.store) (g.S.Store.files c.read_records.new.store) c.args.name.now c.args.at c.args.limit c.in_ok-head.head c.in_ok-builder.builder c.in_ok-builder.end c.finish.result a (c.in_ok-builder.ensures.frame.files ∙ a) c.in_ok-head.ensures.read c.in_ok-builder.ensures.read c.in_ok-check_end.ensures.read c.finish.ensures.finished
 
 pub returns-clause-bytes : goal.returns-clause-bytes
 returns-clause-bytes g c =
     still_bytes (g.S.Store.files c.args.store.now) c.args.name.now c.in_ok-head.head c.finish.result c.in_ok-head.ensures.bytes
 
-pub returns-clause-kept : goal.returns-clause-kept
-returns-clause-kept g c =
+pub returns-clause-frame : goal.returns-clause-frame
+returns-clause-frame g c =
     let s = g.S.Store in
     let name = c.args.name.now in
-    let last = untouched s.files s.failures s.blamed name c.read_records.new.store c.check_end.new.store tt c.finish.result (finish_not_stored c.in_ok-builder.builder c.finish.result c.finish.ensures.finished) c.in_ok-check_end.ensures.kept in
-    let behind = behind_answer s.files s.failures s.blamed name c.read_head.new.store c.read_records.new.store c.check_end.new.store (c.in_ok-builder.builder, c.in_ok-builder.end) c.finish.result c.in_ok-builder.ensures.kept last in
-    behind_answer s.files s.failures s.blamed name c.args.store.now c.read_head.new.store c.check_end.new.store c.in_ok-head.head c.finish.result c.in_ok-head.ensures.kept behind
+    let last = untouched s.files s.failures s.last_failure name c.read_records.new.store c.check_end.new.store tt c.finish.result (finish_not_stored c.in_ok-builder.builder c.finish.result c.finish.ensures.finished) c.in_ok-check_end.ensures.frame in
+    let following = after_answer s.files s.failures s.last_failure name c.read_head.new.store c.read_records.new.store c.check_end.new.store (c.in_ok-builder.builder, c.in_ok-builder.end) c.finish.result c.in_ok-builder.ensures.frame last in
+    after_answer s.files s.failures s.last_failure name c.args.store.now c.read_head.new.store c.check_end.new.store c.in_ok-head.head c.finish.result c.in_ok-head.ensures.frame following
 
-pub returns-clause-asked : goal.returns-clause-asked
+pub returns-clause-at_last_count : goal.returns-clause-at_last_count
 unfolding object_at
-returns-clause-asked g c = grind (arith, common_steps)
+returns-clause-at_last_count g c = grind (arith, common_steps)

@@ -5,7 +5,7 @@ use Rattle.object65.specs.Reading.{in_file, record_at}
 use Rattle.object65.specs.Record.{entry_of}
 use Rattle.object65.specs.declared.fault.ObjectFault.TheVariants.{FileError}
 use Rattle.object65.proofs.Records.{fresh, stays_ahead, where_ahead, begins_in, seen, reading_stops, taking_stops, ends_in, goes_on_in, memory_outside, kept_count, none_passed, not_stored}
-use Rattle.object65.proofs.Stores.{answers_on, behind_same, refuses_on}
+use Rattle.object65.proofs.Stores.{answers_on, after_same, refuses_on}
 use Rattle.object65.proofs.reading.read_records.Goals as goal
 
 pub records-init : goal.records-init
@@ -21,11 +21,11 @@ returns-in_err-next-clause-read g c =
     let p = err_from_is_err_and c.from_residual.result c.from_residual.ensures.1 in
     rw (p.1, p.2) (reading_stops c.args.head.0 c.args.limit c.args.head.1 c.records.next _ _ c.args.name.now c.records.builder c.in_err-next.field-0.0 c.records.invariant.files c.records.invariant.read (where_ahead _ c.args.name.now c.records.reader _ c.records.invariant.ahead c.in_err-next.ensures.read))
 
-pub returns-in_err-next-clause-kept : goal.returns-in_err-next-clause-kept
-returns-in_err-next-clause-kept g c =
+pub returns-in_err-next-clause-frame : goal.returns-in_err-next-clause-frame
+returns-in_err-next-clause-frame g c =
     let p = err_from_is_err_and c.from_residual.result c.from_residual.ensures.1 in
     let s = g.S.Store in
-    rw (p.1, p.2) (behind_same s.files s.failures s.blamed c.args.name.now c.args.store.now c.records.store c.read.new.store _ c.records.invariant.files c.records.invariant.count (refuses_on s.files s.failures s.blamed c.args.name.now c.records.store c.read.new.store c.in_err-next.field-0.0 c.in_err-next.ensures.kept))
+    rw (p.1, p.2) (after_same s.files s.failures s.last_failure c.args.name.now c.args.store.now c.records.store c.read.new.store _ c.records.invariant.files c.records.invariant.count (refuses_on s.files s.failures s.last_failure c.args.name.now c.records.store c.read.new.store c.in_err-next.field-0.0 c.in_err-next.ensures.kept))
 
 pub returns-in_err-take-clause-read : goal.returns-in_err-take-clause-read
 returns-in_err-take-clause-read g c =
@@ -33,8 +33,8 @@ returns-in_err-take-clause-read g c =
     let e = c.in_err-take.field-0.0 in
     rw (p.1, p.2) (taking_stops c.args.head.0 c.args.limit c.args.head.1 c.records.next _ _ c.args.name.now c.records.builder (entry_of c.record.result.now, c.in_ok-next.next) e c.records.invariant.files c.records.invariant.read (seen _ (λ m. in_file (get m c.args.name.now) (record_at c.args.head.0 c.records.next c.args.limit)) _ _ c.in_ok-next.next c.record.ensures (where_ahead _ c.args.name.now c.records.reader _ c.records.invariant.ahead c.in_ok-next.ensures.read)) (memory_outside e _ c.in_err-take.ensures.taken))
 
-pub returns-in_err-take-clause-kept : goal.returns-in_err-take-clause-kept
-returns-in_err-take-clause-kept g c =
+pub returns-in_err-take-clause-frame : goal.returns-in_err-take-clause-frame
+returns-in_err-take-clause-frame g c =
     let p = err_from_is_err_and c.from_residual-in_err-take.result c.from_residual-in_err-take.ensures.1 in
     let e = c.in_err-take.field-0.0 in
     let taken = c.in_err-take.ensures.taken in
@@ -43,17 +43,17 @@ returns-in_err-take-clause-kept g c =
     rw (p.1, p.2) (record {
       files = c.in_ok-next.ensures.kept.files ∙ c.records.invariant.files;
       count = none_passed _ _ e same (not_stored c.records.builder entry e taken);
-      blamed = λ h. (let stored : e ≡ FileError = cc h in absurd (not_stored c.records.builder entry e taken stored));
+      last_failure = λ h. (let stored : e ≡ FileError = cc h in absurd (not_stored c.records.builder entry e taken stored));
     })
 
 pub returns-then-is_ended-clause-read : goal.returns-then-is_ended-clause-read
 returns-then-is_ended-clause-read g c =
     ends_in c.args.head.0 c.args.limit c.args.head.1 c.records.next _ _ c.args.name.now c.records.builder c.take.new.self (entry_of c.record.result.now, c.in_ok-next.next) c.records.invariant.files c.records.invariant.read (seen _ (λ m. in_file (get m c.args.name.now) (record_at c.args.head.0 c.records.next c.args.limit)) _ _ c.in_ok-next.next c.record.ensures (where_ahead _ c.args.name.now c.records.reader _ c.records.invariant.ahead c.in_ok-next.ensures.read)) c.in_ok-take.ensures.taken (sym c.is_ended.ensures ∙ c.if-is_ended.true)
 
-pub returns-then-is_ended-clause-kept : goal.returns-then-is_ended-clause-kept
-returns-then-is_ended-clause-kept g c =
+pub returns-then-is_ended-clause-frame : goal.returns-then-is_ended-clause-frame
+returns-then-is_ended-clause-frame g c =
     let s = g.S.Store in
-    behind_same s.files s.failures s.blamed c.args.name.now c.args.store.now c.records.store c.read.new.store _ c.records.invariant.files c.records.invariant.count (answers_on s.files s.failures s.blamed c.args.name.now c.records.store c.read.new.store c.in_ok-next.next _ c.in_ok-next.ensures.kept)
+    after_same s.files s.failures s.last_failure c.args.name.now c.args.store.now c.records.store c.read.new.store _ c.records.invariant.files c.records.invariant.count (answers_on s.files s.failures s.last_failure c.args.name.now c.records.store c.read.new.store c.in_ok-next.next _ c.in_ok-next.ensures.kept)
 
 pub records-preserved : goal.records-preserved
 records-preserved g c =

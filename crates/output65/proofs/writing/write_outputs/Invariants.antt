@@ -1,11 +1,11 @@
 use Rattle.std.proofs.Common.{◌≡◌, [], take}
-use Rattle.base65.specs.Store.{Tells}
-use Rattle.output65.specs.Leaving.{apply}
+use Rattle.base65.specs.Store.{RelatesFiles}
+use Rattle.output65.specs.RunEffects.{apply}
 use Rattle.output65.proofs.writing.write_outputs.Given as goal
 
 abbrev pub invariant-loop-place : goal.invariant-loop-place
 invariant-loop-place g l = record {
-  files : Tells (λ old new. new ≡ apply (take l.place l.outputs) old) (g.S.Store.files l.fn.store) (g.S.Store.files l.store);
-  untouched : l.outputs ≡ [] → g.S.Store.blamed l.store ≡ g.S.Store.blamed l.fn.store;
+  files : RelatesFiles (λ old new. new ≡ apply (take l.place l.outputs) old) (g.S.Store.files l.fn.store) (g.S.Store.files l.store);
+  untouched : l.outputs ≡ [] → g.S.Store.last_failure l.store ≡ g.S.Store.last_failure l.fn.store;
   count : g.S.Store.failures l.store ≡ g.S.Store.failures l.fn.store;
 }

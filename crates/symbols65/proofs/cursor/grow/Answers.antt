@@ -10,4 +10,4 @@ overflow_add-segment c =
 pub returns : goal.returns
 returns c =
     let same = segment_or c.args.segments.now c.args.place c.index-segments-place.result c.requires.place in
-    rw (c.max-segment.ensures, same) (grown_is c.args.segments.now c.args.place c.args.count c.args.multiple)
+    rw (c.max-segment.ensures, same) (grown_is c.args.segments.now c.args.place c.args.count c.args.alignment)

@@ -7,7 +7,7 @@ use Rattle.ast65.specs.declared.language.Statement.{Statement}
 use Rattle.semantics65.specs.declared.laid.Context.{Context}
 use Rattle.semantics65.specs.Symbols.{Symbols, key_defined}
 use Rattle.semantics65.specs.Layout.{defined_twice, is_open, lost_scopes, opened_twice, or_then, scope_name, stands_outside, trees_of, when}
-use Rattle.symbols65.specs.Measuring.{Checks, naming_fault}
+use Rattle.symbols65.specs.Measuring.{ChecksStatement, naming_fault}
 use Rattle.symbols65.specs.Views.{table_of}
 use Rattle.symbols65.proofs.Measures.{checked_next, refused_first}
 use Rattle.symbols65.proofs.measuring.check_naming.Goals as goal
@@ -21,11 +21,11 @@ opened y s x = opened_twice y.scopes s.scope (scope_name x)
 abbrev twice : Symbols → Context → Statement → Option AsmFault
 twice y s x = defined_twice y (key_defined s x)
 
-behind_outside : (y : Symbols) (s : Context) (x : Statement) (r : Result (Unit {0}) AsmFault) → Checks (Ok tt) (when (stands_outside x && is_open s.scope) NotUnderstood) → Checks r (or_then (lost y s x) (or_then (opened y s x) (twice y s x))) → Checks r (naming_fault y s x)
-behind_outside y s x r h k = checked_next (when (stands_outside x && is_open s.scope) NotUnderstood) (or_then (lost y s x) (or_then (opened y s x) (twice y s x))) r h k
+after_outside : (y : Symbols) (s : Context) (x : Statement) (r : Result (Unit {0}) AsmFault) → ChecksStatement (Ok tt) (when (stands_outside x && is_open s.scope) NotUnderstood) → ChecksStatement r (or_then (lost y s x) (or_then (opened y s x) (twice y s x))) → ChecksStatement r (naming_fault y s x)
+after_outside y s x r h k = checked_next (when (stands_outside x && is_open s.scope) NotUnderstood) (or_then (lost y s x) (or_then (opened y s x) (twice y s x))) r h k
 
-behind_trees : (y : Symbols) (s : Context) (x : Statement) (r : Result (Unit {0}) AsmFault) → Checks (Ok tt) (when (stands_outside x && is_open s.scope) NotUnderstood) → Checks (Ok tt) (lost y s x) → Checks r (or_then (opened y s x) (twice y s x)) → Checks r (naming_fault y s x)
-behind_trees y s x r h k j = behind_outside y s x r h (checked_next (lost y s x) (or_then (opened y s x) (twice y s x)) r k j)
+after_trees : (y : Symbols) (s : Context) (x : Statement) (r : Result (Unit {0}) AsmFault) → ChecksStatement (Ok tt) (when (stands_outside x && is_open s.scope) NotUnderstood) → ChecksStatement (Ok tt) (lost y s x) → ChecksStatement r (or_then (opened y s x) (twice y s x)) → ChecksStatement r (naming_fault y s x)
+after_trees y s x r h k j = after_outside y s x r h (checked_next (lost y s x) (or_then (opened y s x) (twice y s x)) r k j)
 
 pub returns-in_err-check_outside : goal.returns-in_err-check_outside
 returns-in_err-check_outside c =
@@ -39,7 +39,7 @@ returns-in_err-check_trees c =
     let y = table_of c.args.symbols.now in
     let s = c.args.context in
     let x = c.args.statement.now in
-    rw (p.1, p.2) (behind_outside y s x (Err e) c.in_ok-check_outside.ensures (refused_first e (lost y s x) (or_then (opened y s x) (twice y s x)) tt c.in_err-check_trees.ensures))
+    rw (p.1, p.2) (after_outside y s x (Err e) c.in_ok-check_outside.ensures (refused_first e (lost y s x) (or_then (opened y s x) (twice y s x)) tt c.in_err-check_trees.ensures))
 
 pub returns-in_err-check_opened : goal.returns-in_err-check_opened
 returns-in_err-check_opened c =
@@ -48,11 +48,11 @@ returns-in_err-check_opened c =
     let y = table_of c.args.symbols.now in
     let s = c.args.context in
     let x = c.args.statement.now in
-    rw (p.1, p.2) (behind_trees y s x (Err e) c.in_ok-check_outside.ensures c.in_ok-check_trees.ensures (refused_first e (opened y s x) (twice y s x) tt c.in_err-check_opened.ensures))
+    rw (p.1, p.2) (after_trees y s x (Err e) c.in_ok-check_outside.ensures c.in_ok-check_trees.ensures (refused_first e (opened y s x) (twice y s x) tt c.in_err-check_opened.ensures))
 
 pub returns : goal.returns
 returns c =
     let y = table_of c.args.symbols.now in
     let s = c.args.context in
     let x = c.args.statement.now in
-    behind_trees y s x c.check_defined.result c.in_ok-check_outside.ensures c.in_ok-check_trees.ensures (checked_next (opened y s x) (twice y s x) c.check_defined.result c.in_ok-check_opened.ensures c.check_defined.ensures)
+    after_trees y s x c.check_defined.result c.in_ok-check_outside.ensures c.in_ok-check_trees.ensures (checked_next (opened y s x) (twice y s x) c.check_defined.result c.in_ok-check_opened.ensures c.check_defined.ensures)

@@ -1,7 +1,7 @@
 use Rattle.std.proofs.Common.{Some, map, position, sym, ap, subst, ◌∙◌}
 use Rattle.std.specs.Str.{bytes_eq}
 use Rattle.ast65.proofs.Lists.{position_mapped}
-use Rattle.symbols65.specs.Tables.{Begins}
+use Rattle.symbols65.specs.Tables.{IsPrefixOf}
 use Rattle.symbols65.proofs.Words.{insert_name, number_mapped, one_begins, one_found, with_one}
 use Rattle.symbols65.proofs.table.intern.Goals as goal
 
@@ -12,7 +12,7 @@ pub returns-in_ok-word-in-None-clause-more : goal.returns-in_ok-word-in-None-cla
 returns-in_ok-word-in-None-clause-more c =
     let ws = map (λ k. k.items) c.args.words.now.keys in
     let key = c.in_ok-from_slice-in-None.field-0 in
-    subst (Begins ws) (sym (ap (map (λ k. k.items)) c.in_ok-word-in-None.ensures.keys ∙ insert_name (λ k. k.items) c.args.words.now.keys key)) (one_begins ws key.items)
+    subst (IsPrefixOf ws) (sym (ap (map (λ k. k.items)) c.in_ok-word-in-None.ensures.keys ∙ insert_name (λ k. k.items) c.args.words.now.keys key)) (one_begins ws key.items)
 
 pub returns-in_ok-word-in-None-clause-number : goal.returns-in_ok-word-in-None-clause-number
 returns-in_ok-word-in-None-clause-number c =

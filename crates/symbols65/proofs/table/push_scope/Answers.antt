@@ -1,12 +1,12 @@
 use Rattle.std.proofs.Common.{◌≡◌, ◌∙◌, refl}
-use Rattle.symbols65.specs.contracts.table.symbols.OpeningPartialEq.TheImpl.{eq-value}
-use Rattle.symbols65.specs.declared.table.symbols.Opening.{Opening}
-use Rattle.symbols65.specs.declared.table.symbols.Opening.TheVariants as opening
+use Rattle.symbols65.specs.contracts.table.symbols.ScopeKeyPartialEq.TheImpl.{eq-value}
+use Rattle.symbols65.specs.declared.table.symbols.ScopeKey.{ScopeKey}
+use Rattle.symbols65.specs.declared.table.symbols.ScopeKey.TheVariants as opening
 use Rattle.symbols65.specs.Tables.{same_opening}
 use Rattle.symbols65.proofs.Growing.{inserted_by}
 use Rattle.symbols65.proofs.table.push_scope.Goals as goal
 
-agree : (x y : Opening) → eq-value.it x y ≡ same_opening x y
+agree : (x y : ScopeKey) → eq-value.it x y ≡ same_opening x y
 agree (opening.Named s w) (opening.Named t v) = refl
 agree (opening.Named s w) (opening.Nameless t v) = refl
 agree (opening.Nameless s w) (opening.Named t v) = refl

@@ -4,11 +4,11 @@ use Rattle.tools65.proofs.archiving.compute_archive.Goals as goal
 
 pub returns-clause-computed : goal.returns-clause-computed
 returns-clause-computed g c =
-    computes_archive (archiving c.args.line.now) _ _ _ _ c.archive-archived.result c.archive_outcome.result c.archive-archived.ensures.count c.archive-archived.ensures.asked c.archive-archived.ensures.named c.archive-archived.ensures.archived c.archive_outcome.ensures
+    computes_archive (archiving c.args.line.now) _ _ _ _ c.archive-archived.result c.archive_outcome.result c.archive-archived.ensures.count c.archive-archived.ensures.at_last_count c.archive-archived.ensures.named c.archive-archived.ensures.archived c.archive_outcome.ensures
 
-pub returns-clause-kept : goal.returns-clause-kept
-returns-clause-kept g c = record {
+pub returns-clause-frame : goal.returns-clause-frame
+returns-clause-frame g c = record {
   files = c.archive-archived.ensures.files;
   later = c.archive-archived.ensures.count.later;
-  failing = archive_fails_so (archiving c.args.line.now) _ _ c.archive-archived.result c.archive_outcome.result c.archive-archived.ensures.count c.archive-archived.ensures.asked c.archive_outcome.ensures;
+  failing = archive_fails_so (archiving c.args.line.now) _ _ c.archive-archived.result c.archive_outcome.result c.archive-archived.ensures.count c.archive-archived.ensures.at_last_count c.archive_outcome.ensures;
 }

@@ -1,6 +1,6 @@
 use Rattle.std.proofs.Common.{rules}
 use Rattle.cli65.specs.Line.{view}
-use Rattle.tools65.specs.Command.{DoesLine, Ran, line_memory}
+use Rattle.tools65.specs.Command.{IsOutcomeOfCommand, RunSatisfies, line_memory}
 use Rattle.tools65.specs.Failing.{FailsLine}
 use Rattle.tools65.specs.OneProgram.{LineLinksWhole}
 use Rattle.tools65.proofs.Runs.{over_writers}
@@ -8,15 +8,15 @@ use Rattle.tools65.proofs.running.run_line.Goals as goal
 
 pub returns-clause-done : goal.returns-clause-done
 returns-clause-done g c =
-    over_writers _ _ _ _ _ _ c.run_line_over.new.out.has_refused c.run_line_over.new.err.has_refused
-    (λ m io. Ran (DoesLine (view c.args.line.now)) (line_memory (view c.args.line.now)) m (g.S.Store.files c.run_line_over.new.store) io c.run_line_over.result) (search rules)
+    over_writers _ _ _ _ _ _ c.run_line_with_streams.new.out.has_refused c.run_line_with_streams.new.err.has_refused
+    (λ m io. RunSatisfies (IsOutcomeOfCommand (view c.args.line.now)) (line_memory (view c.args.line.now)) m (g.S.Store.files c.run_line_with_streams.new.store) io c.run_line_with_streams.result) (search rules)
 
 pub returns-clause-failed : goal.returns-clause-failed
 returns-clause-failed g c =
-    over_writers _ _ _ _ _ _ c.run_line_over.new.out.has_refused c.run_line_over.new.err.has_refused
-    (λ m io. FailsLine (view c.args.line.now) m (g.S.Store.files c.run_line_over.new.store) (g.S.Store.blamed c.run_line_over.new.store) io c.run_line_over.result) (search rules)
+    over_writers _ _ _ _ _ _ c.run_line_with_streams.new.out.has_refused c.run_line_with_streams.new.err.has_refused
+    (λ m io. FailsLine (view c.args.line.now) m (g.S.Store.files c.run_line_with_streams.new.store) (g.S.Store.last_failure c.run_line_with_streams.new.store) io c.run_line_with_streams.result) (search rules)
 
 pub returns-clause-one_program : goal.returns-clause-one_program
 returns-clause-one_program g c =
-    over_writers _ _ _ _ _ _ c.run_line_over.new.out.has_refused c.run_line_over.new.err.has_refused
-    (λ m io. LineLinksWhole (view c.args.line.now) m (g.S.Store.files c.run_line_over.new.store) io c.run_line_over.result) (search rules)
+    over_writers _ _ _ _ _ _ c.run_line_with_streams.new.out.has_refused c.run_line_with_streams.new.err.has_refused
+    (λ m io. LineLinksWhole (view c.args.line.now) m (g.S.Store.files c.run_line_with_streams.new.store) io c.run_line_with_streams.result) (search rules)

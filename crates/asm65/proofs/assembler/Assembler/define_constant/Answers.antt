@@ -1,5 +1,5 @@
 use Rattle.std.proofs.Common.{[], ◌∷◌, Some, length, subst, sym, ap}
-use Rattle.syntax65.specs.declared.place.Place.{Place}
+use Rattle.syntax65.specs.declared.source_location.SourceLocation.{SourceLocation}
 use Rattle.semantics65.specs.declared.laid.Context.{Context}
 use Rattle.semantics65.specs.Symbols.{Definition, named}
 use Rattle.semantics65.specs.Views.{place_in}
@@ -22,7 +22,7 @@ pub returns : goal.returns
 returns c =
     let old : Assembler = c.args.self.now in
     let mid : Assembler = c.enter_constant.new.self in
-    let place : Place = place_in c.args.site.at.file.now c.args.site.at.line in
+    let place : SourceLocation = place_in c.args.site.at.file.now c.args.site.at.line in
     let s : Context = c.args.site.context in
     let d : Definition = record { key = named s.scope c.args.name.now; value = Some c.args.value; context = s; size = c.args.size } in
     on_both c.define.result (λ table known.

@@ -1,7 +1,7 @@
 use Rattle.std.proofs.Common.{[], ◌∙◌, ap}
 use Rattle.symbols65.specs.Tables.{key_of}
 use Rattle.symbols65.specs.Views.{table_of, with_definition}
-use Rattle.asm65.specs.Inner.Holding.{label_at}
+use Rattle.asm65.specs.Internal.AssemblerState.{label_at}
 use Rattle.asm65.proofs.Enterings.{enters_none}
 use Rattle.asm65.proofs.Namings.{on_both, turns_after}
 use Rattle.asm65.proofs.assembler.Assembler.define_label.Goals as goal

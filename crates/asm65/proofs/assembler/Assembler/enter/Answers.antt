@@ -2,7 +2,7 @@ use Rattle.std.proofs.Common.{sym}
 use Rattle.ast65.specs.declared.language.Statement.{Statement}
 use Rattle.ast65.specs.declared.language.Statement.TheVariants as statement
 use Rattle.semantics65.specs.Views.{place_in}
-use Rattle.asm65.proofs.Namings.{adds_pieces, nothing_behind, puts_nothing, taken_as}
+use Rattle.asm65.proofs.Namings.{adds_pieces, nothing_follows, puts_nothing, taken_as}
 use Rattle.asm65.proofs.assembler.Assembler.enter.Goals as goal
 
 pub returns-in-Instruction : goal.returns-in-Instruction
@@ -13,7 +13,7 @@ returns-in-Instruction c =
     let old = c.args.self.now in
     let new = c.enter_settled.new.self in
     let x : Statement = statement.Instruction c.in-Instruction.mnemonic c.in-Instruction.operand in
-    taken_as place s m old new c.enter_settled.result x c.args.statement (sym c.in-Instruction.is) (λ h. adds_pieces place s m old new x (λ y. nothing_behind y) h) c.enter_settled.ensures
+    taken_as place s m old new c.enter_settled.result x c.args.statement (sym c.in-Instruction.is) (λ h. adds_pieces place s m old new x (λ y. nothing_follows y) h) c.enter_settled.ensures
 
 pub returns-in-Values : goal.returns-in-Values
 returns-in-Values c =
@@ -23,7 +23,7 @@ returns-in-Values c =
     let old = c.args.self.now in
     let new = c.enter_values.new.assembler in
     let x : Statement = statement.Values c.in-Values.width c.in-Values.items in
-    taken_as place s m old new c.enter_values.result x c.args.statement (sym c.in-Values.is) (λ h. adds_pieces place s m old new x (λ y. nothing_behind y) h) c.enter_values.ensures
+    taken_as place s m old new c.enter_values.result x c.args.statement (sym c.in-Values.is) (λ h. adds_pieces place s m old new x (λ y. nothing_follows y) h) c.enter_values.ensures
 
 pub returns-in-Reserve : goal.returns-in-Reserve
 returns-in-Reserve c =
@@ -33,7 +33,7 @@ returns-in-Reserve c =
     let old = c.args.self.now in
     let new = c.enter_room.new.assembler in
     let x : Statement = statement.Reserve c.in-Reserve.count c.in-Reserve.value in
-    taken_as place s m old new c.enter_room.result x c.args.statement (sym c.in-Reserve.is) (λ h. adds_pieces place s m old new x (λ y. nothing_behind y) (h place)) c.enter_room.ensures
+    taken_as place s m old new c.enter_room.result x c.args.statement (sym c.in-Reserve.is) (λ h. adds_pieces place s m old new x (λ y. nothing_follows y) (h place)) c.enter_room.ensures
 
 pub returns-in-Align : goal.returns-in-Align
 returns-in-Align c =
@@ -42,8 +42,8 @@ returns-in-Align c =
     let m = c.args.measured in
     let old = c.args.self.now in
     let new = c.enter_room-in-Align.new.assembler in
-    let x : Statement = statement.Align c.in-Align.multiple c.in-Align.value in
-    taken_as place s m old new c.enter_room-in-Align.result x c.args.statement (sym c.in-Align.is) (λ h. adds_pieces place s m old new x (λ y. nothing_behind y) (h place)) c.enter_room-in-Align.ensures
+    let x : Statement = statement.Align c.in-Align.alignment c.in-Align.value in
+    taken_as place s m old new c.enter_room-in-Align.result x c.args.statement (sym c.in-Align.is) (λ h. adds_pieces place s m old new x (λ y. nothing_follows y) (h place)) c.enter_room-in-Align.ensures
 
 pub returns-in-FilePart : goal.returns-in-FilePart
 returns-in-FilePart c =
@@ -52,8 +52,8 @@ returns-in-FilePart c =
     let m = c.args.measured in
     let old = c.args.self.now in
     let new = c.enter_part.new.assembler in
-    let x : Statement = statement.FilePart c.in-FilePart.bytes c.in-FilePart.start c.in-FilePart.len in
-    taken_as place s m old new c.enter_part.result x c.args.statement (sym c.in-FilePart.is) (λ h. adds_pieces place s m old new x (λ y. nothing_behind y) (h place)) c.enter_part.ensures
+    let x : Statement = statement.Incbin c.in-FilePart.bytes c.in-FilePart.start c.in-FilePart.len in
+    taken_as place s m old new c.enter_part.result x c.args.statement (sym c.in-FilePart.is) (λ h. adds_pieces place s m old new x (λ y. nothing_follows y) (h place)) c.enter_part.ensures
 
 pub returns-in-Assert : goal.returns-in-Assert
 returns-in-Assert c =
@@ -63,7 +63,7 @@ returns-in-Assert c =
     let old = c.args.self.now in
     let new = c.enter_assertion.new.self in
     let x : Statement = statement.Assert c.in-Assert.value c.in-Assert.action c.in-Assert.text in
-    taken_as place s m old new c.enter_assertion.result x c.args.statement (sym c.in-Assert.is) (λ h. adds_pieces place s m old new x (λ y. nothing_behind y) h) c.enter_assertion.ensures
+    taken_as place s m old new c.enter_assertion.result x c.args.statement (sym c.in-Assert.is) (λ h. adds_pieces place s m old new x (λ y. nothing_follows y) h) c.enter_assertion.ensures
 
 pub enter_names-requires-clause-named : goal.enter_names-requires-clause-named
 enter_names-requires-clause-named c =

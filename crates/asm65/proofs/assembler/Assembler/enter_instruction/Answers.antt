@@ -5,7 +5,7 @@ use Rattle.semantics65.specs.Contents.{opcode_part, operand_tree}
 use Rattle.semantics65.specs.Norms.{width_of}
 use Rattle.semantics65.specs.Views.{place_in}
 use Rattle.semantics65.specs.Module.{given, operand_pieces}
-use Rattle.asm65.specs.Inner.Holding.{Enters}
+use Rattle.asm65.specs.Internal.AssemblerState.{EmitsPieces}
 use Rattle.asm65.proofs.Enterings.{enters_both}
 use Rattle.symbols65.proofs.Measures.{ok_then}
 use Rattle.asm65.proofs.assembler.Assembler.enter_instruction.Goals as goal
@@ -17,9 +17,9 @@ returns c =
     let old = c.args.self.now in
     let mid = c.enter_code.new.assembler in
     let new = c.enter_operand_of.new.assembler in
-    let code = subst (λ code. Enters place s (given (opcode_part code) ∷ []) old mid) c.opcode.ensures (c.in_ok-enter_code.ensures place) in
+    let code = subst (λ code. EmitsPieces place s (given (opcode_part code) ∷ []) old mid) c.opcode.ensures (c.in_ok-enter_code.ensures place) in
     ok_then c.enter_operand_of.result
     (λ value. enters_both place s (given (opcode_part (opcode_of c.args.mnemonic c.args.mode)) ∷ []) (operand_pieces (width_of c.args.mode) (operand_tree c.args.operand)) old mid new code
-    (subst (λ (e : Option Tree). Enters place s (operand_pieces (width_of c.args.mode) e) mid new) c.operand_value.ensures
-    (subst (λ width. Enters place s (operand_pieces width c.operand_value.result) mid new) c.width_of.ensures value)))
+    (subst (λ (e : Option Tree). EmitsPieces place s (operand_pieces (width_of c.args.mode) e) mid new) c.operand_value.ensures
+    (subst (λ width. EmitsPieces place s (operand_pieces width c.operand_value.result) mid new) c.width_of.ensures value)))
     c.enter_operand_of.ensures

@@ -4,7 +4,7 @@ use Rattle.ast65.specs.declared.language.Statement.{Statement}
 use Rattle.ast65.specs.declared.language.Statement.TheVariants as statement
 use Rattle.semantics65.specs.Views.{place_in}
 use Rattle.semantics65.specs.Module.{exported}
-use Rattle.asm65.proofs.Namings.{mentions_enter, adds_nothing, adds_cheap, adds_constant, adds_forced, adds_globals, adds_imports, adds_label, adds_pieces, adds_proc, adds_scope, adds_unnamed, nothing_behind, taken_as}
+use Rattle.asm65.proofs.Namings.{mentions_enter, adds_nothing, adds_cheap, adds_constant, adds_forced, adds_globals, adds_imports, adds_label, adds_pieces, adds_proc, adds_scope, adds_unnamed, nothing_follows, taken_as}
 use Rattle.asm65.proofs.assembler.Assembler.enter_names.Goals as goal
 
 pub returns-in-Label : goal.returns-in-Label
@@ -115,7 +115,7 @@ returns-in-Export c =
     let old = c.args.self.now in
     let new = c.mention.new.self in
     let x : Statement = statement.Export c.as_slice-in-Export.result.now in
-    taken_as place s m old new c.mention.result x c.args.statement (ap statement.Export c.as_slice-in-Export.ensures ∙ sym c.in-Export.is) (λ h. adds_pieces place s m old new x (λ y. nothing_behind y) (mentions_enter place s (map (exported true) c.as_slice-in-Export.result.now) old new h)) c.mention.ensures.mentioned
+    taken_as place s m old new c.mention.result x c.args.statement (ap statement.Export c.as_slice-in-Export.ensures ∙ sym c.in-Export.is) (λ h. adds_pieces place s m old new x (λ y. nothing_follows y) (mentions_enter place s (map (exported true) c.as_slice-in-Export.result.now) old new h)) c.mention.ensures.mentioned
 
 pub returns : goal.returns
 returns c =

@@ -3,7 +3,7 @@ use Rattle.std.specs.Prelude.{true}
 use Rattle.semantics65.specs.Symbols.{Definition, Scope, Symbols, named}
 use Rattle.symbols65.specs.Views.{table_of, with_definition, with_scope}
 use Rattle.asm65.specs.declared.assembler.Assembler.{Assembler}
-use Rattle.asm65.specs.Inner.Holding.{label_at}
+use Rattle.asm65.specs.Internal.AssemblerState.{label_at}
 use Rattle.asm65.proofs.Namings.{holds_grown, on_both}
 use Rattle.asm65.proofs.assembler.Assembler.open_proc.Goals as goal
 

@@ -2,22 +2,22 @@ use Rattle.std.proofs.Common.{◌≡◌, ◌∙◌, ℕ, sym, ap, subst}
 use Rattle.std.specs.Prelude.{Err, Result}
 use Rattle.std.proofs.lemmas.Result.{err_from_is_err_and}
 use Rattle.ast65.specs.declared.fault.AsmFault.{AsmFault}
-use Rattle.syntax65.specs.declared.place.Place.{Place}
+use Rattle.syntax65.specs.declared.source_location.SourceLocation.{SourceLocation}
 use Rattle.semantics65.specs.declared.laid.Context.{Context}
 use Rattle.ast65.specs.declared.language.Statement.{Statement}
 use Rattle.semantics65.specs.Layout as layout
 use Rattle.semantics65.specs.Layout.{Cursor}
 use Rattle.semantics65.specs.Symbols.{Symbols}
 use Rattle.semantics65.specs.Views.{place_in}
-use Rattle.symbols65.specs.Measuring.{advanced, HasNumbers}
-use Rattle.symbols65.specs.declared.measuring.Measured.{Measured}
-use Rattle.symbols65.specs.declared.measuring.Measured as found
-use Rattle.symbols65.proofs.Behind.{has_numbers, without_fault}
+use Rattle.symbols65.specs.Measuring.{cursor_with_bytes, HasNumbers}
+use Rattle.symbols65.specs.declared.measuring.StatementLayout.{StatementLayout}
+use Rattle.symbols65.specs.declared.measuring.StatementLayout as found
+use Rattle.symbols65.proofs.Following.{has_numbers, without_fault}
 use Rattle.symbols65.specs.Views.{table_of}
 use Rattle.asm65.specs.declared.assembler.Assembler.{Assembler}
-use Rattle.asm65.specs.Inner.Holding.{AreBefore, Holds, IsNew, asked_of}
+use Rattle.asm65.specs.Internal.AssemblerState.{AreBefore, Represents, IsNew, asked_of}
 use Rattle.asm65.proofs.Insides.{measured_inside}
-use Rattle.asm65.proofs.Placings.{more_counted, moved_behind, placed_is, refused_is}
+use Rattle.asm65.proofs.Placings.{more_counted, moved_after, placed_is, refused_is}
 use Rattle.asm65.proofs.Takings.{holds_known, holds_stepped, is_new}
 use Rattle.asm65.proofs.assembler.Assembler.place.Goals as goal
 
@@ -52,20 +52,20 @@ returns-clause-holds c = λ count t h.
     (let old : Assembler = c.args.self.now in
     let mid : Assembler = c.ask.new.self in
     let x : Statement = c.args.statement.now in
-    let place : Place = place_in c.args.at.file.now c.args.at.line in
-    let m : Measured = c.in_ok-measured.measured in
+    let place : SourceLocation = place_in c.args.at.file.now c.args.at.line in
+    let m : StatementLayout = c.in_ok-measured.measured in
     let y : Symbols = table_of old.symbols in
     let w : Cursor = old.cursor in
     let same : table_of mid.symbols ≡ y = ap table_of c.in_ok-ask.ensures.tables.symbols in
     let site : mid.cursor ≡ w = c.in_ok-ask.ensures.tables.cursor in
     let segment = ap (λ (s : Context). s.segment) c.context-context.ensures ∙ ap (λ (v : Cursor). (layout.context_of v).segment) h.cursor in
     let knows = holds_known count t old c.measure.new.known h c.in_ok-measured.ensures.table in
-    let held : Holds count (asked_of (layout.context_of t.cursor).segment x t) mid = subst (λ (g : ℕ). Holds count (asked_of g x t) mid) segment (c.in_ok-ask.ensures.asked count t knows) in
-    let moved : c.advance.new.self ≡ layout.cursor_behind t.symbols t.cursor x =
+    let held : Represents count (asked_of (layout.context_of t.cursor).segment x t) mid = subst (λ (g : ℕ). Represents count (asked_of g x t) mid) segment (c.in_ok-ask.ensures.asked count t knows) in
+    let moved : c.advance.new.self ≡ layout.cursor_after t.symbols t.cursor x =
     c.in_ok-advance.ensures
-    ∙ ap (λ (z : Symbols). advanced z mid.cursor x m.length m.multiple) same
-    ∙ ap (λ (v : Cursor). advanced y v x m.length m.multiple) site
-    ∙ moved_behind count t old h x m c.in_ok-measured.ensures.measured in
+    ∙ ap (λ (z : Symbols). cursor_with_bytes z mid.cursor x m.length m.alignment) same
+    ∙ ap (λ (v : Cursor). cursor_with_bytes y v x m.length m.alignment) site
+    ∙ moved_after count t old h x m c.in_ok-measured.ensures.measured in
     holds_stepped count t place x mid c.advance.new.self c.say.new.self held moved (more_counted count t old h x m c.in_ok-measured.ensures.measured) c.in_ok-say.ensures.out c.in_ok-say.ensures.err)
 
 pub returns-in_err-measured-clause-refused : goal.returns-in_err-measured-clause-refused
@@ -76,5 +76,5 @@ returns-in_err-measured-clause-refused c = λ count t h.
 pub returns-in_err-measured-clause-inside : goal.returns-in_err-measured-clause-inside
 returns-in_err-measured-clause-inside c =
     let p = err_from_is_err_and c.from_residual.result c.from_residual.ensures.1 in
-    let answer : Result found.Measured AsmFault = Err c.in_err-measured.field-0.0 in
+    let answer : Result found.StatementLayout AsmFault = Err c.in_err-measured.field-0.0 in
     rw (p.1, p.2) (measured_inside answer (λ m. m) (table_of c.args.self.now.symbols) c.args.self.now.cursor c.args.statement.now c.in_err-measured.ensures.measured)

@@ -2,7 +2,7 @@ use Rattle.std.proofs.Common.{◌≡◌, ◌∙◌, ℕ, refl, sym, ap, subst}
 use Rattle.std.specs.Prelude.{Err, Result}
 use Rattle.std.proofs.lemmas.List.{append-nil}
 use Rattle.std.proofs.lemmas.Result.{err_from_is_err_and}
-use Rattle.semantics65.specs.Contents.{asking}
+use Rattle.semantics65.specs.Contents.{section_request}
 use Rattle.ast65.specs.declared.fault.AsmFault.{AsmFault}
 use Rattle.semantics65.specs.declared.laid.Context.{Context}
 use Rattle.ast65.specs.declared.language.Statement.{Statement}
@@ -10,16 +10,16 @@ use Rattle.ast65.specs.declared.language.Statement.TheVariants.{Instruction}
 use Rattle.semantics65.specs.Layout as layout
 use Rattle.semantics65.specs.Layout.{Cursor}
 use Rattle.semantics65.specs.Symbols.{Symbols}
-use Rattle.symbols65.specs.Measuring.{advanced}
-use Rattle.symbols65.specs.declared.measuring.Measured.{Measured}
-use Rattle.symbols65.specs.declared.measuring.Measured as found
-use Rattle.symbols65.proofs.Behind.{is_measured}
-use Rattle.sources65.specs.Machine.{entered}
+use Rattle.symbols65.specs.Measuring.{cursor_with_bytes}
+use Rattle.symbols65.specs.declared.measuring.StatementLayout.{StatementLayout}
+use Rattle.symbols65.specs.declared.measuring.StatementLayout as found
+use Rattle.symbols65.proofs.Following.{is_measured}
+use Rattle.sources65.specs.Machine.{with_content}
 use Rattle.symbols65.specs.Views.{table_of}
 use Rattle.asm65.specs.declared.assembler.Assembler.{Assembler}
-use Rattle.asm65.specs.Inner.Holding.{Holds, asked_of}
+use Rattle.asm65.specs.Internal.AssemblerState.{Represents, asked_of}
 use Rattle.asm65.proofs.Insides.{measured_inside}
-use Rattle.asm65.proofs.Placings.{more_counted, moved_behind, placed_is, refused_is}
+use Rattle.asm65.proofs.Placings.{more_counted, moved_after, placed_is, refused_is}
 use Rattle.asm65.proofs.Takings.{holds_known, holds_stepped}
 use Rattle.asm65.proofs.Waitings.{holds_entered}
 use Rattle.asm65.proofs.assembler.Assembler.place_instruction.Goals as goal
@@ -32,20 +32,20 @@ pub returns-clause-holds : goal.returns-clause-holds
 returns-clause-holds c = λ place count t h.
     (let old : Assembler = c.args.self.now in
     let x : Statement = Instruction c.args.mnemonic c.args.operand.now in
-    let m : Measured = c.in_ok-measured.measured in
+    let m : StatementLayout = c.in_ok-measured.measured in
     let y : Symbols = table_of old.symbols in
     let w : Cursor = old.cursor in
     let known : Assembler = record old { known = c.measure_instruction.new.known } in
     let mid : Assembler = record known { sections = c.ask.new.self } in
     let segment = ap (λ (s : Context). s.segment) c.context-context.ensures ∙ ap (λ (v : Cursor). (layout.context_of v).segment) h.cursor in
-    let knows : Holds count t known = holds_known count t old c.measure_instruction.new.known h c.in_ok-measured.ensures.table in
-    let asked : Holds count (entered t (asking c.context-context.result.segment)) mid = holds_entered count t known mid knows (record { symbols = refl; known = refl; cursor = refl; texts = refl }) (asking c.context-context.result.segment) refl c.in_ok-ask.ensures in
-    let held : Holds count (asked_of (layout.context_of t.cursor).segment x t) mid = subst (λ (g : ℕ). Holds count (entered t (asking g)) mid) segment asked in
-    let one : 1 ≡ m.multiple = ap (λ (k : Measured). k.multiple) (is_measured y w x m c.in_ok-measured.ensures.measured) in
-    let moved : c.advance_by.new.self ≡ layout.cursor_behind t.symbols t.cursor x =
+    let knows : Represents count t known = holds_known count t old c.measure_instruction.new.known h c.in_ok-measured.ensures.table in
+    let asked : Represents count (with_content t (section_request c.context-context.result.segment)) mid = holds_entered count t known mid knows (record { symbols = refl; known = refl; cursor = refl; texts = refl }) (section_request c.context-context.result.segment) refl c.in_ok-ask.ensures in
+    let held : Represents count (asked_of (layout.context_of t.cursor).segment x t) mid = subst (λ (g : ℕ). Represents count (with_content t (section_request g)) mid) segment asked in
+    let one : 1 ≡ m.alignment = ap (λ (k : StatementLayout). k.alignment) (is_measured y w x m c.in_ok-measured.ensures.measured) in
+    let moved : c.advance_by.new.self ≡ layout.cursor_after t.symbols t.cursor x =
     c.advance_by.ensures y c.args.mnemonic c.args.operand.now
-    ∙ ap (λ (k : ℕ). advanced y w x m.length k) one
-    ∙ moved_behind count t old h x m c.in_ok-measured.ensures.measured in
+    ∙ ap (λ (k : ℕ). cursor_with_bytes y w x m.length k) one
+    ∙ moved_after count t old h x m c.in_ok-measured.ensures.measured in
     holds_stepped count t place x mid c.advance_by.new.self old.texts held moved (more_counted count t old h x m c.in_ok-measured.ensures.measured) (sym (append-nil old.texts.out)) (sym (append-nil old.texts.err)))
 
 pub returns-in_err-measured-clause-refused : goal.returns-in_err-measured-clause-refused
@@ -56,5 +56,5 @@ returns-in_err-measured-clause-refused c = λ count t h.
 pub returns-in_err-measured-clause-inside : goal.returns-in_err-measured-clause-inside
 returns-in_err-measured-clause-inside c =
     let p = err_from_is_err_and c.from_residual.result c.from_residual.ensures.1 in
-    let answer : Result found.Measured AsmFault = Err c.in_err-measured.field-0.0 in
+    let answer : Result found.StatementLayout AsmFault = Err c.in_err-measured.field-0.0 in
     rw (p.1, p.2) (measured_inside answer (λ m. m) (table_of c.args.self.now.symbols) c.args.self.now.cursor (Instruction c.args.mnemonic c.args.operand.now) c.in_err-measured.ensures.measured)

@@ -1,4 +1,4 @@
-use Rattle.ast65.specs.Faults.{is_outside}
+use Rattle.ast65.specs.Faults.{is_system_error}
 use Rattle.semantics65.specs.Views.{place_in}
 use Rattle.symbols65.proofs.Measures.{unless_then}
 use Rattle.asm65.proofs.Takings.{takes_entered, takes_refused}
@@ -8,7 +8,7 @@ pub returns-in-Err-clause-taken : goal.returns-in-Err-clause-taken
 returns-in-Err-clause-taken c = λ count t h few.
     (let e = c.in-Err.fault in
     let place = place_in c.args.at.file.now c.args.at.line in
-    rw c.refused.ensures (unless_then (is_outside e) (takes_refused t place c.args.statement e) (c.in-Err.ensures.refused count t h)))
+    rw c.refused.ensures (unless_then (is_system_error e) (takes_refused t place c.args.statement e) (c.in-Err.ensures.refused count t h)))
 
 pub returns-in_ok-enter-in-Ok-clause-taken : goal.returns-in_ok-enter-in-Ok-clause-taken
 returns-in_ok-enter-in-Ok-clause-taken c = λ count t h few.

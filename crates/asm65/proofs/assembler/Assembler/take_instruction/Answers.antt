@@ -1,9 +1,9 @@
-use Rattle.ast65.specs.Faults.{is_outside}
+use Rattle.ast65.specs.Faults.{is_system_error}
 use Rattle.ast65.specs.declared.language.Statement.{Statement}
 use Rattle.ast65.specs.declared.language.Statement.TheVariants.{Instruction}
 use Rattle.semantics65.specs.Views.{place_in}
 use Rattle.symbols65.proofs.Measures.{unless_then}
-use Rattle.asm65.proofs.Namings.{adds_pieces, nothing_behind}
+use Rattle.asm65.proofs.Namings.{adds_pieces, nothing_follows}
 use Rattle.asm65.proofs.Takings.{takes_entered, takes_refused}
 use Rattle.asm65.proofs.assembler.Assembler.take_instruction.Goals as goal
 
@@ -12,7 +12,7 @@ returns-in-Err-clause-taken c = λ count t h few.
     (let e = c.in-Err.fault in
     let place = place_in c.args.at.file.now c.args.at.line in
     let x : Statement = Instruction c.args.mnemonic c.args.operand in
-    rw c.refused_operand.ensures (unless_then (is_outside e) (takes_refused t place x e) (c.in-Err.ensures.refused count t h)))
+    rw c.refused_operand.ensures (unless_then (is_system_error e) (takes_refused t place x e) (c.in-Err.ensures.refused count t h)))
 
 pub returns-in_ok-enter_settled-in-Ok-clause-taken : goal.returns-in_ok-enter_settled-in-Ok-clause-taken
 returns-in_ok-enter_settled-in-Ok-clause-taken c = λ count t h few.
@@ -22,4 +22,4 @@ returns-in_ok-enter_settled-in-Ok-clause-taken c = λ count t h few.
     let mid = c.place_instruction.new.self in
     let new = c.enter_settled.new.self in
     takes_entered count t place x found.context found.measured c.args.self.now mid new h (c.in-Ok.ensures.placed count t h) (c.in-Ok.ensures.holds place count t h)
-    (adds_pieces place found.context found.measured mid new x (λ y. nothing_behind y) c.in_ok-enter_settled-in-Ok.ensures))
+    (adds_pieces place found.context found.measured mid new x (λ y. nothing_follows y) c.in_ok-enter_settled-in-Ok.ensures))

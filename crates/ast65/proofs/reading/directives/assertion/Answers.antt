@@ -8,5 +8,5 @@ returns-in_err-text c = grind (arith, common_steps)
 pub returns-in_err-action : goal.returns-in_err-action
 returns-in_err-action c = grind (arith, common_steps)
 
-pub returns-in_err-needed : goal.returns-in_err-needed
-returns-in_err-needed c = grind (arith, common_steps)
+pub returns-in_err-ok_or_not_understood : goal.returns-in_err-ok_or_not_understood
+returns-in_err-ok_or_not_understood c = grind (arith, common_steps)

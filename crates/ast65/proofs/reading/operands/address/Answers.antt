@@ -9,11 +9,11 @@ returns-in_err-value c = front_fault index_of (Address c.args.prefix) (lexemes c
 
 pub returns-in_err-index : goal.returns-in_err-index
 returns-in_err-index c =
-    end_fault index_of (Address c.args.prefix) (lexemes c.args.tokens.now) _ c.from_residual-in_err-index.result (c.in_ok-value.value, lexemes c.in_ok-value.behind.now) c.in_err-index.field-0.0
-    c.from_residual-in_err-index.ensures.1 c.in_ok-value.ensures.value (index_inside (lexemes c.in_ok-value.behind.now)) c.in_err-index.ensures
+    end_fault index_of (Address c.args.prefix) (lexemes c.args.tokens.now) _ c.from_residual-in_err-index.result (c.in_ok-value.value, lexemes c.in_ok-value.following.now) c.in_err-index.field-0.0
+    c.from_residual-in_err-index.ensures.1 c.in_ok-value.ensures.value (index_inside (lexemes c.in_ok-value.following.now)) c.in_err-index.ensures
 
 pub returns : goal.returns
 returns c = record {
-  value = is_ended index_of (Address c.args.prefix) (lexemes c.args.tokens.now) (c.in_ok-value.value, lexemes c.in_ok-value.behind.now) c.in_ok-index.index c.in_ok-value.ensures.value c.in_ok-index.ensures;
+  value = is_ended index_of (Address c.args.prefix) (lexemes c.args.tokens.now) (c.in_ok-value.value, lexemes c.in_ok-value.following.now) c.in_ok-index.index c.in_ok-value.ensures.value c.in_ok-index.ensures;
   inside = tt;
 }

@@ -3,7 +3,7 @@ use Rattle.std.specs.Str.{str_eq_ignore_ascii_case}
 use Rattle.object65.specs.declared.object.Width.TheVariants.{Byte}
 use Rattle.ast65.specs.declared.reading.words.Directive.{Directive}
 use Rattle.ast65.specs.declared.reading.words.Directive.TheVariants.{List as ListOf}
-use Rattle.ast65.specs.declared.reading.words.Elements.TheVariants.{Values}
+use Rattle.ast65.specs.declared.reading.words.ElementKind.TheVariants.{Values}
 use Rattle.ast65.specs.Parsing.{among}
 use Rattle.ast65.proofs.reading.words.among.Goals as goal
 

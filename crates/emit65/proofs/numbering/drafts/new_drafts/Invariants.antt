@@ -1,5 +1,5 @@
 use Rattle.std.proofs.Common.{◌≡◌, [], map, take}
-use Rattle.emit65.specs.Inner.Drafts.{draft_of}
+use Rattle.emit65.specs.Internal.Drafts.{draft_of}
 use Rattle.emit65.proofs.numbering.drafts.new_drafts.Given as goal
 
 abbrev pub invariant-loop-key : goal.invariant-loop-key

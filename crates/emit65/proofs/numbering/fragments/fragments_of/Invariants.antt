@@ -2,14 +2,14 @@ use Rattle.std.proofs.Common.{◌≡◌, List, ◌++◌, map, not, Option, Some,
 use Rattle.std.specs.List.{filter}
 use Rattle.std.specs.Vec.Iter.{into_iter_items}
 use Rattle.object65.specs.declared.object.Fragment.{Fragment}
-use Rattle.semantics65.specs.Numbering.{all_joined, is_empty, joined}
-use Rattle.emit65.specs.Inner.Drafts.{JoinedFits, fragment_of, fragments_of}
+use Rattle.semantics65.specs.Numbering.{all_joined, is_empty, merged_fragments}
+use Rattle.emit65.specs.Internal.Drafts.{JoinedFits, fragment_of, fragments_of}
 use Rattle.emit65.proofs.numbering.fragments.fragments_of.Given as goal
 
 -- an open fragment with others behind it
 abbrev followed : Option Fragment → List Fragment → List Fragment
 followed None fs = all_joined fs
-followed (Some f) fs = joined f fs
+followed (Some f) fs = merged_fragments f fs
 
 abbrev pub invariant-loop-entry : goal.invariant-loop-entry
 invariant-loop-entry l = record {

@@ -1,11 +1,11 @@
 use Rattle.std.proofs.Common.{◌≡◌, drop}
 use Rattle.std.specs.List.{flat_map}
-use Rattle.semantics65.specs.Numbering.{once}
-use Rattle.emit65.specs.Inner.Drafts.{HasLast, export_keys}
+use Rattle.semantics65.specs.Numbering.{distinct_keys}
+use Rattle.emit65.specs.Internal.Drafts.{HasLast, export_keys}
 use Rattle.emit65.proofs.numbering.ordering.name_exports.Given as goal
 
 abbrev pub invariant-loop-saying : goal.invariant-loop-saying
 invariant-loop-saying l = record {
   last : HasLast l.order;
-  named : once l.order.files.keys (flat_map export_keys (drop l.saying-index l.told)) ≡ once l.fn.order.files.keys (flat_map export_keys l.told);
+  named : distinct_keys l.order.files.keys (flat_map export_keys (drop l.saying-index l.declarations)) ≡ distinct_keys l.fn.order.files.keys (flat_map export_keys l.declarations);
 }

@@ -1,7 +1,7 @@
 use Rattle.std.proofs.Common.{◌∙◌, ◌++◌, []}
 use Rattle.std.specs.List.{flat_map}
-use Rattle.semantics65.specs.Numbering.{once}
-use Rattle.emit65.specs.Inner.Drafts.{assert_keys, draft_keys, export_keys}
+use Rattle.semantics65.specs.Numbering.{distinct_keys}
+use Rattle.emit65.specs.Internal.Drafts.{assert_keys, draft_keys, export_keys}
 use Rattle.emit65.proofs.Keys.{once_append}
 use Rattle.emit65.proofs.numbering.ordering.order_of.Goals as goal
 
@@ -9,8 +9,8 @@ pub returns : goal.returns
 returns c =
     let p = c.args.parted.now in
     let a = flat_map draft_keys p.drafts.items in
-    let b = flat_map export_keys p.told in
-    let t = flat_map assert_keys p.told in
-    let drafts = c.in_ok-name_drafts.ensures.named ∙ (λ n. once (c.new.ensures.empty n) (flat_map draft_keys (c.as_slice.ensures.value n))) in
-    let exports = c.in_ok-name_exports.ensures.named ∙ (λ n. once (drafts n) (flat_map export_keys (c.as_slice-2.ensures n))) ∙ once_append a [] b in
-    c.in_ok-name_asserts.ensures.named ∙ (λ n. once (exports n) (flat_map assert_keys (c.as_slice-3.ensures n))) ∙ once_append (a ++ b) [] t
+    let b = flat_map export_keys p.declarations in
+    let t = flat_map assert_keys p.declarations in
+    let drafts = c.in_ok-name_drafts.ensures.named ∙ (λ n. distinct_keys (c.new.ensures.empty n) (flat_map draft_keys (c.as_slice.ensures.value n))) in
+    let exports = c.in_ok-name_exports.ensures.named ∙ (λ n. distinct_keys (drafts n) (flat_map export_keys (c.as_slice-2.ensures n))) ∙ once_append a [] b in
+    c.in_ok-name_asserts.ensures.named ∙ (λ n. distinct_keys (exports n) (flat_map assert_keys (c.as_slice-3.ensures n))) ∙ once_append (a ++ b) [] t

@@ -1,5 +1,5 @@
 use Rattle.std.proofs.Common.{refl}
-use Rattle.emit65.specs.Fed.{names_in}
+use Rattle.emit65.specs.SectionContents.{names_in}
 use Rattle.emit65.proofs.Standings.{stands_closed}
 use Rattle.emit65.proofs.sections.Sections.close.Goals as goal
 

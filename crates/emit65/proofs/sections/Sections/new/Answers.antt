@@ -1,5 +1,5 @@
 use Rattle.std.proofs.Common.{length, sym}
-use Rattle.emit65.specs.Fed.{names_in}
+use Rattle.emit65.specs.SectionContents.{names_in}
 use Rattle.emit65.proofs.sections.Sections.new.Goals as goal
 
 pub returns : goal.returns

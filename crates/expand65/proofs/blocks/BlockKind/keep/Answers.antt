@@ -1,5 +1,5 @@
 use Rattle.std.proofs.Common.{◌∙◌, map, sym}
-use Rattle.expand65.specs.Playing.{tokens_in}
+use Rattle.expand65.specs.Replay.{tokens_in}
 use Rattle.expand65.proofs.Plainly.{unkept}
 use Rattle.expand65.proofs.blocks.BlockKind.keep.Goals as goal
 

@@ -1,4 +1,4 @@
-use Rattle.expand65.specs.Playing.{tokens_in}
+use Rattle.expand65.specs.Replay.{tokens_in}
 use Rattle.expand65.proofs.Plainly.{plain_judged}
 use Rattle.expand65.proofs.blocks.BlockKind.step.Goals as goal
 

@@ -1,6 +1,6 @@
 use Rattle.std.proofs.Common.{Some, sym, ◌∙◌}
 use Rattle.syntax65.specs.Tokens.{lexemes}
-use Rattle.expand65.specs.declared.blocks.BlockKind.TheVariants.{Macro, Repeat, Skipped, Passed}
+use Rattle.expand65.specs.declared.blocks.BlockKind.TheVariants.{Macro, Repeat, Skipped, RemainingBranches}
 use Rattle.expand65.proofs.Plainly.{judged_by, judged_none, judged_wrong}
 use Rattle.expand65.proofs.blocks.BlockKind.token_step.Goals as goal
 
@@ -19,5 +19,5 @@ returns-in-Repeat-clause-step c = judged_by Repeat c.args.self c.args.depth (lex
 pub returns-in-Skipped-clause-step : goal.returns-in-Skipped-clause-step
 returns-in-Skipped-clause-step c = judged_by Skipped c.args.self c.args.depth (lexemes c.args.tokens.now) (Some c.in-Some.directive) c.skipped_step.result c.in-Skipped.is (sym c.is_mislabelled.ensures ∙ c.if-is_mislabelled.false) (sym c.line_directive.ensures ∙ c.in-Some.is) c.skipped_step.ensures.step
 
-pub returns-in-Passed-clause-step : goal.returns-in-Passed-clause-step
-returns-in-Passed-clause-step c = judged_by Passed c.args.self c.args.depth (lexemes c.args.tokens.now) (Some c.in-Some.directive) c.passed_step.result c.in-Passed.is (sym c.is_mislabelled.ensures ∙ c.if-is_mislabelled.false) (sym c.line_directive.ensures ∙ c.in-Some.is) (c.passed_step.ensures.step (lexemes c.args.tokens.now))
+pub returns-in-RemainingBranches-clause-step : goal.returns-in-RemainingBranches-clause-step
+returns-in-RemainingBranches-clause-step c = judged_by RemainingBranches c.args.self c.args.depth (lexemes c.args.tokens.now) (Some c.in-Some.directive) c.passed_step.result c.in-RemainingBranches.is (sym c.is_mislabelled.ensures ∙ c.if-is_mislabelled.false) (sym c.line_directive.ensures ∙ c.in-Some.is) (c.passed_step.ensures.step (lexemes c.args.tokens.now))

@@ -1,6 +1,6 @@
 use Rattle.std.proofs.Common.{◌≡◌, ◌≤◌}
 use Rattle.std.specs.Prelude.{IfSome}
-use Rattle.expand65.specs.Standing.{StandsIn, measure_of}
+use Rattle.expand65.specs.Representation.{StandsIn, measure_of}
 use Rattle.expand65.proofs.Going.{ReachesAll}
 use Rattle.expand65.proofs.Stopping.{HasGone}
 use Rattle.expand65.proofs.expander.Expander.advance.Given as goal

@@ -1,13 +1,13 @@
 use Rattle.std.proofs.lemmas.Grind.{common_steps}
 use Rattle.std.proofs.Common.{◌∙◌, List, IfSome, ap, subst, sym, arith}
 use Rattle.syntax65.specs.Tokens.{Lexeme, lexemes}
-use Rattle.expand65.specs.Standing.{StopsAt, Turns, state_of, state_in}
-use Rattle.expand65.specs.Failing.{Fails}
+use Rattle.expand65.specs.Representation.{StopsAt, RefinesLineOutcome, state_of, state_in}
+use Rattle.expand65.specs.Failing.{StepFails}
 use Rattle.expand65.specs.State.{if_line}
 use Rattle.expand65.specs.Fronts.{front_directive}
-use Rattle.expand65.specs.Playing.{tokens_in}
-use Rattle.expand65.specs.Expansion.{Leads, acted, IsStep}
-use Rattle.expand65.specs.declared.fronts.Test.TheVariants.{True}
+use Rattle.expand65.specs.Replay.{tokens_in}
+use Rattle.expand65.specs.Expansion.{StepReaches, line_step, IsStep}
+use Rattle.expand65.specs.declared.fronts.ConditionKind.TheVariants.{True}
 use Rattle.expand65.proofs.Going.{turns_so, where_known, step_branch, step_rest}
 use Rattle.expand65.proofs.Stopping.{stops_branch, stops_plain, stops_rest}
 use Rattle.expand65.proofs.expander.Expander.turn.Goals as goal
@@ -18,8 +18,8 @@ returns-in-Rest-clause-turns g c =
     let k = g.K.Knows.meaning c.args.knows.now in
     let line = c.in-Rest.line in
     let ts = tokens_in line in
-    let new = c.act.new.self in
-    where_known (g.S.Store.files c.args.store.now) (λ m. Turns c.act.result (state_of m new) (Leads m (acted k (state_of m old.rewriter) ts (front_directive ts)))) (λ m. Turns c.act.result (state_of m new) (IsStep m k (state_in m old))) (λ m h. turns_so c.act.result (state_of m new) (Leads m (acted k (state_of m old.rewriter) ts (front_directive ts))) (IsStep m k (state_in m old)) (λ x s. step_rest m k old line x (sym c.replace.ensures.value ∙ c.in-Rest.is) s) h) c.act.ensures.turns
+    let new = c.execute_line.new.self in
+    where_known (g.S.Store.files c.args.store.now) (λ m. RefinesLineOutcome c.execute_line.result (state_of m new) (StepReaches m (line_step k (state_of m old.rewriter) ts (front_directive ts)))) (λ m. RefinesLineOutcome c.execute_line.result (state_of m new) (IsStep m k (state_in m old))) (λ m h. turns_so c.execute_line.result (state_of m new) (StepReaches m (line_step k (state_of m old.rewriter) ts (front_directive ts))) (IsStep m k (state_in m old)) (λ x s. step_rest m k old line x (sym c.replace.ensures.value ∙ c.in-Rest.is) s) h) c.execute_line.ensures.turns
 
 pub returns-in_ok-tokens-in-Branch-clause-turns : goal.returns-in_ok-tokens-in-Branch-clause-turns
 returns-in_ok-tokens-in-Branch-clause-turns g c =
@@ -30,28 +30,28 @@ returns-in_ok-tokens-in-Branch-clause-turns g c =
     let ts = tokens_in line in
     let r = c.begin_if.result in
     let new = c.begin_if.new.self in
-    let P : List Lexeme → Type 0 = λ us. IfSome o (λ m. Turns r (state_of m new) (Leads m (if_line k (state_of m old.rewriter) True us))) in
+    let P : List Lexeme → Type 0 = λ us. IfSome o (λ m. RefinesLineOutcome r (state_of m new) (StepReaches m (if_line k (state_of m old.rewriter) True us))) in
     let turns = subst P (ap lexemes c.as_slice.ensures.value ∙ c.in_ok-tokens-in-Branch.ensures) c.begin_if.ensures.turns in
-    where_known o (λ m. Turns r (state_of m new) (Leads m (if_line k (state_of m old.rewriter) True ts))) (λ m. Turns r (state_of m new) (IsStep m k (state_in m old))) (λ m h. turns_so r (state_of m new) (Leads m (if_line k (state_of m old.rewriter) True ts)) (IsStep m k (state_in m old)) (λ x s. step_branch m k old line x (sym c.replace.ensures.value ∙ c.in-Branch.is) s) h) turns
+    where_known o (λ m. RefinesLineOutcome r (state_of m new) (StepReaches m (if_line k (state_of m old.rewriter) True ts))) (λ m. RefinesLineOutcome r (state_of m new) (IsStep m k (state_in m old))) (λ m h. turns_so r (state_of m new) (StepReaches m (if_line k (state_of m old.rewriter) True ts)) (IsStep m k (state_in m old)) (λ x s. step_branch m k old line x (sym c.replace.ensures.value ∙ c.in-Branch.is) s) h) turns
 
 pub returns-in-Nothing-clause-stopped : goal.returns-in-Nothing-clause-stopped
 returns-in-Nothing-clause-stopped g c = λ names.
-    stops_plain (g.S.Store.files c.args.store.now) (g.S.Store.blamed c.take.new.store) (g.K.Knows.meaning c.args.knows.now) c.args.self.now c.take.new.self.reader c.take.result (sym c.replace.ensures.value ∙ c.in-Nothing.is) (c.take.ensures.stopped names)
+    stops_plain (g.S.Store.files c.args.store.now) (g.S.Store.last_failure c.take.new.store) (g.K.Knows.meaning c.args.knows.now) c.args.self.now c.take.new.self.reader c.take.result (sym c.replace.ensures.value ∙ c.in-Nothing.is) (c.take.ensures.stopped names)
 
 pub returns-in-Rest-clause-stopped : goal.returns-in-Rest-clause-stopped
 returns-in-Rest-clause-stopped g c = λ names.
-    stops_rest (g.S.Store.files c.args.store.now) (g.S.Store.blamed c.act.new.store) (g.K.Knows.meaning c.args.knows.now) c.args.self.now c.act.new.self.reader c.in-Rest.line c.act.result (sym c.replace.ensures.value ∙ c.in-Rest.is) (c.act.ensures.stopped names)
+    stops_rest (g.S.Store.files c.args.store.now) (g.S.Store.last_failure c.execute_line.new.store) (g.K.Knows.meaning c.args.knows.now) c.args.self.now c.execute_line.new.self.reader c.in-Rest.line c.execute_line.result (sym c.replace.ensures.value ∙ c.in-Rest.is) (c.execute_line.ensures.stopped names)
 
 pub returns-in_ok-tokens-in-Branch-clause-stopped : goal.returns-in_ok-tokens-in-Branch-clause-stopped
 returns-in_ok-tokens-in-Branch-clause-stopped g c = λ names.
     (let o = g.S.Store.files c.args.store.now in
     let old = c.args.self.now in
     let k = g.K.Knows.meaning c.args.knows.now in
-    let blamed = g.S.Store.blamed c.begin_if.new.store in
+    let last_failure = g.S.Store.last_failure c.begin_if.new.store in
     let new = c.begin_if.new.self.reader in
-    let P : List Lexeme → Type 0 = λ us. IfSome o (λ m. StopsAt (Fails m blamed (if_line k (state_of m old.rewriter) True us)) old.rewriter.reader new c.begin_if.result) in
+    let P : List Lexeme → Type 0 = λ us. IfSome o (λ m. StopsAt (StepFails m last_failure (if_line k (state_of m old.rewriter) True us)) old.rewriter.reader new c.begin_if.result) in
     let stopped = subst P (ap lexemes c.as_slice.ensures.value ∙ c.in_ok-tokens-in-Branch.ensures) (c.begin_if.ensures.stopped names) in
-    stops_branch o blamed k old new c.in-Branch.line c.begin_if.result (sym c.replace.ensures.value ∙ c.in-Branch.is) stopped)
+    stops_branch o last_failure k old new c.in-Branch.line c.begin_if.result (sym c.replace.ensures.value ∙ c.in-Branch.is) stopped)
 
 pub returns-in_ok-tokens-in-Branch-clause-size : goal.returns-in_ok-tokens-in-Branch-clause-size
 returns-in_ok-tokens-in-Branch-clause-size g c = grind (arith, common_steps)

@@ -1,7 +1,7 @@
 use Rattle.std.proofs.lemmas.Grind.{common_steps}
 use Rattle.std.proofs.Common.{◌≡◌, ℕ, List, IfSome, drop, rules, subst, true, arith}
 use Rattle.std.proofs.lemmas.Result.{err_from_is_err_and}
-use Rattle.base65.specs.Store.{IsBlamedAt}
+use Rattle.base65.specs.Store.{FailedAt}
 use Rattle.syntax65.specs.Faults.{is_failure}
 use Rattle.expand65.specs.Lines.{IsPiece, IsReadOn, bytes_of}
 use Rattle.expand65.proofs.Lines.{told_kept, told_none}
@@ -17,14 +17,14 @@ returns-clause-none g c =
     let P : List ℕ → Type 0 = λ s. IfSome (g.S.Store.files c.args.store.now) (λ m. IsPiece (drop c.args.self.now.next (bytes_of m s)) c.wanted-want.result c.in_ok-n.n c.read_piece.new.bytes.items) in
     told_none (g.S.Store.files c.args.store.now) c.args.self.now.name c.args.self.now.next c.wanted-want.result c.in_ok-n.n c.read_piece.new.bytes.items c.wanted-want.ensures.some c.in_ok-n.ensures.few.1 (subst P c.as_str.ensures c.in_ok-n.ensures.read)
 
-pub returns-in_err-n-clause-leaves : goal.returns-in_err-n-clause-leaves
-returns-in_err-n-clause-leaves g c =
+pub returns-in_err-n-clause-frame : goal.returns-in_err-n-clause-frame
+returns-in_err-n-clause-frame g c =
     let p = err_from_is_err_and c.from_residual.result c.from_residual.ensures.1 in
     let old = c.args.self.now in
-    let blamed = g.S.Store.blamed c.read_piece.new.store in
-    let l = c.in_err-n.ensures.leaves in
-    let told : is_failure c.in_err-n.field-0.0 ≡ true → IsReadOn old blamed = λ failed. (subst (λ s. IsBlamedAt blamed s old.next) c.as_str.ensures (l.blamed failed), c.requires.more, c.requires.all) in
-    record { blamed = rw (p.1, p.2) told; files = l.files; count = search rules }
+    let last_failure = g.S.Store.last_failure c.read_piece.new.store in
+    let l = c.in_err-n.ensures.frame in
+    let told : is_failure c.in_err-n.field-0.0 ≡ true → IsReadOn old last_failure = λ failed. (subst (λ s. FailedAt last_failure s old.next) c.as_str.ensures (l.last_failure failed), c.requires.more, c.requires.all) in
+    record { last_failure = rw (p.1, p.2) told; files = l.files; count = search rules }
 
-pub returns-clause-leaves : goal.returns-clause-leaves
-returns-clause-leaves g c = grind (arith, common_steps)
+pub returns-clause-frame : goal.returns-clause-frame
+returns-clause-frame g c = grind (arith, common_steps)

@@ -15,7 +15,7 @@ returns-then-len-clause-read c =
     let count = c.line_len-len.ensures.count ∙ ap (prefix_len is_inside) same in
     let within : c.line_len-len.result ≤ length here = omega (arith, c.line_len-len.ensures.within, ap length same) in
     let long : 4097 < length c.args.line.now.items + c.line_len-len.result = omega (arith, c.if-len.true, c.len.ensures) in
-    λ behind. (refl, piece_too_long c.args.line.now.items here behind c.line_len-len.result c.requires.part count within long)
+    λ following. (refl, piece_too_long c.args.line.now.items here following c.line_len-len.result c.requires.part count within long)
 
 pub returns-then-is_empty-clause-part : goal.returns-then-is_empty-clause-part
 returns-then-is_empty-clause-part c =
@@ -33,9 +33,9 @@ returns-clause-read c =
     let some : 0 < length c.split_at-2.result.1.now = grind (arith, nat_tests, c.is_empty.ensures, c.if-is_empty.false) in
     let less : c.line_len-len.result < length here = omega (arith, some, ap length c.split_at-2.ensures.back, length-drop c.line_len-len.result c.split_at.result.1.now, ap length same) in
     let items = c.in_ok-extend_from_slice.ensures.items ∙ ap (λ l. c.args.line.now.items ++ l) (c.split_at-2.ensures.front ∙ ap (take c.line_len-len.result) same) in
-    λ behind. piece_ends c.args.line.now.items here behind c.line_len-len.result c.requires.part count less
-    ∙ ap (λ l. without_return l ∷ lines_of (drop (c.line_len-len.result + 1) here ++ behind)) (sym items)
-    ∙ ap (λ l. without_return c.extend_from_slice.new.self.items ∷ lines_of (l ++ behind)) (drop-drop (c.line_len-len.result + 1) c.args.self.now.at c.args.self.now.buffer.items)
+    λ following. piece_ends c.args.line.now.items here following c.line_len-len.result c.requires.part count less
+    ∙ ap (λ l. without_return l ∷ lines_of (drop (c.line_len-len.result + 1) here ++ following)) (sym items)
+    ∙ ap (λ l. without_return c.extend_from_slice.new.self.items ∷ lines_of (l ++ following)) (drop-drop (c.line_len-len.result + 1) c.args.self.now.at c.args.self.now.buffer.items)
 
 pub returns-clause-part : goal.returns-clause-part
 returns-clause-part c =

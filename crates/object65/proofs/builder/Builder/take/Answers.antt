@@ -1,8 +1,8 @@
-use Rattle.object65.specs.Scanning.{after, scanned}
+use Rattle.object65.specs.Scanning.{after, scan_step}
 use Rattle.std.proofs.lemmas.Grind.{common_steps}
 use Rattle.std.proofs.Common.{arith}
 use Rattle.object65.specs.Record.{entry_of}
-use Rattle.object65.specs.Inner.Sound.{state_in}
+use Rattle.object65.specs.Internal.Sound.{state_in}
 use Rattle.object65.proofs.Withins.{room_next, whole_next}
 use Rattle.object65.proofs.builder.Builder.take.Goals as goal
 
@@ -18,5 +18,5 @@ invariant_of-self-2 c = λ running.
     whole_next b.parts c.add_item.new.parts b.scan c.take.new.self (entry_of c.args.next.now) c.in_ok-item.item (c.self.invariant c.if-self.false) c.in_ok-item.ensures.scanned c.in_ok-item.ensures.within c.in_ok-add_item.ensures
 
 pub returns-clause-taken : goal.returns-clause-taken
-unfolding after scanned
+unfolding after scan_step
 returns-clause-taken c = grind (arith, common_steps)

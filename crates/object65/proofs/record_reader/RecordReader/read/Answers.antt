@@ -1,13 +1,13 @@
 use Rattle.std.proofs.lemmas.Grind.{common_steps}
 use Rattle.std.proofs.Common.{◌∙◌, ap, sym, take, arith}
-use Rattle.object65.specs.Reading.{Reader}
+use Rattle.object65.specs.Reading.{RecordReaderView}
 use Rattle.object65.specs.Record.{entry_of}
 use Rattle.object65.proofs.Records.{ahead_anew, kept, kept_so, read_anew, read_kept}
 use Rattle.object65.proofs.record_reader.RecordReader.read.Goals as goal
 
 pub returns-then-has_record-clause-read : goal.returns-then-has_record-clause-read
 returns-then-has_record-clause-read g c =
-    let inside : Reader = record { entry = entry_of c.self.inside.record; begin = c.self.inside.begin; ahead = take c.self.inside.held c.self.inside.buffer } in
+    let inside : RecordReaderView = record { entry = entry_of c.self.inside.record; begin = c.self.inside.begin; ahead = take c.self.inside.held c.self.inside.buffer } in
     let is = kept_so _ _ _ _ c.args.at c.args.limit inside c.front-kept.ensures c.saturating_sub.ensures c.from_place-kept.ensures c.front.ensures in
     read_kept (g.S.Store.files c.args.store.now) c.args.name.now c.args.self.now c.args.version c.args.at c.args.limit c.front-kept.result.now c.decode.result _ (is ∙ ap (λ r. kept r c.args.at c.args.limit) c.self.view_is) (sym c.has_record.ensures ∙ c.if-has_record.true) c.decode.ensures.read
 
@@ -19,8 +19,8 @@ pub returns-clause-ahead : goal.returns-clause-ahead
 returns-clause-ahead g c =
     ahead_anew (g.S.Store.files c.args.store.now) c.args.name.now c.args.self.now (record { entry = entry_of c.decode-2.new.space; begin = c.self-2.inside.begin; ahead = take c.self-2.inside.held c.self-2.inside.buffer }) c.args.at c.args.limit c.refill.new.self.ahead (ap (λ r. r.begin) c.self-2.view_is ∙ c.in_ok-refill.ensures.begin) (ap (λ r. r.ahead) c.self-2.view_is) c.in_ok-refill.ensures.read
 
-pub returns-clause-asked : goal.returns-clause-asked
-returns-clause-asked g c = grind (arith, common_steps)
+pub returns-clause-at_last_count : goal.returns-clause-at_last_count
+returns-clause-at_last_count g c = grind (arith, common_steps)
 
 pub returns-then-has_record-clause-bound : goal.returns-then-has_record-clause-bound
 returns-then-has_record-clause-bound g c = grind (arith, common_steps)
@@ -31,8 +31,8 @@ returns-in_err-refill-clause-within g c = grind (arith, common_steps)
 pub decode-requires : goal.decode-requires
 decode-requires g c = grind (arith, common_steps)
 
-pub returns-clause-kept : goal.returns-clause-kept
-returns-clause-kept g c = grind (arith, common_steps)
+pub returns-clause-frame : goal.returns-clause-frame
+returns-clause-frame g c = grind (arith, common_steps)
 
 pub returns-then-has_record-clause-within : goal.returns-then-has_record-clause-within
 returns-then-has_record-clause-within g c = grind (arith, common_steps)
@@ -40,11 +40,11 @@ returns-then-has_record-clause-within g c = grind (arith, common_steps)
 pub returns-clause-within : goal.returns-clause-within
 returns-clause-within g c = grind (arith, common_steps)
 
-pub returns-then-has_record-clause-asked : goal.returns-then-has_record-clause-asked
-returns-then-has_record-clause-asked g c = grind (arith, common_steps)
+pub returns-then-has_record-clause-at_last_count : goal.returns-then-has_record-clause-at_last_count
+returns-then-has_record-clause-at_last_count g c = grind (arith, common_steps)
 
 pub returns-clause-bound : goal.returns-clause-bound
 returns-clause-bound g c = grind (arith, common_steps)
 
-pub returns-then-has_record-clause-kept : goal.returns-then-has_record-clause-kept
-returns-then-has_record-clause-kept g c = grind (arith, common_steps)
+pub returns-then-has_record-clause-frame : goal.returns-then-has_record-clause-frame
+returns-then-has_record-clause-frame g c = grind (arith, common_steps)

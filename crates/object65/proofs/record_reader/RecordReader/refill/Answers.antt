@@ -7,5 +7,5 @@ pub returns-clause-read : goal.returns-clause-read
 returns-clause-read g c =
     refilled (g.S.Store.files c.args.store.now) c.args.name.now c.args.at c.args.limit c.in_ok-held.held c.read_room.new.buf (search rules) c.in_ok-held.ensures.read
 
-pub returns-clause-kept : goal.returns-clause-kept
-returns-clause-kept g c = grind (arith, common_steps)
+pub returns-clause-frame : goal.returns-clause-frame
+returns-clause-frame g c = grind (arith, common_steps)

@@ -2,8 +2,8 @@ use Rattle.std.proofs.lemmas.Grind.{common_steps}
 use Rattle.std.proofs.Common.{Bool, Ok, ap, refl, sym, subst, ◌∙◌, arith}
 use Rattle.object65.specs.declared.record.Item.{Item}
 use Rattle.object65.specs.Record.{entry_of}
-use Rattle.object65.specs.Scanning.{Outline, IsWithin, scanned}
-use Rattle.object65.specs.Inner.Sound.{outline_in}
+use Rattle.object65.specs.Scanning.{Outline, IsWithin, scan_step}
+use Rattle.object65.specs.Internal.Sound.{outline_in}
 use Rattle.object65.proofs.Withins.{scanned_on, stands_next, within_next}
 use Rattle.object65.proofs.scan.Scan.advance.Goals as goal
 
@@ -27,5 +27,5 @@ returns-clause-within c =
     (within_next o e x (c.self.invariant c.if-self.false).stands (scanned_on o e (Ok x) refl c.if-self-2.false c.in_ok-item.ensures.taken) c.in_ok-item.ensures.small)
 
 pub returns-clause-scanned : goal.returns-clause-scanned
-unfolding scanned
+unfolding scan_step
 returns-clause-scanned c = grind (arith, common_steps)

@@ -1,7 +1,7 @@
 use Rattle.std.proofs.Common.{◌+◌, ℕ, List, drop, subst, arith, slice_index_or, refl}
 use Rattle.std.proofs.lemmas.List.{drop_all}
 use Rattle.std.proofs.lemmas.Result.{err_from_is_err_and}
-use Rattle.script65.specs.Faults.{is_place_outside}
+use Rattle.script65.specs.Faults.{is_place_system_error}
 use Rattle.script65.specs.Placing.{rows_from}
 use Rattle.script65.proofs.Walks.{Walk, drop_number, row_within, spot_within, walk_ends, walk_refuses, walk_step, whole_of}
 use Rattle.script65.proofs.placing.areas.place_area.Goals as goal
@@ -39,7 +39,7 @@ returns-in_err-cursor c =
     let e = c.in_err-cursor.field-0.0 in
     let P : List ℕ → Type 0 = λ l. Walk c.args.site.now.place c.args.site.now.area.now c.args.site.now.bounds c.args.rows.now (rows_from c.args.site.now.place c.args.site.now.area.now c.args.site.now.bounds c.args.rows.now c.args.spots.now c.args.site.now.bounds.start) c.loop-member.spots c.loop-member.cursor l in
     let walk = subst P (drop_number c.args.members.now c.loop-member.member-index c.loop-member-test.true) c.loop-member.invariant.walk in
-    rw (p.1, p.2) (walk_refuses c.args.site.now.place c.args.site.now.area.now c.args.site.now.bounds c.args.rows.now (rows_from c.args.site.now.place c.args.site.now.area.now c.args.site.now.bounds c.args.rows.now c.args.spots.now c.args.site.now.bounds.start) c.loop-member.spots c.loop-member.cursor (slice_index_or c.args.members.now c.loop-member.member-index 0) (drop (c.loop-member.member-index + 1) c.args.members.now) e (is_place_outside e) walk c.in_err-cursor.ensures.value)
+    rw (p.1, p.2) (walk_refuses c.args.site.now.place c.args.site.now.area.now c.args.site.now.bounds c.args.rows.now (rows_from c.args.site.now.place c.args.site.now.area.now c.args.site.now.bounds c.args.rows.now c.args.spots.now c.args.site.now.bounds.start) c.loop-member.spots c.loop-member.cursor (slice_index_or c.args.members.now c.loop-member.member-index 0) (drop (c.loop-member.member-index + 1) c.args.members.now) e (is_place_system_error e) walk c.in_err-cursor.ensures.value)
 
 pub loop-member-preserved : goal.loop-member-preserved
 loop-member-preserved c =

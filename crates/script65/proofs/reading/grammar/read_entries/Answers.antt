@@ -1,6 +1,6 @@
 use Rattle.std.proofs.Common.{◌<◌, ◌-◌, length, arith, Err, Ok}
 use Rattle.std.proofs.lemmas.Result.{err_from_is_err_and}
-use Rattle.script65.specs.Faults.{is_outside}
+use Rattle.script65.specs.Faults.{is_system_error}
 use Rattle.script65.specs.Scripts.{HasEntries}
 use Rattle.script65.proofs.Eaches.{unless_map}
 use Rattle.script65.proofs.Steps.{not_end, reads_end, reads_fault, reads_on, still_fresh}
@@ -11,7 +11,7 @@ pub returns-in_err-next : goal.returns-in_err-next
 returns-in_err-next c =
     let p = err_from_is_err_and c.from_residual.result c.from_residual.ensures.1 in
     let e = c.in_err-next.field-0.0 in
-    rw (p.1, p.2) (unless_map _ (HasEntries c.args.bytes.now (Err e)) (is_outside e) (λ h. has_of c.args.bytes.now (Err e) (c.tokens.invariant.so_far (Err e) h))
+    rw (p.1, p.2) (unless_map _ (HasEntries c.args.bytes.now (Err e)) (is_system_error e) (λ h. has_of c.args.bytes.now (Err e) (c.tokens.invariant.so_far (Err e) h))
     (reads_fault c.args.bytes.now c.tokens.entries c.tokens.place c.tokens.at c.token_at-token.result c.token_at-token.ensures.value e c.in_err-next.ensures))
 
 pub returns-in_default : goal.returns-in_default
@@ -24,7 +24,7 @@ pub tokens-smaller : goal.tokens-smaller
 tokens-smaller c =
     let some = c.token_at-token.ensures.some
     (not_end c.args.bytes.now c.tokens.entries c.tokens.place c.tokens.at c.token_at-token.result c.token_at-token.ensures.value c.step.new.entries c.in_ok-next.field-0 c.in-Some.next c.in_ok-next.ensures c.in-Some.is) in
-    let less : length c.args.bytes.now - c.token_at-token.result.behind < length c.args.bytes.now - c.tokens.at = omega (arith, some, c.token_at-token.ensures.within) in
+    let less : length c.args.bytes.now - c.token_at-token.result.following < length c.args.bytes.now - c.tokens.at = omega (arith, some, c.token_at-token.ensures.within) in
     less
 
 pub tokens-preserved : goal.tokens-preserved

@@ -2,12 +2,12 @@ use Rattle.std.proofs.Common.{◌≡◌, drop, true}
 use Rattle.std.specs.Prelude.{◌||◌, codes, find}
 use Rattle.std.specs.Option.{option_map_or}
 use Rattle.std.specs.Str.{bytes_eq}
-use Rattle.script65.specs.Entries.{Given}
+use Rattle.script65.specs.Entries.{AttributeValue}
 use Rattle.script65.specs.Scripts.{is_start_first}
 use Rattle.script65.proofs.reading.naming.is_start_first.Given as goal
 
 abbrev pub invariant-loop-given : goal.invariant-loop-given
 invariant-loop-given l =
-    option_map_or (λ (g : Given). bytes_eq (codes "start") g.word)
-    (find (λ (g : Given). bytes_eq (codes "start") g.word || bytes_eq (codes "size") g.word) (drop l.given-index l.entry.given)) true
+    option_map_or (λ (g : AttributeValue). bytes_eq (codes "start") g.word)
+    (find (λ (g : AttributeValue). bytes_eq (codes "start") g.word || bytes_eq (codes "size") g.word) (drop l.given-index l.entry.given)) true
     ≡ is_start_first l.entry

@@ -4,7 +4,7 @@ use Rattle.std.proofs.lemmas.Result.{err_from_is_err_and}
 use Rattle.base65.specs.Outcome.{Unless}
 use Rattle.ast65.specs.Faults.{is_memory}
 use Rattle.symbols65.specs.Views.{table_of}
-use Rattle.symbols65.specs.Measuring.{ranged}
+use Rattle.symbols65.specs.Measuring.{range_in_file}
 use Rattle.symbols65.proofs.Parts.{bad_len, bad_start, refused}
 use Rattle.symbols65.proofs.measuring.bytes.file_part.Goals as goal
 
@@ -25,7 +25,7 @@ returns-in_err-start-2-clause-placed c =
     let p = err_from_is_err_and c.from_residual-in_err-start-2.result c.from_residual-in_err-start-2.ensures.1 in
     let range = c.args.range in
     let e = c.in_err-start-2.field-0.0 in
-    let none = subst (λ n. Unless (is_memory e) (ranged n c.in_ok-start.start c.in_ok-len.len ≡ Err e)) c.len.ensures c.in_err-start-2.ensures.part in
+    let none = subst (λ n. Unless (is_memory e) (range_in_file n c.in_ok-start.start c.in_ok-len.len ≡ Err e)) c.len.ensures c.in_err-start-2.ensures.part in
     rw (p.1, p.2, c.in-Some.is) (refused (table_of c.args.before.symbols.now) c.args.before.cursor.now range.start.now range.len.now (c.context-context.result) c.context-context.ensures c.in_ok-start.start c.in_ok-len.len c.in_ok-start.ensures.found c.in_ok-len.ensures.found c.in-Some.bytes e none)
 
 pub returns-clause-placed : goal.returns-clause-placed

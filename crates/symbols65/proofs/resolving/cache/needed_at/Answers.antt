@@ -1,8 +1,8 @@
 use Rattle.std.proofs.Common.{◌≡◌, ℕ, Option}
 use Rattle.std.specs.Prelude.{IfSome}
 use Rattle.std.proofs.lemmas.Result.{IfOk-weaker}
-use Rattle.symbols65.specs.declared.resolving.attempt.Source.TheVariants.{Finals}
-use Rattle.symbols65.specs.Resolving.{HangsOn, needed_in, tried}
+use Rattle.symbols65.specs.declared.resolving.attempt.FormSource.TheVariants.{Finals}
+use Rattle.symbols65.specs.Resolving.{IsBlockedOn, needed_in, form_attempt}
 use Rattle.symbols65.specs.Views.{known_by, key_at, table_of}
 use Rattle.symbols65.specs.Tables.{definition_seen}
 use Rattle.symbols65.proofs.Hanging.{if_some}
@@ -17,7 +17,7 @@ returns-in-Some-value c =
     let d = definition_seen (key_at t c.args.place) held in
     let s = held.context in
     let e = c.in-Some-value.value in
-    let P : Option ℕ → Type 0 = λ o. o ≡ needed_in (tried (known_by t Finals) y s e) in
-    IfOk-weaker c.needed_by.result P (λ o. IfSome o (λ k. HangsOn y c.args.place k))
+    let P : Option ℕ → Type 0 = λ o. o ≡ needed_in (form_attempt (known_by t Finals) y s e) in
+    IfOk-weaker c.needed_by.result P (λ o. IfSome o (λ k. IsBlockedOn y c.args.place k))
     (λ o is. if_some o (λ k h. constant_hangs y c.args.place k d e c.in-Some.ensures.definition c.in-Some-value.is h) (needed_is t s e o (c.are_final.ensures c.if-are_final.true) is))
     c.needed_by.ensures

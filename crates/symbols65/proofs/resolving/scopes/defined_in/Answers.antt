@@ -1,10 +1,10 @@
 use Rattle.std.proofs.Common.{rules, ◌≡◌, ◌≢◌, ℕ, zero, suc, List, None, arith, refl, sym, false}
 use Rattle.std.proofs.lemmas.Bool.Decides.{nat_tests}
-use Rattle.semantics65.specs.Symbols.{Symbols, defined, named}
+use Rattle.semantics65.specs.Symbols.{Symbols, definition_index, named}
 use Rattle.symbols65.specs.Views.{table_of}
 use Rattle.symbols65.proofs.resolving.scopes.defined_in.Goals as goal
 
-only_global : (y : Symbols) (n : List ℕ) (scope : ℕ) → (scope ≡ 0 → ⊥) → ((inner : ℕ) → defined y (named (suc inner) n) ≡ None) → None ≡ defined y (named scope n)
+only_global : (y : Symbols) (n : List ℕ) (scope : ℕ) → (scope ≡ 0 → ⊥) → ((inner : ℕ) → definition_index y (named (suc inner) n) ≡ None) → None ≡ definition_index y (named scope n)
 only_global y n zero h none = absurd (h refl)
 only_global y n (suc i) h none = sym (none i)
 

@@ -1,12 +1,12 @@
 use Rattle.std.proofs.Common.{◌≡◌}
-use Rattle.semantics65.specs.Symbols.{first_found, outward_from, scopes_from, defined, named}
+use Rattle.semantics65.specs.Symbols.{first_found, outward_from, scopes_from, definition_index, named}
 use Rattle.symbols65.specs.Views.{table_of}
 use Rattle.symbols65.proofs.resolving.scopes.defined_outward.Given as goal
 
 abbrev pub invariant-loop-place : goal.invariant-loop-place
 invariant-loop-place l =
-    first_found (λ s. defined (table_of l.symbols) (named s l.name)) (outward_from (table_of l.symbols).scopes l.left l.scope)
-    ≡ first_found (λ s. defined (table_of l.symbols) (named s l.name)) (scopes_from (table_of l.symbols).scopes l.fn.scope)
+    first_found (λ s. definition_index (table_of l.symbols) (named s l.name)) (outward_from (table_of l.symbols).scopes l.left l.scope)
+    ≡ first_found (λ s. definition_index (table_of l.symbols) (named s l.name)) (scopes_from (table_of l.symbols).scopes l.fn.scope)
 
 abbrev pub decreases-loop-place : goal.decreases-loop-place
 decreases-loop-place l = l.left

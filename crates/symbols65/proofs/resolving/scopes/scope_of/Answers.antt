@@ -1,5 +1,5 @@
 use Rattle.std.proofs.Common.{ap, ◌∙◌, sym, take, false}
-use Rattle.semantics65.specs.Symbols.{first_found, inside, scope_from, scope_in, scopes_from}
+use Rattle.semantics65.specs.Symbols.{first_found, nested_scope, scope_from, scope_in, scopes_from}
 use Rattle.symbols65.specs.Views.{table_of}
 use Rattle.symbols65.proofs.Scopes.{inside_none}
 use Rattle.symbols65.proofs.resolving.scopes.scope_of.Goals as goal
@@ -8,14 +8,14 @@ pub returns-in-Some : goal.returns-in-Some
 returns-in-Some c =
     let before = take c.args.opened (table_of c.args.symbols.now).scopes in
     c.inner_scope-in-Some.ensures
-    ∙ ap (inside before c.in_ok-first.names.now) (sym c.in-Some.is ∙ c.scope_outward.ensures)
-    ∙ ap (λ n. inside before c.in_ok-first.names.now (first_found (λ s. scope_in before s n) (scopes_from before c.args.scope))) c.as_slice.ensures
+    ∙ ap (nested_scope before c.in_ok-first.names.now) (sym c.in-Some.is ∙ c.scope_outward.ensures)
+    ∙ ap (λ n. nested_scope before c.in_ok-first.names.now (first_found (λ s. scope_in before s n) (scopes_from before c.args.scope))) c.as_slice.ensures
     ∙ sym (ap (λ b. scope_from before c.args.scope b c.args.names.now) c.if-is_global.false ∙ ap (scope_from before c.args.scope false) c.in_ok-first.ensures.cases.0)
 
 pub returns-in-None : goal.returns-in-None
 returns-in-None c =
     let before = take c.args.opened (table_of c.args.symbols.now).scopes in
     sym (inside_none before c.in_ok-first.names.now)
-    ∙ ap (inside before c.in_ok-first.names.now) (sym c.in-None.is ∙ c.scope_outward.ensures)
-    ∙ ap (λ n. inside before c.in_ok-first.names.now (first_found (λ s. scope_in before s n) (scopes_from before c.args.scope))) c.as_slice.ensures
+    ∙ ap (nested_scope before c.in_ok-first.names.now) (sym c.in-None.is ∙ c.scope_outward.ensures)
+    ∙ ap (λ n. nested_scope before c.in_ok-first.names.now (first_found (λ s. scope_in before s n) (scopes_from before c.args.scope))) c.as_slice.ensures
     ∙ sym (ap (λ b. scope_from before c.args.scope b c.args.names.now) c.if-is_global.false ∙ ap (scope_from before c.args.scope false) c.in_ok-first.ensures.cases.0)

@@ -1,5 +1,5 @@
 use Rattle.std.proofs.Common.{◌≡◌, ◌∙◌, ℕ, length, sym, ap, subst}
-use Rattle.semantics65.specs.Symbols.{Key, Symbols, defined}
+use Rattle.semantics65.specs.Symbols.{Key, Symbols, definition_index}
 use Rattle.ast65.proofs.Lists.{map_length, on_ok}
 use Rattle.symbols65.specs.Tables.{KeepsFinal, definition_in, definition_seen, key_of}
 use Rattle.symbols65.specs.Views.{table_of, with_definition, words_of}
@@ -28,7 +28,7 @@ returns c =
     on_ok c.put.result (λ h once.
     h (ap (place_of_entry t.definitions.entries) (sym at)
     ∙ finds (words_of t) t.definitions.entries (key_of c.args.key) t.entries_numbered
-    ∙ ap (λ y. defined y (key_of c.args.key)) c.in_ok-entry.ensures.table
+    ∙ ap (λ y. definition_index y (key_of c.args.key)) c.in_ok-entry.ensures.table
     ∙ once)
     ∙ ap (λ y. with_definition y (definition_in (words_of t) (k, c.args.definition))) c.in_ok-entry.ensures.table
     ∙ ap (λ q. with_definition (table_of c.args.symbols.now) (definition_seen q c.args.definition)) key) c.put.ensures

@@ -1,12 +1,12 @@
 use Rattle.std.proofs.Common.{◌≡◌, ◌∙◌, refl}
-use Rattle.symbols65.specs.contracts.table.symbols.EntryPartialEq.TheImpl.{eq-value}
-use Rattle.symbols65.specs.declared.table.symbols.Entry.{Entry}
-use Rattle.symbols65.specs.declared.table.symbols.Entry.TheVariants as entry
+use Rattle.symbols65.specs.contracts.table.symbols.InternedKeyPartialEq.TheImpl.{eq-value}
+use Rattle.symbols65.specs.declared.table.symbols.InternedKey.{InternedKey}
+use Rattle.symbols65.specs.declared.table.symbols.InternedKey.TheVariants as entry
 use Rattle.symbols65.specs.Tables.{same_entry}
 use Rattle.symbols65.proofs.Growing.{inserted_by}
 use Rattle.symbols65.proofs.table.defining.push.Goals as goal
 
-agree : (x y : Entry) → eq-value.it x y ≡ same_entry x y
+agree : (x y : InternedKey) → eq-value.it x y ≡ same_entry x y
 agree (entry.Named s w) (entry.Named t v) = refl
 agree (entry.Named s w) (entry.Cheap t v) = refl
 agree (entry.Named s w) (entry.Unnamed d) = refl

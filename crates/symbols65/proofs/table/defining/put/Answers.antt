@@ -1,7 +1,7 @@
 use Rattle.std.proofs.Common.{List, sym, subst}
 use Rattle.std.specs.Map.{keys_of}
 use Rattle.symbols65.specs.declared.table.symbols.Definition.{Definition}
-use Rattle.symbols65.specs.declared.table.symbols.Entry.{Entry}
+use Rattle.symbols65.specs.declared.table.symbols.InternedKey.{InternedKey}
 use Rattle.symbols65.specs.Tables.{AreCounted, AreFinal, AreInnerKnown, AreNumbered, word_of}
 use Rattle.symbols65.specs.Views.{words_of}
 use Rattle.symbols65.proofs.Growing.{after, counted_pushed, final_pushed, inner_kept, inner_pushed, numbered_pushed}
@@ -26,10 +26,10 @@ invariant_of-symbols-in-None c =
     let es = t.definitions.entries in
     let ss = t.scopes.entries in
     let kept : AreInnerKnown (keys_of es) c.note.new.inner.items = inner_kept (keys_of es) t.inner.items c.note.new.inner.items c.note.ensures.kept t.inner_known in
-    let Inner : List (Entry × Definition) → Type 0 = λ l. AreInnerKnown (keys_of l) c.note.new.inner.items in
-    let Numbered : List (Entry × Definition) → Type 0 = λ l. AreNumbered word_of ws (keys_of l) in
-    let Counted : List (Entry × Definition) → Type 0 = λ l. AreCounted (keys_of l) in
-    let Final : List (Entry × Definition) → Type 0 = λ l. AreFinal ws l ss in
+    let Inner : List (InternedKey × Definition) → Type 0 = λ l. AreInnerKnown (keys_of l) c.note.new.inner.items in
+    let Numbered : List (InternedKey × Definition) → Type 0 = λ l. AreNumbered word_of ws (keys_of l) in
+    let Counted : List (InternedKey × Definition) → Type 0 = λ l. AreCounted (keys_of l) in
+    let Final : List (InternedKey × Definition) → Type 0 = λ l. AreFinal ws l ss in
     let pushed = c.push.ensures.pushed in
     let unchanged = c.push.ensures.unchanged in
     record {

@@ -1,6 +1,6 @@
 use Rattle.std.proofs.Common.{◌∙◌, refl, arith, IsTrue, false}
 use Rattle.syntax65.specs.Tokens.{lexemes}
-use Rattle.syntax65.specs.Expressions.{no_part, behind_part}
+use Rattle.syntax65.specs.Expressions.{no_part, after_part}
 use Rattle.syntax65.proofs.Phrases.{last_name, next_name}
 use Rattle.syntax65.proofs.expressions.reading.read_parts.Goals as goal
 
@@ -22,5 +22,5 @@ parts-preserved c = record {
       next_name (lexemes c.args.tokens.now) c.args.at c.parts.end c.parts.parts c.push.new.self c.from_vec.result c.parts.invariant.so_far
       (c.if-not-is_name.ensures.value.0 refl) (c.if-not-is_scope.ensures.value.0 refl)
       (c.from_vec.ensures ∙ c.in_ok-part.ensures.items ∙ c.text_at.ensures) c.in_ok-push.ensures.ok;
-  lost = λ k h. c.parts.invariant.lost k (behind_part c.parts.end k (c.if-not-is_name.ensures.value.0 refl) (c.if-not-is_scope.ensures.value.0 refl) h);
+  lost = λ k h. c.parts.invariant.lost k (after_part c.parts.end k (c.if-not-is_name.ensures.value.0 refl) (c.if-not-is_scope.ensures.value.0 refl) h);
 }

@@ -1,6 +1,6 @@
 use Rattle.std.proofs.Common.{◌≡◌, ◌+◌, arith, subst, sym, true}
 use Rattle.std.proofs.lemmas.List.{take_rest}
-use Rattle.syntax65.specs.Forms.{IsLongest, Begins}
+use Rattle.syntax65.specs.Forms.{IsLongest, BeginsWithClass}
 use Rattle.syntax65.specs.declared.lexing.places.Class.TheVariants.{Letter}
 use Rattle.syntax65.proofs.Fronts.{name_here, no_name_here, name_size, name_value}
 use Rattle.syntax65.proofs.lexing.places.name_at.Goals as goal
@@ -8,7 +8,7 @@ use Rattle.syntax65.proofs.lexing.places.name_at.Goals as goal
 pub returns-then-not-begins_name : goal.returns-then-not-begins_name
 returns-then-not-begins_name c = λ first.
     let tail = take_rest c.args.here.now 1 in
-    no_name_here first c.args.kind c.args.here.now c.requires (λ b. let yes : c.begins_name.result ≡ true = c.begins_name.ensures.1 (subst (Begins Letter) (sym tail) b) in cc)
+    no_name_here first c.args.kind c.args.here.now c.requires (λ b. let yes : c.begins_name.result ≡ true = c.begins_name.ensures.1 (subst (BeginsWithClass Letter) (sym tail) b) in cc)
 
 pub returns-then-len-le-MAX_NAME : goal.returns-then-len-le-MAX_NAME
 returns-then-len-le-MAX_NAME c = λ first.

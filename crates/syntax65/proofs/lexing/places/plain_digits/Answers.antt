@@ -4,10 +4,10 @@ use Rattle.syntax65.proofs.Numbers.{signed_by, unsigned}
 use Rattle.syntax65.proofs.lexing.places.plain_digits.Goals as goal
 
 pub returns-in_ok-digits_ahead-in-36 : goal.returns-in_ok-digits_ahead-in-36
-returns-in_ok-digits_ahead-in-36 c = signed_by 36 16 c.args.here.now c.in_ok-first.field-0.now c.in_ok-digits_ahead-in-36.field-0 c.behind_sign.result (λ l. refl) c.in_ok-first.ensures.value c.in-36.is (rw (take_rest c.args.here.now 1) at c.in_ok-digits_ahead-in-36.ensures) c.behind_sign.ensures
+returns-in_ok-digits_ahead-in-36 c = signed_by 36 16 c.args.here.now c.in_ok-first.field-0.now c.in_ok-digits_ahead-in-36.field-0 c.following_sign.result (λ l. refl) c.in_ok-first.ensures.value c.in-36.is (rw (take_rest c.args.here.now 1) at c.in_ok-digits_ahead-in-36.ensures) c.following_sign.ensures
 
 pub returns-in_ok-digits_ahead-in-37 : goal.returns-in_ok-digits_ahead-in-37
-returns-in_ok-digits_ahead-in-37 c = signed_by 37 2 c.args.here.now c.in_ok-first.field-0.now c.in_ok-digits_ahead-in-37.field-0 c.behind_sign-in-37.result (λ l. refl) c.in_ok-first.ensures.value c.in-37.is (rw (take_rest c.args.here.now 1) at c.in_ok-digits_ahead-in-37.ensures) c.behind_sign-in-37.ensures
+returns-in_ok-digits_ahead-in-37 c = signed_by 37 2 c.args.here.now c.in_ok-first.field-0.now c.in_ok-digits_ahead-in-37.field-0 c.following_sign-in-37.result (λ l. refl) c.in_ok-first.ensures.value c.in-37.is (rw (take_rest c.args.here.now 1) at c.in_ok-digits_ahead-in-37.ensures) c.following_sign-in-37.ensures
 
 pub returns-in_default : goal.returns-in_default
 returns-in_default c =

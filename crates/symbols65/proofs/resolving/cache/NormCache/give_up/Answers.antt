@@ -1,6 +1,6 @@
 use Rattle.std.proofs.Common.{◌≡◌, ◌∙◌, List, ◌++◌, length, map, take, drop, ap, sym, subst}
 use Rattle.symbols65.specs.declared.resolving.attempt.State.{State}
-use Rattle.symbols65.specs.Resolving.{AreHung, bare}
+use Rattle.symbols65.specs.Resolving.{BlocksAreSound, bare}
 use Rattle.symbols65.specs.Views.{AreNoted, without, table_of}
 use Rattle.symbols65.proofs.Hanging.{same_noted}
 use Rattle.symbols65.proofs.Knowns.{hung_written, noted_without, written_over}
@@ -18,9 +18,9 @@ invariant_of-self c = record {
       let P : List State → Type 0 = λ s. AreNoted s c.args.self.now.noted.items in
       let noted : P lost = subst P (sym is) (noted_without states c.args.self.now.noted.items c.args.waiting.now c.args.self.now.noted_all) in
       let long_lost = sym c.deref_mut-in-Some.ensures.len ∙ ap length c.deref_mut-in-Some.ensures.value in
-      let same : map bare c.hang_all.new.states ≡ map bare lost = c.hang_all.ensures.same ∙ ap (map bare) c.deref_mut-in-Some.ensures.value in
-      subst P (sym (written_over c.args.self.now.states.len c.hang_all.new.states lost (c.hang_all.auto.states ∙ ap length c.deref_mut-in-Some.ensures.value) long_lost))
-      (same_noted lost c.hang_all.new.states same c.args.self.now.noted.items noted);
+      let same : map bare c.mark_blocked.new.states ≡ map bare lost = c.mark_blocked.ensures.same ∙ ap (map bare) c.deref_mut-in-Some.ensures.value in
+      subst P (sym (written_over c.args.self.now.states.len c.mark_blocked.new.states lost (c.mark_blocked.auto.states ∙ ap length c.deref_mut-in-Some.ensures.value) long_lost))
+      (same_noted lost c.mark_blocked.new.states same c.args.self.now.noted.items noted);
 }
 
 pub returns-in-Some-clause-hung : goal.returns-in-Some-clause-hung
@@ -33,8 +33,8 @@ returns-in-Some-clause-hung c = λ h.
     written_over c.args.self.now.states.len c.lose_all.new.states states (c.lose_all.auto.states ∙ ap length c.deref_mut.ensures.value) long
     ∙ c.lose_all.ensures ∙ ap (λ s. without s c.args.waiting.now) c.deref_mut.ensures.value in
     let long_lost = sym c.deref_mut-in-Some.ensures.len ∙ ap length c.deref_mut-in-Some.ensures.value in
-    hung_written y c.args.self.now.states.len c.hang_all.new.states lost (c.hang_all.auto.states ∙ ap length c.deref_mut-in-Some.ensures.value) long_lost
-    (c.hang_all.ensures.hung (subst (AreHung y) (sym (c.deref_mut-in-Some.ensures.value ∙ is)) h)))
+    hung_written y c.args.self.now.states.len c.mark_blocked.new.states lost (c.mark_blocked.auto.states ∙ ap length c.deref_mut-in-Some.ensures.value) long_lost
+    (c.mark_blocked.ensures.hung (subst (BlocksAreSound y) (sym (c.deref_mut-in-Some.ensures.value ∙ is)) h)))
 
 pub returns-in-None-clause-hung : goal.returns-in-None-clause-hung
 returns-in-None-clause-hung c = λ h.
@@ -42,4 +42,4 @@ returns-in-None-clause-hung c = λ h.
     let long = sym c.deref_mut.ensures.len ∙ ap length c.deref_mut.ensures.value in
     let is = written_over c.args.self.now.states.len c.lose_all.new.states states (c.lose_all.auto.states ∙ ap length c.deref_mut.ensures.value) long
     ∙ c.lose_all.ensures ∙ ap (λ s. without s c.args.waiting.now) c.deref_mut.ensures.value in
-    subst (AreHung (table_of c.args.symbols.now)) (sym is) h)
+    subst (BlocksAreSound (table_of c.args.symbols.now)) (sym is) h)

@@ -1,6 +1,6 @@
 use Rattle.std.proofs.Common.{Bool, List, sym, subst}
 use Rattle.std.specs.Map.{keys_of}
-use Rattle.symbols65.specs.declared.table.symbols.Opening.{Opening}
+use Rattle.symbols65.specs.declared.table.symbols.ScopeKey.{ScopeKey}
 use Rattle.symbols65.specs.Tables.{AreDistinct, AreFinal, AreNumbered, word_opened}
 use Rattle.symbols65.specs.Views.{words_of}
 use Rattle.symbols65.proofs.Growing.{after, distinct_pushed, final_scoped, numbered_pushed}
@@ -12,9 +12,9 @@ invariant_of-self c =
     let ws = words_of t in
     let es = t.definitions.entries in
     let ss = t.scopes.entries in
-    let Numbered : List (Opening × Bool) → Type 0 = λ l. AreNumbered word_opened ws (keys_of l) in
-    let Distinct : List (Opening × Bool) → Type 0 = λ l. AreDistinct (keys_of l) in
-    let Final : List (Opening × Bool) → Type 0 = λ l. AreFinal ws es l in
+    let Numbered : List (ScopeKey × Bool) → Type 0 = λ l. AreNumbered word_opened ws (keys_of l) in
+    let Distinct : List (ScopeKey × Bool) → Type 0 = λ l. AreDistinct (keys_of l) in
+    let Final : List (ScopeKey × Bool) → Type 0 = λ l. AreFinal ws es l in
     let pushed = c.push_scope.ensures.pushed in
     let unchanged = c.push_scope.ensures.unchanged in
     record {

@@ -1,6 +1,6 @@
 use Rattle.std.proofs.Common.{◌≡◌, suc, ◌+◌, Some, option_map, sym, ap, ◌∙◌, arith}
-use Rattle.semantics65.specs.Symbols.{numbered}
-use Rattle.symbols65.specs.declared.table.symbols.Opening.TheVariants as opening
+use Rattle.semantics65.specs.Symbols.{one_based}
+use Rattle.symbols65.specs.declared.table.symbols.ScopeKey.TheVariants as opening
 use Rattle.symbols65.specs.Views.{words_of}
 use Rattle.symbols65.proofs.Words.{finds_opened, place_of_opening}
 use Rattle.symbols65.proofs.table.symbols.Symbols.scope_in.Goals as goal
@@ -10,19 +10,19 @@ returns-in-Some-place_opened c =
     let t = c.args.self.now in
     let place = c.in-Some-place_opened.place in
     ap Some (let more : place + 1 ≡ suc place = omega arith in more)
-    ∙ ap numbered (sym c.in-Some-place_opened.is ∙ c.place_opened.ensures.place
+    ∙ ap one_based (sym c.in-Some-place_opened.is ∙ c.place_opened.ensures.place
     ∙ ap (λ o. place_of_opening t.scopes.entries (option_map (opening.Named c.args.within) o)) (sym c.in-Some.is ∙ c.word.ensures)
     ∙ finds_opened (words_of t) t.scopes.entries c.args.within c.args.name.now t.openings_numbered)
 
 pub returns-in_default-2 : goal.returns-in_default-2
 returns-in_default-2 c =
     let t = c.args.self.now in
-    ap numbered (sym c.in_default.is ∙ c.place_opened.ensures.place
+    ap one_based (sym c.in_default.is ∙ c.place_opened.ensures.place
     ∙ ap (λ o. place_of_opening t.scopes.entries (option_map (opening.Named c.args.within) o)) (sym c.in-Some.is ∙ c.word.ensures)
     ∙ finds_opened (words_of t) t.scopes.entries c.args.within c.args.name.now t.openings_numbered)
 
 pub returns-in-None : goal.returns-in-None
 returns-in-None c =
     let t = c.args.self.now in
-    ap (λ o. numbered (place_of_opening t.scopes.entries (option_map (opening.Named c.args.within) o))) (sym c.in-None.is ∙ c.word.ensures)
-    ∙ ap numbered (finds_opened (words_of t) t.scopes.entries c.args.within c.args.name.now t.openings_numbered)
+    ap (λ o. one_based (place_of_opening t.scopes.entries (option_map (opening.Named c.args.within) o))) (sym c.in-None.is ∙ c.word.ensures)
+    ∙ ap one_based (finds_opened (words_of t) t.scopes.entries c.args.within c.args.name.now t.openings_numbered)

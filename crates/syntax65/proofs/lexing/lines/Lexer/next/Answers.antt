@@ -1,13 +1,13 @@
 use Rattle.std.proofs.Common.{sym, subst, false, IsTrue}
 use Rattle.std.proofs.lemmas.Result.{err_from_is_err_and}
-use Rattle.syntax65.specs.Forms.{Begins, FaultAt}
+use Rattle.syntax65.specs.Forms.{BeginsWithClass, FaultAt}
 use Rattle.syntax65.specs.Tokens.{IsEnd, after_blanks}
 use Rattle.syntax65.specs.declared.lexing.places.Class.TheVariants.{Blank}
-use Rattle.syntax65.proofs.Lines.{cut_off, no_blank_behind}
+use Rattle.syntax65.proofs.Lines.{cut_off, no_blank_after}
 use Rattle.syntax65.proofs.lexing.lines.Lexer.next.Goals as goal
 
 pub token_at-requires-clause-no_blank : goal.token_at-requires-clause-no_blank
-token_at-requires-clause-no_blank c = λ b. no_blank_behind c.args.self.now.rest.now (subst (Begins Blank) c.skip_blanks-here.ensures b)
+token_at-requires-clause-no_blank c = λ b. no_blank_after c.args.self.now.rest.now (subst (BeginsWithClass Blank) c.skip_blanks-here.ensures b)
 
 pub returns-in_err-kind-clause-next : goal.returns-in_err-kind-clause-next
 returns-in_err-kind-clause-next c =

@@ -1,5 +1,5 @@
 use Rattle.std.proofs.Common.{◌≡◌, ◌≤◌, List, ◌++◌, length, take, None, Option, true}
-use Rattle.syntax65.specs.Tokens.{Lexeme, lexemes, Reads}
+use Rattle.syntax65.specs.Tokens.{Lexeme, lexemes, HasTokens}
 use Rattle.syntax65.specs.declared.lexing.tokens.LexFault.{LexFault}
 use Rattle.syntax65.proofs.lexing.lines.LineTokens.read.Given as goal
 
@@ -9,7 +9,7 @@ invariant-line l = record {
   room : length l.self.few.room ≡ 8;
   within : l.self.few.count ≤ 8;
   few : l.self.many ≡ None;
-  so_far : (us : List Lexeme) (end : Option LexFault) → Reads l.lexer.first l.lexer.rest.now us end → Reads true l.line (lexemes (take l.self.few.count l.self.few.room) ++ us) end;
+  so_far : (us : List Lexeme) (end : Option LexFault) → HasTokens l.lexer.first l.lexer.rest.now us end → HasTokens true l.line (lexemes (take l.self.few.count l.self.few.room) ++ us) end;
 }
 
 abbrev pub decreases-line : goal.decreases-line

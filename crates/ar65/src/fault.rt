@@ -1,0 +1,91 @@
+//! Why a line of the librarian is refused.
+
+ghost use Rattle.std.specs.Prelude.{◌≡◌, IfOk, map};
+ghost use Rattle.library65.specs.Fault.{fault_text};
+ghost use Rattle.cli65.specs.Line.{archiving};
+ghost use Rattle.library65.specs.declared.fault.LibraryFault.TheVariants.{OutOfMemory};
+ghost use Rattle.ar65.specs.declared.fault.ArchiveFault.TheVariants.{Library};
+ghost use Rattle.ar65.specs.Faults.{is_memory, error_message};
+
+use base65::ListVec;
+use cli65::{ArchiveArgs, file_message, join};
+use library65::LibraryFault;
+use std::alloc::{AllocError, Global};
+
+/// Why a line of the librarian is refused.
+#[derive(Drop)]
+pub enum ArchiveFault {
+    /// The library can't be read, is none, has no such member or would be too long.
+    Library(LibraryFault),
+    /// The file at this place of the line can't be read or can't be a member.
+    File(usize, LibraryFault),
+}
+
+impl From<AllocError> for ArchiveFault {
+    ghost from_gives = { λ _ e. e ≡ Library OutOfMemory };
+
+    fn from(_e: AllocError) -> ArchiveFault {
+        ArchiveFault::Library(LibraryFault::OutOfMemory)
+    }
+}
+
+impl From<LibraryFault> for ArchiveFault {
+    ghost from_gives = { λ f e. e ≡ Library f };
+
+    fn from(fault: LibraryFault) -> ArchiveFault {
+        ArchiveFault::Library(fault)
+    }
+}
+
+impl ArchiveFault {
+    /// Whether memory ran out.
+    pub fn is_memory(&self) -> bool
+        ensures { result ≡ is_memory self.now }
+    {
+        match self {
+            ArchiveFault::Library(fault) | ArchiveFault::File(_, fault) => {
+                matches!(fault, LibraryFault::OutOfMemory)
+            }
+        }
+    }
+}
+
+/// The words of a fault.
+fn fault_text(alloc: Global, fault: &LibraryFault) -> Result<ListVec<u8>, AllocError>
+    ensures { IfOk result (λ text. text ≡ fault_text fault.now) }
+{
+    match fault {
+        LibraryFault::NoSuchMember(name) => join(alloc, &[b"no such member: ", name.as_slice()]),
+        fault => join(alloc, &[fault.to_string(alloc)?.as_bytes()]),
+    }
+}
+
+/// The message of a refusal, by the line that asked.
+pub fn error_message(
+    alloc: Global,
+    line: &ArchiveArgs<'_>,
+    refusal: &ArchiveFault,
+) -> Result<ListVec<u8>, AllocError>
+    ensures { IfOk result (λ text. text ≡ error_message (archiving line.now) refusal.now) }
+{
+    if refusal.is_memory() {
+        return join(
+            alloc,
+            &[line.library.as_bytes(), b": Error: out of memory\n"],
+        );
+    }
+    match refusal {
+        ArchiveFault::Library(fault) => file_message(
+            alloc,
+            line.library.as_bytes(),
+            fault_text(alloc, fault)?.as_slice(),
+        ),
+        ArchiveFault::File(place, fault) => {
+            let words = fault_text(alloc, fault)?;
+            match line.files.as_slice().get(*place) {
+                Some(name) => file_message(alloc, name.as_bytes(), words.as_slice()),
+                None => file_message(alloc, b"", words.as_slice()),
+            }
+        }
+    }
+}

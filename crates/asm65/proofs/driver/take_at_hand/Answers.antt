@@ -1,0 +1,65 @@
+use Rattle.std.proofs.Common.{◌≡◌, ◌∙◌, ℕ, List, Option, ap, sym, subst, take, drop}
+use Rattle.std.specs.Prelude.{IfSome}
+use Rattle.std.proofs.lemmas.List.{drop-map, take-map}
+use Rattle.std.proofs.lemmas.Result.{err_from_is_err_and}
+use Rattle.syntax65.specs.Tokens.{stored_lexemes, Lexeme, lexeme_of, lexemes}
+use Rattle.expand65.specs.declared.skipping.Peeked.{Peeked}
+use Rattle.expand65.specs.Failing.{IsAhead, IsGivenAs}
+use Rattle.expand65.specs.Representation.{place_of}
+use Rattle.semantics65.specs.Views.{place_in}
+use Rattle.asm65.specs.Internal.RunState.{TakesLine}
+use Rattle.asm65.proofs.Ahead.{line_is, roomy_ahead}
+use Rattle.asm65.proofs.Runs.{Answer}
+use Rattle.asm65.proofs.driver.take_at_hand.Goals as goal
+
+pub take_parts-taken-requires : goal.take_parts-taken-requires
+take_parts-taken-requires g c =
+    let e = c.args.run.now.expander in
+    let ts = stored_lexemes c.peek.new.tokens in
+    let P : Option Peeked → Type 0 = λ o. IfSome o (λ p. IsAhead e p ts) in
+    roomy_ahead c.args.run.now c.in-Some.line ts (subst P c.in-Some.is c.peek.ensures.ahead) c.requires
+
+pub returns-in_err-taken-clause-next : goal.returns-in_err-taken-clause-next
+returns-in_err-taken-clause-next g c =
+    let e = c.args.run.now.expander in
+    let ts = stored_lexemes c.peek.new.tokens in
+    let line = c.in-Some.line in
+    let n = c.in-Some-label_of_given.len in
+    let P : Option Peeked → Type 0 = λ o. IfSome o (λ p. IsAhead e p ts) in
+    let ahead : IsAhead e line ts = subst P c.in-Some.is c.peek.ensures.ahead in
+    let N : Option ℕ → Type 0 = λ o. IfSome o (λ i. IsGivenAs i e.rewriter (lexemes c.as_slice.result.now)) in
+    let K : List Lexeme → Type 0 = λ l. IsGivenAs n e.rewriter l in
+    let is : IsGivenAs n e.rewriter ts = subst K c.as_slice.ensures (subst N c.in-Some-label_of_given.is c.label_of_given.ensures.given) in
+    let tokens = c.as_slice-2.result.now in
+    let front : lexemes c.split_at.result.0.now ≡ take n ts = ap lexemes c.split_at.ensures.front ∙ sym (take-map lexeme_of n tokens) ∙ ap (take n) c.as_slice-2.ensures in
+    let following : lexemes c.split_at.result.1.now ≡ drop n ts = ap lexemes c.split_at.ensures.back ∙ sym (drop-map lexeme_of n tokens) ∙ ap (drop n) c.as_slice-2.ensures in
+    let place = place_in c.place.result.0.now line.number in
+    let at : place ≡ place_of c.take_peeked.new.self = ap (λ f. place_in f line.number) c.place.ensures.place.0 ∙ sym c.take_peeked.ensures.place in
+    let o = g.S.Store.files c.args.store.now in
+    let last_failure = g.S.Store.last_failure c.assemble_parts-taken.new.store in
+    let all = line_is o last_failure c.args.run.now c.take_peeked.new.self c.assemble_parts-taken.new.assembler n ts (lexemes c.split_at.result.0.now) (lexemes c.split_at.result.1.now) place c.assemble_parts-taken.result (c.take_peeked.ensures.given n ts ahead is) (c.take_peeked.ensures.less ts ahead) (λ m. c.take_peeked.ensures.placed m ts ahead) front following at c.assemble_parts-taken.ensures.taken in
+    let R : Answer → Type 0 = λ q. TakesLine o last_failure c.args.run.now (record { expander = c.take_peeked.new.self; assembler = c.assemble_parts-taken.new.assembler }) q in
+    let p = err_from_is_err_and c.from_residual.result c.from_residual.ensures.1 in
+    rw (p.1, p.2) (subst R c.in_err-taken.was all)
+
+pub returns-clause-next : goal.returns-clause-next
+returns-clause-next g c =
+    let e = c.args.run.now.expander in
+    let ts = stored_lexemes c.peek.new.tokens in
+    let line = c.in-Some.line in
+    let n = c.in-Some-label_of_given.len in
+    let P : Option Peeked → Type 0 = λ o. IfSome o (λ p. IsAhead e p ts) in
+    let ahead : IsAhead e line ts = subst P c.in-Some.is c.peek.ensures.ahead in
+    let N : Option ℕ → Type 0 = λ o. IfSome o (λ i. IsGivenAs i e.rewriter (lexemes c.as_slice.result.now)) in
+    let K : List Lexeme → Type 0 = λ l. IsGivenAs n e.rewriter l in
+    let is : IsGivenAs n e.rewriter ts = subst K c.as_slice.ensures (subst N c.in-Some-label_of_given.is c.label_of_given.ensures.given) in
+    let tokens = c.as_slice-2.result.now in
+    let front : lexemes c.split_at.result.0.now ≡ take n ts = ap lexemes c.split_at.ensures.front ∙ sym (take-map lexeme_of n tokens) ∙ ap (take n) c.as_slice-2.ensures in
+    let following : lexemes c.split_at.result.1.now ≡ drop n ts = ap lexemes c.split_at.ensures.back ∙ sym (drop-map lexeme_of n tokens) ∙ ap (drop n) c.as_slice-2.ensures in
+    let place = place_in c.place.result.0.now line.number in
+    let at : place ≡ place_of c.take_peeked.new.self = ap (λ f. place_in f line.number) c.place.ensures.place.0 ∙ sym c.take_peeked.ensures.place in
+    let o = g.S.Store.files c.args.store.now in
+    let last_failure = g.S.Store.last_failure c.assemble_parts-taken.new.store in
+    let all = line_is o last_failure c.args.run.now c.take_peeked.new.self c.assemble_parts-taken.new.assembler n ts (lexemes c.split_at.result.0.now) (lexemes c.split_at.result.1.now) place c.assemble_parts-taken.result (c.take_peeked.ensures.given n ts ahead is) (c.take_peeked.ensures.less ts ahead) (λ m. c.take_peeked.ensures.placed m ts ahead) front following at c.assemble_parts-taken.ensures.taken in
+    let R : Answer → Type 0 = λ q. TakesLine o last_failure c.args.run.now (record { expander = c.take_peeked.new.self; assembler = c.assemble_parts-taken.new.assembler }) q in
+    subst R c.in_ok-taken.was all

@@ -1,0 +1,11 @@
+use Rattle.std.proofs.Common.{Some, None}
+use Rattle.semantics65.specs.Contents.{opcode_part}
+use Rattle.asm65.proofs.Enterings.{given_enters}
+use Rattle.symbols65.proofs.Measures.{ok_then}
+use Rattle.asm65.proofs.emission.statements.emit_opcode.Goals as goal
+
+pub returns-in-Some : goal.returns-in-Some
+returns-in-Some c = rw c.in-Some.is (ok_then c.append.result (λ feeds place. given_enters c.args.assembler.now c.append.new.self place c.args.context (opcode_part (Some c.in-Some.code)) feeds) c.append.ensures)
+
+pub returns-in-None : goal.returns-in-None
+returns-in-None c = rw c.in-None.is (ok_then c.append-in-None.result (λ feeds place. given_enters c.args.assembler.now c.append-in-None.new.self place c.args.context (opcode_part None) feeds) c.append-in-None.ensures)

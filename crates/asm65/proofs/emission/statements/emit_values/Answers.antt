@@ -1,0 +1,18 @@
+use Rattle.std.proofs.Common.{◌∙◌, List, ap, map, sym, subst}
+use Rattle.std.specs.Prelude.{OnOk}
+use Rattle.ast65.specs.Items.{items_of, literal_item}
+use Rattle.semantics65.specs.Views.{place_in}
+use Rattle.ast65.specs.declared.language.Item.{Item}
+use Rattle.semantics65.specs.Module.{item_piece}
+use Rattle.asm65.specs.Internal.AssemblerState.{EmitsPieces}
+use Rattle.asm65.proofs.emission.statements.emit_values.Goals as goal
+
+pub returns-in-Numbers : goal.returns-in-Numbers
+returns-in-Numbers c =
+    subst (λ (items : List Item). OnOk c.enter_numbers.result (EmitsPieces (place_in c.args.site.at.file.now c.args.site.at.line) c.args.site.context (map (item_piece c.args.width) items) c.args.assembler.now c.enter_numbers.new.assembler))
+    (ap (map literal_item) c.as_slice.ensures ∙ sym (ap items_of c.in-Numbers.is) ∙ c.into_kind.ensures) c.enter_numbers.ensures
+
+pub returns-in-Mixed : goal.returns-in-Mixed
+returns-in-Mixed c =
+    subst (λ (items : List Item). OnOk c.enter_mixed.result (EmitsPieces (place_in c.args.site.at.file.now c.args.site.at.line) c.args.site.context (map (item_piece c.args.width) items) c.args.assembler.now c.enter_mixed.new.assembler))
+    (sym (ap items_of c.in-Mixed.is) ∙ c.into_kind.ensures) c.enter_mixed.ensures

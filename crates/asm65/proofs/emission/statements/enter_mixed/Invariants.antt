@@ -1,0 +1,15 @@
+use Rattle.std.proofs.Common.{map}
+use Rattle.std.specs.Vec.Iter.{into_iter_items}
+use Rattle.semantics65.specs.Views.{place_in}
+use Rattle.semantics65.specs.Module.{item_piece}
+use Rattle.asm65.specs.declared.assembler.Assembler.{Assembler}
+use Rattle.asm65.specs.Internal.AssemblerState.{EmitsPieces}
+use Rattle.asm65.proofs.emission.statements.enter_mixed.Given as goal
+
+-- whatever is behind the items that are left is behind them all
+abbrev pub invariant-loop-item : goal.invariant-loop-item
+invariant-loop-item l =
+    let place = place_in l.site.at.file.now l.site.at.line in
+    let s = l.site.context in
+    (b : Assembler) → EmitsPieces place s (map (item_piece l.width) (into_iter_items l.item-iterator)) l.assembler b →
+    EmitsPieces place s (map (item_piece l.width) l.fn.items) l.fn.assembler b

@@ -1,0 +1,15 @@
+use Rattle.std.proofs.Common.{refl}
+use Rattle.semantics65.specs.Views.{place_in}
+use Rattle.emit65.specs.SectionContents.{piece_of}
+use Rattle.symbols65.proofs.Measures.{ok_then}
+use Rattle.asm65.specs.declared.assembler.Assembler.{Assembler}
+use Rattle.asm65.proofs.Waitings.{holds_awaiting}
+use Rattle.asm65.proofs.emission.values.defer.Goals as goal
+
+pub returns-clause-waits : goal.returns-clause-waits
+returns-clause-waits c =
+    let old : Assembler = c.args.assembler.now in
+    let new : Assembler = record old { sections = c.defer.new.self } in
+    ok_then c.defer.result
+    (λ feeds count t h. holds_awaiting count t old new h (record { symbols = refl; known = refl; cursor = refl; texts = refl }) (record { place = place_in c.args.site.at.file.now c.args.site.at.line; context = c.args.site.context; piece = piece_of c.args.piece }) feeds)
+    c.defer.ensures

@@ -1,8 +1,0 @@
-use Rattle.std.proofs.Common.{sym}
-use Rattle.semantics65.specs.Contents.{Known, file_bytes}
-use Rattle.asm65.proofs.Enterings.{given_enters}
-use Rattle.symbols65.proofs.Measures.{ok_then}
-use Rattle.asm65.proofs.putting.statements.enter_part.Goals as goal
-
-pub returns : goal.returns
-returns c = ok_then c.append.result (λ feeds place. given_enters c.args.assembler.now c.append.new.self place c.args.context (Known (file_bytes c.args.count c.args.bytes c.args.settled)) (rw (sym c.file_bytes-part.ensures) feeds)) c.append.ensures

@@ -1,3 +1,0 @@
--- What only the contracts within the crate cite: definitions in the terms of its code.
-pub mod Holding
-pub mod Running

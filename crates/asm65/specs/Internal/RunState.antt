@@ -1,0 +1,311 @@
+-- What calls leave, the states that are held, the lines of a source, and what waits behind them.
+use Rattle.std.specs.Prelude.{◌≡◌, ℕ, ◌+◌, ◌*◌, ◌≤◌, ◌<◌, List, [], ◌∷◌, Option, None, IfErr, IfSome, Bool, true, false, Result, Ok, Err, take, ◌++◌, map, length, string_bytes, ⊤}
+use Rattle.std.specs.List.{list_any}
+use Rattle.std.specs.Str.{bytes_eq}
+use Rattle.base65.specs.Outcome.{Unless, ◌>>=◌}
+use Rattle.base65.specs.Store.{Files, PropagatesIoErrors, LastFailure}
+use Rattle.syntax65.specs.Tokens.{Lexeme}
+use Rattle.expand65.specs.Failing.{YieldsStatements}
+use Rattle.expand65.specs.State as expand
+use Rattle.expand65.specs.Representation.{IsPositioned, measure_of, place_of}
+use Rattle.syntax65.specs.declared.source_location.SourceLocation.{SourceLocation}
+use Rattle.ast65.specs.declared.fault.AsmFault.{AsmFault}
+use Rattle.ast65.specs.declared.fault.AsmFault.TheVariants.{FileError, FileNotFound}
+use Rattle.ast65.specs.Faults.{is_failure, is_system_error}
+use Rattle.ast65.specs.declared.language.Statement.{Statement}
+use Rattle.ast65.specs.declared.language.Statement.TheVariants.{Incbin, IncbinPath}
+use Rattle.semantics65.specs.Numbering.{AreSymbolNames, IsWellFormedStatement, AreSound, all_said, object_with}
+use Rattle.sources65.specs.Machine.{RunsStatements, State, StepsTo, initial_state}
+use Rattle.sources65.specs.Reading.{AssemblesExpanded, Job, stopped_at, bytes_for, with_bytes}
+use Rattle.asm65.specs.declared.assembler.Assembler.{Assembler}
+use Rattle.asm65.specs.declared.driver.Run.{Run}
+use Rattle.symbols65.specs.Measuring.{opening_limit}
+use Rattle.symbols65.specs.Resolving.{IsTable}
+use Rattle.asm65.specs.Internal.AssemblerState.{Represents}
+use Rattle.asm65.specs.Assembly.{AnswersWithoutFile, is_diagnostic_system_error, placed_of}
+use Rattle.std.specs.Option.{option_map, unwrap_or}
+use Rattle.semantics65.specs.Contents.{Content, declaration_content, located_declarations, exported_names}
+use Rattle.semantics65.specs.declared.contents.Declaration.{Declaration}
+use Rattle.semantics65.specs.Symbols.{Symbols, definition_index, named}
+use Rattle.semantics65.specs.Views.{said_at}
+use Rattle.semantics65.specs.Module.{warning_at, PieceResult, as_said, Slot, slot_result, resolved, resolution_of}
+use Rattle.object65.specs.declared.object.Object.{Object}
+use Rattle.semantics65.specs.declared.contents.Segment.{Segment}
+use Rattle.object65.specs.Objects.{is_well_formed_object}
+use Rattle.emit65.specs.SectionContents.{AreSlotsAlike, StandIn, content_of, contents_so_far, names_of, place_by, slot_of, stands_in}
+use Rattle.emit65.specs.declared.entries.SectionEntry.{SectionEntry}
+use Rattle.emit65.specs.declared.entries.SectionEntry.TheVariants as entry
+use Rattle.emit65.specs.declared.entries.SourcePos.{SourcePos}
+use Rattle.asm65.specs.declared.finish.ResolveState.{ResolveState}
+use Rattle.asm65.specs.declared.texts.Diagnostic.{Diagnostic}
+use Rattle.asm65.specs.declared.resolving.FixupLocation.{FixupLocation}
+use Rattle.asm65.specs.declared.resolving.ResolvedPiece as code
+
+-- ---- What a call that takes statements leaves.
+
+-- of a store: its files as before, and its count of failures, by the answer
+pub record AsmStoreFrame {X T : Type 0} (files_of : X → Option Files) (failures_of : X → ℕ) (old new : X) (result : Result T AsmFault) : Type 0 where
+  pub files : files_of new ≡ files_of old
+  pub count : PropagatesIoErrors is_failure (failures_of old) (failures_of new) result
+
+-- a state is held, behind statements that opened at most so much
+abbrev pub RepresentsWithin : ℕ → State → Assembler → Type 0
+RepresentsWithin most t a = (count : ℕ) × (count ≤ most) × Represents count t a
+
+-- some state is held, behind which so much more may be opened
+abbrev pub HasHeadroom : ℕ → Assembler → Type 0
+HasHeadroom more a = (count : ℕ) × (t : State) × (count + more ≤ opening_limit) × Represents count t a
+
+-- nothing else was said than what a state says
+abbrev pub SaysAs : State → Assembler → Type 0
+SaysAs t a = (a.texts.out ≡ t.out) × (a.texts.err ≡ t.err)
+
+-- ---- States that statements lead to.
+
+-- behind statements whose names objects can hold, wherever they stand
+pub data IsReached : State → Type 0 where
+  at_first : IsReached initial_state
+  following :
+      (t u : State) (place : SourceLocation) (x : Statement) →
+      IsReached t → IsWellFormedStatement x → StepsTo t place x (Ok u) → IsReached u
+
+-- Behind a state, an answer: what it says is held; or it is refused with nothing more said, as it
+-- says where names are so, unless it is refused from outside.
+abbrev pub RefinesTransition :
+    Type 0 → (Result State AsmFault → Type 0) → ℕ → State → Assembler →
+    Result (Unit {0}) AsmFault → Type 0
+RefinesTransition AreSo IsAnswer most t new (Ok x) =
+    (u : State) × IsAnswer (Ok u) × (IsReached t → IsReached u) × RepresentsWithin most u new
+RefinesTransition AreSo IsAnswer most t new (Err e) =
+    Unless (is_system_error e) ((AreSo → IsAnswer (Err e)) × SaysAs t new)
+
+-- where a store tells its files
+abbrev pub ForKnownFiles :
+    Option Files → (Files → State → Result State AsmFault → Type 0) → State →
+    Result State AsmFault → Type 0
+ForKnownFiles o IsAnswer t r = IfSome o (λ m. IsAnswer m t r)
+
+-- so for each state that is held and behind which so much may be opened
+abbrev pub TakesBy :
+    Type 0 → (State → Result State AsmFault → Type 0) → ℕ → Assembler → Assembler →
+    Result (Unit {0}) AsmFault → Type 0
+TakesBy AreSo IsAnswer more old new r =
+    (count : ℕ) (t : State) → count + more ≤ opening_limit → Represents count t old →
+    RefinesTransition AreSo (IsAnswer t) (count + more) t new r
+
+-- Where the store failed, that is the fault, and nothing more was said. Without its file the answer would be that it
+-- isn't there, for each state that is held and behind which so much may be opened.
+pub record IsStopped (IsAnswer : State → Result State AsmFault → Type 0) (more : ℕ) (old new : Assembler) (e : AsmFault) : Type 0 where
+  pub fault : e ≡ FileError
+  pub out : new.texts.out ≡ old.texts.out
+  pub err : new.texts.err ≡ old.texts.err
+  pub unread :
+      (count : ℕ) (t : State) → count + more ≤ opening_limit → Represents count t old →
+      IsAnswer t (Err FileNotFound)
+
+abbrev pub StopsQuietly :
+    (State → Result State AsmFault → Type 0) → ℕ → Assembler → Assembler →
+    Result (Unit {0}) AsmFault → Type 0
+StopsQuietly IsAnswer more old new r =
+    IfErr r (λ e. is_failure e ≡ true → IsStopped IsAnswer more old new e)
+
+-- so it takes what it reads of a store, where that tells its files, or stops where the store failed
+pub record RefinesRead (o : Option Files) (last_failure : LastFailure) (AreSo : Type 0)
+    (IsAnswer : Files → State → Result State AsmFault → Type 0) (more : ℕ) (old new : Assembler)
+    (r : Result (Unit {0}) AsmFault) : Type 0 where
+  pub taken : TakesBy AreSo (ForKnownFiles o IsAnswer) more old new r
+  pub stopped : StopsQuietly (AnswersWithoutFile last_failure IsAnswer) more old new r
+
+-- ---- A source.
+
+-- what an expander gives is so much at most, and each of its statements opens two at most
+abbrev pub running_limit : ℕ
+running_limit = 6291458
+
+-- a run holds a state, behind which what is left may open as much as it can
+pub record RunRepresents (t : State) (run : Run) : Type 0 where
+  pub count : ℕ
+  pub room : count + 2 * measure_of run.expander ≤ running_limit
+  pub holds : Represents count t run.assembler
+
+-- some state is held so, to which statements led
+abbrev pub IsRunning : Run → Type 0
+IsRunning run = (t : State) × IsReached t × RunRepresents t run
+
+-- a state is held, however much was opened before
+abbrev pub RepresentsSome : State → Assembler → Type 0
+RepresentsSome t a = (count : ℕ) × Represents count t a
+
+-- what the statements of a source come to, or their first fault, unless it is refused from outside
+abbrev pub RefinesRun : Files → Job → Run → Result (Unit {0}) AsmFault → Type 0
+RefinesRun m job new (Ok x) =
+    (u : State) × RunsStatements m job (record { following = u; fault = None }) × RepresentsSome u new.assembler
+RefinesRun m job new (Err e) = Unless (is_system_error e)
+    ((u : State) × RunsStatements m job (stopped_at u (place_of new.expander) e) × SaysAs u new.assembler)
+
+abbrev pub tokens_of : expand.ExpandedStatement → List Lexeme
+tokens_of (expand.label ts) = ts
+tokens_of (expand.plain ts) = ts
+
+-- A statement that expansion gives at a place is taken.
+abbrev pub TakesOne :
+    Option Files → LastFailure → SourceLocation → expand.ExpandedStatement → Assembler → Assembler →
+    Result (Unit {0}) AsmFault → Type 0
+TakesOne o last_failure place x = RefinesRead o last_failure (AreSymbolNames (tokens_of x)) (λ m t. AssemblesExpanded m StepsTo t place x) 2
+
+-- such statements are taken one behind the other, up to the first that is refused
+pub data TakesAll (o : Option Files) (last_failure : LastFailure) (place : SourceLocation) :
+    List expand.ExpandedStatement → Assembler → Assembler → Result (Unit {0}) AsmFault → Type 0 where
+  none : (a : Assembler) → TakesAll o last_failure place [] a a (Ok tt)
+  refused :
+      (old new : Assembler) (x : expand.ExpandedStatement) (xs : List expand.ExpandedStatement) (e : AsmFault) →
+      TakesOne o last_failure place x old new (Err e) → TakesAll o last_failure place (x ∷ xs) old new (Err e)
+  one_more :
+      (old mid new : Assembler) (x : expand.ExpandedStatement) (xs : List expand.ExpandedStatement)
+      (r : Result (Unit {0}) AsmFault) →
+      TakesOne o last_failure place x old mid (Ok tt) → TakesAll o last_failure place xs mid new r →
+      TakesAll o last_failure place (x ∷ xs) old new r
+
+-- The statements of the next line of a run are taken.
+pub record TakesLine (o : Option Files) (last_failure : LastFailure) (old new : Run) (r : Result (Unit {0}) AsmFault) : Type 0 where
+  pub statements : List expand.ExpandedStatement
+  pub given : YieldsStatements old.expander statements new.expander
+  pub taken : TakesAll o last_failure (place_of new.expander) statements old.assembler new.assembler r
+  pub less : measure_of new.expander < measure_of old.expander
+  pub placed : (m : Files) → IsPositioned m old.expander → IsPositioned m new.expander
+
+-- they are, or nothing is done
+abbrev pub TakesLineIf : Option Files → LastFailure → Run → Run → Result Bool AsmFault → Type 0
+TakesLineIf o last_failure old new (Ok true) = TakesLine o last_failure old new (Ok tt)
+TakesLineIf o last_failure old new (Ok false) = new ≡ old
+TakesLineIf o last_failure old new (Err e) = TakesLine o last_failure old new (Err e)
+
+-- ---- What is read of the files whose bytes statements take.
+
+-- a statement with the bytes of its file up to the limit, or up to one more, where there are more
+abbrev pub read_bytes : Files → SourceLocation → Statement → Statement
+read_bytes m place (IncbinPath name start len) =
+    Incbin (option_map (take 16777217) (bytes_for m place name)) start len
+read_bytes m place x = x
+
+-- A statement is refused before its file is read for what is wrong with it whatever the files have; where the store
+-- fails nothing is, so without its file the answer would be that it isn't there.
+pub record IsRefusedUnread (last_failure : LastFailure) (t : State) (place : SourceLocation) (x : Statement) (e : AsmFault) : Type 0 where
+  pub inside : Unless (is_system_error e) ((m : Files) → StepsTo t place (with_bytes m place x) (Err e))
+  pub failed : is_failure e ≡ true → AnswersWithoutFile last_failure (λ m t. StepsTo t place (with_bytes m place x)) t (Err FileNotFound)
+
+-- ---- What a piece comes to.
+
+-- the files among which it stands, and its place
+abbrev pub files_here : FixupLocation → List (List ℕ)
+files_here t = map string_bytes t.files.now
+
+abbrev pub place_here : FixupLocation → SourceLocation
+place_here t = place_by (files_here t) t.pos
+
+-- an entry of it
+abbrev pub entry_at : FixupLocation → SectionEntry → Content
+entry_at t e = content_of (files_here t) e
+
+-- what is put or said, and the warning of an assertion that failed
+abbrev pub made_at : FixupLocation → code.ResolvedPiece → PieceResult
+made_at t m = record {
+  content = unwrap_or (option_map (entry_at t) m.entry) (declaration_content []);
+  warning = unwrap_or (option_map (warning_at (place_here t)) m.warning) [];
+}
+
+-- an entry stands here, if it stands anywhere, and doesn't wait
+abbrev pub StandsWhere : SourcePos → SectionEntry → Type 0
+StandsWhere pos (entry.Value width g o f) = o ≡ pos
+StandsWhere pos (entry.DeclarationEntry t) = t.value.pos ≡ pos
+StandsWhere pos (entry.FixupEntry w) = ⊥
+StandsWhere pos _ = ⊤
+
+abbrev pub StandsAt : SourcePos → code.ResolvedPiece → Type 0
+StandsAt pos m = IfSome m.entry (StandsWhere pos)
+
+-- an entry may stand in the place of a content
+abbrev pub CanReplace : List (List ℕ) → Content → SectionEntry → Type 0
+CanReplace files c e = AreSlotsAlike (resolved c ∷ []) (slot_of files e ∷ [])
+
+-- what a saying comes to that is written with its place
+abbrev pub declaration_result : SourceLocation → Declaration → Result PieceResult AsmFault
+declaration_result place s = located_declarations place (said_at place s ∷ []) >>= as_said
+
+-- a name that isn't defined is none of these
+abbrev pub HasDefined : Symbols → List (List ℕ) → Type 0
+HasDefined y names = (n : List ℕ) → definition_index y (named 0 n) ≡ None → list_any (bytes_eq n) names ≡ false
+
+-- ---- Behind the last line.
+
+-- what was found is so by a symbol table: forms of constants, and that names which were exported are defined
+pub record IsFoundBy (y : Symbols) (e : ResolveState) : Type 0 where
+  pub forms : IsTable y e.known.states.items
+  pub names : HasDefined y (names_of e.exported)
+
+-- entries that were fed stand in these files, and say nothing yet
+pub record AreFed (files : List (List ℕ)) (es : List SectionEntry) : Type 0 where
+  pub standing : StandIn (length files) es
+  pub unsaid : all_said (contents_so_far (map (slot_of files) es)) ≡ []
+
+-- a slot has come to its content, which an entry holds, and its warning is said
+pub record IsSettled (y : Symbols) (files : List (List ℕ)) (x : Slot) (e : SectionEntry) (old new : ResolveState) : Type 0 where
+  pub made : PieceResult
+  pub found : slot_result y (names_of old.exported) x ≡ Ok made
+  pub entry : CanReplace files made.content e
+  pub standing : stands_in (length files) e ≡ true
+  pub names : names_of new.exported ≡ names_of old.exported ++ exported_names made.content.said
+  pub err : new.err ≡ old.err ++ made.warning
+
+-- it has a fault instead, and nothing is said
+pub record IsFaulty (y : Symbols) (x : Slot) (e : Diagnostic) (old new : ResolveState) : Type 0 where
+  pub found : slot_result y (names_of old.exported) x ≡ Err (placed_of e)
+  pub err : new.err ≡ old.err
+
+-- what a call leaves that isn't refused
+abbrev pub leaving : {A : Type 0} → A → Result Unit Diagnostic → Result A Diagnostic
+leaving a (Ok u) = Ok a
+leaving a (Err e) = Err e
+
+abbrev pub ResolvesSlot : Symbols → List (List ℕ) → Slot → ResolveState → ResolveState → Result SectionEntry Diagnostic → Type 0
+ResolvesSlot y files x old new (Ok e) = IsSettled y files x e old new
+ResolvesSlot y files x old new (Err e) = Unless (is_diagnostic_system_error e) (IsFaulty y x e old new)
+
+-- all slots have come to contents, which the entries hold
+pub record AreSettled (y : Symbols) (files : List (List ℕ)) (xs : List Slot) (es : List SectionEntry) (old new : ResolveState) :
+    Type 0 where
+  pub contents : List Content
+  pub said : List ℕ
+  pub found : resolution_of y (names_of old.exported) xs ≡ record { found = Ok contents; warned = said }
+  pub entries : AreSlotsAlike (map resolved contents) (map (slot_of files) es)
+  pub standing : StandIn (length files) es
+  pub err : new.err ≡ old.err ++ said
+
+-- there is a first fault, behind the warnings of what stands before it
+pub record AreFaulty (y : Symbols) (names : List (List ℕ)) (xs : List Slot) (e : Diagnostic) (old new : List ℕ) :
+    Type 0 where
+  pub said : List ℕ
+  pub found : resolution_of y names xs ≡ record { found = Err (placed_of e); warned = said }
+  pub err : new ≡ old ++ said
+
+abbrev pub SettlesAll :
+    Symbols → List (List ℕ) → List Slot → ResolveState → ResolveState → Result (List SectionEntry) Diagnostic → Type 0
+SettlesAll y files xs old new (Ok es) = AreSettled y files xs es old new
+SettlesAll y files xs old new (Err e) =
+    Unless (is_diagnostic_system_error e) (AreFaulty y (names_of old.exported) xs e old.err new.err)
+
+-- slots come to contents, and this is their object, which can be written if what it rests on holds
+pub record IsObjectOf (y : Symbols) (segments : List Segment) (xs : List Slot) (o : Object) (old new : List ℕ) :
+    Type 0 where
+  pub contents : List Content
+  pub said : List ℕ
+  pub found : resolution_of y [] xs ≡ record { found = Ok contents; warned = said }
+  pub object : o ≡ object_with segments y.imports contents
+  pub good : AreSound segments y.imports contents → is_well_formed_object o ≡ true
+  pub err : new ≡ old ++ said
+
+-- the object of slots, or their first fault, and what was said before and is said behind
+abbrev pub ComesTo :
+    Symbols → List Segment → List Slot → (old new : List ℕ) → Result Object Diagnostic → Type 0
+ComesTo y segments xs old new (Ok o) = IsObjectOf y segments xs o old new
+ComesTo y segments xs old new (Err e) = Unless (is_diagnostic_system_error e) (AreFaulty y [] xs e old new)

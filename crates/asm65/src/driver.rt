@@ -1,0 +1,340 @@
+//! From the lines of a source to statements that are taken.
+
+ghost use Rattle.std.specs.Prelude.{◌≡◌, false, Err, IfErr, ◌<◌, IfOk, IfSome, Ok, OnOk, if◌then◌else◌};
+ghost use Rattle.base65.specs.Store.{PropagatesIoError};
+ghost use Rattle.syntax65.specs.Tokens.{lexemes};
+ghost use Rattle.expand65.specs.Failing.{given_after, given_parts, StopsBetweenStatements};
+ghost use Rattle.expand65.specs.Representation.{statement_of, FollowsFrom, IsPositioned, RepresentsFirstState, measure_of, place_of};
+ghost use Rattle.ast65.specs.declared.fault.AsmFault.TheVariants.{NotUnderstood, BadScope};
+ghost use Rattle.ast65.specs.Faults.{is_failure};
+ghost use Rattle.semantics65.specs.Numbering.{AreSymbolNames, IsWellFormedStatement};
+ghost use Rattle.semantics65.specs.Views.{place_at};
+ghost use Rattle.sources65.specs.Machine.{StepsTo, State, initial_state};
+ghost use Rattle.sources65.specs.Reading.{IsLabel, IsLabelled, IsRest, known_at, AreDefined, Job, no_line};
+ghost use Rattle.expand65.specs.Replay.{tokens_in};
+ghost use Rattle.asm65.specs.Internal.RunState.{HasHeadroom, RefinesRead, TakesAll, TakesBy, TakesOne, RepresentsSome, RunRepresents, IsReached, IsRunning, AsmStoreFrame, RefinesRun, TakesLineIf};
+ghost use Rattle.expand65.specs.Expansion.{opened_in};
+ghost use Rattle.semantics65.specs.Layout.{is_open};
+ghost use Rattle.asm65.specs.Failing.{StopsAll};
+
+use crate::assembler::{Assembler, Knowledge};
+use crate::files::read_part;
+use crate::statement::is_sound;
+use ast65::{AsmFault, Statement, instruction_front, label, operand, statement};
+use base65::Store;
+use expand65::{ExpandFault, Expander, Statement as Given, StoredLine};
+use semantics65::{GLOBAL_SCOPE, LocationRef};
+use std::alloc::Global;
+use syntax65::{LineTokens, Token, TokenKind};
+
+/// How many tokens most lines have at most. For so many nothing is allocated.
+const FEW_TOKENS: usize = 8;
+
+/// The refusal of a statement that objects can't hold. (What a statement holds is let go here, not
+/// where most statements go by.)
+#[inline(never)]
+fn not_understood(_statement: Statement) -> Result<(), AsmFault>
+    ensures { result ≡ Err NotUnderstood }
+{
+    Err(AsmFault::NotUnderstood)
+}
+
+/// Takes a statement. What it hands to the object is seen to here, since a store that tells nothing of its files tells
+/// nothing of their lines.
+#[inline(always)]
+fn take_sound(
+    alloc: Global,
+    assembler: &mut Assembler,
+    at: LocationRef<'_>,
+    statement: Statement,
+) -> Result<(), AsmFault>
+    requires { HasHeadroom 1 assembler.old }
+    ensures taken { TakesBy (IsWellFormedStatement statement) (λ t. StepsTo t
+        (place_at at.entry) statement)
+        1 assembler.old assembler.new result }
+    ensures inside { IfErr result (λ e. is_failure e ≡ false) }
+{
+    if is_sound(&statement) {
+        assembler.assemble_statement(alloc, at, statement)
+    } else {
+        not_understood(statement)
+    }
+}
+
+/// Takes what stands behind a label.
+pub fn assemble_rest<S: Store>(
+    alloc: Global,
+    store: &mut S,
+    assembler: &mut Assembler,
+    at: LocationRef<'_>,
+    tokens: &[Token<'_>],
+) -> Result<(), AsmFault>
+    requires { HasHeadroom 1 assembler.old }
+    ensures read { RefinesRead (S.files store.old) (S.last_failure store.new) (AreSymbolNames (lexemes tokens.now))
+        (λ m t. IsRest m StepsTo t (place_at at.entry) (lexemes tokens.now))
+        1 assembler.old assembler.new result }
+    ensures frame { AsmStoreFrame S.files S.failures store.old store.new result }
+{
+    if tokens.is_empty() {
+        return Ok(());
+    }
+    if let Some((mnemonic, following)) = instruction_front(tokens) {
+        let operand = operand(alloc, following)?;
+        return assembler.assemble_instruction(alloc, at, mnemonic, operand);
+    }
+    let mut statement = statement(alloc, tokens)?;
+    read_part(alloc, store, assembler, at, &mut statement)?;
+    take_sound(alloc, assembler, at, statement)
+}
+
+/// Takes a label, if there is one.
+fn take_front(
+    alloc: Global,
+    assembler: &mut Assembler,
+    at: LocationRef<'_>,
+    label: Option<Statement>,
+) -> Result<(), AsmFault>
+    requires { HasHeadroom 1 assembler.old }
+    ensures taken { TakesBy (IfSome label IsWellFormedStatement) (λ t. IsLabelled StepsTo t
+        (place_at at.entry) label)
+        1 assembler.old assembler.new result }
+    ensures inside { IfErr result (λ e. is_failure e ≡ false) }
+{
+    match label {
+        Some(label) => take_sound(alloc, assembler, at, label),
+        None => Ok(()),
+    }
+}
+
+/// Takes a label's tokens.
+#[inline(never)]
+fn take_label<S: Store>(
+    alloc: Global,
+    store: &mut S,
+    assembler: &mut Assembler,
+    at: LocationRef<'_>,
+    tokens: &[Token<'_>],
+) -> Result<(), AsmFault>
+    requires { HasHeadroom 2 assembler.old }
+    ensures read { RefinesRead (S.files store.old) (S.last_failure store.new) (AreSymbolNames (lexemes tokens.now))
+        (λ m t. IsLabel m StepsTo t (place_at at.entry) (lexemes tokens.now))
+        2 assembler.old assembler.new result }
+    ensures frame { AsmStoreFrame S.files S.failures store.old store.new result }
+{
+    let (label, rest) = label(alloc, tokens)?;
+    take_front(alloc, assembler, at, label)?;
+    assemble_rest(alloc, store, assembler, at, rest)
+}
+
+/// A line of a file: its label, if it has one, and what stands behind it.
+#[derive(Clone, Copy)]
+pub struct Parts<'a, 'b> {
+    pub label: &'b [Token<'a>],
+    pub rest: &'b [Token<'a>],
+}
+
+/// Takes what stands behind a label, if anything does.
+#[inline(always)]
+fn take_after<S: Store>(
+    alloc: Global,
+    store: &mut S,
+    assembler: &mut Assembler,
+    at: LocationRef<'_>,
+    tokens: &[Token<'_>],
+) -> Result<(), AsmFault>
+    requires { HasHeadroom 1 assembler.old }
+    ensures taken { TakesAll (S.files store.old) (S.last_failure store.new)
+        (place_at at.entry) (given_after (lexemes tokens.now))
+        assembler.old assembler.new result }
+    ensures frame { AsmStoreFrame S.files S.failures store.old store.new result }
+{
+    if tokens.is_empty() {
+        return Ok(());
+    }
+    assemble_rest(alloc, store, assembler, at, tokens)
+}
+
+/// Takes the statements of a line.
+#[inline(always)]
+pub fn assemble_parts<S: Store>(
+    alloc: Global,
+    store: &mut S,
+    assembler: &mut Assembler,
+    at: LocationRef<'_>,
+    parts: Parts<'_, '_>,
+) -> Result<(), AsmFault>
+    requires { HasHeadroom 4 assembler.old }
+    ensures taken { TakesAll (S.files store.old) (S.last_failure store.new)
+        (place_at at.entry)
+        (given_parts (lexemes parts.entry.label.now) (lexemes parts.entry.rest.now))
+        assembler.old assembler.new result }
+    ensures frame { AsmStoreFrame S.files S.failures store.old store.new result }
+{
+    if parts.label.is_empty() {
+        return take_after(alloc, store, assembler, at, parts.rest);
+    }
+    take_label(alloc, store, assembler, at, parts.label)?;
+    take_after(alloc, store, assembler, at, parts.rest)
+}
+
+/// Takes a line without a label.
+fn take_line<S: Store>(
+    alloc: Global,
+    store: &mut S,
+    assembler: &mut Assembler,
+    at: LocationRef<'_>,
+    line: &StoredLine,
+) -> Result<(), AsmFault>
+    requires { HasHeadroom 1 assembler.old }
+    ensures read { RefinesRead (S.files store.old) (S.last_failure store.new) (AreSymbolNames (tokens_in line.now))
+        (λ m t. IsRest m StepsTo t (place_at at.entry) (tokens_in line.now))
+        1 assembler.old assembler.new result }
+    ensures frame { AsmStoreFrame S.files S.failures store.old store.new result }
+{
+    let blank = Token {
+        kind: TokenKind::Identifier,
+        text: b"",
+    };
+    let mut few = [blank; FEW_TOKENS];
+    match line.put_in(&mut few) {
+        Some(count) => assemble_rest(alloc, store, assembler, at, &few[..count]),
+        None => {
+            let tokens = line.tokens(alloc)?;
+            assemble_rest(alloc, store, assembler, at, &tokens)
+        }
+    }
+}
+
+/// Takes a statement that expansion gives.
+pub fn take_given<S: Store>(
+    alloc: Global,
+    store: &mut S,
+    assembler: &mut Assembler,
+    at: LocationRef<'_>,
+    given: &Given,
+) -> Result<(), AsmFault>
+    requires { HasHeadroom 2 assembler.old }
+    ensures read { TakesOne (S.files store.old) (S.last_failure store.new) (place_at at.entry)
+        (statement_of given.now) assembler.old assembler.new result }
+    ensures frame { AsmStoreFrame S.files S.failures store.old store.new result }
+{
+    match given {
+        Given::Label(line) => {
+            let tokens = line.tokens(alloc)?;
+            take_label(alloc, store, assembler, at, &tokens)
+        }
+        Given::Plain(line) => take_line(alloc, store, assembler, at, line),
+    }
+}
+
+/// A source that is being assembled.
+#[derive(Drop)]
+pub struct Run {
+    /// The statements that are left.
+    pub expander: Expander,
+    /// What those before came to.
+    pub assembler: Assembler,
+}
+
+/// The next statement, by what is known before it, or none where no line is left.
+fn next<S: Store>(run: &mut Run, store: &mut S) -> Result<Option<Given>, ExpandFault>
+    requires { IsRunning run.old }
+    ensures next { IfSome (S.files store.old) (λ m. (t : State) → RunRepresents t run.old →
+        FollowsFrom m (known_at t.symbols t.cursor) run.old.expander result run.new.expander) }
+    ensures stopped { IfSome (S.files store.old) (λ m. (t : State) → RunRepresents t run.old →
+        StopsBetweenStatements m (S.last_failure store.new) (known_at t.symbols t.cursor)
+        run.old.expander result run.new.expander) }
+    ensures placed { IfSome (S.files store.old) (λ m.
+        IsPositioned m run.old.expander → OnOk result (IsPositioned m run.new.expander)) }
+    ensures same { run.new.assembler ≡ run.old.assembler }
+    ensures size { IfOk result (λ o. IfSome o (λ _.
+        measure_of run.new.expander < measure_of run.old.expander)) }
+    ensures files { S.files store.new ≡ S.files store.old }
+    ensures count { PropagatesIoError ExpandFault.FileError (S.failures store.old) (S.failures store.new) result }
+{
+    let knowledge = Knowledge {
+        symbols: &run.assembler.symbols,
+        context: run.assembler.cursor.context(),
+    };
+    run.expander.next(store, &knowledge)
+}
+
+/// Takes a statement where it stands.
+fn take_next<S: Store>(
+    alloc: Global,
+    store: &mut S,
+    run: &mut Run,
+    statement: &Given,
+) -> Result<(), AsmFault>
+    requires { HasHeadroom 2 run.old.assembler }
+    ensures read { TakesOne (S.files store.old) (S.last_failure store.new) (place_of run.old.expander)
+        (statement_of statement.now) run.old.assembler run.new.assembler result }
+    ensures same { run.new.expander ≡ run.old.expander }
+    ensures frame { AsmStoreFrame S.files S.failures store.old store.new result }
+{
+    let (file, line) = run.expander.place();
+    let at = LocationRef { file, line };
+    take_given(alloc, store, &mut run.assembler, at, statement)
+}
+
+/// Takes the statements of the next line where it is one of a file, at hand, and given as it stands; whether it was.
+#[inline(always)]
+fn take_at_hand<S: Store>(alloc: Global, store: &mut S, run: &mut Run) -> Result<bool, AsmFault>
+    requires { IsRunning run.old }
+    ensures next { TakesLineIf (S.files store.old) (S.last_failure store.new) run.old run.new result }
+    ensures frame { AsmStoreFrame S.files S.failures store.old store.new result }
+{
+    let mut tokens = LineTokens::new();
+    let Some(line) = run.expander.peek(&mut tokens) else {
+        return Ok(false);
+    };
+    let Some(len) = run.expander.label_of_given(tokens.as_slice()) else {
+        return Ok(false);
+    };
+    let (file, _) = run.expander.place();
+    let at = LocationRef {
+        file,
+        line: line.number,
+    };
+    let (label, rest) = tokens.as_slice().split_at(len);
+    let parts = Parts { label, rest };
+    let taken = assemble_parts(alloc, store, &mut run.assembler, at, parts);
+    drop(tokens);
+    run.expander.take_peeked(line);
+    taken?;
+    Ok(true)
+}
+
+/// Refuses a scope that is open.
+fn check_closed(run: &Run) -> Result<(), AsmFault>
+    ensures { result ≡ (if is_open run.now.assembler.cursor.scope then Err BadScope else Ok tt) }
+{
+    if run.assembler.cursor.scope() == GLOBAL_SCOPE {
+        Ok(())
+    } else {
+        Err(AsmFault::BadScope)
+    }
+}
+
+/// Takes the statements that are left, behind which no scope may be open.
+pub fn assemble_all<S: Store>(alloc: Global, store: &mut S, run: &mut Run) -> Result<(), AsmFault>
+    requires { IsRunning run.old }
+    ensures ran { IfSome (S.files store.old) (λ m. (job : Job) (t : State) →
+        RepresentsFirstState m (Ok run.old.expander) (opened_in m job.source job.include) →
+        AreDefined StepsTo initial_state (no_line job.source) job.defines (Ok t) →
+        RunRepresents t run.old → RefinesRun m job run.new result) }
+    ensures stopped { IfSome (S.files store.old) (λ m.
+        StopsAll m (S.last_failure store.new) run.old run.new result) }
+    ensures held { OnOk result ((t : State) × IsReached t × RepresentsSome t run.new.assembler) }
+    ensures frame { AsmStoreFrame S.files S.failures store.old store.new result }
+{
+    'statements: loop {
+        if take_at_hand(alloc, store, run)? {
+            continue;
+        }
+        let Some(statement) = next(run, store)? else {
+            return check_closed(run);
+        };
+        take_next(alloc, store, run, &statement)?;
+    }
+}

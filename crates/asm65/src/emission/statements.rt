@@ -1,0 +1,200 @@
+//! What statements that define no name put into sections.
+
+ghost use Rattle.std.specs.Prelude.{◌≡◌, IfOk, true, ◌∷◌, [], OnOk, map};
+ghost use Rattle.semantics65.specs.Contents.{operand_tree, file_bytes, opcode_part, room_part, Known};
+ghost use Rattle.semantics65.specs.Norms.{width_of};
+ghost use Rattle.symbols65.specs.Views.{table_of};
+ghost use Rattle.asm65.specs.Internal.AssemblerState.{IsKnownTrue, EmitsPieces};
+ghost use Rattle.syntax65.specs.declared.source_location.SourceLocation.{SourceLocation};
+ghost use Rattle.semantics65.specs.Views.{place_at};
+ghost use Rattle.semantics65.specs.Module.{given, item_piece, operand_pieces};
+ghost use Rattle.ast65.specs.Items.{literal_item};
+
+use super::PieceContext;
+use super::values::{bytes_of, emit_datum, emit_operand, file_bytes, items_of, literal_of};
+use crate::assembler::Assembler;
+use ast65::{Item, Items, ItemsKind, Operand};
+use base65::ListVec;
+use object65::Width;
+use semantics65::{Context, EncodingChoice};
+use std::alloc::{AllocError, Global};
+use symbols65::{Symbols, stable_form};
+use syntax65::{Expr, Mode};
+
+/// How wide the operand of an instruction of a form is stored, if it has a value.
+pub fn width_of(mode: Mode) -> Option<Width>
+    ensures { result ≡ width_of mode }
+{
+    match mode {
+        Mode::Implied | Mode::Accumulator => None,
+        Mode::Absolute | Mode::AbsoluteX | Mode::AbsoluteY | Mode::Indirect => Some(Width::Word),
+        Mode::Relative => Some(Width::Branch),
+        _ => Some(Width::Byte),
+    }
+}
+
+/// The expression of an operand, if it has one.
+pub fn operand_value(operand: Operand) -> Option<Expr>
+    ensures { result ≡ operand_tree operand }
+{
+    match operand {
+        Operand::Absent | Operand::Accumulator => None,
+        Operand::Immediate(value)
+        | Operand::Address { value, .. }
+        | Operand::Indirect(value)
+        | Operand::IndirectX(value)
+        | Operand::IndirectY(value) => Some(value),
+    }
+}
+
+/// Whether a value is another one than 0, whatever statements follow.
+pub fn is_known_true(
+    alloc: Global,
+    symbols: &Symbols,
+    context: Context,
+    value: &Expr,
+) -> Result<bool, AllocError>
+    ensures { IfOk result (λ so. so ≡ true → IsKnownTrue (table_of symbols.now) context value.now) }
+{
+    match stable_form(alloc, symbols, context, value)? {
+        Some(form) => match literal_of(&form) {
+            Some(value) => Ok(value != 0),
+            None => Ok(false),
+        },
+        None => Ok(false),
+    }
+}
+
+/// Enters the code of an instruction.
+#[inline(always)]
+pub fn emit_opcode(
+    assembler: &mut Assembler,
+    context: Context,
+    code: Option<u8>,
+) -> Result<(), AllocError>
+    ensures { OnOk result ((place : SourceLocation) → EmitsPieces place context
+        (given (opcode_part code) ∷ []) assembler.old assembler.new) }
+{
+    match code {
+        Some(code) => assembler.sections.append(context.segment, &[code]),
+        None => assembler.sections.append(context.segment, &[]),
+    }
+}
+
+/// Enters the value of an operand, if there is one.
+#[inline(always)]
+pub fn enter_operand_of(
+    alloc: Global,
+    assembler: &mut Assembler,
+    site: PieceContext<'_>,
+    width: Option<Width>,
+    value: Option<Expr>,
+) -> Result<(), AllocError>
+    ensures { OnOk result (EmitsPieces
+        (place_at site.entry.at) site.entry.context
+        (operand_pieces width value) assembler.old assembler.new) }
+{
+    match (width, value) {
+        (Some(width), Some(value)) => emit_operand(alloc, assembler, site, width, value),
+        _ => Ok(()),
+    }
+}
+
+/// Enters a list of any elements.
+fn enter_mixed(
+    alloc: Global,
+    assembler: &mut Assembler,
+    site: PieceContext<'_>,
+    width: Width,
+    items: ListVec<Item>,
+) -> Result<(), AllocError>
+    ensures { OnOk result (EmitsPieces
+        (place_at site.entry.at) site.entry.context
+        (map (item_piece width) items) assembler.old assembler.new) }
+{
+    for item in items.into_vec() {
+        match item {
+            Item::Value(value) => emit_datum(alloc, assembler, site, width, value)?,
+            Item::StringLiteral(bytes) => {
+                assembler
+                    .sections
+                    .append(site.context.segment, bytes.as_slice())?
+            }
+        }
+    }
+    Ok(())
+}
+
+/// Enters a list of numbers: in one go, if each is in range.
+fn enter_numbers(
+    alloc: Global,
+    assembler: &mut Assembler,
+    site: PieceContext<'_>,
+    width: Width,
+    numbers: &[u32],
+) -> Result<(), AllocError>
+    ensures { OnOk result (EmitsPieces
+        (place_at site.entry.at) site.entry.context
+        (map (item_piece width) (map literal_item numbers.now)) assembler.old assembler.new) }
+{
+    match bytes_of(alloc, width, numbers)? {
+        Some(bytes) => assembler
+            .sections
+            .append(site.context.segment, bytes.as_slice()),
+        None => enter_mixed(alloc, assembler, site, width, items_of(alloc, numbers)?),
+    }
+}
+
+/// Enters a list.
+#[inline(never)]
+pub fn emit_values(
+    alloc: Global,
+    assembler: &mut Assembler,
+    site: PieceContext<'_>,
+    width: Width,
+    items: Items,
+) -> Result<(), AllocError>
+    ensures { OnOk result (EmitsPieces
+        (place_at site.entry.at) site.entry.context
+        (map (item_piece width) items) assembler.old assembler.new) }
+{
+    match items.into_kind() {
+        ItemsKind::Numbers(numbers) => {
+            enter_numbers(alloc, assembler, site, width, numbers.as_slice())
+        }
+        ItemsKind::Mixed(items) => enter_mixed(alloc, assembler, site, width, items),
+    }
+}
+
+/// Enters room of so many bytes, filled with the byte that is settled, if there is one.
+#[inline(never)]
+pub fn emit_reserve(
+    assembler: &mut Assembler,
+    context: Context,
+    count: u32,
+    settled: EncodingChoice,
+) -> Result<(), AllocError>
+    ensures { OnOk result ((place : SourceLocation) → EmitsPieces place context
+        (given (room_part count settled) ∷ []) assembler.old assembler.new) }
+{
+    match settled {
+        EncodingChoice::FillByte(byte) => assembler.sections.fill(context.segment, count, byte),
+        _ => assembler.sections.reserve_bytes(context.segment, count),
+    }
+}
+
+/// Enters so many bytes of a file from the one on that is settled.
+#[inline(never)]
+pub fn emit_incbin(
+    assembler: &mut Assembler,
+    context: Context,
+    count: u32,
+    settled: EncodingChoice,
+    bytes: Option<ListVec<u8>>,
+) -> Result<(), AllocError>
+    ensures { OnOk result ((place : SourceLocation) → EmitsPieces place context
+        (given (Known (file_bytes count bytes settled)) ∷ []) assembler.old assembler.new) }
+{
+    let part = file_bytes(&bytes, settled, count);
+    assembler.sections.append(context.segment, part)
+}

@@ -1,0 +1,291 @@
+//! What stands behind the last line comes to an object, or to the first fault.
+
+ghost use Rattle.std.specs.Prelude.{◌≡◌, ◌++◌, ◌∷◌, [], List, ℕ, IfOk, IfErr, None, Ok, OnOk, Some, length, map, nat_lt, string_bytes, true, false};
+ghost use Rattle.object65.specs.Objects.{is_well_formed_object, ObjectFits};
+ghost use Rattle.semantics65.specs.Contents.{Content};
+ghost use Rattle.ast65.specs.Faults.{is_system_error};
+ghost use Rattle.semantics65.specs.Numbering.{all_said, AreSound};
+ghost use Rattle.sources65.specs.Machine.{State, outcome_of_state, resolution_of_state};
+ghost use Rattle.semantics65.specs.Module.{Outcome, Slot, deferred};
+ghost use Rattle.emit65.specs.SectionContents.{RepresentsSlots, contents_so_far, fixup_of, names_of, slot_of};
+ghost use Rattle.symbols65.specs.Resolving.{IsTable};
+ghost use Rattle.symbols65.specs.Views.{table_of};
+ghost use Rattle.asm65.specs.Assembly.{RefinesOutcome, has_failed, in_places, is_from_outside};
+ghost use Rattle.asm65.specs.Internal.AssemblerState.{Represents};
+ghost use Rattle.asm65.specs.Internal.RunState.{AreFed, ComesTo, files_here, IsFoundBy, leaving, made_at, CanReplace, SaysAs, ResolvesSlot, SettlesAll, StandsAt, StandsWhere};
+ghost use Rattle.semantics65.specs.Views.{place_at};
+
+use crate::assembler::Assembler;
+use crate::assembling::Assembly;
+use crate::resolving::{ExportedNames, FixupLocation, ResolvedPiece, resolve};
+use crate::texts::{ConsoleOutput, Diagnostic, warn};
+use ast65::AsmFault;
+use base65::ListVec;
+use emit65::{ClosedSections, Fixup, SectionEntry, Sections};
+use indexmap::IndexSet;
+use object65::Object;
+use semantics65::{LocationRef, Segment};
+use std::alloc::{AllocError, Global};
+use std::mem;
+use symbols65::{NormCache, Symbols};
+
+/// What was found on the way through what waits.
+#[derive(Drop)]
+pub struct ResolveState {
+    /// The forms of constants.
+    pub known: NormCache,
+    pub exported: ExportedNames,
+    /// What goes to standard error.
+    pub err: ListVec<u8>,
+}
+
+/// What is known behind the last line.
+#[derive(Clone, Copy)]
+pub struct FinalTables<'a> {
+    /// The symbol table of all statements.
+    pub symbols: &'a Symbols,
+    /// The names of the files in which entries stand.
+    pub files: &'a [String],
+}
+
+/// What waited in a statement that stands here, as an entry, and its warning is said. Where it puts and says nothing, it is
+/// room of no byte.
+fn apply_resolved(
+    err: &mut ListVec<u8>,
+    spot: FixupLocation<'_>,
+    made: ResolvedPiece,
+) -> Result<SectionEntry, AllocError>
+    requires { StandsAt spot.pos made }
+    ensures entry { IfOk result (CanReplace (files_here spot.entry) (made_at spot.entry made).content) }
+    ensures standing { IfOk result (StandsWhere spot.entry.pos) }
+    ensures err { OnOk result (err.new ≡ err.old ++ (made_at spot.entry made).warning) }
+{
+    let ResolvedPiece { entry, warning } = made;
+    if let Some(text) = warning {
+        warn(err, spot.file(), spot.pos.line, text.as_slice())?;
+    }
+    match entry {
+        Some(entry) => Ok(entry),
+        None => Ok(SectionEntry::Reserve {
+            segment: 0,
+            count: 0,
+        }),
+    }
+}
+
+/// What waits comes to its content, or to its fault.
+fn settle_fixup(
+    alloc: Global,
+    whole: FinalTables<'_>,
+    ending: &mut ResolveState,
+    fixup: Fixup,
+) -> Result<SectionEntry, Diagnostic>
+    requires { IsFoundBy (table_of whole.symbols.now) ending.old }
+    ensures settled { let files = map string_bytes whole.entry.files.now in
+        nat_lt fixup.pos.file (length files) ≡ true →
+        ResolvesSlot (table_of whole.entry.symbols.now) files (deferred (fixup_of files fixup))
+        ending.old ending.new result }
+    ensures found { OnOk result (IsFoundBy (table_of whole.entry.symbols.now) ending.new) }
+    ensures inside { IfErr result (λ e. has_failed e ≡ false) }
+{
+    let spot = FixupLocation {
+        files: whole.files,
+        pos: fixup.pos,
+    };
+    match resolve(
+        alloc,
+        whole.symbols,
+        &mut ending.known,
+        &mut ending.exported,
+        spot,
+        fixup,
+    ) {
+        Ok(made) => match apply_resolved(&mut ending.err, spot, made) {
+            Ok(entry) => Ok(entry),
+            Err(_) => Err(Diagnostic::without_memory()),
+        },
+        Err(fault) => {
+            let at = LocationRef {
+                file: spot.file(),
+                line: spot.pos.line,
+            };
+            Err(Diagnostic::of_fault(alloc, at, fault))
+        }
+    }
+}
+
+/// An entry that waits comes to its content where it stands, or to its fault.
+fn settle(
+    alloc: Global,
+    whole: FinalTables<'_>,
+    ending: &mut ResolveState,
+    entry: &mut SectionEntry,
+) -> Result<(), Diagnostic>
+    requires { IsFoundBy (table_of whole.symbols.now) ending.old }
+    ensures settled { let files = map string_bytes whole.entry.files.now in
+        AreFed files (entry.old ∷ []) →
+        ResolvesSlot (table_of whole.entry.symbols.now) files (slot_of files entry.old)
+        ending.old ending.new (leaving entry.new result) }
+    ensures found { OnOk result (IsFoundBy (table_of whole.entry.symbols.now) ending.new) }
+    ensures inside { IfErr result (λ e. has_failed e ≡ false) }
+{
+    let SectionEntry::FixupEntry(_) = entry else {
+        return Ok(());
+    };
+    let nothing = SectionEntry::Reserve {
+        segment: 0,
+        count: 0,
+    };
+    let SectionEntry::FixupEntry(fixup) = mem::replace(entry, nothing) else {
+        return Ok(());
+    };
+    *entry = settle_fixup(alloc, whole, ending, Box::into_inner(fixup))?;
+    Ok(())
+}
+
+/// All entries come to their contents, in the order of the source, or to the first fault.
+fn settle_all(
+    alloc: Global,
+    whole: FinalTables<'_>,
+    ending: &mut ResolveState,
+    entries: &mut Vec<SectionEntry>,
+) -> Result<(), Diagnostic>
+    requires { IsFoundBy (table_of whole.symbols.now) ending.old }
+    ensures settled { let files = map string_bytes whole.entry.files.now in
+        AreFed files entries.old.items →
+        SettlesAll (table_of whole.entry.symbols.now) files (map (slot_of files) entries.old.items)
+        ending.old ending.new (leaving entries.new.items result) }
+    ensures inside { IfErr result (λ e. has_failed e ≡ false) }
+{
+    for entry in entries.iter_mut() {
+        settle(alloc, whole, ending, entry)?;
+    }
+    Ok(())
+}
+
+/// The object of sections, behind the last statement, or the first fault of what waits.
+fn object_of(
+    alloc: Global,
+    symbols: &Symbols,
+    segments: &[Segment],
+    ending: &mut ResolveState,
+    sections: Sections,
+) -> Result<Object, Diagnostic>
+    requires found { IsFoundBy (table_of symbols.now) ending.old }
+    requires none { names_of ending.old.exported ≡ [] }
+    ensures found { (xs : List Slot) → RepresentsSlots xs sections → all_said (contents_so_far xs) ≡ [] →
+        ComesTo (table_of symbols.now) segments.now xs ending.old.err ending.new.err result }
+    ensures numbers { IfOk result ObjectFits }
+    ensures inside { IfErr result (λ e. has_failed e ≡ false) }
+{
+    let Ok(closed) = sections.close() else {
+        return Err(Diagnostic::without_memory());
+    };
+    let ClosedSections {
+        asked,
+        files,
+        mut entries,
+    } = closed;
+    let whole = FinalTables {
+        symbols,
+        files: files.table.as_slice(),
+    };
+    settle_all(alloc, whole, ending, &mut entries)?;
+    let closed = ClosedSections {
+        asked,
+        files,
+        entries,
+    };
+    match closed.finish(alloc, segments, &symbols.imports) {
+        Ok(object) => Ok(object),
+        Err(_) => Err(Diagnostic::without_memory()),
+    }
+}
+
+/// Whether memory ran out, or the store failed.
+fn is_from_outside(answer: &Result<Object, Diagnostic>) -> bool
+    ensures { result ≡ is_from_outside answer.now }
+{
+    match answer {
+        Ok(_) => false,
+        Err(refusal) => refusal.is_system_error(),
+    }
+}
+
+/// An answer, with what was said up to there. Where memory ran out or the store failed, nothing is.
+fn answered(alloc: Global, answer: Result<Object, Diagnostic>, texts: ConsoleOutput) -> Assembly
+    ensures answer { result.result ≡ answer }
+    ensures concluded { (o : Outcome) → (is_from_outside answer ≡ false →
+        record { result = in_places answer; out = texts.out; err = texts.err } ≡ o) →
+        RefinesOutcome o result }
+    ensures silent { is_from_outside result.result ≡ true → (result.out ≡ []) × (result.err ≡ []) }
+{
+    if is_from_outside(&answer) {
+        return Assembly {
+            result: answer,
+            out: ListVec::new(alloc),
+            err: ListVec::new(alloc),
+        };
+    }
+    Assembly {
+        result: answer,
+        out: texts.out,
+        err: texts.err,
+    }
+}
+
+/// What is answered behind the last line: the object, or the first fault of what waits.
+pub fn finish_assembly(alloc: Global, assembler: Assembler) -> Assembly
+    requires { IsTable (table_of assembler.symbols) assembler.known.states.items }
+    ensures concluded { (count : ℕ) (t : State) → Represents count t assembler →
+        RefinesOutcome (outcome_of_state t None) result }
+    ensures good { IfOk result.result (λ o. (count : ℕ) (t : State) → Represents count t assembler →
+        ((cs : List Content) → (resolution_of_state t).found ≡ Ok cs →
+        AreSound t.cursor.segments t.symbols.imports cs) → is_well_formed_object o ≡ true) }
+    ensures numbers { IfOk result.result ObjectFits }
+    ensures inside { IfErr result.result (λ e. has_failed e ≡ false) }
+    ensures silent { is_from_outside result.result ≡ true →
+        (result.out ≡ []) × (result.err ≡ []) }
+{
+    let Assembler {
+        symbols,
+        known,
+        cursor,
+        sections,
+        texts,
+    } = assembler;
+    let ConsoleOutput { out, err } = texts;
+    let mut ending = ResolveState {
+        known,
+        exported: IndexSet::with_hasher(alloc, *symbols.imports.hasher()),
+        err,
+    };
+    let found = object_of(alloc, &symbols, cursor.segments(), &mut ending, sections);
+    let ResolveState { err, .. } = ending;
+    answered(alloc, found, ConsoleOutput { out, err })
+}
+
+/// What is answered at a line's fault.
+pub fn fail_at_line(
+    alloc: Global,
+    assembler: Assembler,
+    at: LocationRef<'_>,
+    fault: AsmFault,
+) -> Assembly
+    ensures refused { is_system_error fault ≡ false → (t : State) → SaysAs t assembler →
+        RefinesOutcome (outcome_of_state t (Some (record {
+          place = place_at at.entry;
+          fault = fault;
+        }))) result }
+    ensures none { IfOk result.result (λ o. ⊥) }
+    ensures inside { is_system_error fault ≡ false →
+        IfErr result.result (λ e. has_failed e ≡ false) }
+    ensures silent { is_from_outside result.result ≡ true →
+        (result.out ≡ []) × (result.err ≡ []) }
+{
+    answered(
+        alloc,
+        Err(Diagnostic::of_fault(alloc, at, fault)),
+        assembler.texts,
+    )
+}

@@ -1,0 +1,341 @@
+//! One statement of the source is taken, of names and texts that objects can hold.
+
+ghost use Rattle.std.specs.Prelude.{◌≡◌, true, Err, ◌+◌, ◌<◌, ◌∷◌, [], ℕ, IfErr, IfOk, OnOk, false};
+ghost use Rattle.std.specs.List.{list_all};
+ghost use Rattle.object65.specs.Objects.{is_name, is_printed};
+ghost use Rattle.semantics65.specs.Numbering.{IsWellFormedStatement};
+ghost use Rattle.syntax65.specs.declared.source_location.SourceLocation.{SourceLocation};
+ghost use Rattle.ast65.specs.declared.language.Statement.TheVariants.{Instruction};
+ghost use Rattle.semantics65.specs.declared.laid.EncodingChoice.TheVariants.{InMode};
+ghost use Rattle.ast65.specs.Faults.{is_failure, is_system_error};
+ghost use Rattle.semantics65.specs.Views.{place_at};
+ghost use Rattle.symbols65.specs.Measuring.{opened_by, opening_limit};
+ghost use Rattle.sources65.specs.Machine.{State, StepsTo, symbols_after};
+ghost use Rattle.semantics65.specs.Module.{asserted, instruction_pieces, pieces_of, valued};
+ghost use Rattle.sources65.specs.Reading.{RepresentsOrFails};
+ghost use Rattle.symbols65.specs.Resolving.{IsTable};
+ghost use Rattle.symbols65.specs.Views.{table_of};
+ghost use Rattle.asm65.specs.Internal.AssemblerState.{EmitsPieces, Represents, KeepsTables, RequestsSection, IsRepresentable, IsNew, IsMeasuredAt, IsRefused, EmitsThenDefines, laid_as, state_after_layout};
+
+use crate::assembler::Assembler;
+use crate::emission::PieceContext;
+use crate::emission::statements::{
+    emit_incbin, emit_opcode, emit_reserve, emit_values, enter_operand_of, is_known_true,
+    operand_value, width_of,
+};
+use crate::emission::values::defer;
+use ast65::{AsmFault, Operand, Statement};
+use base65::ListVec;
+use emit65::FixupKind;
+use object65::Action;
+use semantics65::{Context, EncodingChoice, LocationRef};
+use std::alloc::{AllocError, Global};
+use symbols65::{
+    LineState, StatementLayout, lay_out_statement, measure_instruction, needs_section,
+};
+use syntax65::{Expr, Mnemonic, Mode, opcode};
+
+/// How many bytes a name or a text has fewer than.
+const LEN_LIMIT: usize = 256;
+
+fn is_printed(name: &[u8]) -> bool
+    ensures { result ≡ list_all is_printed name.now }
+{
+    name.iter().all(|b| 0x20 < *b && *b < 0x7f)
+}
+
+#[inline(never)]
+fn is_name(name: &[u8]) -> bool
+    ensures { result ≡ is_name name.now }
+{
+    !name.is_empty() && name.len() < LEN_LIMIT && is_printed(name)
+}
+
+#[inline(never)]
+fn are_names(names: &[ListVec<u8>]) -> bool
+    ensures { result ≡ list_all is_name names.now }
+{
+    names.iter().all(|name| is_name(name.as_slice()))
+}
+
+/// Whether objects can hold what a statement hands to them.
+pub fn is_sound(statement: &Statement) -> bool
+    ensures sound { result ≡ true → IsWellFormedStatement statement.now }
+    ensures all { IsWellFormedStatement statement.now → result ≡ true }
+{
+    match statement {
+        Statement::Segment { name, .. } => is_name(name.as_slice()),
+        Statement::Import { names, .. } => are_names(names.as_slice()),
+        Statement::Export(names) => are_names(names.as_slice()),
+        Statement::Global { names, .. } => are_names(names.as_slice()),
+        Statement::ForceImport(names) => are_names(names.as_slice()),
+        Statement::Assert { text, .. } => text.len() < LEN_LIMIT,
+        _ => true,
+    }
+}
+
+/// Where a statement stands, and what it places.
+#[derive(Clone, Copy)]
+struct LaidOut {
+    context: Context,
+    measured: StatementLayout,
+}
+
+/// The refusal of a statement. (What it holds is let go here, not where most statements go by.)
+#[inline(never)]
+fn refused(_statement: Statement, fault: AsmFault) -> Result<(), AsmFault>
+    ensures { result ≡ Err fault }
+{
+    Err(fault)
+}
+
+/// The refusal of an instruction, whose operand is let go here.
+#[inline(never)]
+fn refused_operand(_operand: Operand, fault: AsmFault) -> Result<(), AsmFault>
+    ensures { result ≡ Err fault }
+{
+    Err(fault)
+}
+
+impl Assembler {
+    /// A statement asks for its section, where it asks for one.
+    #[inline(always)]
+    fn request_section(&mut self, segment: u32, statement: &Statement) -> Result<(), AllocError>
+        ensures asked { OnOk result (RequestsSection segment statement.now self.old self.new) }
+        ensures tables { KeepsTables self.old self.new }
+    {
+        if needs_section(statement) {
+            self.sections.request_section(segment)?;
+        }
+        Ok(())
+    }
+
+    /// Enters an instruction of a form.
+    #[inline(always)]
+    fn enter_instruction(
+        &mut self,
+        alloc: Global,
+        site: PieceContext<'_>,
+        mnemonic: Mnemonic,
+        mode: Mode,
+        operand: Operand,
+    ) -> Result<(), AllocError>
+        ensures { OnOk result (EmitsPieces
+            (place_at site.entry.at) site.entry.context
+            (instruction_pieces mnemonic operand (InMode mode))
+            self.old self.new) }
+    {
+        emit_opcode(self, site.context, opcode(mnemonic, mode))?;
+        enter_operand_of(alloc, self, site, width_of(mode), operand_value(operand))
+    }
+
+    /// An instruction is entered in the form that is settled.
+    #[inline(always)]
+    fn enter_settled(
+        &mut self,
+        alloc: Global,
+        site: PieceContext<'_>,
+        settled: EncodingChoice,
+        mnemonic: Mnemonic,
+        operand: Operand,
+    ) -> Result<(), AllocError>
+        ensures { OnOk result (EmitsPieces
+            (place_at site.entry.at) site.entry.context
+            (instruction_pieces mnemonic operand settled)
+            self.old self.new) }
+    {
+        match settled {
+            EncodingChoice::InMode(mode) => self.enter_instruction(
+                alloc, site, mnemonic, mode, operand,
+            ),
+            EncodingChoice::Undecided
+            | EncodingChoice::FillByte(_)
+            | EncodingChoice::FileOffset(_) => Ok(()),
+        }
+    }
+
+    /// Enters an assertion.
+    #[inline(never)]
+    fn enter_assertion(
+        &mut self,
+        alloc: Global,
+        site: PieceContext<'_>,
+        action: Action,
+        text: ListVec<u8>,
+        value: Expr,
+    ) -> Result<(), AllocError>
+        ensures { OnOk result (EmitsPieces
+            (place_at site.entry.at) site.entry.context
+            (valued (asserted action text) value ∷ []) self.old self.new) }
+    {
+        if is_known_true(alloc, &self.symbols, site.context, &value)? {
+            return Ok(());
+        }
+        defer(
+            self,
+            site,
+            FixupKind::Assertion {
+                action,
+                text,
+                value,
+            },
+        )
+    }
+
+    /// The pieces of a statement are entered, and then its names are known.
+    #[inline(never)]
+    fn emit_statement(
+        &mut self,
+        alloc: Global,
+        site: PieceContext<'_>,
+        measured: StatementLayout,
+        statement: Statement,
+    ) -> Result<(), AllocError>
+        requires known { IsTable (table_of self.old.symbols) self.old.known.states.items }
+        requires new { IsNew (table_of self.old.symbols) site.context statement }
+        ensures { OnOk result (let place = place_at site.entry.at in
+            let s = site.entry.context in let m = measured in
+            EmitsThenDefines place s (pieces_of m.length m.settled statement)
+            (λ y. symbols_after y (laid_as place s m statement))
+            self.old self.new) }
+    {
+        let context = site.context;
+        let StatementLayout {
+            length,
+            settled,
+            ..
+        } = measured;
+        match statement {
+            Statement::Instruction { mnemonic, operand } => {
+                self.enter_settled(alloc, site, settled, mnemonic, operand)
+            }
+            Statement::Values { width, items } => emit_values(alloc, self, site, width, items),
+            Statement::Reserve { .. } => emit_reserve(self, context, length, settled),
+            Statement::Align { .. } => emit_reserve(self, context, length, settled),
+            Statement::Incbin { bytes, .. } => emit_incbin(self, context, length, settled, bytes),
+            Statement::Assert {
+                value,
+                action,
+                text,
+            } => self.enter_assertion(alloc, site, action, text, value),
+            other => self.enter_names(alloc, site, measured, other),
+        }
+    }
+
+    /// Finds what a statement places and where it stands, or its first fault; asks for its section,
+    /// says what it prints, and goes on behind it.
+    #[inline(always)]
+    fn lay_out(
+        &mut self,
+        alloc: Global,
+        at: LocationRef<'_>,
+        statement: &Statement,
+    ) -> Result<LaidOut, AsmFault>
+        requires { IsRepresentable self.old }
+        ensures placed { (count : ℕ) (t : State) → Represents count t self.old → IfOk result (λ p.
+            IsMeasuredAt t statement.now p.context p.measured) }
+        ensures holds { (count : ℕ) (t : State) → Represents count t self.old → OnOk result
+            (Represents (count + opened_by statement.now)
+            (state_after_layout t (place_at at.entry) statement.now)
+            self.new) }
+        ensures refused { (count : ℕ) (t : State) → Represents count t self.old → IfErr result
+            (IsRefused t statement.now) }
+        ensures known { OnOk result
+            (IsTable (table_of self.new.symbols) self.new.known.states.items) }
+        ensures new { IfOk result (λ p. IsNew (table_of self.new.symbols) p.context statement.now) }
+        ensures texts { IfErr result (λ e. is_system_error e ≡ false → self.new.texts ≡ self.old.texts) }
+        ensures inside { IfErr result (λ e. is_failure e ≡ false) }
+    {
+        let before = LineState {
+            symbols: &self.symbols,
+            cursor: &self.cursor,
+        };
+        let measured = lay_out_statement(alloc, before, &mut self.known, statement)?;
+        let context = self.cursor.context();
+        self.request_section(context.segment, statement)?;
+        self.texts.record_output(at, statement)?;
+        self.cursor
+            .advance(alloc, &self.symbols, statement, measured)?;
+        Ok(LaidOut { context, measured })
+    }
+
+    /// Finds what an instruction places and where it stands, or its first fault; asks for its section,
+    /// and goes on behind it.
+    #[inline(always)]
+    fn place_instruction(
+        &mut self,
+        alloc: Global,
+        mnemonic: Mnemonic,
+        operand: &Operand,
+    ) -> Result<LaidOut, AsmFault>
+        requires { IsRepresentable self.old }
+        ensures placed { (count : ℕ) (t : State) → Represents count t self.old → IfOk result (λ p.
+            IsMeasuredAt t (Instruction mnemonic operand.now) p.context p.measured) }
+        ensures holds { (place : SourceLocation) (count : ℕ) (t : State) → Represents count t self.old →
+            OnOk result (Represents (count + opened_by (Instruction mnemonic operand.now))
+            (state_after_layout t place (Instruction mnemonic operand.now)) self.new) }
+        ensures refused { (count : ℕ) (t : State) → Represents count t self.old → IfErr result
+            (IsRefused t (Instruction mnemonic operand.now)) }
+        ensures texts { IfErr result (λ e. is_system_error e ≡ false → self.new.texts ≡ self.old.texts) }
+        ensures inside { IfErr result (λ e. is_failure e ≡ false) }
+    {
+        let before = LineState {
+            symbols: &self.symbols,
+            cursor: &self.cursor,
+        };
+        let measured = measure_instruction(alloc, before, &mut self.known, mnemonic, operand)?;
+        let context = self.cursor.context();
+        self.sections.request_section(context.segment)?;
+        self.cursor.advance_by(measured.length);
+        Ok(LaidOut { context, measured })
+    }
+
+    /// Takes an instruction behind other statements, as `take` does.
+    pub fn assemble_instruction(
+        &mut self,
+        alloc: Global,
+        at: LocationRef<'_>,
+        mnemonic: Mnemonic,
+        operand: Operand,
+    ) -> Result<(), AsmFault>
+        requires { IsRepresentable self.old }
+        ensures taken { (count : ℕ) (t : State) → Represents count t self.old → count < opening_limit →
+            RepresentsOrFails (StepsTo t (place_at at.entry)
+            (Instruction mnemonic operand))
+            (λ u. Represents (count + opened_by (Instruction mnemonic operand)) u self.new) result }
+        ensures texts { IfErr result (λ e. is_system_error e ≡ false → self.new.texts ≡ self.old.texts) }
+        ensures inside { IfErr result (λ e. is_failure e ≡ false) }
+    {
+        match self.place_instruction(alloc, mnemonic, &operand) {
+            Ok(LaidOut { context, measured }) => {
+                let site = PieceContext { at, context };
+                self.enter_settled(alloc, site, measured.settled, mnemonic, operand)?;
+                Ok(())
+            }
+            Err(fault) => refused_operand(operand, fault),
+        }
+    }
+
+    /// Takes one statement behind the others. A fault of the statement leaves what is said as it was.
+    pub fn assemble_statement(
+        &mut self,
+        alloc: Global,
+        at: LocationRef<'_>,
+        statement: Statement,
+    ) -> Result<(), AsmFault>
+        requires { IsRepresentable self.old }
+        ensures taken { (count : ℕ) (t : State) → Represents count t self.old → count < opening_limit →
+            RepresentsOrFails (StepsTo t (place_at at.entry) statement)
+            (λ u. Represents (count + opened_by statement) u self.new) result }
+        ensures texts { IfErr result (λ e. is_system_error e ≡ false → self.new.texts ≡ self.old.texts) }
+        ensures inside { IfErr result (λ e. is_failure e ≡ false) }
+    {
+        match self.lay_out(alloc, at, &statement) {
+            Ok(LaidOut { context, measured }) => {
+                self.emit_statement(alloc, PieceContext { at, context }, measured, statement)?;
+                Ok(())
+            }
+            Err(fault) => refused(statement, fault),
+        }
+    }
+}

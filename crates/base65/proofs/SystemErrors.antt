@@ -1,0 +1,36 @@
+-- Answers that don't come from outside, by the parts of which they are made.
+use Rattle.std.proofs.Common.{◌≡◌, Bool, true, false, List, [], ◌∷◌, Result, Ok, Err, refl, if◌then◌else◌}
+use Rattle.base65.specs.Outcome.{◌>>=◌, AndThen, try_map}
+use Rattle.base65.specs.SystemErrors.{IsNoSystemError}
+
+-- the same as a record, by which a proof finds what is outside
+pub record Own {E A : Type 0} (is_system_error : E → Bool) (r : Result A E) : Type 0 where
+  pub own : IsNoSystemError is_system_error r
+
+pub good : {E A : Type 0} {is_system_error : E → Bool} (x : A) → Own is_system_error (Ok x)
+good x = record { own = tt }
+
+pub bad : {E A : Type 0} {is_system_error : E → Bool} (e : E) → is_system_error e ≡ false → Own {A = A} is_system_error (Err e)
+bad e h = record { own = h }
+
+-- first one, and then another behind it
+pub next : {E A B : Type 0} {is_system_error : E → Bool} (r : Result A E) (f : A → Result B E) → Own is_system_error r → ((x : A) → Own is_system_error (f x)) → Own is_system_error (r >>= f)
+next (Ok x) f h k = k x
+next (Err e) f h k = record { own = h.own }
+
+pub choice : {E A : Type 0} {is_system_error : E → Bool} (b : Bool) (r s : Result A E) → Own is_system_error r → Own is_system_error s → Own is_system_error (if b then r else s)
+choice true r s h k = h
+choice false r s h k = k
+
+pub each_own : {E A B : Type 0} {is_system_error : E → Bool} (f : A → Result B E) → ((x : A) → Own is_system_error (f x)) → (xs : List A) → Own is_system_error (try_map f xs)
+each_own f own [] = good []
+each_own f own (x ∷ xs) = next (f x) _ (own x) (λ y. next (try_map f xs) _ (each_own f own xs) (λ ys. good (y ∷ ys)))
+
+-- such an answer, which comes from no outside
+abbrev pub Has : {E A : Type 0} → (E → Bool) → (Result A E → Type 0) → Type 0
+Has {E} {A} is_system_error Is = (r : Result A E) × Is r × Own is_system_error r
+
+-- what follows a first part there is, where it is there behind each answer of that part
+pub first_own : {E A B : Type 0} (is_system_error : E → Bool) (head : Result A E) (Next : A → Result B E → Type 0) → Own is_system_error head → ((x : A) → Has is_system_error (Next x)) → Has is_system_error (AndThen head Next)
+first_own is_system_error (Ok x) Next h some = some x
+first_own is_system_error (Err e) Next h some = (Err e, refl, record { own = h.own })

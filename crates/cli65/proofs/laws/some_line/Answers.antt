@@ -1,5 +1,0 @@
-use Rattle.cli65.proofs.SomeLine.{some_line}
-use Rattle.cli65.proofs.laws.some_line.Goals as goal
-
-pub returns : goal.returns
-returns c = some_line

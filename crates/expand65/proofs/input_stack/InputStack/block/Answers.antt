@@ -1,0 +1,98 @@
+use Rattle.std.proofs.Common.{◌≡◌, true, ◌∙◌, List, map, sym, subst, rules, Ok, Err, arith, IfSome}
+use Rattle.std.proofs.lemmas.Result.{err_from_is_err_and}
+use Rattle.base65.specs.Outcome.{Unless}
+use Rattle.syntax65.specs.Tokens.{Lexeme}
+use Rattle.expand65.specs.Blocks.{TakesInBlock, judge}
+use Rattle.syntax65.specs.Faults.{is_failure, is_system_error}
+use Rattle.expand65.specs.Representation.{branch_of, remaining_of, FailsAtLine, HasStopped, RefinesVerdict, StandsIn}
+use Rattle.expand65.specs.Replay.{tokens_in}
+use Rattle.expand65.specs.declared.blocks.BlockStep.{BlockStep}
+use Rattle.expand65.proofs.Blocking.{Leads, line_missing, line_refused, line_closes, line_goes_on, lines_passed}
+use Rattle.expand65.proofs.Lines.{moved_to}
+use Rattle.expand65.proofs.Placed.{stands_back, stands_so, stands_where}
+use Rattle.expand65.proofs.StoppedReading.{line_read, plainly_read, stops_on}
+use Rattle.expand65.proofs.input_stack.InputStack.block.Goals as goal
+
+pub returns-in_err-line-clause-read : goal.returns-in_err-line-clause-read
+returns-in_err-line-clause-read g c =
+    let p = err_from_is_err_and c.from_residual.result c.from_residual.ensures.1 in
+    let o = g.S.Store.files c.args.store.now in
+    let k = c.args.kind in
+    let body = map tokens_in c.lines.lines in
+    let mid = c.pass_unkept.new.self in
+    let so_far = lines_passed k o c.args.self.now c.lines.self mid c.lines.depth body c.pass_unkept.ensures.passed c.lines.invariant.so_far in
+    let f = c.in_err-line.field-0.0 in
+    let new = c.block_line.new.self in
+    let taken = moved_to (λ m. Unless (is_system_error f) (TakesInBlock (remaining_of m mid) (Err (f, new.place)))) o (g.S.Store.files c.lines.store) c.lines.invariant.files c.in_err-line.ensures.read in
+    rw (p.1, p.2) (line_missing k o c.args.self.now mid c.lines.depth body f new.place so_far taken)
+
+pub returns-in_err-end-clause-read : goal.returns-in_err-end-clause-read
+returns-in_err-end-clause-read g c =
+    let p = err_from_is_err_and c.from_residual-in_err-end.result c.from_residual-in_err-end.ensures.1 in
+    let o = g.S.Store.files c.args.store.now in
+    let k = c.args.kind in
+    let body = map tokens_in c.lines.lines in
+    let mid = c.pass_unkept.new.self in
+    let so_far = lines_passed k o c.args.self.now c.lines.self mid c.lines.depth body c.pass_unkept.ensures.passed c.lines.invariant.so_far in
+    let new = c.block_line.new.self in
+    let line = c.in_ok-line.line in
+    let taken = moved_to (λ m. TakesInBlock (remaining_of m mid) (Ok (tokens_in line, remaining_of m new))) o (g.S.Store.files c.lines.store) c.lines.invariant.files c.in_ok-line.ensures.read in
+    rw (p.1, p.2) (line_refused k o c.args.self.now mid new c.lines.depth body (tokens_in line) c.in_err-end.field-0.0 so_far taken c.in_err-end.ensures.step)
+
+pub returns-in-Closed-clause-read : goal.returns-in-Closed-clause-read
+returns-in-Closed-clause-read g c =
+    let o = g.S.Store.files c.args.store.now in
+    let k = c.args.kind in
+    let body = map tokens_in c.lines.lines in
+    let mid = c.pass_unkept.new.self in
+    let so_far = lines_passed k o c.args.self.now c.lines.self mid c.lines.depth body c.pass_unkept.ensures.passed c.lines.invariant.so_far in
+    let new = c.block_line.new.self in
+    let line = c.in_ok-line.line in
+    let taken = moved_to (λ m. TakesInBlock (remaining_of m mid) (Ok (tokens_in line, remaining_of m new))) o (g.S.Store.files c.lines.store) c.lines.invariant.files c.in_ok-line.ensures.read in
+    let P : BlockStep → Type 0 = λ s. RefinesVerdict (Ok s) (judge k c.lines.depth (tokens_in line)) in
+    let last = subst P c.in-Closed.is c.in_ok-end.ensures.step in
+    line_closes k o c.args.self.now mid new c.lines.depth body (tokens_in line) (branch_of c.in-Closed.end) so_far taken last
+
+pub lines-preserved : goal.lines-preserved
+lines-preserved g c =
+    let o = g.S.Store.files c.args.store.now in
+    let k = c.args.kind in
+    let body = map tokens_in c.lines.lines in
+    let mid = c.pass_unkept.new.self in
+    let so_far = lines_passed k o c.args.self.now c.lines.self mid c.lines.depth body c.pass_unkept.ensures.passed c.lines.invariant.so_far in
+    let reads = plainly_read k o c.args.self.now c.lines.self mid c.lines.depth c.pass_unkept.ensures.passed c.lines.invariant.reads in
+    let new = c.block_line.new.self in
+    let line = c.in_ok-line.line in
+    let taken = moved_to (λ m. TakesInBlock (remaining_of m mid) (Ok (tokens_in line, remaining_of m new))) o (g.S.Store.files c.lines.store) c.lines.invariant.files c.in_ok-line.ensures.read in
+    let P : BlockStep → Type 0 = λ s. RefinesVerdict (Ok s) (judge k c.lines.depth (tokens_in line)) in
+    let goes = subst P c.in-On.is c.in_ok-end.ensures.step in
+    let Q : List (List Lexeme) → Type 0 = λ b. IfSome o (Leads k c.in-On.deeper b new c.args.self.now) in
+    let stands_on : StandsIn o c.lines.self → StandsIn o new = λ h. stands_back o (g.S.Store.files c.lines.store) mid new c.lines.invariant.files c.in_ok-line.ensures.stands (stands_so o c.lines.self mid c.pass_unkept.ensures.stands h) in
+    record {
+      outer = c.in_ok-line.ensures.stays.outer ∙ c.pass_unkept.ensures.stays.outer ∙ c.lines.invariant.outer;
+      mark = c.in_ok-line.ensures.stays.mark ∙ c.pass_unkept.ensures.stays.mark ∙ c.lines.invariant.mark;
+      room = omega (arith, c.in_ok-line.ensures.room, c.pass_unkept.ensures.room, c.lines.invariant.room);
+      files = c.in_ok-line.ensures.leaves.files ∙ c.lines.invariant.files;
+      count = search rules;
+      stands = λ h. stands_on (c.lines.invariant.stands h);
+      reads = line_read k o c.args.self.now mid new c.lines.depth c.in-On.deeper (tokens_in line) reads taken goes;
+      so_far = subst Q (sym c.in_ok-keep-in-On.ensures) (line_goes_on k o c.args.self.now mid new c.lines.depth c.in-On.deeper body (tokens_in line) so_far taken goes);
+    }
+
+pub returns-in_err-line-clause-stopped : goal.returns-in_err-line-clause-stopped
+returns-in_err-line-clause-stopped g c = λ stands.
+    (let p = err_from_is_err_and c.from_residual.result c.from_residual.ensures.1 in
+    let o = g.S.Store.files c.args.store.now in
+    let k = c.args.kind in
+    let mid = c.pass_unkept.new.self in
+    let f = c.in_err-line.field-0.0 in
+    let reads = plainly_read k o c.args.self.now c.lines.self mid c.lines.depth c.pass_unkept.ensures.passed c.lines.invariant.reads in
+    let stops = moved_to (λ m. is_failure f ≡ true → HasStopped (FailsAtLine m (g.S.Store.last_failure c.block_line.new.store) (remaining_of m mid)) mid c.block_line.new.self) o (g.S.Store.files c.lines.store) c.lines.invariant.files (c.in_err-line.ensures.stopped (stands_where o (g.S.Store.files c.lines.store) mid c.lines.invariant.files (stands_so o c.lines.self mid c.pass_unkept.ensures.stands (c.lines.invariant.stands stands)))) in
+    rw (p.1, p.2) (stops_on (g.S.Store.last_failure c.block_line.new.store) k o c.args.self.now mid c.block_line.new.self c.lines.depth f reads (c.pass_unkept.ensures.stays.mark ∙ c.lines.invariant.mark) stops))
+
+pub returns-in-Closed-clause-stands : goal.returns-in-Closed-clause-stands
+returns-in-Closed-clause-stands g c = λ stands.
+    (let o = g.S.Store.files c.args.store.now in
+    let mid = c.pass_unkept.new.self in
+    let new = c.block_line.new.self in
+    stands_back o (g.S.Store.files c.lines.store) mid new c.lines.invariant.files c.in_ok-line.ensures.stands (stands_so o c.lines.self mid c.pass_unkept.ensures.stands (c.lines.invariant.stands stands)))

@@ -1,8 +1,0 @@
-use Rattle.std.proofs.Common.{◌≡◌, ◌++◌, ℕ, List, take}
-use Rattle.syntax65.specs.Tokens.{lexemes}
-use Rattle.expand65.specs.Playing.{cut}
-use Rattle.expand65.specs.declared.line.Word.{Word}
-use Rattle.expand65.proofs.line.Line.copy_of.Given as goal
-
-abbrev pub invariant-loop-token : goal.invariant-loop-token
-invariant-loop-token l = (ws : List Word) (bs : List ℕ) → cut (l.words.items ++ ws) (l.bytes.items ++ bs) ≡ lexemes (take l.token-index l.tokens) ++ cut ws bs

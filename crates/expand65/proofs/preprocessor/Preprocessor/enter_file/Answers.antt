@@ -1,0 +1,22 @@
+use Rattle.std.proofs.lemmas.Grind.{common_steps}
+use Rattle.std.proofs.Common.{◌∙◌, refl, sym, rules, arith}
+use Rattle.syntax65.specs.declared.source_location.SourceLocation.{SourceLocation}
+use Rattle.expand65.specs.declared.input_stack.InputStack.{InputStack}
+use Rattle.expand65.proofs.Placed.{goes_back, opened_at, stands_so}
+use Rattle.expand65.proofs.preprocessor.Preprocessor.enter_file.Goals as goal
+
+pub returns-clause-keeps : goal.returns-clause-keeps
+returns-clause-keeps c = λ files.
+    (let place : SourceLocation = record { file = c.in_ok-copy_of.field-0; line = 0 } in
+    let mid = c.enter.new.self in
+    let new : InputStack = record { top = mid.top; outer = mid.outer; room = mid.room; place = place } in
+    record {
+      stands = stands_so files c.args.self.now.reader new (λ m h. goes_back m mid new place refl refl refl (c.in_ok-enter.ensures.stands m place (opened_at m c.new.result place (c.new.ensures.name ∙ sym (c.in_ok-copy_of.ensures ∙ c.as_str.ensures)) c.new.ensures.line refl (c.new.ensures.following m)) tt c.in_ok-back.ensures h));
+      size = search rules;
+    })
+
+pub returns-in_err-enter-clause-turns : goal.returns-in_err-enter-clause-turns
+returns-in_err-enter-clause-turns c = grind (arith, common_steps)
+
+pub returns-clause-turns : goal.returns-clause-turns
+returns-clause-turns c = grind (arith, common_steps)

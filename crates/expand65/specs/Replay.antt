@@ -1,0 +1,119 @@
+-- Lines as they are kept, played again, passed over, or read where they stand.
+use Rattle.std.specs.Prelude.{◌≡◌, ℕ, List, [], ◌∷◌, take, drop, suc, true, false, Option, Some, None, Result, Ok, Err, map, Bool, ◌<◌, length, ◌+◌}
+use Rattle.syntax65.specs.Tokens.{Lexeme, IsRead}
+use Rattle.expand65.specs.declared.line.StoredToken.{StoredToken}
+use Rattle.expand65.specs.Types.{StoredLine, ExpandFault, NotUnderstood, Body, Replay, OpenFile, LineSource, Peeked, InputStack}
+use Rattle.base65.specs.Outcome.{Unless}
+use Rattle.syntax65.specs.Faults.{is_system_error}
+use Rattle.expand65.specs.Fronts.{is_mislabelled, label_len, front_directive, is_colon}
+use Rattle.std.specs.Option.{option_map}
+use Rattle.expand65.specs.Lines.{Substitution, Definition, Item, played, written, RemainingInput, is_inside, without_return, TakesNextLine}
+use Rattle.expand65.specs.declared.macro_replay.Replacement.{Replacement}
+use Rattle.expand65.specs.declared.macro_replay.Replacement.TheVariants.{Itself, Nothing, Tokens}
+use Rattle.std.specs.List.{prefix_len}
+use Rattle.expand65.specs.declared.input.LineSource.TheVariants as source
+
+-- ---- Lines as they are kept.
+
+-- the token of a word at the front of the bytes, and what stands behind it
+abbrev pub text_of : StoredToken → List ℕ → Lexeme
+text_of w bytes = (w.kind, take w.len (drop w.blanks bytes))
+
+abbrev pub after_word : StoredToken → List ℕ → List ℕ
+after_word w bytes = drop w.len (drop w.blanks bytes)
+
+-- words cut off the bytes one after another
+abbrev pub cut : List StoredToken → List ℕ → List Lexeme
+cut [] bytes = []
+cut (w ∷ ws) bytes = text_of w bytes ∷ cut ws (after_word w bytes)
+
+-- the tokens of a line
+abbrev pub tokens_in : StoredLine → List Lexeme
+tokens_in line = cut line.words line.bytes
+
+-- ---- A line parted into its label and the rest.
+
+-- the label and the rest of a line that has a label of n tokens
+pub record AreParts (ts : List Lexeme) (n : ℕ) (pending following : StoredLine) : Type 0 where
+  pub some : label_len ts ≡ suc n
+  pub right : is_mislabelled ts ≡ false
+  pub label : tokens_in pending ≡ take (suc n) ts
+  pub rest : tokens_in following ≡ drop (suc n) ts
+
+abbrev pub IsParted : List Lexeme → Result (Option (StoredLine × StoredLine)) ExpandFault → Type 0
+IsParted ts (Ok None) = label_len ts ≡ 0
+IsParted ts (Ok (Some (label, rest))) = (n : ℕ) × AreParts ts n label rest
+IsParted ts (Err f) = Unless (is_system_error f) ((f ≡ NotUnderstood) × (is_mislabelled ts ≡ true))
+
+-- ---- Bodies as they are kept and replayed.
+
+-- a macro, or what a repeat replays
+abbrev pub definition_of : Body → Definition
+definition_of b = record { params = map (λ k. k.items) b.params.keys; body = map tokens_in b.lines }
+
+-- what is put into the lines of a body
+abbrev pub replacing_of : Replay → Substitution
+replacing_of r = record {
+  params = map (λ k. k.items) r.body.value.params.keys;
+  arguments = map tokens_in r.arguments;
+  count = option_map tokens_in r.count;
+  locals = map (λ e. (e.0.items, tokens_in e.1)) r.locals.entries;
+  number = r.number;
+}
+
+-- the lines that are left of it
+abbrev pub left_to_play : Replay → List Item
+left_to_play r = map (played (replacing_of r)) (drop r.at (map tokens_in r.body.value.lines))
+
+-- what stands for a token
+abbrev pub tokens_for : Replacement → Option (List Lexeme)
+tokens_for Itself = None
+tokens_for Nothing = Some []
+tokens_for (Tokens line) = Some (tokens_in line.now)
+
+-- ---- Lines that have no label and no directive of expansion.
+
+-- whether a word is there that is a colon, whatever its text
+abbrev pub IsColonIn : Option StoredToken → Bool → Type 0
+IsColonIn None b = b ≡ false
+IsColonIn (Some w) b = (text : List ℕ) → b ≡ is_colon (w.kind, text)
+
+abbrev pub IsPlain : List Lexeme → Type 0
+IsPlain ts = (label_len ts ≡ 0) × (front_directive ts ≡ None)
+
+-- ---- Plain lines, passed over one after another.
+
+-- the bytes of a line that is read as tokens, without a label and a directive of expansion
+abbrev pub IsPlainLine : List ℕ → Type 0
+IsPlainLine bytes = (ts : List Lexeme) × IsRead bytes (Ok ts) × IsPlain ts
+
+-- such a line is taken
+abbrev pub PassesPlain : RemainingInput → RemainingInput → Type 0
+PassesPlain l m = (ts : List Lexeme) × TakesNextLine l (Ok (Some ts, m)) × IsPlain ts
+
+-- such lines are taken one after another
+pub data SkipsPlainLines : RemainingInput → RemainingInput → Type 0 where
+  no_line : (l : RemainingInput) → SkipsPlainLines l l
+  a_line : (l m n : RemainingInput) → SkipsPlainLines l m → PassesPlain m n → SkipsPlainLines l n
+
+-- ---- A line of a file that is read where it stands, before it is taken.
+
+-- these bytes begin with a line that is read so, and that ends behind n of them
+abbrev pub IsFirstLine : List ℕ → ℕ → List Lexeme → Type 0
+IsFirstLine bytes n ts = (n ≡ prefix_len is_inside bytes) × (n < length bytes) × IsRead (without_return (take n bytes)) (Ok ts)
+
+-- so does what is at hand of a file, and that is the line of this number
+abbrev pub IsFirstOf : OpenFile → Peeked → List Lexeme → Type 0
+IsFirstOf f p ts = (n : ℕ) × IsFirstLine (drop f.at f.buffer.items) n ts × (p.following ≡ f.at + (n + 1)) × (p.number ≡ f.line + 1)
+
+abbrev pub IsAtHand : LineSource → Peeked → List Lexeme → Type 0
+IsAtHand (source.File f) p ts = IsFirstOf f p ts
+IsAtHand _ p ts = ⊥
+
+-- and it may be taken
+abbrev pub IsNextLine : InputStack → Peeked → List Lexeme → Type 0
+IsNextLine r p ts = IsAtHand r.top.source p ts × (0 < r.room)
+
+-- the first of the lines is read so, and has this number
+abbrev pub TakesWritten : List Item → ℕ → List Lexeme → List Item → Type 0
+TakesWritten before n ts after = (bytes : List ℕ) × (before ≡ written n bytes ∷ after) × IsRead bytes (Ok ts)

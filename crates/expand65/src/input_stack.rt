@@ -1,0 +1,244 @@
+//! The open files, expansions and repeats, one inside the other.
+
+ghost use Rattle.std.specs.Prelude.{◌≡◌, ◌<◌, ◌≤◌, ◌+◌, if◌then◌else◌, length, IfErr, IfNone, IfOk, IfSome, IsTrue, OnOk, [], false, option_map};
+ghost use Rattle.base65.specs.Store.{Files};
+ghost use Rattle.syntax65.specs.Faults.{is_failure, is_system_error};
+ghost use Rattle.expand65.specs.Representation.{KeepsInnermost, FailsAtLine, StopsAt, last_read, AreAt, HasBack, IsAt, IsInPlace, StandsIn, open_in, RefinesLocated, remaining_in, remaining_of, mark_of, moved_by, outer_items};
+ghost use Rattle.expand65.specs.Replay.{tokens_in};
+ghost use Rattle.expand65.specs.Lines.{without_end_mark, with_lines, TakesNextLine, ReadFrame, outside_macro, come_back};
+ghost use Rattle.expand65.specs.Blocks.{TakesInBlock};
+
+use crate::input::{LineSource, NextLine};
+use crate::line::StoredLine;
+use base65::Store;
+use std::alloc::Global;
+use std::mem;
+use syntax65::{ExpandFault, SourceLocation};
+
+/// How many files, expansions and repeats are open at most inside the source.
+const MAX_NESTING: usize = 256;
+
+/// An open file, expansion or repeat. At its end so many conditions have to be open, and a file goes back to a place.
+#[derive(Drop)]
+pub struct Input {
+    pub source: LineSource,
+    pub conditions: usize,
+    pub back: Option<SourceLocation>,
+}
+
+/// All that is open, the innermost apart, how many lines may still be taken, and the place of the last one that was.
+#[derive(Drop)]
+pub struct InputStack {
+    pub top: Input,
+    pub outer: Vec<Input>,
+    pub room: u32,
+    pub place: SourceLocation,
+}
+
+/// The end of an expansion: so many conditions stay open, and whether anything is left behind it.
+#[derive(Clone, Copy)]
+pub struct MacroEnd {
+    pub conditions: usize,
+    pub more: bool,
+}
+
+/// Moves on to a line of a place's file.
+fn move_by(place: &mut SourceLocation, next: NextLine)
+    ensures { place.new ≡ moved_by next place.old }
+{
+    if let NextLine::Numbered(line) = next {
+        place.line = line;
+    }
+}
+
+impl InputStack {
+    /// The next line, or none at the end mark of the innermost input.
+    #[inline(always)]
+    pub fn next_line<S: Store>(
+        &mut self,
+        alloc: Global,
+        store: &mut S,
+    ) -> Result<Option<StoredLine>, ExpandFault>
+        ensures read { IfSome (S.files store.old) (λ m.
+            RefinesLocated (λ l. (option_map tokens_in l, remaining_of m self.new)) self.new.place result
+            (TakesNextLine (remaining_of m self.old))) }
+        ensures spent { IfSome (S.files store.old) (λ m.
+            IfOk result (λ l. IfNone l (remaining_in m self.new.top.source ≡ []))) }
+        ensures room { IfOk result (λ l. IfSome l (λ _. self.new.room < self.old.room)) }
+        ensures less { OnOk result (self.new.room ≤ self.old.room) }
+        ensures stays { KeepsInnermost self.old self.new }
+        ensures stands { StandsIn (S.files store.old) self.old →
+            OnOk result (StandsIn (S.files store.old) self.new) }
+        ensures frame { ReadFrame S.files S.failures store.old store.new result }
+        ensures stopped { StandsIn (S.files store.old) self.old → IfSome (S.files store.old) (λ m.
+            StopsAt (FailsAtLine m (S.last_failure store.new) (remaining_of m self.old))
+            self.old self.new result) }
+    {
+        let next = self.top.source.begin_line(alloc, store)?;
+        if next.is_end() {
+            return Ok(None);
+        }
+        move_by(&mut self.place, next);
+        if self.room == 0 {
+            return Err(ExpandFault::TooManyLines);
+        }
+        self.room -= 1;
+        let line = self.top.source.take_line(alloc, store)?;
+        Ok(Some(line))
+    }
+
+    /// The next line of a block, which has to be closed in the input that opened it.
+    pub fn block_line<S: Store>(
+        &mut self,
+        alloc: Global,
+        store: &mut S,
+    ) -> Result<StoredLine, ExpandFault>
+        ensures read { IfSome (S.files store.old) (λ m.
+            RefinesLocated (λ l. (tokens_in l, remaining_of m self.new)) self.new.place result
+            (TakesInBlock (remaining_of m self.old))) }
+        ensures room { OnOk result (self.new.room < self.old.room) }
+        ensures stays { KeepsInnermost self.old self.new }
+        ensures stands { StandsIn (S.files store.old) self.old →
+            OnOk result (StandsIn (S.files store.old) self.new) }
+        ensures frame { ReadFrame S.files S.failures store.old store.new result }
+        ensures stopped { StandsIn (S.files store.old) self.old → IfSome (S.files store.old) (λ m.
+            StopsAt (FailsAtLine m (S.last_failure store.new) (remaining_of m self.old))
+            self.old self.new result) }
+    {
+        match self.next_line(alloc, store)? {
+            Some(line) => Ok(line),
+            None => Err(ExpandFault::NotClosed),
+        }
+    }
+
+    /// Puts an input inside the innermost one.
+    pub fn enter(&mut self, input: Input) -> Result<(), ExpandFault>
+        ensures entered { (m : Files) →
+            RefinesLocated (λ _. remaining_of m self.new) self.new.place result
+            (λ r. r ≡ with_lines (remaining_in m input.source) (mark_of input) (remaining_of m self.old)) }
+        ensures room { self.new.room ≡ self.old.room }
+        ensures outer { OnOk result (length self.new.outer.items ≡ length self.old.outer.items + 1) }
+        ensures place { self.new.place ≡ self.old.place }
+        ensures stands { (m : Files) (p : SourceLocation) → IsAt m input.source p →
+            HasBack input.source input.back → come_back p input.back ≡ self.old.place →
+            IsInPlace m self.old → OnOk result (AreAt m (open_in self.new) p) }
+        ensures inside { IfErr result (λ e. is_failure e ≡ false) }
+    {
+        if self.outer.len() >= MAX_NESTING {
+            return Err(ExpandFault::Nested);
+        }
+        let outer = mem::replace(&mut self.top, input);
+        self.outer.push(outer)?;
+        Ok(())
+    }
+
+    /// Takes the innermost input away, unless it is the source, with the place that it goes back to; whether anything
+    /// is left.
+    fn drop_top(&mut self, back: &mut Option<SourceLocation>) -> bool
+        ensures left { (m : Files) →
+            (if result then (remaining_of m self.new).items else []) ≡ outer_items m self.old.outer.items }
+        ensures back { (p : SourceLocation) → come_back p back.new ≡ come_back (come_back p back.old) self.old.top.back }
+        ensures place { self.new.place ≡ self.old.place }
+        ensures stands { (m : Files) (p : SourceLocation) → AreAt m (open_in self.old) (come_back p back.old) →
+            AreAt m (open_in self.new) (come_back p back.new) }
+        ensures room { self.new.room ≡ self.old.room }
+        ensures outer { IsTrue result → length self.new.outer.items < length self.old.outer.items }
+        ensures fewer { length self.new.outer.items ≤ length self.old.outer.items }
+    {
+        match self.outer.pop() {
+            None => {
+                keep_last(back, self.top.back.take());
+                false
+            }
+            Some(outer) => {
+                let inner = mem::replace(&mut self.top, outer);
+                keep_last(back, inner.back);
+                true
+            }
+        }
+    }
+
+    /// LeavesStore the innermost input, at whose end so many conditions are open; whether anything is left.
+    pub fn leave(&mut self, conditions: usize) -> Result<bool, ExpandFault>
+        ensures left { (m : Files) →
+            remaining_in m self.old.top.source ≡ [] → RefinesLocated
+            (λ more. ((if more then (remaining_of m self.new).items else []), self.new.place))
+            self.new.place result (λ r. r ≡ without_end_mark conditions self.old.place (remaining_of m self.old).items) }
+        ensures stands { (m : Files) → IsInPlace m self.old → OnOk result (IsInPlace m self.new) }
+        ensures room { self.new.room ≡ self.old.room }
+        ensures outer { IfOk result (λ more. IsTrue more →
+            length self.new.outer.items < length self.old.outer.items) }
+        ensures fewer { OnOk result (length self.new.outer.items ≤ length self.old.outer.items) }
+        ensures inside { IfErr result (λ e. is_system_error e ≡ false) }
+    {
+        if self.top.conditions != conditions {
+            return Err(ExpandFault::NotClosed);
+        }
+        let mut back = None;
+        let more = self.drop_top(&mut back);
+        self.go_back(back);
+        Ok(more)
+    }
+
+    /// LeavesStore the innermost expansion with all that is open in it.
+    pub fn leave_macro(&mut self) -> Option<MacroEnd>
+        ensures left { (m : Files) →
+            outside_macro (remaining_of m self.old).items self.old.place ≡ option_map
+            (λ e. (
+              e.conditions,
+              (if e.more then (remaining_of m self.new).items else []),
+              self.new.place,
+            )) result }
+        ensures none { IfNone result (self.new.place ≡ self.old.place) }
+        ensures stands { (m : Files) → IsInPlace m self.old → IfSome result (λ _. IsInPlace m self.new) }
+        ensures room { self.new.room ≡ self.old.room }
+        ensures fewer { length self.new.outer.items ≤ length self.old.outer.items }
+    {
+        let mut back = None;
+        'inputs: loop {
+            let is_call = self.top.source.is_call();
+            let conditions = self.top.conditions;
+            let more = self.drop_top(&mut back);
+            if is_call {
+                self.go_back(back);
+                return Some(MacroEnd { conditions, more });
+            }
+            if !more {
+                return None;
+            }
+        }
+    }
+
+    /// Goes back to the place of the line that a file was included from.
+    fn go_back(&mut self, back: Option<SourceLocation>)
+        ensures place { self.new.place ≡ come_back self.old.place back }
+        ensures top { self.new.top ≡ self.old.top }
+        ensures outer { self.new.outer ≡ self.old.outer }
+        ensures room { self.new.room ≡ self.old.room }
+    {
+        if let Some(place) = back {
+            self.place = place;
+        }
+    }
+}
+
+impl InputStack {
+    /// Goes back to the line that includes a file of which no line was read: it is the one that was read last.
+    pub fn go_back_unread(&mut self)
+        ensures place { self.new.place ≡ last_read self.old.place self.old.top.back }
+    {
+        if self.place.line == 0 {
+            let back = self.top.back.take();
+            self.go_back(back);
+        }
+    }
+}
+
+/// Of two places that are gone back to one after another, the last.
+fn keep_last(back: &mut Option<SourceLocation>, next: Option<SourceLocation>)
+    ensures { (p : SourceLocation) → come_back p back.new ≡ come_back (come_back p back.old) next }
+{
+    if next.is_some() {
+        *back = next;
+    }
+}

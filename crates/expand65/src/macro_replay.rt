@@ -1,0 +1,202 @@
+//! Bodies of macros and repeats, replayed with names replaced, and an expansion's own names.
+
+ghost use Rattle.std.specs.Prelude.{◌≡◌, ◌++◌, ◌∷◌, [], List, true, map, IfOk, OnOk, position, false, IfErr, unwrap_or, Some};
+ghost use Rattle.base65.specs.Store.{Files};
+ghost use Rattle.expand65.specs.Representation.{is_call, remaining_in};
+ghost use Rattle.expand65.specs.Replay.{tokens_in, replacing_of, tokens_for};
+ghost use Rattle.expand65.specs.Lines.{Item, InputEnd, with_local_names, mark, own_token, with_locals, argument_at, for_name, for_word, substituted_line, replacement_for, body_line_tokens};
+ghost use Rattle.std.specs.Map.{lookup};
+ghost use Rattle.std.specs.Str.{bytes_eq};
+ghost use Rattle.base65.specs.Outcome.{Refines};
+ghost use Rattle.syntax65.specs.Tokens.{lexeme_of, lexemes};
+ghost use Rattle.syntax65.specs.Faults.{is_failure, is_system_error};
+
+use crate::input::LineSource;
+use crate::line::StoredLine;
+use base65::{ListVec, Seed};
+use indexmap::{IndexMap, IndexSet};
+use std::alloc::{AllocError, Global};
+use std::rc::Rc;
+use syntax65::{ExpandFault, Token, TokenKind};
+
+/// What stands for a name of an expansion's own.
+fn own_line(alloc: Global, number: u64, name: &[u8]) -> Result<StoredLine, AllocError>
+    ensures { IfOk result (λ line. tokens_in line ≡ own_token number name.now ∷ []) }
+{
+    let digits = format!(in alloc; "{number}")?;
+    let mut text = Vec::from_slice(alloc, name)?;
+    text.push(b'?')?;
+    text.extend_from_slice(digits.as_bytes())?;
+    let token = Token {
+        kind: TokenKind::Identifier,
+        text: text.as_slice(),
+    };
+    StoredLine::copy_of(alloc, &[token])
+}
+
+impl Replay {
+    /// One more name of the expansion's own.
+    fn add_local(&mut self, alloc: Global, name: &[u8]) -> Result<(), AllocError>
+        ensures added { OnOk result
+            (replacing_of self.new ≡ with_locals (name.now ∷ []) (replacing_of self.old)) }
+        ensures body { self.new.body ≡ self.old.body }
+        ensures at { self.new.at ≡ self.old.at }
+    {
+        let line = own_line(alloc, self.number, name)?;
+        let name = Vec::from_slice(alloc, name)?;
+        self.locals.insert(name, line)?;
+        Ok(())
+    }
+
+    /// More names of the expansion's own.
+    fn add_locals(&mut self, alloc: Global, names: &[&[u8]]) -> Result<(), AllocError>
+        ensures added { OnOk result
+            (replacing_of self.new ≡ with_locals (map (λ s. s.now) names.now)
+            (replacing_of self.old)) }
+        ensures body { self.new.body ≡ self.old.body }
+        ensures at { self.new.at ≡ self.old.at }
+    {
+        for name in names {
+            self.add_local(alloc, name)?;
+        }
+        Ok(())
+    }
+}
+
+impl LineSource {
+    /// More names of an expansion's own.
+    pub fn add_locals(&mut self, alloc: Global, names: &[&[u8]]) -> Result<(), AllocError>
+        requires { is_call self.old ≡ true }
+        ensures added { (m : Files) (k : InputEnd) (is : List Item) →
+            OnOk result (remaining_in m self.new ++ mark k ∷ is ≡ with_local_names (map (λ s. s.now) names.now)
+            (remaining_in m self.old ++ mark k ∷ is)) }
+        ensures call { is_call self.new ≡ is_call self.old }
+    {
+        match self {
+            LineSource::Call(replay) => replay.add_locals(alloc, names),
+            _ => Ok(()),
+        }
+    }
+}
+
+/// How many tokens a line has at most once names are replaced.
+const MAX_TOKENS: usize = 4096;
+
+/// What is replayed: the lines, and the names in them that something is given for.
+#[derive(Drop)]
+pub struct Body {
+    pub params: IndexSet<Vec<u8>>,
+    pub lines: ListVec<StoredLine>,
+}
+
+/// A body that is being replayed.
+#[derive(Drop)]
+pub struct Replay {
+    pub body: Rc<Body>,
+    /// How many of the lines were replayed.
+    pub at: usize,
+    pub arguments: ListVec<StoredLine>,
+    /// What stands for `.paramcount`.
+    pub count: Option<StoredLine>,
+    pub locals: IndexMap<Vec<u8>, Line, Seed>,
+    pub number: u64,
+}
+
+/// What stands for a token.
+pub enum Replacement<'a> {
+    Itself,
+    Nothing,
+    Tokens(&'a StoredLine),
+}
+
+impl Replay {
+    /// What is given for the parameter at a place.
+    fn argument_at(&self, place: usize) -> Replacement<'_>
+        ensures { tokens_for result ≡ argument_at (replacing_of self.now).arguments (Some place) }
+    {
+        match self.arguments.as_slice().get(place) {
+            Some(line) => Replacement::Tokens(line),
+            None => Replacement::Nothing,
+        }
+    }
+
+    /// What is given for a parameter, if a name is one.
+    fn argument(&self, name: &[u8]) -> Replacement<'_>
+        ensures { tokens_for result ≡ argument_at (replacing_of self.now).arguments
+            (position (bytes_eq name.now) (replacing_of self.now).params) }
+    {
+        match self.body.params.get_index_of(name) {
+            Some(place) => self.argument_at(place),
+            None => Replacement::Itself,
+        }
+    }
+
+    /// What stands for a name of the expansion's own.
+    fn own(&self, name: &[u8]) -> Replacement<'_>
+        ensures { tokens_for result ≡ lookup (bytes_eq name.now) (replacing_of self.now).locals }
+    {
+        match self.locals.get(name) {
+            Some(line) => Replacement::Tokens(line),
+            None => Replacement::Itself,
+        }
+    }
+
+    fn for_name(&self, name: &[u8]) -> Replacement<'_>
+        ensures { tokens_for result ≡ for_name (replacing_of self.now) name.now }
+    {
+        match self.argument(name) {
+            Replacement::Itself => self.own(name),
+            other => other,
+        }
+    }
+
+    fn for_word(&self, text: &[u8]) -> Replacement<'_>
+        ensures { tokens_for result ≡ for_word (replacing_of self.now) text.now }
+    {
+        match &self.count {
+            Some(line) if text.eq_ignore_ascii_case(b".paramcount") => Replacement::Tokens(line),
+            _ => Replacement::Itself,
+        }
+    }
+
+    fn replacement_for(&self, token: &Token<'_>) -> Replacement<'_>
+        ensures { tokens_for result ≡ replacement_for (replacing_of self.now) (lexeme_of token.now) }
+    {
+        match token.kind {
+            TokenKind::Identifier => self.for_name(token.text),
+            TokenKind::Directive => self.for_word(token.text),
+            _ => Replacement::Itself,
+        }
+    }
+
+    /// Puts what stands for a token behind others.
+    fn put<'a>(&'a self, token: Token<'a>, out: &mut Vec<Token<'a>>) -> Result<(), AllocError>
+        ensures { OnOk result
+            (lexemes out.new.items ≡ lexemes out.old.items ++ unwrap_or
+            (replacement_for (replacing_of self.now) (lexeme_of token.entry))
+            (lexeme_of token.entry ∷ [])) }
+    {
+        match self.replacement_for(&token) {
+            Replacement::Itself => Ok(out.push(token)?),
+            Replacement::Nothing => Ok(()),
+            Replacement::Tokens(line) => line.add_to(out),
+        }
+    }
+
+    /// A line with what stands for its tokens.
+    pub fn replaced(&self, alloc: Global, line: &StoredLine) -> Result<StoredLine, ExpandFault>
+        ensures value { Refines is_system_error tokens_in result
+            (body_line_tokens (substituted_line (replacing_of self.now) (tokens_in line.now))) }
+        ensures inside { IfErr result (λ e. is_failure e ≡ false) }
+    {
+        let tokens = line.tokens(alloc)?;
+        let mut out = Vec::with_capacity(alloc, tokens.len())?;
+        for token in tokens.as_slice() {
+            self.put(*token, &mut out)?;
+            if out.len() > MAX_TOKENS {
+                return Err(ExpandFault::LineTooLong);
+            }
+        }
+        Ok(StoredLine::copy_of(alloc, out.as_slice())?)
+    }
+}

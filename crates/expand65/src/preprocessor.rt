@@ -1,0 +1,325 @@
+//! Lines rewritten one after another.
+
+ghost use Rattle.std.specs.Prelude.{Option, ◌≡◌, ◌≤◌, ◌<◌, ◌+◌, [], true, false, length, IfErr, IfOk, IfSome, Ok, OnOk};
+ghost use Rattle.base65.specs.Store.{Files};
+ghost use Rattle.syntax65.specs.Tokens.{lexemes};
+ghost use Rattle.expand65.specs.State.{else_line, ended_if, if_line, unless_refused, EnvironmentView};
+ghost use Rattle.expand65.specs.Failing.{StepFails, FailsAt};
+ghost use Rattle.syntax65.specs.Faults.{is_failure};
+ghost use Rattle.expand65.specs.Representation.{StandsIn, remaining_in, remaining_of, PreservesPositions, HasLineOutcome, LeadsTo, StopsBy, RefinesLineOutcome, size_of, stands_alone, state_of, weight_of};
+ghost use Rattle.expand65.specs.Fronts.{front_directive, is_mislabelled, string_of, ok_or_unknown};
+ghost use Rattle.expand65.specs.Expansion.{StepReaches, line_step, at_mark, unless_mislabelled, directive_step, include_file, file_step, IsStep, last_condition};
+ghost use Rattle.expand65.specs.Replay.{tokens_in};
+ghost use Rattle.expand65.specs.Lines.{bytes_of, ReadFrame};
+ghost use Rattle.expand65.specs.Macros.{file_of};
+
+use crate::blocks::{BlockEnd, BlockKind};
+use crate::conditions::{Conditions, condition};
+use crate::file::OpenFile;
+use crate::fronts::{ConditionKind, Directive, after_first, string_of};
+use crate::includes::find_file;
+use crate::input::LineSource;
+use crate::input_stack::{Input, InputStack};
+use crate::knows::Knows;
+use crate::line::StoredLine;
+use crate::macro_replay::Body;
+use base65::{ListVec, PathString, Seed, Store};
+use indexmap::IndexMap;
+use std::alloc::Global;
+use std::rc::Rc;
+use syntax65::{ExpandFault, SourceLocation, Token};
+
+/// Where a line or an end mark leads to.
+#[derive(Drop)]
+pub enum LineOutcome {
+    /// On to the next line.
+    Continue,
+    Yield(StoredLine),
+    /// A label, and what stands behind it.
+    LabelAndRest(StoredLine, StoredLine),
+    /// What stands behind an `.elseif` that has to be decided next.
+    DecideElseIf(StoredLine),
+    /// No line is left.
+    EndOfInput,
+}
+
+/// What the lines that are left are rewritten with.
+#[derive(Drop)]
+pub struct Preprocessor {
+    pub alloc: Global,
+    pub reader: InputStack,
+    pub macros: IndexMap<Vec<u8>, Rc<Body>, Seed>,
+    pub conditions: Conditions,
+    /// How many macros were called.
+    pub expansions: u64,
+    /// The folders that files are also looked for in.
+    pub folders: ListVec<PathString>,
+}
+
+impl Preprocessor {
+    /// An `.if` of some kind, or an `.elseif` that has to be decided.
+    pub fn begin_if<S: Store, K: Knows>(
+        &mut self,
+        store: &mut S,
+        knows: &K,
+        test: ConditionKind,
+        tokens: &[Token<'_>],
+    ) -> Result<LineOutcome, ExpandFault>
+        ensures turns { HasLineOutcome (S.files store.old) self.old self.new result (λ m s.
+            StepReaches m (if_line (K.meaning knows.now) s test (lexemes tokens.now))) }
+        ensures keeps { PreservesPositions (S.files store.old) self.old self.new result }
+        ensures frame { ReadFrame S.files S.failures store.old store.new result }
+        ensures stopped { StopsBy (S.files store.old) self.old self.new result (λ m s.
+            StepFails m (S.last_failure store.new)
+            (if_line (K.meaning knows.now) s test (lexemes tokens.now))) }
+    {
+        if condition(self.alloc, knows, test, tokens)? {
+            self.conditions.push(false)?;
+            return Ok(LineOutcome::Continue);
+        }
+        let skipped = self.reader.block(self.alloc, store, BlockKind::Skipped)?;
+        let end = skipped.end;
+        match end {
+            BlockEnd::End => Ok(LineOutcome::Continue),
+            BlockEnd::Else => {
+                self.conditions.push(true)?;
+                Ok(LineOutcome::Continue)
+            }
+            BlockEnd::ElseIf(line) => Ok(LineOutcome::DecideElseIf(line)),
+        }
+    }
+
+    /// An `.endif` of an open condition.
+    pub fn end_if(&mut self) -> Result<LineOutcome, ExpandFault>
+        ensures turns { LeadsTo self.old self.new result (λ s. ended_if s (last_condition s)) }
+        ensures keeps { (files : Option Files) → PreservesPositions files self.old self.new result }
+        ensures inside { IfErr result (λ e. is_failure e ≡ false) }
+    {
+        match self.conditions.pop_above(self.reader.top.conditions) {
+            None => Err(ExpandFault::NotOpened),
+            Some(_) => Ok(LineOutcome::Continue),
+        }
+    }
+
+    /// An `.elseif` or `.else` behind a condition that was true.
+    pub fn pass_else<S: Store>(&mut self, store: &mut S) -> Result<LineOutcome, ExpandFault>
+        ensures turns { HasLineOutcome (S.files store.old) self.old self.new result (λ m s.
+            StepReaches m (else_line s (last_condition s))) }
+        ensures keeps { PreservesPositions (S.files store.old) self.old self.new result }
+        ensures frame { ReadFrame S.files S.failures store.old store.new result }
+        ensures stopped { StopsBy (S.files store.old) self.old self.new result (λ m s.
+            StepFails m (S.last_failure store.new) (else_line s (last_condition s))) }
+    {
+        match self.conditions.pop_above(self.reader.top.conditions) {
+            None => Err(ExpandFault::NotOpened),
+            Some(true) => Err(ExpandFault::NotOpened),
+            Some(false) => {
+                self.reader
+                    .block(self.alloc, store, BlockKind::RemainingBranches)?;
+                Ok(LineOutcome::Continue)
+            }
+        }
+    }
+
+    /// `.include` and what stands behind it.
+    fn include<S: Store>(
+        &mut self,
+        store: &mut S,
+        tokens: &[Token<'_>],
+    ) -> Result<LineOutcome, ExpandFault>
+        ensures turns { HasLineOutcome (S.files store.old) self.old self.new result (λ m s.
+            StepReaches m
+            (unless_refused s (ok_or_unknown (string_of (lexemes tokens.now))) (include_file s))) }
+        ensures keeps { PreservesPositions (S.files store.old) self.old self.new result }
+        ensures frame { ReadFrame S.files S.failures store.old store.new result }
+        ensures stopped { StopsBy (S.files store.old) self.old self.new result (λ m s.
+            StepFails m (S.last_failure store.new)
+            (unless_refused s (ok_or_unknown (string_of (lexemes tokens.now))) (include_file s))) }
+    {
+        let Some(name) = string_of(tokens) else {
+            return Err(ExpandFault::NotUnderstood);
+        };
+        let beside = self.reader.place.file.as_str();
+        let file = find_file(self.alloc, store, beside, self.folders.as_slice(), name)?;
+        self.enter_file(file)
+    }
+
+    /// The lines of a file that is there.
+    fn enter_file(&mut self, file: PathString) -> Result<LineOutcome, ExpandFault>
+        ensures turns { (m : Files) →
+            length (bytes_of m file) ≤ 16777216 → RefinesLineOutcome result (state_of m self.new)
+            (λ r. r ≡ file_step (state_of m self.old) (file_of m file)) }
+        ensures keeps { (files : Option Files) → PreservesPositions files self.old self.new result }
+        ensures inside { IfErr result (λ e. is_failure e ≡ false) }
+    {
+        let place = SourceLocation {
+            file: PathString::copy_of(self.alloc, file.as_str())?,
+            line: 0,
+        };
+        let back = self.reader.place.copy(self.alloc)?;
+        self.reader.enter(Input {
+            source: LineSource::File(OpenFile::new(self.alloc, file)),
+            conditions: self.conditions.len(),
+            back: Some(back),
+        })?;
+        self.reader.place = place;
+        Ok(LineOutcome::Continue)
+    }
+
+    /// A directive that nothing stands behind.
+    fn execute_bare<S: Store>(
+        &mut self,
+        store: &mut S,
+        directive: Directive,
+        tokens: &[Token<'_>],
+    ) -> Result<LineOutcome, ExpandFault>
+        requires { stands_alone directive ≡ true }
+        ensures turns { IfSome (S.files store.old) (λ m.
+            (k : EnvironmentView) → RefinesLineOutcome result (state_of m self.new)
+            (StepReaches m (directive_step k (state_of m self.old) directive (lexemes tokens.now)))) }
+        ensures keeps { PreservesPositions (S.files store.old) self.old self.new result }
+        ensures frame { ReadFrame S.files S.failures store.old store.new result }
+        ensures stopped { (k : EnvironmentView) → StopsBy (S.files store.old) self.old self.new result
+            (λ m s. StepFails m (S.last_failure store.new) (directive_step k s directive (lexemes tokens.now))) }
+    {
+        if !tokens.is_empty() {
+            return Err(ExpandFault::NotUnderstood);
+        }
+        match directive {
+            Directive::Else => self.pass_else(store),
+            Directive::EndIf => self.end_if(),
+            Directive::ExitMacro => self.exit_macro(),
+            Directive::EndMacro | Directive::EndRepeat => Err(ExpandFault::NotOpened),
+            Directive::End => Ok(LineOutcome::EndOfInput),
+            _ => unreachable!(),
+        }
+    }
+
+    /// A directive and what stands behind it.
+    fn execute_with_operands<S: Store, K: Knows>(
+        &mut self,
+        store: &mut S,
+        knows: &K,
+        directive: Directive,
+        tokens: &[Token<'_>],
+    ) -> Result<LineOutcome, ExpandFault>
+        ensures turns { HasLineOutcome (S.files store.old) self.old self.new result (λ m s.
+            StepReaches m (directive_step (K.meaning knows.now) s directive (lexemes tokens.now))) }
+        ensures keeps { PreservesPositions (S.files store.old) self.old self.new result }
+        ensures frame { ReadFrame S.files S.failures store.old store.new result }
+        ensures stopped { StopsBy (S.files store.old) self.old self.new result (λ m s.
+            StepFails m (S.last_failure store.new)
+            (directive_step (K.meaning knows.now) s directive (lexemes tokens.now))) }
+    {
+        match directive {
+            Directive::Macro => self.begin_macro(store, tokens),
+            Directive::Local => self.add_locals(tokens),
+            Directive::Repeat => self.begin_repeat(store, knows, tokens),
+            Directive::If(test) => self.begin_if(store, knows, test, tokens),
+            Directive::ElseIf => self.pass_else(store),
+            Directive::Include => self.include(store, tokens),
+            Directive::Error => {
+                let Some(text) = string_of(tokens) else {
+                    return Err(ExpandFault::NotUnderstood);
+                };
+                let text = Vec::from_slice(self.alloc, text)?;
+                Err(ExpandFault::Error(ListVec::from_vec(text)))
+            }
+            Directive::Else | Directive::EndIf => self.execute_bare(store, directive, tokens),
+            Directive::EndMacro | Directive::EndRepeat => self.execute_bare(
+                store, directive, tokens,
+            ),
+            Directive::ExitMacro | Directive::End => self.execute_bare(store, directive, tokens),
+        }
+    }
+
+    /// A line without a label.
+    #[inline(always)]
+    pub fn execute_line<S: Store, K: Knows>(
+        &mut self,
+        store: &mut S,
+        knows: &K,
+        line: StoredLine,
+    ) -> Result<LineOutcome, ExpandFault>
+        ensures turns { HasLineOutcome (S.files store.old) self.old self.new result (λ m s.
+            StepReaches m
+            (line_step (K.meaning knows.now) s (tokens_in line) (front_directive (tokens_in line)))) }
+        ensures keeps { PreservesPositions (S.files store.old) self.old self.new result }
+        ensures frame { ReadFrame S.files S.failures store.old store.new result }
+        ensures stopped { StopsBy (S.files store.old) self.old self.new result (λ m s.
+            StepFails m (S.last_failure store.new)
+            (line_step (K.meaning knows.now) s (tokens_in line) (front_directive (tokens_in line)))) }
+    {
+        match line.directive() {
+            Some(directive) => {
+                let tokens = line.tokens(self.alloc)?;
+                self.execute_with_operands(store, knows, directive, after_first(tokens.as_slice()))
+            }
+            None => self.call_or_give(line),
+        }
+    }
+
+    /// A line that may begin with a label.
+    #[inline(always)]
+    fn begin<S: Store, K: Knows>(
+        &mut self,
+        store: &mut S,
+        knows: &K,
+        line: StoredLine,
+    ) -> Result<LineOutcome, ExpandFault>
+        ensures turns { HasLineOutcome (S.files store.old) self.old self.new result (λ m s.
+            StepReaches m
+            (unless_mislabelled (K.meaning knows.now) s (tokens_in line) (is_mislabelled (tokens_in line)))) }
+        ensures stands { StandsIn (S.files store.old) self.old.reader →
+            OnOk result (StandsIn (S.files store.old) self.new.reader) }
+        ensures size { IfOk result (λ t. size_of self.new + weight_of t ≤ size_of self.old + 3) }
+        ensures frame { ReadFrame S.files S.failures store.old store.new result }
+        ensures stopped { StopsBy (S.files store.old) self.old self.new result (λ m s.
+            StepFails m (S.last_failure store.new)
+            (unless_mislabelled (K.meaning knows.now) s (tokens_in line) (is_mislabelled (tokens_in line)))) }
+    {
+        match line.split_label(self.alloc)? {
+            Some((label, rest)) => Ok(LineOutcome::LabelAndRest(label, rest)),
+            None => self.execute_line(store, knows, line),
+        }
+    }
+
+    /// The end mark of the innermost input.
+    fn end_input(&mut self) -> Result<LineOutcome, ExpandFault>
+        ensures turns { (m : Files) →
+            remaining_in m self.old.reader.top.source ≡ [] → RefinesLineOutcome result (state_of m self.new)
+            (λ r. r ≡ at_mark (state_of m self.old) (remaining_of m self.old.reader).items) }
+        ensures stands { (files : Option Files) → StandsIn files self.old.reader →
+            OnOk result (StandsIn files self.new.reader) }
+        ensures size { IfOk result (λ t. size_of self.new + weight_of t < size_of self.old + 1) }
+        ensures inside { IfErr result (λ e. is_failure e ≡ false) }
+    {
+        if self.reader.leave(self.conditions.len())? {
+            Ok(LineOutcome::Continue)
+        } else {
+            Ok(LineOutcome::EndOfInput)
+        }
+    }
+
+    /// The next line, or the end mark of the innermost input.
+    #[inline(always)]
+    pub fn take<S: Store, K: Knows>(
+        &mut self,
+        store: &mut S,
+        knows: &K,
+    ) -> Result<LineOutcome, ExpandFault>
+        ensures turns { HasLineOutcome (S.files store.old) self.old self.new result (λ m s.
+            IsStep m (K.meaning knows.now) s) }
+        ensures stands { StandsIn (S.files store.old) self.old.reader →
+            OnOk result (StandsIn (S.files store.old) self.new.reader) }
+        ensures size { IfOk result (λ t. size_of self.new + weight_of t < size_of self.old + 1) }
+        ensures frame { ReadFrame S.files S.failures store.old store.new result }
+        ensures stopped { StopsBy (S.files store.old) self.old self.new result (λ m s.
+            FailsAt m (S.last_failure store.new) (K.meaning knows.now) s) }
+    {
+        match self.reader.next_line(self.alloc, store)? {
+            None => self.end_input(),
+            Some(line) => self.begin(store, knows, line),
+        }
+    }
+}

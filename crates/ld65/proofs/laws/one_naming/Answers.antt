@@ -1,5 +1,0 @@
-use Rattle.ld65.proofs.OneNaming.{one_naming}
-use Rattle.ld65.proofs.laws.one_naming.Goals as goal
-
-pub returns : goal.returns
-returns c = one_naming

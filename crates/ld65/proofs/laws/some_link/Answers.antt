@@ -1,5 +1,0 @@
-use Rattle.ld65.proofs.SomeLink.{some_link}
-use Rattle.ld65.proofs.laws.some_link.Goals as goal
-
-pub returns : goal.returns
-returns c = some_link

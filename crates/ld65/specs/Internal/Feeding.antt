@@ -1,0 +1,102 @@
+-- What feeding a linker comes to: the records of an object, an object, a library's members, and the inputs of a line.
+use Rattle.std.specs.Prelude.{◌≡◌, ℕ, List, [], ◌∷◌, ◌++◌, length, option_map, Option, Result, Ok, Err, IfErr, IfSome, OnOk, Bool, true, false}
+use Rattle.std.specs.FinMap.{get}
+use Rattle.base65.specs.Outcome.{Unless}
+use Rattle.base65.specs.Store.{Files, PropagatesIoErrors, LastFailure}
+use Rattle.object65.specs.declared.fault.ObjectFault.{ObjectFault}
+use Rattle.object65.specs.Record.{is_system_error as is_object_system_error}
+use Rattle.object65.specs.Reading.{in_file, records_at}
+use Rattle.object65.specs.Scanning.{State, start}
+use Rattle.library65.specs.declared.index.Entry.{Entry}
+use Rattle.library65.specs.Selection.{IsSelection}
+use Rattle.link65.specs.declared.fault.LinkFault.{LinkFault}
+use Rattle.link65.specs.declared.fault.LinkFault.TheVariants as link
+use Rattle.link65.specs.Names.{given_names, open_names}
+use Rattle.link65.specs.Programs.{Module, program_of}
+use Rattle.link65.specs.Representation.{LinkerView, IsFed, IsFeeding, ConfigFrame, as_link, is_open, module_of}
+use Rattle.ld65.specs.Linkage.{AreInputs, Input, IsInput, IsLibraryInput, added_in, with_file, with_members}
+use Rattle.ld65.specs.Faults.{is_failure, is_system_error}
+use Rattle.ld65.specs.declared.linking.ObjectInput.{ObjectInput}
+use Rattle.ld65.specs.declared.fault.LinkCommandFault.{LinkCommandFault}
+
+-- the faults that the bytes don't decide
+abbrev pub is_fed_system_error : LinkFault → Bool
+is_fed_system_error link.OutOfMemory = true
+is_fed_system_error (link.Malformed f) = is_object_system_error f
+is_fed_system_error _ = false
+
+-- A call leads to a next state by something that the files give, or is refused as they say, unless from outside. Where
+-- the files aren't known, it still leads to a next state.
+abbrev pub LeadsBy : {E A R : Type 0} → (E → Bool) → (R → A → Type 0) → Option Files → (Files → Result A E → Type 0) → Result R E → Type 0
+LeadsBy {E} {A} is_out Next known Reads (Ok r) = (x : A) × IfSome known (λ m. Reads m (Ok x)) × Next r x
+LeadsBy is_out Next known Reads (Err e) = IfSome known (λ m. Unless (is_out e) (Reads m (Err e)))
+
+-- the same where reading the files gives one result
+abbrev pub FeedRefinesThen : {E A R : Type 0} → (E → Bool) → (R → A → Type 0) → Option Files → (Files → Result A E) → Result R E → Type 0
+FeedRefinesThen is_out Next known read r = LeadsBy is_out Next known (λ m q. read m ≡ q) r
+
+-- an object as the code names it
+abbrev pub input_of : ObjectInput → Input
+input_of i = record { file = i.file.now; begin = i.begin; end = i.end; name = i.name.now; entry = option_map (λ e. e.now) i.entry }
+
+-- the records of an object behind its head, which says its version and where they begin, up to the END
+abbrev pub records_in : Files → Input → ℕ × ℕ → Result (State × ℕ) ObjectFault
+records_in m i head = in_file (get m i.file) (λ bytes. records_at (length bytes) (start head.0) head.1 i.end bytes)
+
+-- the records of the open module were fed, up to its END
+abbrev pub FeedsRecords : Option Files → Input → ℕ × ℕ → LinkerView → LinkerView → Result ℕ LinkFault → Type 0
+FeedsRecords known i head old new r =
+    (modules : List Module) (called : List ℕ) (entry : Option Entry) → IsFeeding old modules called entry (start head.0)
+    → FeedRefinesThen is_fed_system_error (λ end x. (x.1 ≡ end) × IsFeeding new modules called entry x.0) known (λ m. as_link (records_in m i head)) r
+
+-- an object was fed
+abbrev pub FeedsObject : Option Files → Input → LinkerView → LinkerView → Result (Unit {0}) LinkFault → Type 0
+FeedsObject known i old new r =
+    (modules : List Module) → IsFed old modules
+    → FeedRefinesThen is_fed_system_error (λ u o. IsFed new (modules ++ module_of i.name o ∷ [])) known (λ m. added_in old.script modules m i) r
+
+-- modules were fed: the files give them and those before
+abbrev pub FeedsBy : Option Files → (Files → List Module → Result (List Module) LinkCommandFault → Type 0) → LinkerView → LinkerView → Result (Unit {0}) LinkCommandFault → Type 0
+FeedsBy known Reads old new r = (before : List Module) → IsFed old before → LeadsBy is_system_error (λ u modules. IsFed new modules) known (λ m. Reads m before) r
+
+-- the object that takes a whole file was fed, the input at a place of the line
+abbrev pub FeedsFile : Option Files → ℕ → List ℕ → LinkerView → LinkerView → Result (Unit {0}) LinkCommandFault → Type 0
+FeedsFile known k name old new r = FeedsBy known (λ m before q. with_file old.script m k before name ≡ q) old new r
+
+-- members of a library were fed, in order
+abbrev pub FeedsMembers : Option Files → List ℕ → List Entry → LinkerView → LinkerView → Result (Unit {0}) LinkCommandFault → Type 0
+FeedsMembers known library es old new r = FeedsBy known (λ m before q. with_members old.script m library before es ≡ q) old new r
+
+-- the places of an index at which the members stand that are needed
+abbrev pub AreChosen : List Entry → List ℕ → LinkerView → Type 0
+AreChosen es places f =
+    (before : List Module) → IsFed f before → IsSelection es (open_names f.script (program_of before)) (given_names f.script (program_of before)) places
+
+-- the needed members of a library were fed
+abbrev pub FeedsLibrary : Option Files → ℕ → List ℕ → LinkerView → LinkerView → Result (Unit {0}) LinkCommandFault → Type 0
+FeedsLibrary known k library old new r = FeedsBy known (λ m before. IsLibraryInput old.script m k before library) old new r
+
+-- an input was fed
+abbrev pub FeedsInput : Option Files → ℕ → List ℕ → LinkerView → LinkerView → Result (Unit {0}) LinkCommandFault → Type 0
+FeedsInput known k name old new r = FeedsBy known (λ m before. IsInput old.script m k before name) old new r
+
+-- inputs were fed, in order
+abbrev pub FeedsInputs : Option Files → List (List ℕ) → LinkerView → LinkerView → Result (Unit {0}) LinkCommandFault → Type 0
+FeedsInputs known names old new r = FeedsBy known (λ m before. AreInputs old.script m 0 before names) old new r
+
+-- ---- What a call leaves of a store, and of a linker that it feeds.
+
+-- of a store its files as before, and its count of failures, each passed on; and what a refusal names
+pub record NamedStoreFrame {X T : Type 0} (files_of : X → Option Files) (failures_of : X → ℕ) (last_failure_of : X → LastFailure) (Names : LastFailure → LinkCommandFault → Type 0) (old new : X) (result : Result T LinkCommandFault) : Type 0 where
+  pub files : files_of new ≡ files_of old
+  pub count : PropagatesIoErrors is_failure (failures_of old) (failures_of new) result
+  pub named : IfErr result (Names (last_failure_of new))
+
+-- the same where the linker stands for modules, by which a refusal names what it does; of a linker its script and output, and no
+-- open module where it answered
+pub record FeedFrame {X : Type 0} (files_of : X → Option Files) (failures_of : X → ℕ) (last_failure_of : X → LastFailure) (NamesAfter : List Module → LastFailure → LinkCommandFault → Type 0) (old new : X) (before after : LinkerView) (result : Result (Unit {0}) LinkCommandFault) : Type 0 where
+  pub opened : OnOk result (is_open after ≡ false)
+  pub keeps : ConfigFrame before after
+  pub files : files_of new ≡ files_of old
+  pub count : (modules : List Module) → IsFed before modules → PropagatesIoErrors is_failure (failures_of old) (failures_of new) result
+  pub named : (modules : List Module) → IsFed before modules → IfErr result (NamesAfter modules (last_failure_of new))

@@ -1,0 +1,17 @@
+-- A script's bytes as they are read: no more of them than tell that it is too long.
+use Rattle.std.specs.Prelude.{ℕ, ◌+◌, List, take, Result, Ok, Err}
+use Rattle.std.specs.FinMap.{get}
+use Rattle.base65.specs.Store.{Files}
+use Rattle.ld65.specs.declared.fault.LinkCommandFault.{LinkCommandFault}
+use Rattle.ld65.specs.Linkage.{text_of}
+
+-- a script has at most so many bytes
+abbrev pub script_limit : ℕ
+script_limit = 1048576
+
+abbrev pub front_of : Result (List ℕ) LinkCommandFault → Result (List ℕ) LinkCommandFault
+front_of (Ok bytes) = Ok (take (script_limit + 1) bytes)
+front_of (Err e) = Err e
+
+abbrev pub script_text : Files → List ℕ → Result (List ℕ) LinkCommandFault
+script_text m name = front_of (text_of (get m name))

@@ -1,0 +1,192 @@
+//! Why nothing is linked.
+
+ghost use Rattle.std.specs.Prelude.{◌≡◌, IfOk, map};
+ghost use Rattle.link65.specs.declared.fault.LinkFault.{LinkFault};
+ghost use Rattle.cli65.specs.Line.{linking};
+ghost use Rattle.cli65.specs.Messages.{file_message};
+ghost use Rattle.ld65.specs.declared.fault.LinkCommandFault.TheVariants.{OutOfMemory, ScriptFile, Script, Link};
+ghost use Rattle.ld65.specs.Faults.{cause_message, is_memory, link_message, input_name_at, refusal_at, refusal_in, error_message};
+
+use base65::{ListVec, StoreFault};
+use cli65::{LinkArgs, file_message, join, line_message};
+use library65::LibraryFault;
+use link65::{LinkFault, fault_text, location_name};
+use object65::ObjectFault;
+use script65::{Fault, ScriptFault};
+use std::alloc::{AllocError, Global};
+
+/// Why nothing is linked.
+#[derive(Drop)]
+pub enum LinkCommandFault {
+    OutOfMemory,
+    /// The script can't be read.
+    ScriptFile(StoreFault),
+    /// It is no script.
+    Script(ScriptFault),
+    /// The input at this place of the line can't be read or is no object.
+    Object(usize, ObjectFault),
+    /// The library at this place of the line can't be read or is none.
+    Library(usize, LibraryFault),
+    /// The library's member of this module's name can't be read or is no object.
+    Member(ListVec<u8>, ObjectFault),
+    /// The index of a library disagrees with the member of this module's name.
+    Disagrees(ListVec<u8>),
+    /// The objects aren't linked.
+    Link(LinkFault),
+}
+
+impl From<AllocError> for LinkCommandFault {
+    ghost from_gives = { λ _ e. e ≡ OutOfMemory };
+
+    fn from(_e: AllocError) -> LinkCommandFault {
+        LinkCommandFault::OutOfMemory
+    }
+}
+
+impl From<StoreFault> for LinkCommandFault {
+    ghost from_gives = { λ f e. e ≡ ScriptFile f };
+
+    fn from(fault: StoreFault) -> LinkCommandFault {
+        LinkCommandFault::ScriptFile(fault)
+    }
+}
+
+impl From<ScriptFault> for LinkCommandFault {
+    ghost from_gives = { λ f e. e ≡ Script f };
+
+    fn from(fault: ScriptFault) -> LinkCommandFault {
+        LinkCommandFault::Script(fault)
+    }
+}
+
+impl From<LinkFault> for LinkCommandFault {
+    ghost from_gives = { λ f e. e ≡ Link f };
+
+    fn from(fault: LinkFault) -> LinkCommandFault {
+        LinkCommandFault::Link(fault)
+    }
+}
+
+impl LinkCommandFault {
+    /// Whether memory ran out.
+    pub fn is_memory(&self) -> bool
+        ensures { result ≡ is_memory self.now }
+    {
+        match self {
+            LinkCommandFault::OutOfMemory => true,
+            LinkCommandFault::ScriptFile(fault) => matches!(fault, StoreFault::OutOfMemory),
+            LinkCommandFault::Script(fault) => matches!(fault.fault, Fault::OutOfMemory),
+            LinkCommandFault::Object(_, fault) => matches!(fault, ObjectFault::OutOfMemory),
+            LinkCommandFault::Library(_, fault) => matches!(fault, LibraryFault::OutOfMemory),
+            LinkCommandFault::Member(_, fault) => matches!(fault, ObjectFault::OutOfMemory),
+            LinkCommandFault::Disagrees(_) => false,
+            LinkCommandFault::Link(fault) => matches!(fault, LinkFault::OutOfMemory),
+        }
+    }
+
+    /// The refusal of the object at a place of the line: a fault of its own is named by the place.
+    pub fn of_input(place: usize, fault: LinkFault) -> LinkCommandFault
+        ensures { result ≡ refusal_at place fault }
+    {
+        match fault {
+            LinkFault::Malformed(fault) => LinkCommandFault::Object(place, fault),
+            fault => LinkCommandFault::Link(fault),
+        }
+    }
+
+    /// The refusal of a library's member: a fault of its own is named by its module.
+    pub fn of_member(name: ListVec<u8>, fault: LinkFault) -> LinkCommandFault
+        ensures { result ≡ refusal_in name fault }
+    {
+        match fault {
+            LinkFault::Malformed(fault) => LinkCommandFault::Member(name, fault),
+            LinkFault::IndexDisagrees => LinkCommandFault::Disagrees(name),
+            fault => LinkCommandFault::Link(fault),
+        }
+    }
+}
+
+/// The message of a fault of linking: that of a value at its module, file and line, any other as the linker's.
+fn link_message(alloc: Global, fault: &LinkFault) -> Result<ListVec<u8>, AllocError>
+    ensures { IfOk result (λ text. text ≡ link_message fault.now) }
+{
+    let words = fault_text(alloc, fault)?;
+    match fault {
+        LinkFault::Circular(site)
+        | LinkFault::OutOfRange(site)
+        | LinkFault::NoValue(site)
+        | LinkFault::Assertion(site, _) => {
+            let name = location_name(alloc, site)?;
+            line_message(alloc, name.as_slice(), site.line as usize, words.as_slice())
+        }
+        _ => file_message(alloc, b"ld65", words.as_slice()),
+    }
+}
+
+/// The message of a fault of the input at a place of the line.
+fn input_message(
+    alloc: Global,
+    line: &LinkArgs<'_>,
+    place: usize,
+    words: &str,
+) -> Result<ListVec<u8>, AllocError>
+    ensures { IfOk result (λ text. text ≡ file_message (input_name_at (linking line.now).inputs place) words.now) }
+{
+    match line.inputs.as_slice().get(place) {
+        Some(name) => file_message(alloc, name.as_bytes(), words.as_bytes()),
+        None => file_message(alloc, b"", words.as_bytes()),
+    }
+}
+
+/// The message of a refusal, where memory didn't run out.
+fn cause_message(
+    alloc: Global,
+    line: &LinkArgs<'_>,
+    refusal: &LinkCommandFault,
+) -> Result<ListVec<u8>, AllocError>
+    ensures { IfOk result (λ text. text ≡ cause_message (linking line.now) refusal.now) }
+{
+    let script = line.script.as_bytes();
+    match refusal {
+        LinkCommandFault::OutOfMemory => join(alloc, &[b"ld65: Error: out of memory\n"]),
+        LinkCommandFault::ScriptFile(fault) => {
+            file_message(alloc, script, fault.to_string(alloc)?.as_bytes())
+        }
+        LinkCommandFault::Script(fault) => {
+            line_message(
+                alloc,
+                script,
+                fault.line,
+                fault.to_string(alloc)?.as_bytes(),
+            )
+        }
+        LinkCommandFault::Object(place, fault) => {
+            input_message(alloc, line, *place, fault.to_string(alloc)?.as_str())
+        }
+        LinkCommandFault::Library(place, fault) => {
+            input_message(alloc, line, *place, fault.to_string(alloc)?.as_str())
+        }
+        LinkCommandFault::Member(name, fault) => {
+            file_message(alloc, name.as_slice(), fault.to_string(alloc)?.as_bytes())
+        }
+        LinkCommandFault::Disagrees(name) => {
+            let words = fault_text(alloc, &LinkFault::IndexDisagrees)?;
+            file_message(alloc, name.as_slice(), words.as_slice())
+        }
+        LinkCommandFault::Link(fault) => link_message(alloc, fault),
+    }
+}
+
+/// The message of a refusal, by the line that asked.
+pub fn error_message(
+    alloc: Global,
+    line: &LinkArgs<'_>,
+    refusal: &LinkCommandFault,
+) -> Result<ListVec<u8>, AllocError>
+    ensures { IfOk result (λ text. text ≡ error_message (linking line.now) refusal.now) }
+{
+    if refusal.is_memory() {
+        return join(alloc, &[b"ld65: Error: out of memory\n"]);
+    }
+    cause_message(alloc, line, refusal)
+}

@@ -1,0 +1,5 @@
+use Rattle.library65.proofs.SomeLibrary.{some_edit}
+use Rattle.library65.proofs.laws.edit_exists.Goals as goal
+
+pub returns : goal.returns
+returns c = some_edit

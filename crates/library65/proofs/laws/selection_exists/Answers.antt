@@ -1,0 +1,5 @@
+use Rattle.library65.proofs.SomeSelection.{some_selection}
+use Rattle.library65.proofs.laws.selection_exists.Goals as goal
+
+pub returns : goal.returns
+returns c = some_selection

@@ -1,5 +1,0 @@
-use Rattle.library65.proofs.SomeSelection.{some_selection}
-use Rattle.library65.proofs.laws.some_selection.Goals as goal
-
-pub returns : goal.returns
-returns c = some_selection

@@ -1,5 +1,0 @@
-use Rattle.link65.proofs.OutcomeLemmas.{link_once}
-use Rattle.link65.proofs.laws.one_outcome.Goals as goal
-
-pub returns : goal.returns
-returns c = λ output s modules r q h k. link_once output s modules r q h k

@@ -1,5 +1,0 @@
-use Rattle.link65.proofs.SomeOutcome.{some_files}
-use Rattle.link65.proofs.laws.some_files.Goals as goal
-
-pub returns : goal.returns
-returns c = some_files

@@ -1,5 +1,0 @@
-use Rattle.link65.proofs.SomeOutcome.{some_outcome}
-use Rattle.link65.proofs.laws.some_outcome.Goals as goal
-
-pub returns : goal.returns
-returns c = some_outcome

@@ -1,0 +1,5 @@
+use Rattle.object65.proofs.SomeObject.{some_fold}
+use Rattle.object65.proofs.laws.fold_exists.Goals as goal
+
+pub returns : goal.returns
+returns c = some_fold

@@ -1,0 +1,5 @@
+use Rattle.object65.proofs.SomeObject.{some_part}
+use Rattle.object65.proofs.laws.part_exists.Goals as goal
+
+pub returns : goal.returns
+returns c = some_part

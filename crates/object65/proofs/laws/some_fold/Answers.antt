@@ -1,5 +1,0 @@
-use Rattle.object65.proofs.SomeObject.{some_fold}
-use Rattle.object65.proofs.laws.some_fold.Goals as goal
-
-pub returns : goal.returns
-returns c = some_fold

@@ -1,5 +1,0 @@
-use Rattle.object65.proofs.SomeObject.{some_object}
-use Rattle.object65.proofs.laws.some_object.Goals as goal
-
-pub returns : goal.returns
-returns c = some_object

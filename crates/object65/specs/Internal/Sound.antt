@@ -1,0 +1,77 @@
+-- What the parts of a scan and of a builder stand for, and how they hang together.
+use Rattle.std.specs.Prelude.{◌≡◌, ◌≤◌, ◌+◌, ℕ, List, map, slice_get, Some, true, false, ⊤, Result, IfOk, OnOk}
+use Rattle.std.specs.List.{list_all, prefix_len}
+use Rattle.object65.specs.declared.scan.ScanState.{ScanState}
+use Rattle.object65.specs.declared.builder.Parts.{Parts}
+use Rattle.object65.specs.declared.builder.Draft.{Draft}
+use Rattle.object65.specs.declared.record.Item.{Item}
+use Rattle.object65.specs.declared.record.Item.TheVariants.{File, Import, Section, Part, Export, Assert, End}
+use Rattle.object65.specs.declared.object.Fragment.{Fragment}
+use Rattle.object65.specs.declared.fault.ObjectFault.{ObjectFault}
+use Rattle.object65.specs.Items.{has_small_text}
+use Rattle.object65.specs.Objects.{fragment_len}
+use Rattle.object65.specs.Record.{Refines, is_memory}
+use Rattle.object65.specs.Scanning.{Outline, is_filled, outline_of, State, IsReached}
+use Rattle.object65.specs.Small.{is_small_text}
+
+-- ---- A scan.
+
+abbrev pub outline_in : ScanState → Outline
+outline_in k = record { version = k.version; files = map (λ n. n.items) k.files.keys; imports = map (λ n. n.items) k.imports.keys; sections = map (λ n. n.items) k.sections.keys; rooms = k.rooms.items; begun = k.begun; exports = map (λ n. n.items) k.exports.keys; asserting = k.asserting; ended = k.ended; failed = false }
+
+-- all sections before the one being filled are full
+pub record IsWellFormedOutline (k : ScanState) : Type 0 where
+  pub filling : k.filling ≤ prefix_len is_filled k.rooms.items
+
+-- some records lead to an object in the making of which this is kept
+pub record IsReachable (o : Outline) : Type 0 where
+  pub state : State
+  pub reached : IsReached state
+  pub same : o ≡ outline_of state
+
+-- what holds of a scan that hasn't failed
+pub record IsIntact (k : ScanState) : Type 0 where
+  pub sound : IsWellFormedOutline k
+  pub stands : IsReachable (outline_in k)
+
+-- what a call that takes a record answers and leaves: what a scan says of it, with a text whose length is one byte
+pub record RefinesScan (old new : ScanState) (result : Result Item ObjectFault) (said : Result (Outline × Item) ObjectFault) : Type 0 where
+  pub taken : Refines is_memory (λ i. (outline_in new, i)) result said
+  pub small : IfOk result (λ i. has_small_text i ≡ true)
+  pub sound : OnOk result (IsWellFormedOutline new)
+
+-- ---- A builder.
+
+abbrev pub state_of : Parts → State
+state_of p = record { version = p.version; files = p.files; imports = p.imports; drafts = p.drafts.items; begun = false; exports = p.exports; asserts = p.asserts; ended = false; failed = false }
+
+-- without what the scan beside it knows
+abbrev pub without_marks : State → State
+without_marks s = record s { begun = false; ended = false; failed = false }
+
+-- with what the scan beside it knows
+abbrev pub state_in : Parts → Outline → State
+state_in p o = record (state_of p) { begun = o.begun; ended = o.ended }
+
+-- there is a section at this place, and the fragment is within it
+pub record HasPlace (ds : List Draft) (k : ℕ) (f : Fragment) : Type 0 where
+  pub draft : Draft
+  pub there : slice_get ds k ≡ Some draft
+  pub within : draft.filled + fragment_len f ≤ draft.size
+
+abbrev pub HasRoom : List Draft → Item → Type 0
+HasRoom ds (Part k offset f) = HasPlace ds k f
+HasRoom ds (File name) = ⊤
+HasRoom ds (Import name) = ⊤
+HasRoom ds (Section name size align) = ⊤
+HasRoom ds (Export name origin form) = ⊤
+HasRoom ds (Assert action origin text form) = ⊤
+HasRoom ds End = ⊤
+
+-- what holds of a builder that hasn't failed
+pub record IsWhole (p : Parts) (o : Outline) : Type 0 where
+  -- its scan has taken the same records
+  pub scanned : o ≡ outline_of (state_in p o)
+  pub reached : IsReached (state_in p o)
+  -- the length of a text was one byte
+  pub texts : list_all (λ a. is_small_text a.text) p.asserts ≡ true

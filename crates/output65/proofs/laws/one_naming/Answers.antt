@@ -1,5 +1,0 @@
-use Rattle.output65.proofs.Exactly.{one_naming}
-use Rattle.output65.proofs.laws.one_naming.Goals as goal
-
-pub returns : goal.returns
-returns c = one_naming

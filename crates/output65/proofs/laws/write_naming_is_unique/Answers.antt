@@ -1,0 +1,5 @@
+use Rattle.output65.proofs.Exactly.{one_naming}
+use Rattle.output65.proofs.laws.write_naming_is_unique.Goals as goal
+
+pub returns : goal.returns
+returns c = one_naming

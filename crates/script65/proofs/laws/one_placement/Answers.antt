@@ -1,5 +1,0 @@
-use Rattle.script65.proofs.Stood.{one_placement}
-use Rattle.script65.proofs.laws.one_placement.Goals as goal
-
-pub returns : goal.returns
-returns c = one_placement

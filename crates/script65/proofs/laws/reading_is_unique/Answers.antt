@@ -1,0 +1,5 @@
+use Rattle.script65.proofs.OneReading.{one_reading}
+use Rattle.script65.proofs.laws.reading_is_unique.Goals as goal
+
+pub returns : goal.returns
+returns c = one_reading

@@ -1,5 +1,0 @@
-use Rattle.script65.proofs.SomePlacement.{some_placement}
-use Rattle.script65.proofs.laws.some_placement.Goals as goal
-
-pub returns : goal.returns
-returns c = some_placement

@@ -1,5 +1,0 @@
-use Rattle.script65.proofs.SomeScript.{some_reading}
-use Rattle.script65.proofs.laws.some_reading.Goals as goal
-
-pub returns : goal.returns
-returns c = some_reading

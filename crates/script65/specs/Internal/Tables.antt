@@ -1,0 +1,13 @@
+-- Tables of entries.
+use Rattle.std.specs.Prelude.{◌≡◌, ◌++◌, ℕ, List, Option, codes, position}
+use Rattle.std.specs.List.{AllByRecursion}
+use Rattle.std.specs.Str.{bytes_eq}
+use Rattle.script65.specs.declared.reading.entries.ConfigEntry.{ConfigEntry}
+
+-- each entry stands under its own name
+abbrev pub KeysMatchNames : List (List ℕ × ConfigEntry) → Type 0
+KeysMatchNames es = AllByRecursion (λ (e : List ℕ × ConfigEntry). e.0 ≡ e.1.name) es
+
+-- the place of the entry of which this is the name for the part with an ending
+abbrev pub part_at : List ConfigEntry → List ℕ → List ℕ → Option ℕ
+part_at es name end = position (λ (e : ConfigEntry). bytes_eq name (codes "__" ++ (e.name ++ end))) es

@@ -1,0 +1,5 @@
+use Rattle.sources65.proofs.SomeForms.{some_form}
+use Rattle.sources65.proofs.laws.form_exists.Goals as goal
+
+pub returns : goal.returns
+returns c = some_form

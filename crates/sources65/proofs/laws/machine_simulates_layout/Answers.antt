@@ -1,0 +1,5 @@
+use Rattle.sources65.proofs.Passes.{runs_laid}
+use Rattle.sources65.proofs.laws.machine_simulates_layout.Goals as goal
+
+pub returns : goal.returns
+returns c = runs_laid

@@ -1,5 +1,0 @@
-use Rattle.sources65.proofs.OneLayouts.{one_answer}
-use Rattle.sources65.proofs.laws.one_answer.Goals as goal
-
-pub returns : goal.returns
-returns c = one_answer

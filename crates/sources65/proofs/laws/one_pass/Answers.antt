@@ -1,5 +1,0 @@
-use Rattle.sources65.proofs.Passes.{one_pass}
-use Rattle.sources65.proofs.laws.one_pass.Goals as goal
-
-pub returns : goal.returns
-returns c = one_pass

@@ -1,0 +1,5 @@
+use Rattle.sources65.proofs.Passes.{one_pass}
+use Rattle.sources65.proofs.laws.one_pass_suffices.Goals as goal
+
+pub returns : goal.returns
+returns c = one_pass

@@ -1,5 +1,0 @@
-use Rattle.sources65.proofs.SomeLayouts.{some_layout}
-use Rattle.sources65.proofs.laws.some_layout.Goals as goal
-
-pub returns : goal.returns
-returns c = some_layout

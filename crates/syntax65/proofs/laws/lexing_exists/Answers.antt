@@ -1,0 +1,5 @@
+use Rattle.syntax65.proofs.SomeReading.{some_reading}
+use Rattle.syntax65.proofs.laws.lexing_exists.Goals as goal
+
+pub returns : goal.returns
+returns c = some_reading

@@ -1,5 +1,0 @@
-use Rattle.syntax65.proofs.SomeReading.{some_next}
-use Rattle.syntax65.proofs.laws.some_next.Goals as goal
-
-pub returns : goal.returns
-returns c = some_next

@@ -1,0 +1,47 @@
+-- What stands at a place, and what the readers of one class of tokens need.
+use Rattle.std.specs.Prelude.{◌≡◌, ◌≢◌, ◌⊎◌, ◌+◌, ℕ, Bool, List, [], ◌∷◌, take, drop, Option, Some, None, Result, Ok, Err, ⊤}
+use Rattle.std.specs.List.{prefix_len}
+use Rattle.base65.specs.Digit.{digits}
+use Rattle.syntax65.specs.Forms.{class_of, is_word, number_of, StartsNumber, BeginsWithClass, TokenMatchesAt, IsToken, FaultAt}
+use Rattle.syntax65.specs.declared.lexing.places.Class.TheVariants.{At, Dot, Colon, Other}
+use Rattle.syntax65.specs.declared.lexing.tokens.Punctuation.{Punctuation}
+use Rattle.syntax65.specs.declared.lexing.tokens.TokenKind.{TokenKind}
+use Rattle.syntax65.specs.declared.lexing.tokens.TokenKind.TheVariants.{CheapName, Directive, Symbol}
+use Rattle.syntax65.specs.declared.lexing.tokens.LexFault.{LexFault}
+
+-- a token of this kind and length stands here, or none does for this reason
+abbrev pub IsAt : Bool → List ℕ → Result (TokenKind × ℕ) LexFault → Type 0
+IsAt first here (Ok t) = IsToken first t.0 t.1 here
+IsAt first here (Err fault) = FaultAt first here fault
+
+abbrev pub BeginsNumber : List ℕ → Type 0
+BeginsNumber [] = ⊥
+BeginsNumber (b ∷ bs) = StartsNumber (class_of b)
+
+-- the `@` of a cheap name or the `.` of a directive
+abbrev pub BeginsSigned : TokenKind → List ℕ → Type 0
+BeginsSigned CheapName here = BeginsWithClass At here
+BeginsSigned Directive here = BeginsWithClass Dot here
+BeginsSigned _ here = ⊥
+
+-- neither `+` nor `-` is first
+abbrev pub NoSign : List ℕ → Type 0
+NoSign [] = ⊤
+NoSign (b ∷ bs) = (b ≢ 43) × (b ≢ 45)
+
+-- only a mark can stand here
+abbrev pub BeginsMark : List ℕ → Type 0
+BeginsMark here = BeginsWithClass Other here ⊎ (BeginsWithClass Colon here × NoSign (drop 1 here))
+
+-- this mark of two bytes stands here, or none does
+abbrev pub IsLongMarkAt : List ℕ → Option Punctuation → Type 0
+IsLongMarkAt here None = (m : Punctuation) (first : Bool) → TokenMatchesAt first (Symbol m) 2 here → ⊥
+IsLongMarkAt here (Some m) = (first : Bool) → TokenMatchesAt first (Symbol m) 2 here
+
+-- so many digits stand in front of what is no letter, digit or `_`, and have this value
+abbrev pub AreDigitsAhead : ℕ → List ℕ → ℕ → ℕ → Type 0
+AreDigitsAhead radix bytes v n = (n ≡ prefix_len is_word bytes) × (digits radix (take n bytes) ≡ Some v)
+
+-- so many bytes are a number's, up to the first that is no letter, digit or `_`, and have this value
+abbrev pub IsPlainNumber : List ℕ → ℕ → ℕ → Type 0
+IsPlainNumber here v n = (n ≡ 1 + prefix_len is_word (drop 1 here)) × (number_of (take n here) ≡ Some v)

@@ -1,5 +1,0 @@
-use Rattle.tools65.proofs.SomeOutcomes.{an_outcome_exists}
-use Rattle.tools65.proofs.laws.an_outcome_exists.Goals as goal
-
-pub returns : goal.returns
-returns c = an_outcome_exists

@@ -1,5 +1,0 @@
-use Rattle.tools65.proofs.OneFailure.{one_failure}
-use Rattle.tools65.proofs.laws.one_failure.Goals as goal
-
-pub returns : goal.returns
-returns c = one_failure

@@ -1,0 +1,5 @@
+use Rattle.tools65.proofs.OneOutcomes.{one_outcome}
+use Rattle.tools65.proofs.laws.outcome_is_unique.Goals as goal
+
+pub returns : goal.returns
+returns c = one_outcome

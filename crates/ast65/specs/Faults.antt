@@ -1,4 +1,4 @@
--- The faults of assembling: in words, and whether the cause lies outside the source.
+-- Errors in sources: their texts, and which are system errors.
 use Rattle.std.specs.Prelude.{ℕ, List, [], ◌++◌, Bool, true, false, codes, ◌||◌, encode_utf8_all}
 use Rattle.syntax65.specs.Faults.{expand_words}
 use Rattle.syntax65.specs.declared.fault.ExpandFault.TheVariants as expand
@@ -9,7 +9,7 @@ use Rattle.base65.specs.declared.store.StoreFault.TheVariants as store
 use Rattle.ast65.specs.declared.fault.AsmFault.{AsmFault}
 use Rattle.ast65.specs.declared.fault.AsmFault.TheVariants.{OutOfMemory, Expansion, NotUnderstood, NoSuchForm, DefinedTwice, Undefined, Circular, OutOfRange, NoValue, TooLarge, SectionTooLarge, NoSuchScope, ScopeTwice, NoSuchLabel, ImportedAndDefined, NotDefined, BadAlignment, PopWithoutPush, BadOperand, BadPart, Assertion, SizeChanged, BadScope, FileNotFound, FileError, FileNameTooLong}
 
--- the words of a message, before the name or the text that it ends in, if it has one
+-- the text of the message, up to the name or text at its end
 abbrev pub words_of : AsmFault → List ℕ
 words_of OutOfMemory = codes "out of memory"
 words_of (Expansion f) = []
@@ -38,7 +38,7 @@ words_of FileNotFound = codes "file not found"
 words_of FileError = codes "file error"
 words_of FileNameTooLong = codes "file name too long"
 
--- the name or the text that a message ends in
+-- the name or text at the end of the message
 abbrev pub name_in : AsmFault → List ℕ
 name_in (Expansion f) = expand_words f
 name_in (DefinedTwice name) = name
@@ -50,21 +50,21 @@ name_in (NotDefined name) = name
 name_in (Assertion text) = text
 name_in _ = []
 
--- what is printed
+-- the printed text
 abbrev pub fault_text : AsmFault → List ℕ
 fault_text e = words_of e ++ name_in e
 
--- the same as characters: each byte of a name is the character of its code, so ASCII is as it is
+-- the same as characters: each byte of a name becomes the character with its code, so ASCII is unchanged
 abbrev pub display_text : AsmFault → List ℕ
 display_text e = words_of e ++ encode_utf8_all (name_in e)
 
--- memory ran out
+-- out of memory
 abbrev pub is_memory : AsmFault → Bool
 is_memory OutOfMemory = true
 is_memory (Expansion expand.OutOfMemory) = true
 is_memory _ = false
 
--- the store failed
+-- a failure of the store
 abbrev pub is_failure : AsmFault → Bool
 is_failure (Expansion expand.FileError) = true
 is_failure FileError = true
@@ -73,13 +73,13 @@ is_failure _ = false
 abbrev pub is_system_error : AsmFault → Bool
 is_system_error e = is_memory e || is_failure e
 
--- a store's fault where a part of a file is taken
+-- the error for one of the store while `.incbin` reads its file
 abbrev pub of_store : StoreFault → AsmFault
 of_store store.OutOfMemory = OutOfMemory
 of_store store.FileNotFound = FileNotFound
 of_store store.FileError = FileError
 
--- a statement without its expression isn't understood
+-- a statement whose expression can't be parsed isn't understood
 abbrev pub of_expr : ExprFault → AsmFault
 of_expr expr.OutOfMemory = OutOfMemory
 of_expr _ = NotUnderstood

@@ -1,4 +1,4 @@
--- The elements of lists of data as contracts see them.
+-- The contract view of lists of data.
 use Rattle.std.specs.Prelude.{ℕ, List, map}
 use Rattle.syntax65.specs.Trees.{number}
 use Rattle.ast65.specs.declared.language.Item.{Item}

@@ -1,4 +1,4 @@
--- What holds of tokens, whatever they are.
+-- Laws about tokens.
 use Rattle.std.specs.Prelude.{List, Result}
 use Rattle.base65.specs.SystemErrors.{IsNoSystemError}
 use Rattle.syntax65.specs.Tokens.{Lexeme}
@@ -7,7 +7,7 @@ use Rattle.ast65.specs.Parsing.{IsStatement}
 use Rattle.ast65.specs.declared.fault.AsmFault.{AsmFault}
 use Rattle.ast65.specs.declared.language.Statement.{Statement}
 
--- tokens are a statement or aren't understood, which is no fault from outside
+-- tokens have a result, a statement or an error, which is no system error
 abbrev pub StatementExists : Type 0
 StatementExists =
     (ts : List Lexeme) →

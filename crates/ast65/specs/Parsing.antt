@@ -1,4 +1,4 @@
--- What a line's tokens say: a label, and a statement behind it.
+-- The grammar of lines: a label, and a statement after it.
 use Rattle.std.specs.Prelude.{◌≡◌, ℕ, ◌-◌, nat_le, Bool, true, false, ◌==◌, ◌&&◌, ◌||◌, List, [], ◌∷◌, ◌++◌, length, take, drop, codes, Option, Some, None, Result, Ok, Err, IfErr, if◌then◌else◌, ok_or, option_map, MatchBool, MatchOption}
 use Rattle.std.specs.Char.{is_ascii_alphabetic}
 use Rattle.std.specs.List.{list_all, slice_split}
@@ -45,7 +45,7 @@ use Rattle.ast65.specs.declared.language.Statement.TheVariants.{Label, CheapLabe
 use Rattle.ast65.specs.declared.language.Operand.TheVariants.{Absent, Accumulator, Immediate, Address, Indirect, IndirectX, IndirectY}
 use Rattle.ast65.specs.declared.language.Item.TheVariants.{Value, StringLiteral}
 
--- what a call answered, seen by view, is so parsed, unless it was refused from outside; no store failed
+-- the result, mapped by view, is parsed like this, unless a system error occurred; the store didn't fail
 pub record ParsesAs {A B : Type 0} (view : A → B) (result : Result A AsmFault) (IsParsedAs : Result B AsmFault → Type 0) : Type 0 where
   pub value : RefinesRel is_system_error view result IsParsedAs
   pub inside : IfErr result (λ e. is_failure e ≡ false)
@@ -53,17 +53,17 @@ pub record ParsesAs {A B : Type 0} (view : A → B) (result : Result A AsmFault)
 abbrev pub RefinesParse : {A : Type 0} → Result A AsmFault → (Result A AsmFault → Type 0) → Type 0
 RefinesParse result IsParsedAs = ParsesAs (λ x. x) result IsParsedAs
 
--- what isn't understood
+-- the error of tokens that aren't understood
 abbrev pub unknown : {A : Type 0} → Result A AsmFault
 unknown = Err NotUnderstood
 
 -- ---- Expressions.
 
--- first this, and then what follows from it
+-- the result of a relation, and then of a function of its value
 abbrev pub AndThenReturn : {A B : Type 0} → (Result A AsmFault → Type 0) → (A → Result B AsmFault) → Result B AsmFault → Type 0
 AndThenReturn Is next r = (q : Result _ AsmFault) × Is q × (r ≡ (q >>= next))
 
--- an expression of all the tokens
+-- an expression that consists of all tokens
 abbrev pub complete_expression : ℕ → Result (Tree × ℕ) ExprFault → Result Tree AsmFault
 complete_expression count (Ok (e, n)) = if n == count then Ok e else unknown
 complete_expression count (Err e) = unknown
@@ -71,7 +71,7 @@ complete_expression count (Err e) = unknown
 abbrev pub IsExpression : List Lexeme → Result Tree AsmFault → Type 0
 IsExpression ts r = (q : Result (Tree × ℕ) ExprFault) × IsParsed ts q × (r ≡ complete_expression (length ts) q)
 
--- an expression at the front, and what stands behind it
+-- an expression at the start, and the rest
 abbrev pub expression_and_rest : List Lexeme → Result (Tree × ℕ) ExprFault → Result (Tree × List Lexeme) AsmFault
 expression_and_rest ts (Ok (e, n)) = Ok (e, drop n ts)
 expression_and_rest ts (Err f) = unknown
@@ -111,23 +111,23 @@ abbrev pub word_in : Lexeme → Option (List ℕ)
 word_in (token.Identifier, t) = Some t
 word_in _ = None
 
--- what one token says
+-- the bytes of the only token, if there is just one
 abbrev pub one : (Lexeme → Option (List ℕ)) → List Lexeme → Option (List ℕ)
 one in_token (t ∷ []) = in_token t
 one in_token _ = None
 
--- one string
+-- a string that is the only token
 abbrev pub string_of : List Lexeme → Option (List ℕ)
 string_of ts = one quoted_in ts
 
--- one identifier
+-- an identifier that is the only token
 abbrev pub word_of : List Lexeme → Option (List ℕ)
 word_of ts = one word_in ts
 
 abbrev pub is_spelled_as : Option (List ℕ) → List ℕ → Bool
 is_spelled_as t name = option_map_or (λ s. str_eq_ignore_ascii_case s name) t false
 
--- whether a token is this identifier, in either case
+-- whether a token is this identifier, in upper or lower case
 abbrev pub is_word_of : Lexeme → List ℕ → Bool
 is_word_of t name = is_spelled_as (word_in t) name
 
@@ -136,21 +136,21 @@ ok_or_not_understood o = ok_or o NotUnderstood
 
 -- ---- Lists.
 
--- what stands between commas
+-- the parts between commas
 abbrev pub parts_of : List Lexeme → List (List Lexeme)
 parts_of ts = slice_split is_comma ts
 
--- what stands behind a comma, if there is one
+-- the parts after a comma, if there is one
 abbrev pub parts_after : Option (List Lexeme) → List (List Lexeme)
 parts_after None = []
 parts_after (Some ts) = parts_of ts
 
--- each part in turn
+-- each part satisfies the relation, up to the first error
 abbrev pub EachIs : {A B : Type 0} → (A → Result B AsmFault → Type 0) → List A → Result (List B) AsmFault → Type 0
 EachIs Is [] r = r ≡ Ok []
 EachIs Is (x ∷ xs) r = (q : Result _ AsmFault) × Is x q × AndThen q (λ y. AndThenReturn (EachIs Is xs) (λ ys. Ok (y ∷ ys))) r
 
--- one expression or two
+-- one expression, or two
 abbrev pub IsOneOrTwo : List (List Lexeme) → Result (Tree × Option Tree) AsmFault → Type 0
 IsOneOrTwo (n ∷ []) r = AndThenReturn (IsExpression n) (λ x. Ok (x, None)) r
 IsOneOrTwo (n ∷ v ∷ []) r = (q : Result Tree AsmFault) × IsExpression n q × AndThen q (λ x. AndThenReturn (IsExpression v) (λ y. Ok (x, Some y))) r
@@ -177,7 +177,7 @@ IsName ts r = r ≡ name_of ts
 
 -- ---- Operands of instructions.
 
--- the register behind a comma, or nothing
+-- nothing, or a comma and an index register
 abbrev pub index_of : List Lexeme → Result (Option Index) AsmFault
 index_of [] = Ok None
 index_of (c ∷ t ∷ []) =
@@ -186,7 +186,7 @@ index_of (c ∷ t ∷ []) =
     else unknown
 index_of _ = unknown
 
--- what stands behind `(` and an expression: `)`, `,x)` or `),y`
+-- the end of an indirect operand, after `(` and an expression: `)`, `,x)` or `),y`
 abbrev pub closing_of : List Lexeme → Result (Option Index) AsmFault
 closing_of (a ∷ []) = if is_close a then Ok None else unknown
 closing_of (a ∷ b ∷ c ∷ []) =
@@ -200,7 +200,7 @@ indirect_by e None = Indirect e
 indirect_by e (Some index.X) = IndirectX e
 indirect_by e (Some index.Y) = IndirectY e
 
--- the operand of an expression and of what stands behind it, which has to end the operand
+-- an operand that consists of an expression and the tokens after it, which must end it
 abbrev pub IsEnded : (List Lexeme → Result (Option Index) AsmFault) → (Tree → Option Index → Operand) → List Lexeme → Result Operand AsmFault → Type 0
 IsEnded end make ts r = AndThenReturn (IsFront ts) (λ x. end x.1 >>= (λ i. Ok (make x.0 i))) r
 
@@ -208,7 +208,7 @@ IsEnded end make ts r = AndThenReturn (IsFront ts) (λ x. end x.1 >>= (λ i. Ok 
 unfoldable pub IsPlainOperand : List Lexeme → Result Operand AsmFault → Type 0
 IsPlainOperand ts r = MatchBool (is_spelled_as (word_of ts) (codes "a")) (r ≡ Ok Accumulator) (IsEnded index_of (Address None) ts r)
 
--- nothing, `#e`, `(e)`, `(e,x)`, `(e),y`, or `a`, `e`, `e,x`, `e,y`, the last three perhaps with a prefix
+-- nothing, `#e`, `(e)`, `(e,x)`, `(e),y`, `a`, `e`, `e,x` or `e,y`; the last three with an optional prefix
 abbrev pub IsOperand : List Lexeme → Result Operand AsmFault → Type 0
 IsOperand [] r = r ≡ Ok Absent
 IsOperand ((token.Symbol mark.Hash, t) ∷ ts) r = AndThenReturn (IsExpression ts) (λ x. Ok (Immediate x)) r
@@ -231,19 +231,19 @@ lone_statement lone.Data = Segment (codes "DATA") None
 lone_statement lone.Bss = Segment (codes "BSS") None
 lone_statement lone.ZeroPage = Segment (codes "ZEROPAGE") None
 
--- of `n[,v]`
+-- the same for `n[,v]`
 abbrev pub amount_statement : SizedDirective → Tree → Option Tree → Statement
 amount_statement amount.Reserve n v = Reserve n v
 amount_statement amount.Align n v = Align n v
 
--- of a list of names
+-- the same for a list of names
 abbrev pub names_statement : NameListDirective → List (List ℕ) → Statement
 names_statement (names.Import own) ns = Import own ns
 names_statement names.Export ns = Export ns
 names_statement (names.Global own) ns = Global own ns
 names_statement names.ForceImport ns = ForceImport ns
 
--- of one string
+-- the same for one string
 abbrev pub message_statement : Message → List ℕ → Statement
 message_statement message.Out s = Out s
 message_statement message.Warning s = Warning s
@@ -267,7 +267,7 @@ is_identifier (b ∷ bs) = is_letter b && list_all is_word bs && nat_le (length 
 abbrev pub action_word : List ℕ → Result Action AsmFault
 action_word t = if bytes_eq t (codes "warning") then Ok action.Warning else if bytes_eq t (codes "error") then Ok action.Error else unknown
 
--- an assertion's text, which it may have of its own
+-- the text of an assertion: the given or the default one
 abbrev pub words_of : List (List Lexeme) → Result (List ℕ) AsmFault
 words_of [] = Ok (codes "assertion failed")
 words_of (part ∷ []) = ok_or_not_understood (string_of part) >>= (λ s. if nat_le (length s) 255 then Ok s else unknown)
@@ -279,19 +279,19 @@ IsAssertion (e ∷ a ∷ rest) r =
     AndThenReturn (IsExpression e) (λ x. ok_or_not_understood (word_of a) >>= action_word >>= (λ act. words_of rest >>= (λ text. Ok (Assert x act text)))) r
 IsAssertion _ r = r ≡ unknown
 
--- a start and a length, each where it is there
+-- an optional start and an optional length
 abbrev pub IsRange : List (List Lexeme) → Result (Option Tree × Option Tree) AsmFault → Type 0
 IsRange [] r = r ≡ Ok (None, None)
 IsRange parts r = AndThenReturn (IsOneOrTwo parts) (λ x. Ok (Some x.0, x.1)) r
 
--- a file's name as a string, and perhaps a start and a length
+-- the name of a file as a string, with an optional start and length
 abbrev pub IsFilePart : List (List Lexeme) → Result Statement AsmFault → Type 0
 IsFilePart [] r = r ≡ unknown
 IsFilePart (name ∷ range) r = AndThen (ok_or_not_understood (string_of name)) (λ n. AndThenReturn (IsRange range) (λ x. Ok (IncbinPath n x.0 x.1))) r
 
 -- ---- Directives.
 
--- the directives by their words
+-- the directives by name
 abbrev pub words : List (List ℕ × Directive)
 words =
     (codes ".byte", directive.List elements.ValuesAndTexts Byte)
@@ -334,13 +334,13 @@ abbrev pub among : List (List ℕ × Directive) → List ℕ → Option Directiv
 among [] d = None
 among ((name, w) ∷ ws) d = if str_eq_ignore_ascii_case d name then Some w else among ws d
 
--- what a directive asks for
+-- the directive with this name
 abbrev pub directive_of : List ℕ → Option Directive
 directive_of d = among words d
 
--- The statement of a directive and the tokens behind it: a list of elements; one string, which a 0 ends; `n[,v]`; a file and
--- what is taken of it; `"N"`, perhaps with an address size; nothing; a name, which a scope may be without; names; a condition to
--- check; one string; the processor.
+-- The statement of a directive and the tokens after it: a list of elements; one string, followed by a byte
+-- 0; `n[,v]`; a file and the selected part; `"N"` with an optional address size; nothing; a name, which is
+-- optional for a scope; names; a condition to check; one string; the processor.
 abbrev pub IsDirective : Directive → List Lexeme → Result Statement AsmFault → Type 0
 IsDirective (directive.List elements width) ts r = AndThenReturn (EachIs (IsItem elements) (parts_of ts)) (λ xs. Ok (Values width xs)) r
 IsDirective directive.Asciiz ts r = r ≡ (ok_or_not_understood (string_of ts) >>= (λ s. Ok (Values Byte (StringLiteral (s ++ 0 ∷ []) ∷ []))))
@@ -362,7 +362,7 @@ IsDirective directive.SetProcessor ts r =
 
 -- ---- Lines.
 
--- the label that a token before a `:` is, if it is one
+-- the label that a token before `:` is, if it is one
 abbrev pub named_label : TokenKind → List ℕ → Option Statement
 named_label token.Identifier n = if is_reserved n then None else Some (Label n)
 named_label token.CheapName n = Some (CheapLabel n)
@@ -372,14 +372,14 @@ abbrev pub label_before : Lexeme → List Lexeme → Option (Statement × List L
 label_before t [] = None
 label_before t (c ∷ ts) = if is_colon c then option_map (λ s. (s, ts)) (named_label t.0 t.1) else None
 
--- the label at the front, if there is one, `name:`, `@name:` or `:`, and the tokens behind it
+-- the label at the start, if there is one (`name:`, `@name:` or `:`), and the rest
 abbrev pub label_of : List Lexeme → Option Statement × List Lexeme
 label_of [] = (None, [])
 label_of (t ∷ ts) =
     if is_colon t then (Some UnnamedLabel, ts)
     else option_map_or (λ x. (Some x.0, x.1)) (label_before t ts) (None, t ∷ ts)
 
--- what stands behind a name and `=` or `:=`
+-- the tokens after a name and `=` or `:=`
 abbrev pub IsConstant : List ℕ → List Lexeme → Result Statement AsmFault → Type 0
 IsConstant n ts r = AndThen (plain_name n) (λ own. AndThenReturn (IsExpression ts) (λ x. Ok (Constant own x))) r
 
@@ -391,7 +391,7 @@ abbrev pub IsNamed : List ℕ → List Lexeme → Result Statement AsmFault → 
 IsNamed n [] r = IsInstruction (mnemonic_of n) [] r
 IsNamed n (t ∷ ts) r = MatchBool (defines t) (IsConstant n ts r) (IsInstruction (mnemonic_of n) (t ∷ ts) r)
 
--- a statement of some tokens
+-- the statement of tokens
 abbrev pub IsStatement : List Lexeme → Result Statement AsmFault → Type 0
 IsStatement ((token.Identifier, n) ∷ ts) r = IsNamed n ts r
 IsStatement ((token.Directive, d) ∷ ts) r = AndThen (ok_or_not_understood (directive_of d)) (λ x. IsDirective x ts) r

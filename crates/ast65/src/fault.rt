@@ -1,4 +1,4 @@
-//! Why a source has no object.
+//! Errors in sources.
 
 ghost use Rattle.std.specs.Prelude.{◌≡◌, Some};
 ghost use Rattle.ast65.specs.declared.fault.AsmFault.TheVariants.{Expansion, OutOfMemory};
@@ -9,14 +9,14 @@ use std::error::Error;
 use std::fmt;
 use syntax65::{ExpandFault, ExprFault};
 
-/// Why a source has no object. Where a name is concerned, it is the name as it is written.
+/// An error in a source. A name in it is spelled as in the source.
 #[derive(Debug, Drop)]
 pub enum AsmFault {
     OutOfMemory,
-    /// The source's statements can't be given.
+    /// An error of the preprocessor.
     Expansion(ExpandFault),
     NotUnderstood,
-    /// The instruction has no such addressing form.
+    /// The instruction doesn't have this addressing mode.
     NoSuchForm,
     DefinedTwice(ListVec<u8>),
     Undefined(ListVec<u8>),
@@ -29,7 +29,7 @@ pub enum AsmFault {
     SectionTooLarge,
     NoSuchScope(ListVec<u8>),
     ScopeTwice(ListVec<u8>),
-    /// There is no such unnamed label.
+    /// The unnamed label doesn't exist.
     NoSuchLabel,
     ImportedAndDefined(ListVec<u8>),
     /// An export isn't defined.
@@ -38,24 +38,24 @@ pub enum AsmFault {
     PopWithoutPush,
     /// An operand of a directive isn't constant or is out of range.
     BadOperand,
-    /// A file has no such part.
+    /// The file doesn't have this part.
     BadPart,
-    /// An assertion failed; its text.
+    /// An assertion failed, with its text.
     Assertion(ListVec<u8>),
-    /// A segment's address size differs from the one it has.
+    /// A segment is given another address size than it has.
     SizeChanged,
-    /// A scope isn't open or isn't closed.
+    /// A scope is closed that isn't open, or isn't closed.
     BadScope,
     FileNotFound,
     FileError,
-    /// A value, an export or an assertion is written of a file whose name no object can hold.
+    /// A value, an export or an assertion comes from a file whose name is too long for an object.
     FileNameTooLong,
 }
 
 impl AsmFault {
     ghost use Rattle.ast65.specs.Faults.{words_of, name_in, is_memory};
 
-    /// The words of a message, before the name or the text that it ends in.
+    /// Returns the text of the message, up to the name or text at its end.
     pub fn words(&self) -> &'static str
         ensures { result.now ≡ words_of self.now }
     {
@@ -89,8 +89,8 @@ impl AsmFault {
         }
     }
 
-    /// The name that the message ends in, an assertion's text, or the words of expansion's fault; empty where there is
-    /// none.
+    /// Returns the name at the end of the message, the text of an assertion, or the message of the
+    /// preprocessor; empty if there is none.
     pub fn name(&self) -> &[u8]
         ensures { result.now ≡ name_in self.now }
     {
@@ -107,7 +107,7 @@ impl AsmFault {
         }
     }
 
-    /// Whether memory ran out.
+    /// Returns whether memory ran out.
     pub fn is_memory(&self) -> bool
         ensures { result ≡ is_memory self.now }
     {
@@ -132,7 +132,7 @@ impl fmt::Display for AsmFault {
 
 impl Error for AsmFault {}
 
-/// A name as it is printed: each byte is the character of its code.
+/// Displays a name: each byte becomes the character with its code.
 #[derive(Clone, Copy)]
 struct ByteDisplay<'a>(&'a [u8]);
 

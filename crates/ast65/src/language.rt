@@ -1,4 +1,4 @@
-//! The statements of the language, as they are behind expansion.
+//! The statements of the language, after preprocessing.
 
 ghost use Rattle.std.specs.Prelude.{◌≡◌, None, Some, IfOk, option_map};
 ghost use Rattle.ast65.specs.Items.{items_of};
@@ -16,16 +16,16 @@ pub enum Item {
     StringLiteral(ListVec<u8>),
 }
 
-/// The elements of a list of data, which contracts see as a list of items.
+/// The elements of a list of data. The contract view is a list of items.
 #[derive(Drop)]
 pub struct Items {
     kind: ItemsKind,
 }
 
-/// How the elements of a list are kept.
+/// The storage of the elements of a list.
 #[derive(Drop)]
 pub enum ItemsKind {
-    /// Numbers alone.
+    /// Numbers only.
     Numbers(ListVec<u32>),
     Mixed(ListVec<Item>),
 }
@@ -45,21 +45,21 @@ impl Model for Items {
 }
 
 impl Items {
-    /// The elements of this kind.
+    /// Returns the elements stored like this.
     pub fn new(kind: ItemsKind) -> Self
         ensures { result ≡ items_of kind }
     {
         Items { kind }
     }
 
-    /// How the elements are kept.
+    /// Borrows the storage.
     pub fn kind(&self) -> &ItemsKind
         ensures { items_of result.now ≡ self.now }
     {
         &self.kind
     }
 
-    /// The elements as they are kept.
+    /// Returns the storage.
     pub fn into_kind(self) -> ItemsKind
         ensures { items_of result ≡ self }
     {
@@ -67,14 +67,14 @@ impl Items {
     }
 }
 
-/// A register that is added to an address.
+/// An index register.
 #[derive(Clone, Copy)]
 pub enum Index {
     X,
     Y,
 }
 
-/// What stands behind a mnemonic.
+/// The operand of an instruction.
 #[derive(Drop)]
 pub enum Operand {
     Absent,
@@ -82,7 +82,7 @@ pub enum Operand {
     Accumulator,
     /// `#e`
     Immediate(Expr),
-    /// `e`, `e,x` or `e,y`, perhaps with the address size that a prefix forces.
+    /// `e`, `e,x` or `e,y`, with an optional prefix that forces the address size.
     Address {
         prefix: Option<AddressSize>,
         value: Expr,
@@ -96,7 +96,7 @@ pub enum Operand {
     IndirectY(Expr),
 }
 
-/// An expression that may be left out, which contracts see without its box.
+/// An optional expression. Its contract view has no box.
 #[derive(Drop)]
 pub struct OptionalExpr {
     expr: Option<Box<Expr>>,
@@ -115,14 +115,14 @@ impl Model for OptionalExpr {
 }
 
 impl OptionalExpr {
-    /// No expression.
+    /// Returns the absent expression.
     pub fn none() -> Self
         ensures { result ≡ None }
     {
         OptionalExpr { expr: None }
     }
 
-    /// This expression.
+    /// Returns this expression.
     pub fn some(alloc: Global, expr: Expr) -> Result<Self, AllocError>
         ensures { IfOk result (λ e. e ≡ Some expr) }
     {
@@ -131,7 +131,7 @@ impl OptionalExpr {
         })
     }
 
-    /// The expression, if there is one.
+    /// Returns the expression, if there is one.
     pub fn get(&self) -> Option<&Expr>
         ensures { option_map (λ e. e.now) result ≡ self.now }
     {
@@ -142,7 +142,7 @@ impl OptionalExpr {
     }
 }
 
-/// What is taken of a file: from a byte on, so many. By default all from the first byte on.
+/// The part of a file that `.incbin` selects: a start and a length. The default is the whole file.
 #[derive(Clone, Copy)]
 pub struct IncbinRange<'a> {
     pub start: &'a OptionalExpr,
@@ -167,7 +167,7 @@ pub enum Statement {
         mnemonic: Mnemonic,
         operand: Operand,
     },
-    /// `.byte` and the like.
+    /// `.byte` and similar directives.
     Values {
         width: Width,
         items: Items,
@@ -182,26 +182,26 @@ pub enum Statement {
         alignment: Expr,
         value: OptionalExpr,
     },
-    /// `.incbin` with the name of its file, as it is read.
+    /// `.incbin` with the name of its file, as parsed.
     IncbinPath {
         name: ListVec<u8>,
         start: OptionalExpr,
         len: OptionalExpr,
     },
-    /// `.incbin` with the bytes of its file, if there is one.
+    /// `.incbin` with the bytes of its file, if the file exists.
     Incbin {
         bytes: Option<ListVec<u8>>,
         start: OptionalExpr,
         len: OptionalExpr,
     },
-    /// `.segment "N"`, perhaps with an address size; `.code` and the like.
+    /// `.segment "N"` with an optional address size; `.code` and similar directives.
     Segment {
         name: ListVec<u8>,
         size: Option<AddressSize>,
     },
     PushSegment,
     PopSegment,
-    /// `.scope`, with a name or none.
+    /// `.scope`, with an optional name.
     OpenScope(Option<Identifier>),
     CloseScope,
     /// `.proc n`
@@ -229,6 +229,6 @@ pub enum Statement {
     Out(ListVec<u8>),
     /// `.warning`
     Warning(ListVec<u8>),
-    /// `.setcpu "6502"` and `.p02`, which do nothing.
+    /// `.setcpu "6502"` and `.p02`, which have no effect.
     Nothing,
 }

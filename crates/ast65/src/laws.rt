@@ -1,8 +1,8 @@
-//! What is proved of the definitions, each law as the contract of a function that does nothing.
+//! Laws about the definitions. Each law is the contract of a function that does nothing.
 
 ghost use Rattle.ast65.specs.Laws.{StatementExists};
 
-/// Any tokens are a statement, or aren't understood; want of memory is never the fault.
+/// Parsing statements is total: any tokens are a statement or an error, never out of memory.
 #[tactic(auto, using(crate::proofs::SomeStatements::some_statement))]
 pub fn statement_exists()
     ensures { StatementExists }

@@ -1,5 +1,5 @@
-//! Statements as data, the faults of a source, and the reader of statements: from the tokens of a line to its label and
-//! its statement.
+//! Statements, errors in sources, and the statement parser, which parses the tokens of a line into
+//! a label and a statement.
 #![tactic(auto)]
 
 mod fault;

@@ -1,4 +1,4 @@
-//! From the tokens of a line to its label and its statement.
+//! Parses the tokens of a line into a label and a statement.
 
 mod directives;
 mod operands;

@@ -1,4 +1,4 @@
--- The values of digits.
+-- Values of digits.
 use Rattle.std.specs.Prelude.{ℕ, Bool, ◌^◌, ◌≤◌, ◌&&◌, List, [], ◌∷◌, Option, Some, None, nat_lt, if◌then◌else◌}
 use Rattle.std.specs.List.{list_all}
 use Rattle.std.specs.Char.{digit_value}
@@ -10,7 +10,7 @@ IsRadix r = (2 ≤ r) × (r ≤ 16)
 abbrev pub is_digit : ℕ → ℕ → Bool
 is_digit radix b = nat_lt (digit_value b) radix
 
--- the value of one digit or more, below 2 ^ 32
+-- the value of one or more digits, if below 2 ^ 32
 abbrev pub digits : ℕ → List ℕ → Option ℕ
 digits radix [] = None
 digits radix (b ∷ bs) =

@@ -1,4 +1,4 @@
--- What a contract sees of a store in memory.
+-- The contract view of a store in memory.
 use Rattle.std.specs.Prelude.{ℕ, suc, List, [], ◌∷◌, map, Bool, Option, Some, None, nat_eq, if◌then◌else◌}
 use Rattle.std.specs.Option.{option_map}
 use Rattle.std.specs.Cmp.Lexicographic.{pointwise}
@@ -10,7 +10,7 @@ use Rattle.base65.specs.Store.{Files}
 abbrev pub entry : File → List ℕ × List ℕ
 entry f = (f.name.items, f.bytes.items)
 
--- the files of a list, the first of each name
+-- the files of a list; of files with the same name, the first counts
 abbrev pub files_of : List File → Files
 files_of fs = from_entries (map entry fs)
 
@@ -18,7 +18,7 @@ files_of fs = from_entries (map entry fs)
 abbrev pub is_named : List ℕ → File → Bool
 is_named name f = pointwise nat_eq name f.name.items
 
--- where the first file of a name stands
+-- the index of the first file with a name
 abbrev pub place_of : List ℕ → List File → Option ℕ
 place_of name [] = None
 place_of name (f ∷ fs) = if is_named name f then Some 0 else option_map suc (place_of name fs)

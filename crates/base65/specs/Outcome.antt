@@ -1,4 +1,5 @@
--- What a call answers, over any type of faults, of which some come from outside: from memory or the store.
+-- Results of calls, for any error type of which some values are system errors (out of memory, or a failure
+-- of the store).
 use Rattle.std.specs.Prelude.{◌≡◌, Bool, true, false, List, [], ◌∷◌, Result, Ok, Err, ⊤}
 
 infixl 10 ◌>>=◌
@@ -6,7 +7,7 @@ abbrev pub ◌>>=◌ : {E A B : Type 0} → Result A E → (A → Result B E) �
 (Ok x) >>= f = f x
 (Err e) >>= f = Err e
 
--- each in turn, up to the first fault
+-- f of each item, up to the first error
 abbrev pub try_map : {E A B : Type 0} → (A → Result B E) → List A → Result (List B) E
 try_map f [] = Ok []
 try_map f (x ∷ xs) = f x >>= (λ y. try_map f xs >>= (λ ys. Ok (y ∷ ys)))
@@ -15,21 +16,21 @@ abbrev pub Unless : Bool → Type 0 → Type 0
 Unless true P = ⊤
 Unless false P = P
 
--- a refusal is the one that reading gives, unless it came from outside
+-- the error is the spec's error, unless it is a system error
 abbrev pub RefinesErr : {E Y : Type 0} → (E → Bool) → E → Result Y E → Type 0
 RefinesErr is_system_error e read = Unless (is_system_error e) (read ≡ Err e)
 
--- what a call answered, seen by view, is what reading gives, unless it was refused from outside
+-- the result, mapped by view, equals the spec's result, unless a system error occurred
 abbrev pub Refines : {E X Y : Type 0} → (E → Bool) → (X → Y) → Result X E → Result Y E → Type 0
 Refines is_system_error view (Ok x) read = read ≡ Ok (view x)
 Refines is_system_error view (Err e) read = RefinesErr is_system_error e read
 
--- first this, and then what follows it
+-- the relation for a result, and then the one that Next gives for its value
 abbrev pub AndThen : {E A B : Type 0} → Result A E → (A → Result B E → Type 0) → Result B E → Type 0
 AndThen (Ok x) Next r = Next x r
 AndThen (Err e) Next r = r ≡ Err e
 
--- what a call answered is so, unless it was refused from outside
+-- the result satisfies P, unless it is a system error
 abbrev pub RefinesProp : {E A : Type 0} → (E → Bool) → (Result A E → Type 0) → Result A E → Type 0
 RefinesProp is_system_error P (Ok x) = P (Ok x)
 RefinesProp is_system_error P (Err e) = Unless (is_system_error e) (P (Err e))

@@ -3,12 +3,12 @@ use Rattle.std.specs.Prelude.{◌≡◌, ℕ, List, ◌++◌, length, take, drop
 use Rattle.base65.specs.declared.store.StoreFault.{StoreFault}
 use Rattle.base65.specs.declared.store.StoreFault.TheVariants.{OutOfMemory, FileNotFound, FileError}
 
--- a file's bytes, so many at most
+-- the first n bytes of a file, or all if it has fewer
 abbrev pub front_in : Option (List ℕ) → ℕ → Result (List ℕ) StoreFault
 front_in None most = Err FileNotFound
 front_in (Some bytes) most = Ok (take most bytes)
 
--- new is old with what the file has from a place on, so many bytes at most
+-- new is old followed by at most n bytes of the file from an offset
 abbrev pub ReadsChunk : Option (List ℕ) → ℕ → ℕ → List ℕ → List ℕ → Result ℕ StoreFault → Type 0
 ReadsChunk None at want old new (Ok n) = ⊥
 ReadsChunk (Some bytes) at want old new (Ok n) = (new ≡ old ++ take want (drop at bytes)) × (n ≡ length (take want (drop at bytes)))

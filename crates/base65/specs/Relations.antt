@@ -1,8 +1,8 @@
--- What a call answers by a relation, over any type of faults, of which some come from outside.
+-- Results of calls that a relation describes, for any error type of which some values are system errors.
 use Rattle.std.specs.Prelude.{Bool, Result, Ok, Err}
 use Rattle.base65.specs.Outcome.{Unless}
 
--- what a call answered, seen by view, is such an answer, unless it was refused from outside
+-- the result, mapped by view, satisfies the relation, unless a system error occurred
 abbrev pub RefinesRel : {E X Y : Type 0} → (E → Bool) → (X → Y) → Result X E → (Result Y E → Type 0) → Type 0
 RefinesRel is_system_error view (Ok x) IsAnswer = IsAnswer (Ok (view x))
 RefinesRel is_system_error view (Err e) IsAnswer = Unless (is_system_error e) (IsAnswer (Err e))

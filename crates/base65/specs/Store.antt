@@ -1,4 +1,4 @@
--- What the calls of a store do to its files and to its count of failures.
+-- The effects of store calls on the files and on the failure counter.
 use Rattle.std.specs.Prelude.{◌≡◌, ℕ, ◌-◌, ◌^◌, ◌<◌, ◌≤◌, min, ◌⊎◌, List, [], ◌++◌, length, take, drop, get_or, IfOk, Option, Some, None, Result, Ok, Err, Bool, true, IsErrOf, IsErrAnd, IfErr, IfSome, ⊤}
 use Rattle.std.specs.Ordering.{nat_cmp}
 use Rattle.std.specs.Cmp.Lexicographic.{slice_cmp}
@@ -10,81 +10,81 @@ use Rattle.base65.specs.declared.store.StoreFault.TheVariants.{OutOfMemory, File
 abbrev pub Files : Type 0
 Files = FinMap (slice_cmp nat_cmp) (List ℕ)
 
--- each is a byte
+-- each item is a byte
 abbrev pub IsBytes : List ℕ → Type 0
 IsBytes xs = (i : ℕ) → get_or xs i 0 < 256
 
--- where a file was read, what it has are bytes
+-- if a file was read, it consists of bytes
 abbrev pub HoldsBytes : {T E : Type 0} → Option (List ℕ) → Result T E → Type 0
 HoldsBytes file result = IfOk result (λ x. IfSome file IsBytes)
 
--- the count's last value
+-- the maximum of the failure counter
 abbrev pub max_failures : ℕ
 max_failures = 2 ^ 64 - 1
 
--- a call that began at the count old and ended at new failed, or the count stood at its last value
+-- a call between the counts old and new failed, or the counter was already at its maximum
 abbrev pub HasFailed : ℕ → ℕ → Type 0
 HasFailed old new = (old < new) ⊎ (old ≡ max_failures)
 
--- An error is the store's failure passed on: it is answered where the count rose, and nowhere but where the
--- count rose or stood at its last value. The count never falls.
+-- The error reports a failure of the store: the call returns it if the failure counter rose during the
+-- call, and only if it rose or was already at its maximum. The counter never decreases.
 pub record PropagatesIoError {T E : Type 0} (error : E) (old new : ℕ) (result : Result T E) : Type 0 where
   pub later : old ≤ new
   pub told : old < new → IsErrOf result error
   pub cause : IsErrOf result error → HasFailed old new
 
--- The same where several errors are the store's failures passed on.
+-- The same for several errors that report a failure of the store.
 pub record PropagatesIoErrors {T E : Type 0} (fails : E → Bool) (old new : ℕ) (result : Result T E) : Type 0 where
   pub later : old ≤ new
   pub told : old < new → IsErrAnd result (λ e. fails e ≡ true)
   pub cause : IfErr result (λ e. fails e ≡ true → HasFailed old new)
 
--- the same of one call of a store, which also fails wherever the count stands at its last value
+-- the same for a single store call, which also fails whenever the counter is at its maximum
 pub record CountsFailure {T : Type 0} (old new : ℕ) (result : Result T StoreFault) : Type 0 where
   pub later : old ≤ new
   pub told : HasFailed old new → IsErrOf result FileError
   pub cause : IsErrOf result FileError → HasFailed old new
 
--- a call that asks the store is refused from outside where the count stands at its last value
+-- if the counter is at its maximum before the call, the result is a system error
 abbrev pub FailsAtLastCount : {T E : Type 0} → (E → Bool) → ℕ → Result T E → Type 0
 FailsAtLastCount is_system_error old result = old ≡ max_failures → IsErrAnd result (λ e. is_system_error e ≡ true)
 
--- a call that failed: the file that it asked for, and where a reading began
+-- a failed call: the file it requested and, for a read, the offset
 pub record FailedCall : Type 0 where
   pub name : List ℕ
   pub at : Option ℕ
 
--- the call that failed last, where the store tells it
+-- the last failed call, if the store tells it
 abbrev pub LastFailure : Type 0
 LastFailure = Option FailedCall
 
--- the last failed call asked for this file, where the store tells for which
+-- the last failed call requested this file, if the store tells it
 abbrev pub FailedOn : LastFailure → List ℕ → Type 0
 FailedOn last_failure name = IfSome last_failure (λ c. c.name ≡ name)
 
--- it was a reading of this file from there on, where the store tells that
+-- the last failed call read this file from this offset, if the store tells it
 abbrev pub FailedAt : LastFailure → List ℕ → ℕ → Type 0
 FailedAt last_failure name at = IfSome last_failure (λ c. (c.name ≡ name) × (c.at ≡ Some at))
 
--- it was a reading of this file from a place between these on, where the store tells that
+-- the last failed call read this file from an offset between these, if the store tells it
 abbrev pub FailedWithin : LastFailure → List ℕ → ℕ → ℕ → Type 0
 FailedWithin last_failure name begin end = IfSome last_failure (λ c. (c.name ≡ name) × (at : ℕ) × (c.at ≡ Some at) × (begin ≤ at) × (at ≤ end))
 
--- which call failed last, behind a call that is told so where it failed
+-- after a failure the last failed call satisfies P; otherwise it is unchanged
 abbrev pub RecordsFailure : {T : Type 0} → (LastFailure → Type 0) → LastFailure → LastFailure → Result T StoreFault → Type 0
 RecordsFailure IsTold old new (Err FileError) = IsTold new
 RecordsFailure IsTold old new (Err FileNotFound) = new ≡ old
 RecordsFailure IsTold old new (Err OutOfMemory) = new ≡ old
 RecordsFailure IsTold old new (Ok x) = new ≡ old
 
--- The first n bytes of the buffer are those of what the file has from there on. There are none only at the
--- file's end or where the buffer is empty.
+-- The first n bytes of the buffer are the file's next n bytes. n is 0 only at the end of the file or if the
+-- buffer is empty.
 pub record ReadsPrefix (rest : List ℕ) (n : ℕ) (buf : List ℕ) : Type 0 where
   pub within : n ≤ length rest
   pub front : take n buf ≡ take n rest
   pub ends : n ≡ 0 → 0 < length buf → rest ≡ []
 
--- what a file has from a place on is read into the buffer, or there is no such file
+-- the bytes of the file from an offset are read into the buffer, or the file doesn't exist
 abbrev pub ReadsAt : Option (List ℕ) → ℕ → List ℕ → Result ℕ StoreFault → Type 0
 ReadsAt None at buf (Ok n) = ⊥
 ReadsAt (Some bytes) at buf (Ok n) = ReadsPrefix (drop at bytes) n buf
@@ -92,14 +92,14 @@ ReadsAt file at buf (Err FileNotFound) = file ≡ None
 ReadsAt file at buf (Err FileError) = ⊤
 ReadsAt file at buf (Err OutOfMemory) = ⊤
 
--- new is old with the file emptied, or old where the call was refused; a file that isn't there is no cause
+-- new is old with the file emptied, or equals old after an error; a missing file is no error
 abbrev pub CreatesFile : Files → List ℕ → Files → Result (Unit {0}) StoreFault → Type 0
 CreatesFile old name new (Ok u) = new ≡ insert old name []
 CreatesFile old name new (Err FileNotFound) = ⊥
 CreatesFile old name new (Err FileError) = new ≡ old
 CreatesFile old name new (Err OutOfMemory) = new ≡ old
 
--- new is old with the first n bytes of the piece behind the file's own
+-- new is old with the first n bytes of the piece appended to the file
 pub record ExtendsFile (old : Files) (name piece : List ℕ) (n : ℕ) (new : Files) (bytes : List ℕ) : Type 0 where
   pub was : get old name ≡ Some bytes
   pub grown : new ≡ insert old name (bytes ++ take n piece)
@@ -110,13 +110,13 @@ AppendsToFile old name piece new (Err FileNotFound) = (get old name ≡ None) ×
 AppendsToFile old name piece new (Err FileError) = new ≡ old
 AppendsToFile old name piece new (Err OutOfMemory) = new ≡ old
 
--- two knowledges of files stand in a relation, where the files are known
+-- if the files are known, those before and after are related by P
 abbrev pub RelatesFiles : (Files → Files → Type 0) → Option Files → Option Files → Type 0
 RelatesFiles P None new = ⊤
 RelatesFiles P (Some old) None = ⊥
 RelatesFiles P (Some old) (Some new) = P old new
 
--- the buffer has been filled from there on as far as the file goes
+-- the buffer is filled from the offset, as far as the file goes
 pub record FillsAll (rest : List ℕ) (n : ℕ) (buf : List ℕ) : Type 0 where
   pub count : n ≡ min (length buf) (length rest)
   pub front : take n buf ≡ take n rest
@@ -128,12 +128,12 @@ ReadsFull file at buf (Err FileNotFound) = file ≡ None
 ReadsFull file at buf (Err FileError) = ⊤
 ReadsFull file at buf (Err OutOfMemory) = ⊤
 
--- the first n bytes of the buffer are the file's from there on
+-- the first n bytes of the buffer are those of the file from the offset
 abbrev pub FilledTo : Option (List ℕ) → ℕ → ℕ → List ℕ → Type 0
 FilledTo None at n buf = ⊤
 FilledTo (Some bytes) at n buf = (n ≤ length (drop at bytes)) × (take n buf ≡ take n (drop at bytes))
 
--- no call of the store failed between two counts
+-- no store call failed between the two counts
 pub record NoneFailed (old new : ℕ) : Type 0 where
   pub same : new ≡ old
   pub before : old < max_failures

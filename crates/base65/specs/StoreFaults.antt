@@ -1,4 +1,4 @@
--- Why a call of a store was refused: in words, and whether the cause lies outside the files.
+-- Errors of the store: their texts, and which are system errors.
 use Rattle.std.specs.Prelude.{ℕ, List, Bool, true, false, codes}
 use Rattle.base65.specs.declared.store.StoreFault.{StoreFault}
 use Rattle.base65.specs.declared.store.StoreFault.TheVariants.{OutOfMemory, FileNotFound, FileError}
@@ -8,7 +8,7 @@ store_words OutOfMemory = codes "out of memory"
 store_words FileNotFound = codes "file not found"
 store_words FileError = codes "file error"
 
--- memory ran out or the store failed
+-- out of memory, or a failure of the store
 abbrev pub is_store_system_error : StoreFault → Bool
 is_store_system_error OutOfMemory = true
 is_store_system_error FileNotFound = false

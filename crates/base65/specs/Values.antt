@@ -7,7 +7,7 @@ use Rattle.base65.specs.declared.values.Op1.TheVariants.{Plus, Negate, BitNot, L
 use Rattle.base65.specs.declared.values.Op2.{Op2}
 use Rattle.base65.specs.declared.values.Op2.TheVariants.{Multiply, Divide, Modulo, BitAnd, BitXor, ShiftLeft, ShiftRight, Add, Subtract, BitOr, Equal, NotEqual, Less, Greater, LessOrEqual, GreaterOrEqual, And, Xor, Or}
 
--- brought into the signed 64-bit range modulo 2 ^ 64
+-- the integer modulo 2 ^ 64, in the signed 64-bit range
 abbrev pub wrap_signed : ℤ → ℤ
 wrap_signed z = int_wrap w64 z
 
@@ -15,7 +15,7 @@ abbrev pub truth : Bool → ℤ
 truth true = pos 1
 truth false = pos 0
 
--- every number but 0 is true
+-- every number except 0 is true
 abbrev pub is_true : ℤ → Bool
 is_true a = not (int_eq a (pos 0))
 
@@ -32,11 +32,11 @@ value1 HighByte a = pos (cast_unsigned w64 a / 2 ^ 8 % 2 ^ 8)
 value1 BankByte a = pos (cast_unsigned w64 a / 2 ^ 16 % 2 ^ 8)
 value1 Not a = truth (not (is_true a))
 
--- a formula that has no value at the divisor 0
+-- a formula that has no value for the divisor 0
 abbrev pub unless_zero_divisor : (ℤ → ℤ → ℤ) → ℤ → ℤ → Option ℤ
 unless_zero_divisor f a b = if int_eq b (pos 0) then None else Some (wrap_signed (f a b))
 
--- a formula that has no value at a shift count outside 0 to 63
+-- a formula that has no value for a shift count outside 0 to 63
 abbrev pub unless_bad_shift : (ℤ → ℤ → ℤ) → ℤ → ℤ → Option ℤ
 unless_bad_shift f a (pos n) = if nat_lt n 64 then Some (wrap_signed (f a (pos (2 ^ n)))) else None
 unless_bad_shift f a (negsuc n) = None

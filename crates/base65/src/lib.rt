@@ -1,5 +1,5 @@
-//! What the crates of the tools share: files by name, the operators on values, the values of digits, and small types that
-//! contracts see as lists.
+//! Types and functions that all crates share: the file store, the operators on values, digits, and
+//! small types that contracts see as lists.
 #![tactic(auto)]
 
 mod list_vec;

@@ -1,11 +1,11 @@
-//! A vector that contracts see as the list of its items.
+//! A vector that contracts see as a list.
 
 ghost use Rattle.std.specs.Prelude.{◌≡◌, ◌++◌, ◌∷◌, [], length, OnOk, OnErr, IfOk};
 
 use std::alloc::{AllocError, Global};
 use std::marker::Model;
 
-/// A vector that contracts see as the list of its items.
+/// A `Vec<T>` whose contract view is the list of its items.
 #[derive(Debug, Drop)]
 pub struct ListVec<T> {
     items: Vec<T>,
@@ -66,7 +66,7 @@ impl<T> ListVec<T> {
 }
 
 impl<T: Copy> ListVec<T> {
-    /// A sequence of the same items.
+    /// Copies a slice.
     pub fn copy_of(alloc: Global, items: &[T]) -> Result<Self, AllocError>
         ensures { IfOk result (λ s. s ≡ items.now) }
     {

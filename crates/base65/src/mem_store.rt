@@ -18,7 +18,7 @@ struct File {
     bytes: Vec<u8>,
 }
 
-/// Files that lie in memory. No call of it fails.
+/// A store that keeps its files in memory. Its calls never fail.
 #[derive(Drop)]
 pub struct MemStore {
     alloc: Global,
@@ -39,7 +39,7 @@ impl Model for MemStore {
     ghost view = { λ s. files_of s.files.items };
 }
 
-/// Where the file of a name stands.
+/// Finds the index of the file with this name.
 fn place(files: &[File], name: &[u8]) -> Option<usize>
     ensures place { result ≡ place_of name.now files.now }
     ensures bound { IfSome result (λ i. i < length files.now) }
@@ -55,7 +55,7 @@ fn place(files: &[File], name: &[u8]) -> Option<usize>
 impl MemStore {
     ghost use Rattle.base65.specs.MemStore.{place_of, files_of};
 
-    /// A store with no file.
+    /// Returns a store without files.
     pub fn new(alloc: Global) -> Self
         ensures { result ≡ map.empty }
     {
@@ -65,7 +65,7 @@ impl MemStore {
         }
     }
 
-    /// The bytes of a file.
+    /// Returns the bytes of a file.
     pub fn get(&self, name: &str) -> Option<&[u8]>
         ensures { option_copied result ≡ map.get self.now name.now }
     {
@@ -73,7 +73,7 @@ impl MemStore {
         Some(self.files[i].bytes.as_slice())
     }
 
-    /// Puts a file in, in the place of one of its name. A refusal changes nothing.
+    /// Adds a file, or replaces the one with this name. If memory runs out, the store is unchanged.
     pub fn put(&mut self, name: &str, bytes: &[u8]) -> Result<(), AllocError>
         ensures ok { OnOk result (self.new ≡ map.insert self.old name.now bytes.now) }
         ensures err { OnErr result (self.new ≡ self.old) }
@@ -81,7 +81,7 @@ impl MemStore {
         set_file(self.alloc, &mut self.files, name.as_bytes(), bytes)
     }
 
-    /// Does nothing. Its contract is a law: whatever the store, each of its files holds bytes.
+    /// Does nothing. Its contract is a law: each file of any store consists of bytes.
     pub fn hold_bytes(&self)
         ensures { HoldBytes self.now }
     {
@@ -89,14 +89,14 @@ impl MemStore {
     }
 }
 
-/// Does nothing: what a slice of bytes has are bytes, by its type.
+/// Does nothing. By its type, a slice of bytes consists of bytes.
 fn are_bytes(bytes: &[u8])
     ensures { IsBytes bytes.now }
 {
     let _ = bytes.len();
 }
 
-/// Goes through files: each holds bytes.
+/// Does nothing. Its contract states that each file of a list consists of bytes.
 fn hold_bytes(files: &[File])
     ensures { HoldBytes (files_of files.now) }
 {
@@ -105,7 +105,7 @@ fn hold_bytes(files: &[File])
     }
 }
 
-/// Puts a file into a list, in the place of one of its name.
+/// Adds a file to a list, or replaces the one with this name.
 fn set_file(
     alloc: Global,
     files: &mut Vec<File>,
@@ -126,7 +126,7 @@ fn set_file(
     Ok(())
 }
 
-/// Puts bytes behind those of the file of a name.
+/// Appends bytes to the file with this name.
 fn extend_file(files: &mut Vec<File>, name: &[u8], piece: &[u8]) -> Result<usize, StoreFault>
     ensures appended { AppendsToFile (files_of files.old.items) name.now piece.now (files_of files.new.items) result }
     ensures all { IfOk result (λ n. n ≡ length piece.now) }
@@ -142,7 +142,7 @@ fn extend_file(files: &mut Vec<File>, name: &[u8], piece: &[u8]) -> Result<usize
     }
 }
 
-/// Puts what bytes have from a place on into the front of a buffer, and answers how many these are.
+/// Copies the bytes from offset `at` into `buf`, as many as fit, and returns their number.
 fn copy_from(bytes: &[u8], at: u64, buf: &mut [u8]) -> usize
     ensures fills { ReadsPrefix (drop at bytes.now) result buf.new }
     ensures bound { result ≤ length buf.new }

@@ -3,7 +3,8 @@
 ghost use Rattle.std.specs.Prelude.{◌≡◌};
 ghost use Rattle.base65.specs.Digit.{IsRadix, digits};
 
-/// The value of one digit or more, if they are digits of the radix and it is below 2 ^ 32.
+/// Parses one or more digits of the radix. Returns `None` for other text and for values of 2 ^ 32
+/// or more.
 pub fn digits(radix: u32, text: &[u8]) -> Option<u32>
     requires { IsRadix radix }
     ensures { result ≡ digits radix text.now }

@@ -1,8 +1,8 @@
-//! What a command leaves.
+//! Output files of commands.
 
 use crate::{ListVec, PathString};
 
-/// A file that a command leaves.
+/// A file that a command writes.
 #[derive(Drop)]
 pub struct OutputFile {
     pub name: PathString,

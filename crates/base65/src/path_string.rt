@@ -1,4 +1,4 @@
-//! Text that contracts see as its bytes.
+//! A string that contracts see as its bytes.
 
 ghost use Rattle.std.specs.Prelude.{◌≡◌, IfOk};
 ghost use Rattle.std.specs.Str.{is_utf8};
@@ -6,7 +6,7 @@ ghost use Rattle.std.specs.Str.{is_utf8};
 use std::alloc::{AllocError, Global};
 use std::marker::Model;
 
-/// Text that contracts see as its bytes.
+/// An owned string whose contract view is its bytes. It holds names of files and folders.
 #[derive(Drop)]
 pub struct PathString {
     text: String,
@@ -21,7 +21,7 @@ impl Model for PathString {
 }
 
 impl PathString {
-    /// A copy of the text.
+    /// Copies a string.
     pub fn copy_of(alloc: Global, text: &str) -> Result<Self, AllocError>
         ensures { IfOk result (λ t. t ≡ text.now) }
     {
@@ -30,7 +30,7 @@ impl PathString {
         })
     }
 
-    /// The text itself.
+    /// Borrows the string.
     pub fn as_str(&self) -> &str
         ensures { result.now ≡ self.now }
     {
@@ -38,7 +38,7 @@ impl PathString {
     }
 }
 
-/// Whether bytes are text.
+/// Returns whether bytes are valid UTF-8.
 pub fn is_utf8(bytes: &[u8]) -> bool
     ensures { result ≡ is_utf8 bytes.now }
 {

@@ -1,4 +1,4 @@
-//! Whole files, up to a limit.
+//! Reads files whole, up to a limit.
 
 ghost use Rattle.std.specs.Prelude.{◌≡◌, ◌≤◌, ◌<◌, ◌+◌, ◌^◌, IfOk, IfSome, IsErrOf, length};
 ghost use Rattle.std.specs.FinMap as map;
@@ -12,7 +12,7 @@ use std::alloc::Global;
 
 const CHUNK: usize = 4096;
 
-/// Adds what a file has from a place on, so many bytes at most, and answers how many there were.
+/// Appends at most `most` bytes of the file, from offset `at`, to `bytes`. Returns their number.
 fn read_chunk<S: Store>(
     store: &mut S,
     name: &str,
@@ -36,7 +36,8 @@ fn read_chunk<S: Store>(
     Ok(n)
 }
 
-/// The first bytes of a file, so many at most. Memory grows only by what was read.
+/// Returns the first `most` bytes of a file, or fewer if it is shorter. Allocates only for bytes
+/// read.
 pub fn read_front<S: Store>(
     alloc: Global,
     store: &mut S,

@@ -1,25 +1,25 @@
-//! What tables of names begin their hashes with.
+//! The seed of the hash tables of names.
 
 use std::hash::{BuildHasher, FoldHasher, Hasher};
 use std::io;
 use std::random::RandomSource;
 
-/// What a table of names begins its hashes with. Where it isn't known outside the run, nobody can choose names that
-/// meet in one place of a table. Nothing that is written depends on it.
+/// The seed of the hash tables of names. If it can't be predicted, nobody can choose names that
+/// collide. Output never depends on it.
 #[derive(Clone, Copy)]
 pub struct Seed {
     first: FoldHasher,
 }
 
 impl Seed {
-    /// The seed of a number.
+    /// Returns the seed with this number.
     pub fn of(number: u64) -> Self {
         let mut first = FoldHasher::default();
         first.write_u64(number);
         Seed { first }
     }
 
-    /// A seed that nobody knows.
+    /// Returns a random seed.
     pub fn random(source: &impl RandomSource) -> io::Result<Self> {
         let mut bytes = [0; 8];
         source.fill_bytes(&mut bytes)?;

@@ -1,4 +1,4 @@
-//! Files as the tools see them.
+//! The file store.
 
 ghost use Rattle.std.specs.Prelude.{◌≡◌, ◌≤◌, ◌<◌, ◌+◌, ◌-◌, ◌^◌, ℕ, Option, List, length, IfOk, IfSome, IsErrOf};
 ghost use Rattle.std.specs.FinMap as map;
@@ -10,7 +10,7 @@ use crate::seed::Seed;
 use std::alloc::{AllocError, AllocFailed};
 use std::fmt;
 
-/// Why a call of a store was refused.
+/// An error of a store call.
 #[derive(Clone, Copy, Debug, PartialEq, Eq)]
 pub enum StoreFault {
     OutOfMemory = 1,
@@ -51,21 +51,21 @@ impl<T: Drop> From<AllocFailed<T>> for StoreFault {
 
 /// Files by name.
 pub trait Store {
-    /// The files, where the store tells them.
+    /// The contents of the files, if the store tells them.
     ghost files: { Self → Option Files };
 
-    /// How often a call has failed.
+    /// The number of failed calls.
     ghost failures: { Self → ℕ };
 
-    /// Which call failed last, where the store tells it.
+    /// The last failed call, if the store tells it.
     ghost last_failure: { Self → LastFailure };
 
-    /// What tables of names begin their hashes with in a run over these files.
+    /// Returns the seed of the hash tables in a run with these files.
     fn seed(&self) -> Seed {
         Seed::default()
     }
 
-    /// Reads what a file has from a place on into the front of a buffer, and answers how many bytes it read.
+    /// Reads from offset `at` of a file into `buf`. Returns the number of bytes read.
     fn read_at(&mut self, name: &str, at: u64, buf: &mut [u8]) -> Result<usize, StoreFault>
         ensures bound { IfOk result (λ n. n ≤ length buf.new) }
         ensures read { IfSome (files self.old) (λ m. ReadsAt (map.get m name.now) at buf.new result) }
@@ -74,25 +74,25 @@ pub trait Store {
         ensures count { CountsFailure (failures self.old) (failures self.new) result }
         ensures last_failure { RecordsFailure (λ b. FailedAt b name.now at) (last_failure self.old) (last_failure self.new) result };
 
-    /// Makes a file empty, and begins it where there is none.
+    /// Creates an empty file, or truncates the existing one.
     fn create(&mut self, name: &str) -> Result<(), StoreFault>
         ensures created { RelatesFiles (λ old new. CreatesFile old name.now new result) (files self.old) (files self.new) }
         ensures count { CountsFailure (failures self.old) (failures self.new) result }
         ensures last_failure { RecordsFailure (λ b. FailedOn b name.now) (last_failure self.old) (last_failure self.new) result };
 
-    /// Adds the first bytes of a piece behind a file's own, and answers how many it added: one at least of a
-    /// piece that isn't empty.
+    /// Appends the first bytes of `piece` to a file. Returns their number, which is at least one if
+    /// `piece` isn't empty.
     fn append(&mut self, name: &str, piece: &[u8]) -> Result<usize, StoreFault>
         ensures bound { IfOk result (λ n. (n ≤ length piece.now) × (n ≡ 0 → length piece.now ≡ 0)) }
         ensures appended { RelatesFiles (λ old new. AppendsToFile old name.now piece.now new result) (files self.old) (files self.new) }
         ensures count { CountsFailure (failures self.old) (failures self.new) result }
         ensures last_failure { RecordsFailure (λ b. FailedOn b name.now) (last_failure self.old) (last_failure self.new) result };
 
-    /// The count of failures has a last value.
+    /// The failure counter has a maximum.
     ghost counted: { (s : Self) → failures s ≤ max_failures };
 }
 
-/// Reads until the buffer is full or the file ends.
+/// Reads until `buf` is full or the file ends.
 pub fn read_full<S: Store>(
     store: &mut S,
     name: &str,
@@ -116,7 +116,7 @@ pub fn read_full<S: Store>(
             break;
         }
         done += n;
-        // A full buffer needs no further call to know that it is full.
+        // A full buffer needs no further call.
         if done == buf.len() {
             break;
         }

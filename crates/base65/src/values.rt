@@ -1,11 +1,11 @@
-//! The operators of expressions and their values, over whole numbers brought into the signed 64-bit range.
+//! The operators of expressions, over integers that wrap around in 64 bits.
 
 ghost use Rattle.std.specs.Prelude.{◌≡◌};
 ghost use Rattle.base65.specs.Values.{value1, value2, truth, unless_zero_divisor, unless_bad_shift};
 ghost use Rattle.std.specs.Prelude.{◌*ℤ◌, int_div, int_rem};
 ghost use Rattle.std.specs.Int.{int_div_euclid};
 
-/// An operator for one operand.
+/// A unary operator.
 #[derive(Clone, Copy, Debug)]
 pub enum Op1 {
     Plus,
@@ -17,11 +17,11 @@ pub enum Op1 {
     HighByte,
     /// Bits 16 to 23.
     BankByte,
-    /// 1 for 0, else 0.
+    /// 1 for 0, otherwise 0.
     Not,
 }
 
-/// An operator for two operands. Comparisons and the logical `And`, `Xor` and `Or` give 1 or 0.
+/// A binary operator. Comparisons and the logical `And`, `Xor` and `Or` give 1 or 0.
 #[derive(Clone, Copy, Debug)]
 pub enum Op2 {
     Multiply,
@@ -51,7 +51,7 @@ fn truth(b: bool) -> i64
     if b { 1 } else { 0 }
 }
 
-/// The value of an operation on one number.
+/// Returns the value of a unary operation.
 pub fn apply1(op: Op1, a: i64) -> i64
     ensures { result ≡ value1 op a }
 {
@@ -66,7 +66,8 @@ pub fn apply1(op: Op1, a: i64) -> i64
     }
 }
 
-/// The value of an operation on two numbers; none for a zero divisor and a shift count outside 0 to 63.
+/// Returns the value of a binary operation, or `None` for a zero divisor or a shift count outside 0
+/// to 63.
 pub fn apply2(op: Op2, a: i64, b: i64) -> Option<i64>
     ensures { result ≡ value2 op a b }
 {

@@ -1,4 +1,4 @@
--- Blocks: lines are taken one after another up to the one that closes the block.
+-- Blocks: their lines are read one by one up to the line that closes the block.
 use Rattle.std.specs.Prelude.{◌≡◌, List, Some, None, Result, Ok, Err, ℕ, zero, suc, [], ◌∷◌, ◌++◌, drop, length, ◌==◌, Bool, true, false, Option, if◌then◌else◌}
 use Rattle.syntax65.specs.Tokens.{Lexeme}
 use Rattle.expand65.specs.Lines.{RemainingInput, LocatedError, LineAndRest, TakesNextLine}
@@ -9,7 +9,7 @@ use Rattle.expand65.specs.declared.blocks.BlockKind.TheVariants as kind
 
 -- ---- The next line of a block.
 
--- a block has to be closed before an end mark
+-- a block must be closed before the end of its input
 abbrev pub within_block : LineAndRest → Result (List Lexeme × RemainingInput) LocatedError
 within_block (Ok (Some ts, l)) = Ok (ts, l)
 within_block (Ok (None, l)) = Err (NotClosed, l.place)
@@ -18,29 +18,30 @@ within_block (Err e) = Err e
 abbrev pub TakesInBlock : RemainingInput → Result (List Lexeme × RemainingInput) LocatedError → Type 0
 TakesInBlock l r = (t : LineAndRest) × TakesNextLine l t × (r ≡ within_block t)
 
--- ---- What a line does to the block that it stands in.
+-- ---- The effect of a line on the block that contains it.
 
--- what closes a block
+-- the directive that closes a block
 pub data Branch : Type 0 where
-  -- with what stands behind it
+  -- with the rest of its line
   at_elseif : List Lexeme → Branch
   at_else : Branch
   -- the end of a macro, a repeat or a condition
   at_end : Branch
 
--- whether a block goes on behind a line with so many others open in it, is closed by it, or the line is refused
+-- the effect of a line on a block: it continues with this many nested blocks open, it is closed, or the
+-- line is an error
 pub data Verdict : Type 0 where
   on : ℕ → Verdict
   closed : Branch → Verdict
   refused : ExpandFault → Verdict
 
--- a line that closes its block has nothing behind its directive
+-- nothing may follow a directive that closes its block
 abbrev pub closed_alone : Branch → List Lexeme → Verdict
 closed_alone end ts = if length ts == 0 then closed end else refused NotUnderstood
 
--- What a line does by its directive, so many other blocks being open. The body of a macro ends at its `.endmacro`, and that
--- of a repeat at its `.endrepeat`. The lines that go with a false condition end at the next `.elseif`, `.else` or `.endif`
--- of its level, and those that go with an `.elseif` or `.else` behind a true one at its `.endif`.
+-- The effect of a directive, with this many nested blocks open. `.endmacro` ends the body of a macro, and
+-- `.endrepeat` that of a repeat. The next `.elseif`, `.else` or `.endif` of the same level ends the lines
+-- of a false condition; `.endif` ends those of an `.elseif` or `.else` after a true condition.
 abbrev pub block_verdict : BlockKind → ℕ → List Lexeme → Option Directive → Verdict
 block_verdict kind.Macro d ts (Some EndMacro) = closed_alone at_end (drop 1 ts)
 block_verdict kind.Macro d ts (Some Macro) = refused MacroInside
@@ -62,22 +63,22 @@ judge k d ts = if is_mislabelled ts then refused NotUnderstood else block_verdic
 
 -- ---- Blocks.
 
--- whether the lines of a block are kept
+-- whether blocks of this kind keep their lines
 abbrev pub is_kept : BlockKind → Bool
 is_kept kind.Macro = true
 is_kept kind.Repeat = true
 is_kept _ = false
 
--- the lines that are kept, with one more
+-- the kept lines and one more
 abbrev pub with_line : BlockKind → List (List Lexeme) → List Lexeme → List (List Lexeme)
 with_line k body ts = if is_kept k then body ++ ts ∷ [] else body
 
--- what a block comes to: the lines that are kept, and what closes it
+-- the kept lines of a block, and the directive that closes it
 abbrev pub CompleteBlock : Type 0
 CompleteBlock = List (List Lexeme) × Branch
 
--- A block in which so many others are open, behind the lines that are kept so far. It has to be closed before the next
--- end mark.
+-- The rest of a block with this many nested blocks open, after the lines kept so far. It must be closed
+-- before the next end of an input.
 pub data Block (k : BlockKind) : ℕ → List (List Lexeme) → RemainingInput → Result (CompleteBlock × RemainingInput) LocatedError → Type 0 where
   a_fault : (d : ℕ) (body : List (List Lexeme)) (l : RemainingInput) (e : LocatedError) → TakesNextLine l (Err e) → Block k d body l (Err e)
   a_mark : (d : ℕ) (body : List (List Lexeme)) (l m : RemainingInput) → TakesNextLine l (Ok (None, m)) → Block k d body l (Err (NotClosed, m.place))

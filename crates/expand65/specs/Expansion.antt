@@ -1,4 +1,4 @@
--- From a source to its statements, a step at a time.
+-- The expansion of a source into statements, step by step.
 use Rattle.std.specs.Prelude.{ℕ, ◌==◌, nat_le, Bool, false, List, [], ◌∷◌, ◌++◌, length, map, Option, Some, None, Result, Ok, Err, if◌then◌else◌, ◌≡◌, zero, suc, true, take, drop}
 use Rattle.std.specs.Option.{option_map_or}
 use Rattle.std.specs.FinMap as fmap
@@ -19,74 +19,75 @@ use Rattle.base65.specs.Outcome.{◌>>=◌}
 
 -- ---- Files.
 
--- the file of a name, which is a text
+-- the file with this name, which must be UTF-8
 abbrev pub file_named : Files → List ℕ → Option (List ℕ)
 file_named m name = if is_utf8 name then fmap.get m name else None
 
--- a file's bytes, unless it isn't there or they are too many
+-- the bytes of a file, or an error if it doesn't exist or has too many
 abbrev pub bytes_in : Option (List ℕ) → Result (List ℕ) ExpandFault
 bytes_in None = Err FileNotFound
 bytes_in (Some bytes) = if nat_le (length bytes) file_limit then Ok bytes else Err FileTooLong
 
--- ---- Where a name is looked for.
+-- ---- The search for included files.
 
 abbrev pub is_slash : ℕ → Bool
 is_slash b = b == 47
 
--- a file's name up to and with its last `/`, nothing where it has none
+-- the name of a file up to and including its last `/`, or nothing if it has none
 abbrev pub folder_of : List ℕ → List ℕ
 folder_of [] = []
 folder_of (b ∷ bs) = if list_any is_slash (b ∷ bs) then b ∷ folder_of bs else []
 
--- a name in a folder
+-- the path of a name in a folder
 abbrev pub path_in : List ℕ → List ℕ → List ℕ
 path_in name folder = folder ++ 47 ∷ name
 
--- the names that are tried in turn, in a file and with these folders
+-- the candidate paths of an included file, in order, for the including file and these folders
 abbrev pub candidate_names : List ℕ → List (List ℕ) → List ℕ → List (List ℕ)
 candidate_names file folders name = if begins is_slash name then name ∷ [] else (folder_of file ++ name) ∷ map (path_in name) folders
 
--- the one name that is tried where only a file's own folder is
+-- the only candidate path of a file that is searched in the including file's folder alone
 abbrev pub beside : List ℕ → List ℕ → List ℕ
 beside file name = if begins is_slash name then name else folder_of file ++ name
 
--- a name that is a text
+-- the name, if it is UTF-8
 abbrev pub as_text : List ℕ → Option (List ℕ)
 as_text name = if is_utf8 name then Some name else None
 
--- a file that was found under a name, unless its bytes are too many; or else the others
+-- the file with this name if it exists, or an error if it has too many bytes; otherwise the other
+-- candidates
 abbrev pub found_or : List ℕ → Option (List ℕ) → Result (List ℕ × List ℕ) ExpandFault → Result (List ℕ × List ℕ) ExpandFault
 found_or name None others = others
 found_or name (Some bytes) others = if nat_le (length bytes) file_limit then Ok (name, bytes) else Err FileTooLong
 
--- the first name of a file that is there, and the file's bytes, unless they are too many
+-- the first candidate that exists, with its bytes, or an error if they are too many
 abbrev pub first_file : Files → List (List ℕ) → Result (List ℕ × List ℕ) ExpandFault
 first_file m [] = Err FileNotFound
 first_file m (name ∷ names) = found_or name (file_named m name) (first_file m names)
 
 -- ---- `.include`.
 
--- a file that was found, by its name and its bytes
+-- the step to the lines of a file, given its name and bytes
 abbrev pub file_step : State → List ℕ × List ℕ → StepResult
 file_step s (name, bytes) =
     with_input s (file_lines_after 0 (lines_of bytes)) (mark_from s false (Some s.left.place)) (record { file = name; line = 0 })
 
--- a file that is looked for
+-- searches an included file
 abbrev pub include_file : State → List ℕ → ExpansionStep
 include_file s name =
     searches s.left (candidate_names s.left.place.file s.folders name) (λ q. unless_refused s q (λ file. leads (file_step s file)))
 
--- ---- One step of expansion, by the first line that is left.
+-- ---- One step of expansion, by the next line.
 
--- a block is closed, or left, that isn't open
+-- the error of an end or exit directive without an open block
 abbrev pub not_opened : State → StepResult
 not_opened s = stops (faults.NotOpened, s.left.place)
 
--- the last open condition, where the innermost file, expansion or repeat opened it
+-- the last open condition, if the innermost file, macro call or repeat opened it
 abbrev pub last_condition : State → Option (Bool × List Bool)
 last_condition s = without_last_condition s.conditions (option_map_or (λ k. k.conditions) (innermost s.left.items) 0)
 
--- a directive and what stands behind it
+-- the effect of a directive and the rest of its line
 abbrev pub directive_step : EnvironmentView → State → Directive → List Lexeme → ExpansionStep
 directive_step k s Macro ts = macro_line s ts
 directive_step k s EndMacro ts = if_alone s ts (leads (not_opened s))
@@ -102,22 +103,24 @@ directive_step k s Include ts = unless_refused s (ok_or_unknown (string_of ts)) 
 directive_step k s Error ts = unless_refused s (ok_or_unknown (string_of ts)) (λ text. leads (stops (faults.Error text, s.left.place)))
 directive_step k s End ts = if_alone s ts (leads (goes (with_items s [])))
 
--- a line without a label, which begins with a directive of expansion or with none
+-- the effect of a line without a label, given its preprocessor directive
 abbrev pub line_step : EnvironmentView → State → List Lexeme → Option Directive → ExpansionStep
 line_step k s ts (Some directive) = directive_step k s directive (drop 1 ts)
 line_step k s ts None = leads (ordinary s ts)
 
--- a line whose label has so many tokens
+-- the effect of a line whose label has this many tokens
 abbrev pub label_step : EnvironmentView → State → List Lexeme → Option Directive → ℕ → ExpansionStep
 label_step k s ts directive zero = line_step k s ts directive
 label_step k s ts directive (suc n) = leads (gives (label (take (suc n) ts)) (with_items s (labelled (drop (suc n) ts) ∷ s.left.items)))
 
--- a label comes first, and the rest of its line stands
+-- the label is the next statement, unless it must not precede the directive; the rest of its line is
+-- pending
 abbrev pub unless_mislabelled : EnvironmentView → State → List Lexeme → Bool → ExpansionStep
 unless_mislabelled k s ts true = leads (stops (faults.NotUnderstood, s.left.place))
 unless_mislabelled k s ts false = label_step k s ts (line_directive ts) (label_len ts)
 
--- an end mark is taken off where as many conditions are open as it says; behind the last one nothing is left
+-- Removes an end mark, at which as many conditions must be open as at its beginning. After the last one the
+-- source ends.
 abbrev pub at_mark : State → List Item → StepResult
 at_mark s [] = ends s
 at_mark s (mark k ∷ is) = if k.conditions == length s.conditions then goes (with_remaining s (remaining_input is s.left.room (come_back s.left.place k.back))) else stops (faults.NotClosed, s.left.place)
@@ -128,13 +131,13 @@ step_after k s (Err e) = leads (stops e)
 step_after k s (Ok (Some ts, l)) = unless_mislabelled k (with_remaining s l) ts (is_mislabelled ts)
 step_after k s (Ok (None, l)) = leads (at_mark (with_remaining s l) l.items)
 
--- what stands behind a label is acted on, and a branch is decided; otherwise a line is taken
+-- processes the rest of a line after its label, decides a pending branch, or reads the next line
 abbrev pub step_from : EnvironmentView → State → List Item → ExpansionStep
 step_from k s (labelled ts ∷ is) = line_step k (with_items s is) ts (front_directive ts)
 step_from k s (branch ts ∷ is) = if_line k (with_items s is) True ts
 step_from k s _ = takes s.left (step_after k s)
 
--- where a step leads to once all that it reads is read
+-- the outcome of a step once all that it reads is known
 abbrev pub StepReaches : Files → ExpansionStep → StepResult → Type 0
 StepReaches m (leads x) r = r ≡ x
 StepReaches m (parses ts next) r = (q : Result (Tree × ℕ) ExprFault) × IsParsed ts q × StepReaches m (next q) r
@@ -143,26 +146,26 @@ StepReaches m (takes l next) r = (t : LineAndRest) × TakesNextLine l t × StepR
 StepReaches m (takes_block k l next) r = (q : Result (CompleteBlock × RemainingInput) LocatedError) × Block k 0 [] l q × (r ≡ unless_stopped q (λ b. next b.0 b.1))
 StepReaches m (searches l names next) r = StepReaches m (next (first_file m names)) r
 
--- what the step from a state leads to
+-- the outcome of the step from a state
 unfoldable pub IsStep : Files → EnvironmentView → State → StepResult → Type 0
 IsStep m k s r = StepReaches m (step_from k s s.left.items) r
 
 -- ---- Expansion: from a state to the next statement, and from a source to its first state.
 
--- what comes next: a statement and the state behind it, the end, or a fault
+-- what comes next: a statement with the next state, the end, or an error
 pub data Next : Type 0 where
   statement : ExpandedStatement → State → Next
   nothing : State → Next
   fault : LocatedError → Next
 
--- steps lead on to it
+-- steps from a state lead to this statement, end or error
 pub data ReachesNext (m : Files) (k : EnvironmentView) : State → Next → Type 0 where
   further : (s t : State) (n : Next) → IsStep m k s (goes t) → ReachesNext m k t n → ReachesNext m k s n
   given : (s t : State) (x : ExpandedStatement) → IsStep m k s (gives x t) → ReachesNext m k s (statement x t)
   ended : (s t : State) → IsStep m k s (ends t) → ReachesNext m k s (nothing t)
   stopped : (s : State) (e : LocatedError) → IsStep m k s (stops e) → ReachesNext m k s (fault e)
 
--- all the lines of a source
+-- all lines of a source
 abbrev pub first_left : List ℕ → List ℕ → RemainingInput
 first_left file bytes =
     remaining_input (file_lines_after 0 (lines_of bytes) ++ mark (record { is_macro = false; conditions = 0; back = None }) ∷ []) line_limit
@@ -178,12 +181,13 @@ first_state file folders bytes = record {
   folders = folders;
 }
 
--- the first state of the source of a name, unless it isn't there or is too long
+-- the first state of the source with this name, or an error if it doesn't exist or is too long
 abbrev pub opened_in : Files → List ℕ → List (List ℕ) → Result State ExpandFault
 opened_in m file folders = bytes_in (file_named m file) >>= (λ bytes. Ok (first_state file folders bytes))
 
--- ---- What is proved of the definitions.
+-- ---- Laws about the definitions.
 
--- from a state one thing at most comes next: one statement with the state behind it, the end, or one fault with its place
+-- from a state at most one thing comes next: a statement with the next state, the end, or an error with its
+-- location
 abbrev pub NextIsUnique : Type 0
 NextIsUnique = (m : Files) (k : EnvironmentView) (s : State) (a b : Next) → ReachesNext m k s a → ReachesNext m k s b → a ≡ b

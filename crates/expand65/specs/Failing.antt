@@ -1,4 +1,4 @@
--- Where expansion is when the store fails, and the statements of lines at hand.
+-- The location of expansion when the store fails, and the statements of buffered lines.
 use Rattle.std.specs.Prelude.{◌≡◌, ℕ, true, List, Some, None, Result, IfErr, ◌⊎◌, Bool, false, [], ◌∷◌, drop, Ok, ◌<◌, ◌≤◌}
 use Rattle.std.specs.Option.{option_and_then}
 use Rattle.base65.specs.Store.{Files, FailedAt, LastFailure}
@@ -15,15 +15,16 @@ use Rattle.expand65.specs.Fronts.{front_directive, label_len}
 use Rattle.expand65.specs.Macros.{macro_at}
 use Rattle.expand65.specs.Replay.{IsNextLine}
 
--- ---- A step of expansion in which the store fails, and its place.
+-- ---- A step of expansion in which the store fails, and its location.
 
--- one of these names was asked for last, for a byte more than is read of a file, where the store tells that
+-- the last failed call requested one of these names, at the offset after the maximum file size, if the
+-- store tells it
 abbrev pub IsAmong : LastFailure → List (List ℕ) → Type 0
 IsAmong b [] = ⊥
 IsAmong b (name ∷ names) = FailedAt b name file_limit ⊎ IsAmong b names
 
--- It fails where a line is taken, at a line of a block, or where a file is looked for; or in what the step reads behind
--- that.
+-- The store fails while a line is read, in a line of a block, or while a file is searched; or in a later
+-- part of the step.
 abbrev pub StepFails : Files → LastFailure → ExpansionStep → SourceLocation → Type 0
 StepFails m b (leads x) p = ⊥
 StepFails m b (parses ts next) p = (q : Result (Tree × ℕ) ExprFault) × IsParsed ts q × StepFails m b (next q) p
@@ -32,19 +33,19 @@ StepFails m b (takes l next) p = FailsAtLine m b l p ⊎ ((t : LineAndRest) × T
 StepFails m b (takes_block k l next) p = FailsInBlock m b k 0 l p
 StepFails m b (searches l names next) p = (p ≡ l.place) × IsAmong b names
 
--- the store fails in the step from a state, at this place
+-- the store fails in the step from a state, at this location
 unfoldable pub FailsAt : Files → LastFailure → EnvironmentView → State → SourceLocation → Type 0
 FailsAt m b k s p = StepFails m b (step_from k s s.left.items) p
 
--- ---- Where expansion was when the store failed.
+-- ---- The location of expansion after a failure of the store.
 
--- steps lead from one state to another, and none of them gives a statement
+-- steps lead from one state to another without a statement
 pub data SilentSteps (m : Files) (k : EnvironmentView) : State → State → Type 0 where
   no_step : (s : State) → SilentSteps m k s s
   one_more : (s t u : State) → SilentSteps m k s t → IsStep m k t (goes u) → SilentSteps m k s u
 
--- From a state expansion was on its way to the next statement, and in a step of it the store failed; this is the place
--- of the line that was read last.
+-- The store failed in a step between a state and its next statement; this is the location of the line read
+-- last.
 pub record FailsBetweenStatements (m : Files) (last_failure : LastFailure) (k : EnvironmentView) (s : State) (place : SourceLocation) : Type 0 where
   pub state : State
   pub reading : SourceLocation
@@ -52,15 +53,15 @@ pub record FailsBetweenStatements (m : Files) (last_failure : LastFailure) (k : 
   pub fails : FailsAt m last_failure k state reading
   pub at : place ≡ last_read reading (option_and_then (λ k. k.back) (innermost state.left.items))
 
--- the place of an expander that was refused since the store failed, from the state that it stood for, where its files
--- were read at the places that it went by
+-- the location of an expander after a failure of the store, given the state that it represented, if its
+-- files were read at the assumed positions
 abbrev pub StopsBetweenStatements : {A : Type 0} → Files → LastFailure → EnvironmentView → Expander → Result A ExpandFault → Expander → Type 0
 StopsBetweenStatements m last_failure k old result new =
     IsPositioned m old → (s : State) → RepresentsState m old s → IfErr result (λ e. is_failure e ≡ true → FailsBetweenStatements m last_failure k s (place_of new))
 
--- ---- Where a reader was reading, before its place becomes that of the line that was read last.
+-- ---- The location of the input stack during a read, before it becomes that of the line read last.
 
--- where a reader was reading when the store failed
+-- where the input stack was reading when the store failed
 pub record FailsWhileReading (m : Files) (last_failure : LastFailure) (k : EnvironmentView) (s : State) (mark : InputEnd) (place : SourceLocation) : Type 0 where
   pub state : State
   pub goes : SilentSteps m k s state
@@ -70,43 +71,43 @@ pub record FailsWhileReading (m : Files) (last_failure : LastFailure) (k : Envir
 abbrev pub StopsReading : {A : Type 0} → Files → LastFailure → EnvironmentView → State → Result A ExpandFault → InputEnd → SourceLocation → Type 0
 StopsReading m last_failure k s result mark place = IfErr result (λ e. is_failure e ≡ true → FailsWhileReading m last_failure k s mark place)
 
--- ---- Lines of files that are given as they stand.
+-- ---- Lines of files that need no expansion.
 
--- what stands next is this line at hand of these tokens, and it may be taken
+-- the next line is this buffered one with these tokens, and the line budget allows it
 abbrev pub IsAhead : Expander → Peeked → List Lexeme → Type 0
 IsAhead e p ts = (e.failed ≡ false) × (e.pending ≡ Nothing) × IsNextLine e.rewriter.reader p ts
 
--- tokens call no macro
+-- no macro has the name of the first token
 abbrev pub CallsNone : Preprocessor → List Lexeme → Type 0
 CallsNone r [] = Unit {0}
 CallsNone r (t ∷ ts) = macro_at (macros_of r) t ≡ None
 
--- a line with a label of so many tokens, behind which nothing is rewritten
+-- a line with a label of this many tokens, whose rest needs no expansion
 abbrev pub IsGivenAs : ℕ → Preprocessor → List Lexeme → Type 0
 IsGivenAs n r ts = (label_len ts ≡ n) × (front_directive (drop n ts) ≡ None) × CallsNone r (drop n ts)
 
--- what stands behind a label, if anything does
+-- the statement after a label, if there is one
 abbrev pub given_after : List Lexeme → List ExpandedStatement
 given_after [] = []
 given_after (t ∷ ts) = plain (t ∷ ts) ∷ []
 
--- the statements of a line: the label, if there is one, and what stands behind it
+-- the statements of a line: the label if there is one, and the rest if it isn't empty
 abbrev pub given_parts : List Lexeme → List Lexeme → List ExpandedStatement
 given_parts [] rest = given_after rest
 given_parts (t ∷ ts) rest = label (t ∷ ts) ∷ given_after rest
 
--- steps lead on, none of which gives a statement
+-- steps lead from old to new without a statement
 pub record StepsSilently (old new : Expander) : Type 0 where
   pub goes : (m : Files) (k : EnvironmentView) → SilentSteps m k (state_in m old) (state_in m new)
   pub failed : new.failed ≡ old.failed
   pub size : measure_of new ≤ measure_of old
 
--- a statement comes next, whatever names and expressions mean
+-- the statement x comes next, in every environment
 pub record YieldsStatement (old : Expander) (x : Statement) (new : Expander) : Type 0 where
   pub next : (m : Files) (k : EnvironmentView) → FollowsFrom m k old (Ok (Some x)) new
   pub less : measure_of new < measure_of old
 
--- these statements come one behind the other, all at one place
+-- these statements come next, all at one location
 pub data YieldsStatements : Expander → List ExpandedStatement → Expander → Type 0 where
   none : (old new : Expander) → StepsSilently old new → YieldsStatements old [] new
   one_more : (old mid new : Expander) (x : Statement) (xs : List ExpandedStatement) → YieldsStatement old x mid → place_of mid ≡ place_of new → YieldsStatements mid xs new → YieldsStatements old (statement_of x ∷ xs) new

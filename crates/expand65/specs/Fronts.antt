@@ -1,4 +1,4 @@
--- The first words of a line: labels and directives of expansion.
+-- Labels and preprocessor directives at the start of lines.
 use Rattle.std.specs.Prelude.{ℕ, List, [], ◌∷◌, codes, Option, Some, None, if◌then◌else◌, Bool, true, false, not, nat_lt, ◌-◌, ◌&&◌, length, take, drop, Result, Ok, Err}
 use Rattle.std.specs.Option.{option_or}
 use Rattle.std.specs.Str.{str_eq_ignore_ascii_case}
@@ -8,7 +8,7 @@ use Rattle.syntax65.specs.Expressions.{is_reserved}
 use Rattle.syntax65.specs.declared.lexing.tokens.Punctuation.TheVariants.{Colon, Comma, OpenBrace, CloseBrace, OpenParenthesis}
 use Rattle.syntax65.specs.declared.lexing.tokens.TokenKind.TheVariants as token
 
--- ---- The words of the directives of expansion.
+-- ---- The names of the preprocessor directives.
 
 abbrev pub condition_words : List (List ℕ × Directive)
 condition_words =
@@ -43,18 +43,18 @@ block_words =
     ∷ (codes ".end", End)
     ∷ []
 
--- what a word stands for in a table, in either case
+-- the directive of a word in a table, in upper or lower case
 abbrev pub among : List (List ℕ × Directive) → List ℕ → Option Directive
 among [] word = None
 among ((name, directive) ∷ others) word = if str_eq_ignore_ascii_case word name then Some directive else among others word
 
--- the directive that a word is, if it is one
+-- the preprocessor directive with this name
 abbrev pub directive_of : List ℕ → Option Directive
 directive_of word = option_or (among condition_words word) (option_or (among macro_words word) (among block_words word))
 
--- ---- What isn't understood, or isn't there.
+-- ---- Errors for missing or unknown items.
 
--- what isn't understood
+-- the error of a directive that isn't understood
 abbrev pub not_understood : {A : Type 0} → Result A ExpandFault
 not_understood = Err NotUnderstood
 
@@ -62,7 +62,7 @@ abbrev pub ok_or_unknown : {A : Type 0} → Option A → Result A ExpandFault
 ok_or_unknown None = not_understood
 ok_or_unknown (Some x) = Ok x
 
--- this, and then what follows from it, where both are there
+-- the composition of two partial functions
 infixl 10 ◌>=>◌
 abbrev pub ◌>=>◌ : {A B : Type 0} → Option A → (A → Option B) → Option B
 None >=> f = None
@@ -102,36 +102,36 @@ quoted_in _ = None
 
 -- ---- Lists of tokens.
 
--- whether a list begins with such a thing
+-- whether the first item of a list satisfies a predicate
 abbrev pub begins : {A : Type 0} → (A → Bool) → List A → Bool
 begins is_such [] = false
 begins is_such (x ∷ xs) = is_such x
 
--- the bytes of one string
+-- the bytes of a string, if it is the only token
 abbrev pub string_of : List Lexeme → Option (List ℕ)
 string_of (t ∷ []) = quoted_in t
 string_of _ = None
 
--- names with commas between them, a name being next, or a comma or the end
+-- names separated by commas; the flag tells whether a name comes next
 abbrev pub names_from : Bool → List Lexeme → Option (List (List ℕ))
 names_from true [] = None
 names_from false [] = Some []
 names_from true (t ∷ ts) = name_in t >=> (λ name. names_from false ts >=> (λ names. Some (name ∷ names)))
 names_from false (c ∷ ts) = if is_comma c then names_from true ts else None
 
--- one name or more with commas between them
+-- one or more names separated by commas
 abbrev pub names_of : List Lexeme → Option (List (List ℕ))
 names_of ts = names_from true ts
 
 -- ---- Labels.
 
--- a name or a cheap name
+-- a name or a cheap local name
 abbrev pub is_label_name : Lexeme → Bool
 is_label_name (token.Identifier, text) = not (is_reserved text)
 is_label_name (token.CheapName, text) = true
 is_label_name _ = false
 
--- how many tokens the label at the front has: `:`, or a name and `:`; or there is none
+-- the number of tokens of the label at the start, `:` or a name and `:`; 0 if there is none
 abbrev pub label_len : List Lexeme → ℕ
 label_len [] = 0
 label_len (t ∷ ts) = if is_colon t then 1 else if is_label_name t && begins is_colon ts then 2 else 0
@@ -142,12 +142,12 @@ abbrev pub directive_in : Lexeme → Option Directive
 directive_in (token.Directive, text) = directive_of text
 directive_in _ = None
 
--- the directive of expansion at the front
+-- the preprocessor directive at the start
 abbrev pub front_directive : List Lexeme → Option Directive
 front_directive [] = None
 front_directive (t ∷ ts) = directive_in t
 
--- whether a label may stand before this directive, or before another statement
+-- whether a label may precede this directive, or another statement
 abbrev pub may_follow_label : Option Directive → Bool
 may_follow_label None = true
 may_follow_label (Some Repeat) = true
@@ -157,10 +157,10 @@ may_follow_label (Some Error) = true
 may_follow_label (Some End) = true
 may_follow_label (Some _) = false
 
--- the directive of a line, behind its label if it has one
+-- the preprocessor directive of a line, after its label if it has one
 abbrev pub line_directive : List Lexeme → Option Directive
 line_directive ts = front_directive (drop (label_len ts) ts)
 
--- whether a line has a label before a directive that it may not stand before
+-- whether a label precedes a directive that must not have one
 abbrev pub is_mislabelled : List Lexeme → Bool
 is_mislabelled ts = nat_lt 0 (label_len ts) && not (may_follow_label (line_directive ts))

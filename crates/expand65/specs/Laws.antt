@@ -1,4 +1,4 @@
--- That something comes next, whatever is left of a source, and that less is left behind each statement.
+-- Expansion is total, and each statement leaves less input.
 use Rattle.std.specs.Prelude.{◌≡◌, ℕ, ◌+◌, ◌*◌, ◌<◌, false, List, [], ◌∷◌, ⊤}
 use Rattle.base65.specs.SystemErrors.{IsNoSystemError}
 use Rattle.base65.specs.Store.{Files}
@@ -7,17 +7,17 @@ use Rattle.expand65.specs.Expansion.{Next, statement, nothing, fault, ReachesNex
 use Rattle.expand65.specs.Lines.{Item, labelled, branch, mark}
 use Rattle.expand65.specs.State.{EnvironmentView, State}
 
--- ---- What is left of a source.
+-- ---- The remaining input of a source.
 
--- lines and end marks alone
+-- only lines and end marks
 abbrev pub AreLines : List Item → Type 0
 AreLines [] = ⊤
 AreLines (labelled ts ∷ is) = ⊥
 AreLines (branch ts ∷ is) = ⊥
 AreLines (_ ∷ is) = AreLines is
 
--- What stands behind a label, or behind an `.elseif`, stands before all lines. No source comes to other states, and
--- of them the definitions say nothing: a block takes lines alone.
+-- Only the first item may be the rest of a line after its label or an `.elseif`. No source leads to other
+-- states, and the definitions leave those open: a block reads only lines.
 abbrev pub StandsBefore : List Item → Type 0
 StandsBefore [] = ⊤
 StandsBefore (labelled ts ∷ is) = AreLines is
@@ -27,9 +27,9 @@ StandsBefore (_ ∷ is) = AreLines is
 abbrev pub IsOrdered : State → Type 0
 IsOrdered s = StandsBefore s.left.items
 
--- ---- How much may follow.
+-- ---- The measure of the remaining input.
 
--- besides lines
+-- the number of items besides lines
 abbrev pub weight : List Item → ℕ
 weight [] = 0
 weight (mark k ∷ is) = weight is + 1
@@ -37,20 +37,20 @@ weight (labelled ts ∷ is) = weight is + 2
 weight (branch ts ∷ is) = weight is + 2
 weight (_ ∷ is) = weight is
 
--- each line that may be taken counts three times, so that each step makes it less
+-- a measure of the remaining input that each step decreases: each line of the budget counts three times
 abbrev pub size_left : State → ℕ
 size_left s = 3 * s.left.room + weight s.left.items
 
--- behind a statement less is left, and a fault is expansion's own
+-- after a statement less input remains, and an error is no system error
 abbrev pub LeavesLess : State → Next → Type 0
 LeavesLess s (statement x t) = IsOrdered t × (size_left t < size_left s)
 LeavesLess s (nothing t) = ⊤
 LeavesLess s (fault e) = is_system_error e.0 ≡ false
 
--- ---- What is proved of the definitions.
+-- ---- Laws about the definitions.
 
--- A source is opened, or there is a fault of its own. From its first state on, and then from the state behind each
--- statement, something comes next: whatever the files are, and whatever names and expressions mean.
+-- A source is opened, or has an error that is no system error. From its first state, and then from the
+-- state after each statement, something comes next, for all files and environments.
 pub record NextExists : Type 0 where
   pub opened :
       (m : Files) (file : List ℕ) (folders : List (List ℕ)) →

@@ -1,4 +1,4 @@
--- Macros and repeats: their headers, bodies, calls and names; and files that are looked for.
+-- Macros and repeats: headers, bodies, calls and names; and the search for included files.
 use Rattle.std.specs.Prelude.{ℕ, ◌+◌, ◌-◌, ◌==◌, ◌&&◌, Bool, false, List, [], ◌∷◌, length, take, drop, map, if◌then◌else◌, ◌≡◌, nat_le, true, ◌++◌, Option, Some, None, Result, Ok, Err, ℤ, pos, negsuc, slice_get}
 use Rattle.syntax65.specs.Tokens.{Lexeme}
 use Rattle.expand65.specs.Fronts.{is_comma, opens_brace, closes_brace, name_in, names_of, ◌>=>◌, ok_or_unknown, not_understood}
@@ -16,18 +16,18 @@ use Rattle.syntax65.specs.Trees.{Tree}
 use Rattle.base65.specs.Store.{Files}
 use Rattle.syntax65.specs.Faults.{is_system_error}
 
--- ---- The arguments of a macro's call.
+-- ---- The arguments of a macro call.
 
--- how many braces are open behind a token; one that closes none is a token like others
+-- the number of open braces after a token; a closing brace without an open one is an ordinary token
 abbrev pub braces_after : ℕ → Lexeme → ℕ
 braces_after d t = if opens_brace t then d + 1 else if closes_brace t then d - 1 else d
 
--- a token at the front of the first part
+-- a token added to the start of the first part
 abbrev pub put_in_first : Lexeme → List (List Lexeme) → List (List Lexeme)
 put_in_first t [] = (t ∷ []) ∷ []
 put_in_first t (part ∷ parts) = (t ∷ part) ∷ parts
 
--- what stands between the commas that aren't within braces, so many braces being open
+-- the parts between commas outside braces, with this many braces open
 abbrev pub parts_within : ℕ → List Lexeme → List (List Lexeme)
 parts_within d [] = [] ∷ []
 parts_within d (t ∷ ts) =
@@ -35,7 +35,7 @@ parts_within d (t ∷ ts) =
     then [] ∷ parts_within 0 ts
     else put_in_first t (parts_within (braces_after d t) ts)
 
--- whether the brace that was open before these tokens, so many others within it, is closed by the last of them
+-- whether the last token closes the brace opened before these tokens, with this many others open inside it
 abbrev pub closes_last : ℕ → List Lexeme → Bool
 closes_last d [] = false
 closes_last d (t ∷ ts) =
@@ -43,27 +43,27 @@ closes_last d (t ∷ ts) =
     then length ts == 0
     else closes_last (braces_after d t) ts
 
--- whether one pair of braces stands round all the tokens
+-- whether one pair of braces encloses all tokens
 abbrev pub is_braced : List Lexeme → Bool
 is_braced [] = false
 is_braced (t ∷ ts) = opens_brace t && closes_last 0 ts
 
--- an argument without the pair of braces round it
+-- an argument without the pair of braces around it
 abbrev pub without_braces : List Lexeme → List Lexeme
 without_braces ts = if is_braced ts then take (length ts - 2) (drop 1 ts) else ts
 
--- the arguments in the tokens behind a macro's name; where there is no token there is none
+-- the arguments in the tokens after a macro's name; there are none without tokens
 abbrev pub arguments_of : List Lexeme → List (List Lexeme)
 arguments_of [] = []
 arguments_of ts = map without_braces (parts_within 0 ts)
 
--- ---- What stands in front of the lines that are left.
+-- ---- Inputs pushed onto the remaining input.
 
--- the end mark of what begins here
+-- the end mark of an input that begins here
 abbrev pub mark_from : State → Bool → Option SourceLocation → InputEnd
 mark_from s is_macro back = record { is_macro = is_macro; conditions = length s.conditions; back = back }
 
--- lines and their end mark in front of what is left, from this place on, where files, expansions and repeats leave room
+-- pushes lines and their end mark and moves to a location, unless inputs are nested too deeply
 abbrev pub with_input : State → List Item → InputEnd → SourceLocation → StepResult
 with_input s is k p = unless_stopped (with_lines is k s.left) (λ l. goes (with_remaining s (remaining_input l.items l.room p)))
 
@@ -73,25 +73,25 @@ abbrev pub are_distinct : List (List ℕ) → Bool
 are_distinct [] = true
 are_distinct (name ∷ names) = if list_any (bytes_eq name) names then false else are_distinct names
 
--- names of which no two are alike
+-- the names, if they are distinct
 abbrev pub distinct_of : List (List ℕ) → Option (List (List ℕ))
 distinct_of names = if are_distinct names then Some names else None
 
--- no parameters, or names with commas between them, no two alike
+-- no parameters, or distinct names separated by commas
 abbrev pub params_of : List Lexeme → Option (List (List ℕ))
 params_of [] = Some []
 params_of ts = names_of ts >=> distinct_of
 
--- a macro's name and its parameters
+-- the name and parameters of a macro
 abbrev pub header_of : List Lexeme → Option (List ℕ × List (List ℕ))
 header_of [] = None
 header_of (t ∷ ts) = name_in t >=> (λ name. params_of ts >=> (λ params. Some (name, params)))
 
--- the macro of a name
+-- the macro with this name
 abbrev pub macro_of : List (List ℕ × Definition) → List ℕ → Option Definition
 macro_of ms name = lookup (bytes_eq name) ms
 
--- a macro is added, with the lines of its body, unless its name has one
+-- adds a macro with the lines of its body, unless its name is defined
 abbrev pub definition_step : State → List ℕ → List (List ℕ) → Option Definition → ExpansionStep
 definition_step s name params (Some m) = leads (stops (MacroTwice, s.left.place))
 definition_step s name params None = takes_block kind.Macro s.left (λ b l. goes (record {
@@ -102,17 +102,17 @@ definition_step s name params None = takes_block kind.Macro s.left (λ b l. goes
   folders = s.folders;
 }))
 
--- `.macro` and what stands behind it
+-- `.macro` and the rest of its line
 abbrev pub macro_line : State → List Lexeme → ExpansionStep
 macro_line s ts = unless_refused s (ok_or_unknown (header_of ts)) (λ h. definition_step s h.0 h.1 (macro_of s.macros h.0))
 
 -- ---- Calls.
 
--- what an expansion puts into the macro's lines at first
+-- the initial replacements of a macro call
 abbrev pub given_to : Definition → List (List Lexeme) → ℕ → Substitution
 given_to m arguments number = record { params = m.params; arguments = arguments; count = Some (number_token (length arguments) ∷ []); locals = []; number = number }
 
--- one more macro was called
+-- counts a macro call
 abbrev pub with_one_more_call : State → State
 with_one_more_call s = record { left = s.left; macros = s.macros; conditions = s.conditions; expansions = s.expansions + 1; folders = s.folders }
 
@@ -127,23 +127,23 @@ abbrev pub macro_at : List (List ℕ × Definition) → Lexeme → Option Defini
 macro_at ms (token.Identifier, text) = macro_of ms text
 macro_at ms _ = None
 
--- a call of this macro, or a statement
+-- a call of this macro, or a statement if there is none
 abbrev pub called_or_given : State → Lexeme → List Lexeme → Option Definition → StepResult
 called_or_given s t ts None = gives (plain (t ∷ ts)) s
 called_or_given s t ts (Some m) = call_result s m (arguments_of ts)
 
--- a line without a directive of expansion: nothing, a call or a statement
+-- a line without preprocessor directive: empty, a macro call or a statement
 abbrev pub ordinary : State → List Lexeme → StepResult
 ordinary s [] = goes s
 ordinary s (t ∷ ts) = called_or_given s t ts (macro_at s.macros t)
 
--- ---- An expansion's own names.
+-- ---- Local names of macro calls.
 
--- `?` marks the names that were made
+-- `?` marks replacements of local names
 abbrev pub is_made : List ℕ → Bool
 is_made name = list_any (λ b. b == 63) name
 
--- names of which none was made
+-- the names, if none is the replacement of a local name
 abbrev pub unmade : List (List ℕ) → Option (List (List ℕ))
 unmade names = if list_any is_made names then None else Some names
 
@@ -154,16 +154,16 @@ abbrev pub local_named : State → Option (List (List ℕ)) → StepResult
 local_named s None = stops (NotUnderstood, s.left.place)
 local_named s (Some names) = goes (with_items s (with_local_names names s.left.items))
 
--- `.local` stands in the body of a macro itself
+-- `.local` is allowed directly in the body of a macro only
 abbrev pub local_line : State → List Lexeme → StepResult
 local_line s ts =
     if option_map_or (λ k. k.is_macro) (innermost s.left.items) false
     then local_named s (new_names ts)
     else stops (NotUnderstood, s.left.place)
 
--- ---- Leaving an expansion.
+-- ---- Leaving a macro call.
 
--- the outermost conditions, so many of them
+-- the n outermost conditions
 abbrev pub outermost : ℕ → List Bool → List Bool
 outermost n conditions = drop (length conditions - n) conditions
 
@@ -176,7 +176,7 @@ exit_macro s = exit_result s (outside_macro s.left.items s.left.place)
 
 -- ---- Repeats.
 
--- how many turns a repeat has at most
+-- the maximum number of iterations of a repeat
 abbrev pub iteration_limit : ℕ
 iteration_limit = 65536
 
@@ -186,7 +186,7 @@ variable_of [] = Some []
 variable_of (c ∷ t ∷ []) = if is_comma c then name_in t >=> (λ name. Some (name ∷ [])) else None
 variable_of _ = None
 
--- the expression of a count, and the variable, if it has one
+-- the expression of a count and the optional variable
 abbrev pub repeat_header : List Lexeme → Result (Tree × ℕ) ExprFault → Result (Tree × List (List ℕ)) ExpandFault
 repeat_header ts (Err fault) = not_understood
 repeat_header ts (Ok (e, n)) = ok_or_unknown (variable_of (drop n ts)) >>= (λ v. Ok (e, v))
@@ -196,46 +196,46 @@ iterations_of None = Err NotConstant
 iterations_of (Some (pos n)) = if nat_le n iteration_limit then Ok n else Err CountOutOfRange
 iterations_of (Some (negsuc n)) = Err CountOutOfRange
 
--- how many turns there are, and the variable, if it has one
+-- the number of iterations and the optional variable
 abbrev pub repeat_of : EnvironmentView → List Lexeme → Result (Tree × ℕ) ExprFault → Result (ℕ × List (List ℕ)) ExpandFault
 repeat_of k ts q = repeat_header ts q >>= (λ h. iterations_of (k.value h.0) >>= (λ n. Ok (n, h.1)))
 
--- so many turns of the lines that follow
+-- repeats the lines that follow
 abbrev pub iterations_step : State → ℕ → List (List ℕ) → ExpansionStep
 iterations_step s n variable = takes_block kind.Repeat s.left (λ b l.
     with_input (with_remaining s l) (iterations (repeat_substitution variable) b.0 0 n) (mark_from s false None) l.place)
 
--- `.repeat` and what stands behind it
+-- `.repeat` and the rest of its line
 abbrev pub repeat_line : EnvironmentView → State → List Lexeme → ExpansionStep
 repeat_line k s ts = parses ts (λ q. unless_refused s (repeat_of k ts q) (λ h. iterations_step s h.0 h.1))
 
--- ---- What stands at a place of a list of tokens, and how far the first argument goes.
+-- ---- The token at an index, and the end of the first argument.
 
--- the name at a place
+-- the name at an index
 abbrev pub name_at : List Lexeme → ℕ → Option (List ℕ)
 name_at ts at = slice_get ts at >=> name_in
 
--- whether a comma stands at a place
+-- whether the token at an index is a comma
 abbrev pub is_comma_at : List Lexeme → ℕ → Bool
 is_comma_at ts at = option_map_or is_comma (slice_get ts at) false
 
--- how many tokens stand before the first comma that isn't within braces, so many braces being open
+-- the number of tokens before the first comma outside braces, with this many braces open
 abbrev pub part_len : ℕ → List Lexeme → ℕ
 part_len d [] = 0
 part_len d (t ∷ ts) = if is_comma t && (d == 0) then 0 else 1 + part_len (braces_after d t) ts
 
--- ---- Names under which files are looked for, one after another.
+-- ---- Candidate names of included files, in order.
 
--- whether a file is there; too many bytes are refused
+-- whether a file exists; too many bytes are an error
 abbrev pub is_there : Option (List ℕ) → Result Bool ExpandFault
 is_there None = Ok false
 is_there (Some bytes) = if nat_le (length bytes) file_limit then Ok true else Err FileTooLong
 
--- a file that was found, by its name
+-- an existing file, by its name
 abbrev pub file_of : Files → List ℕ → List ℕ × List ℕ
 file_of m name = (name, bytes_of m name)
 
--- what was found under one name, and otherwise the others
+-- the result for the first candidate if it exists, otherwise that of the others
 abbrev pub IsFirstFound : Files → Result (Option (List ℕ)) ExpandFault → Result (List ℕ × List ℕ) ExpandFault → Result (List ℕ × List ℕ) ExpandFault → Type 0
 IsFirstFound m (Ok None) others r = r ≡ others
 IsFirstFound m (Ok (Some name)) others r = r ≡ Ok (file_of m name)

@@ -1,4 +1,4 @@
--- Lines as they are kept, played again, passed over, or read where they stand.
+-- Lines as they are stored, replayed, skipped, or read in the buffer.
 use Rattle.std.specs.Prelude.{◌≡◌, ℕ, List, [], ◌∷◌, take, drop, suc, true, false, Option, Some, None, Result, Ok, Err, map, Bool, ◌<◌, length, ◌+◌}
 use Rattle.syntax65.specs.Tokens.{Lexeme, IsRead}
 use Rattle.expand65.specs.declared.line.StoredToken.{StoredToken}
@@ -13,16 +13,16 @@ use Rattle.expand65.specs.declared.macro_replay.Replacement.TheVariants.{Itself,
 use Rattle.std.specs.List.{prefix_len}
 use Rattle.expand65.specs.declared.input.LineSource.TheVariants as source
 
--- ---- Lines as they are kept.
+-- ---- Stored lines.
 
--- the token of a word at the front of the bytes, and what stands behind it
+-- the token of a stored token, split off the start of the bytes, and the rest
 abbrev pub text_of : StoredToken → List ℕ → Lexeme
 text_of w bytes = (w.kind, take w.len (drop w.blanks bytes))
 
 abbrev pub after_word : StoredToken → List ℕ → List ℕ
 after_word w bytes = drop w.len (drop w.blanks bytes)
 
--- words cut off the bytes one after another
+-- stored tokens, split off the bytes one by one
 abbrev pub cut : List StoredToken → List ℕ → List Lexeme
 cut [] bytes = []
 cut (w ∷ ws) bytes = text_of w bytes ∷ cut ws (after_word w bytes)
@@ -31,7 +31,7 @@ cut (w ∷ ws) bytes = text_of w bytes ∷ cut ws (after_word w bytes)
 abbrev pub tokens_in : StoredLine → List Lexeme
 tokens_in line = cut line.words line.bytes
 
--- ---- A line parted into its label and the rest.
+-- ---- A line split into its label and the rest.
 
 -- the label and the rest of a line that has a label of n tokens
 pub record AreParts (ts : List Lexeme) (n : ℕ) (pending following : StoredLine) : Type 0 where
@@ -45,13 +45,13 @@ IsParted ts (Ok None) = label_len ts ≡ 0
 IsParted ts (Ok (Some (label, rest))) = (n : ℕ) × AreParts ts n label rest
 IsParted ts (Err f) = Unless (is_system_error f) ((f ≡ NotUnderstood) × (is_mislabelled ts ≡ true))
 
--- ---- Bodies as they are kept and replayed.
+-- ---- Stored and replayed bodies.
 
--- a macro, or what a repeat replays
+-- a macro, or the body of a repeat
 abbrev pub definition_of : Body → Definition
 definition_of b = record { params = map (λ k. k.items) b.params.keys; body = map tokens_in b.lines }
 
--- what is put into the lines of a body
+-- the replacements in the lines of a body
 abbrev pub replacing_of : Replay → Substitution
 replacing_of r = record {
   params = map (λ k. k.items) r.body.value.params.keys;
@@ -61,19 +61,19 @@ replacing_of r = record {
   number = r.number;
 }
 
--- the lines that are left of it
+-- the lines that remain to be replayed
 abbrev pub left_to_play : Replay → List Item
 left_to_play r = map (played (replacing_of r)) (drop r.at (map tokens_in r.body.value.lines))
 
--- what stands for a token
+-- the replacement of a token
 abbrev pub tokens_for : Replacement → Option (List Lexeme)
 tokens_for Itself = None
 tokens_for Nothing = Some []
 tokens_for (Tokens line) = Some (tokens_in line.now)
 
--- ---- Lines that have no label and no directive of expansion.
+-- ---- Lines without label and preprocessor directive.
 
--- whether a word is there that is a colon, whatever its text
+-- whether a stored token exists and is a colon, whatever its text
 abbrev pub IsColonIn : Option StoredToken → Bool → Type 0
 IsColonIn None b = b ≡ false
 IsColonIn (Some w) b = (text : List ℕ) → b ≡ is_colon (w.kind, text)
@@ -81,28 +81,28 @@ IsColonIn (Some w) b = (text : List ℕ) → b ≡ is_colon (w.kind, text)
 abbrev pub IsPlain : List Lexeme → Type 0
 IsPlain ts = (label_len ts ≡ 0) × (front_directive ts ≡ None)
 
--- ---- Plain lines, passed over one after another.
+-- ---- Plain lines that are skipped.
 
--- the bytes of a line that is read as tokens, without a label and a directive of expansion
+-- the bytes of a line with valid tokens, without a label and a preprocessor directive
 abbrev pub IsPlainLine : List ℕ → Type 0
 IsPlainLine bytes = (ts : List Lexeme) × IsRead bytes (Ok ts) × IsPlain ts
 
--- such a line is taken
+-- reads such a line
 abbrev pub PassesPlain : RemainingInput → RemainingInput → Type 0
 PassesPlain l m = (ts : List Lexeme) × TakesNextLine l (Ok (Some ts, m)) × IsPlain ts
 
--- such lines are taken one after another
+-- reads such lines, one by one
 pub data SkipsPlainLines : RemainingInput → RemainingInput → Type 0 where
   no_line : (l : RemainingInput) → SkipsPlainLines l l
   a_line : (l m n : RemainingInput) → SkipsPlainLines l m → PassesPlain m n → SkipsPlainLines l n
 
--- ---- A line of a file that is read where it stands, before it is taken.
+-- ---- A line of a file that is read in the buffer.
 
--- these bytes begin with a line that is read so, and that ends behind n of them
+-- the first line has these tokens and is n bytes long
 abbrev pub IsFirstLine : List ℕ → ℕ → List Lexeme → Type 0
 IsFirstLine bytes n ts = (n ≡ prefix_len is_inside bytes) × (n < length bytes) × IsRead (without_return (take n bytes)) (Ok ts)
 
--- so does what is at hand of a file, and that is the line of this number
+-- the same for the buffered bytes of a file, and the line has this number
 abbrev pub IsFirstOf : OpenFile → Peeked → List Lexeme → Type 0
 IsFirstOf f p ts = (n : ℕ) × IsFirstLine (drop f.at f.buffer.items) n ts × (p.following ≡ f.at + (n + 1)) × (p.number ≡ f.line + 1)
 
@@ -110,10 +110,10 @@ abbrev pub IsAtHand : LineSource → Peeked → List Lexeme → Type 0
 IsAtHand (source.File f) p ts = IsFirstOf f p ts
 IsAtHand _ p ts = ⊥
 
--- and it may be taken
+-- and the line budget allows it
 abbrev pub IsNextLine : InputStack → Peeked → List Lexeme → Type 0
 IsNextLine r p ts = IsAtHand r.top.source p ts × (0 < r.room)
 
--- the first of the lines is read so, and has this number
+-- the first line has these tokens and this number
 abbrev pub TakesWritten : List Item → ℕ → List Lexeme → List Item → Type 0
 TakesWritten before n ts after = (bytes : List ℕ) × (before ≡ written n bytes ∷ after) × IsRead bytes (Ok ts)

@@ -1,4 +1,4 @@
--- The state of expansion, what a step leads to, and conditions.
+-- The state of expansion, the results of steps, and conditions.
 use Rattle.std.specs.Prelude.{ℕ, ℤ, Bool, List, Option, ◌≡◌, pos, negsuc, zero, suc, ◌+◌, nat_lt, ◌==◌, true, false, not, [], ◌∷◌, length, Some, None, Result, Ok, Err, if◌then◌else◌}
 use Rattle.syntax65.specs.Trees.{Tree, name}
 use Rattle.syntax65.specs.Tokens.{Lexeme}
@@ -11,44 +11,44 @@ use Rattle.expand65.specs.declared.blocks.BlockKind.{BlockKind}
 use Rattle.expand65.specs.declared.blocks.BlockKind.TheVariants.{Skipped, RemainingBranches}
 use Rattle.expand65.specs.Fronts.{begins, opens_parenthesis, not_understood}
 
--- ---- What expressions and names mean at a line.
+-- ---- The environment at a line.
 
 pub record EnvironmentView : Type 0 where
-  -- the value of an expression where it is constant
+  -- the value of an expression, if it is constant
   pub value : Tree → Option ℤ
-  -- whether a name, with or without a `::` before it, is that of a label or constant
+  -- whether a name, with or without a leading `::`, is that of a label or constant
   pub defined : Bool → List (List ℕ) → Bool
 
--- ---- The state of expansion: the lines that are left, the macros, the open conditions.
+-- ---- The state of expansion: remaining input, macros and open conditions.
 
 pub record State : Type 0 where
   pub left : RemainingInput
-  -- by their names
+  -- by name
   pub macros : List (List ℕ × Definition)
-  -- for each open condition, the innermost first, whether an `.else` added it
+  -- for each open condition, from the innermost on, whether an `.else` added it
   pub conditions : List Bool
-  -- how many macros were called
+  -- the number of macro calls
   pub expansions : ℕ
-  -- the folders that files are also looked for in
+  -- the folders in which included files are searched
   pub folders : List (List ℕ)
 
--- the state with other lines left
+-- the state with other remaining input
 abbrev pub with_remaining : State → RemainingInput → State
 with_remaining s l = record { left = l; macros = s.macros; conditions = s.conditions; expansions = s.expansions; folders = s.folders }
 
 abbrev pub with_items : State → List Item → State
 with_items s is = with_remaining s (remaining_input is s.left.room s.left.place)
 
--- the state with these conditions open, and other lines left
+-- the state with these open conditions and other remaining input
 abbrev pub with_conditions : State → List Bool → RemainingInput → State
 with_conditions s cs l = record { left = l; macros = s.macros; conditions = cs; expansions = s.expansions; folders = s.folders }
 
--- a statement: a label with its colon, or anything else
+-- a statement: a label with its colon, or any other
 pub data ExpandedStatement : Type 0 where
   label : List Lexeme → ExpandedStatement
   plain : List Lexeme → ExpandedStatement
 
--- what a step leads to: on to a state, a statement and a state, the end, or a fault
+-- the result of a step: a next state, a statement with a next state, the end, or an error
 pub data StepResult : Type 0 where
   goes : State → StepResult
   gives : ExpandedStatement → State → StepResult
@@ -57,8 +57,9 @@ pub data StepResult : Type 0 where
 
 -- ---- Steps, by what they read.
 
--- A step: what it leads to, or what it reads before that and how it goes on then. It reads an expression, a condition, a
--- line, the lines of a block up to the one that closes it, or the first file that is there of some names.
+-- A step: its result, or what it reads first and how it continues then. It reads an expression, a
+-- condition, a line, the lines of a block up to the one that closes it, or the first of several files that
+-- exists.
 pub data ExpansionStep : Type 0 where
   leads : StepResult → ExpansionStep
   parses : List Lexeme → (Result (Tree × ℕ) ExprFault → ExpansionStep) → ExpansionStep
@@ -67,24 +68,24 @@ pub data ExpansionStep : Type 0 where
   takes_block : BlockKind → RemainingInput → (CompleteBlock → RemainingInput → StepResult) → ExpansionStep
   searches : RemainingInput → List (List ℕ) → (Result (List ℕ × List ℕ) ExpandFault → ExpansionStep) → ExpansionStep
 
--- what follows from this, unless it is refused at the place
+-- continues with the value, or stops with the error at the current location
 abbrev pub unless_refused : {A : Type 0} → State → Result A ExpandFault → (A → ExpansionStep) → ExpansionStep
 unless_refused s (Err f) next = leads (stops (f, s.left.place))
 unless_refused s (Ok x) next = next x
 
--- what follows where nothing stands behind a directive
+-- continues if nothing follows a directive in its line
 abbrev pub if_alone : State → List Lexeme → ExpansionStep → ExpansionStep
 if_alone s [] next = next
 if_alone s _ next = leads (stops (NotUnderstood, s.left.place))
 
--- what follows from what was read, unless that stopped
+-- continues with the value, or stops with the located error
 abbrev pub unless_stopped : {A : Type 0} → Result A LocatedError → (A → StepResult) → StepResult
 unless_stopped (Err e) next = stops e
 unless_stopped (Ok x) next = next x
 
--- ---- What a condition asks for.
+-- ---- The kinds of conditions.
 
--- an expression of all the tokens
+-- an expression that consists of all tokens
 abbrev pub complete_expression : ℕ → Result (Tree × ℕ) ExprFault → Result Tree ExpandFault
 complete_expression count (Ok (e, n)) = if n == count then Ok e else not_understood
 complete_expression count (Err fault) = not_understood
@@ -94,7 +95,7 @@ is_zero (pos zero) = true
 is_zero (pos (suc n)) = false
 is_zero (negsuc n) = false
 
--- a value's truth
+-- the truth of a value
 abbrev pub truth : Option ℤ → Result Bool ExpandFault
 truth None = Err NotConstant
 truth (Some v) = Ok (not (is_zero v))
@@ -104,11 +105,11 @@ abbrev pub defined_tree : EnvironmentView → Tree → Result Bool ExpandFault
 defined_tree k (name is_global parts) = Ok (k.defined is_global parts)
 defined_tree k _ = not_understood
 
--- a name isn't put in parentheses
+-- the name must not be in parentheses
 abbrev pub defined_in : EnvironmentView → List Lexeme → Result (Tree × ℕ) ExprFault → Result Bool ExpandFault
 defined_in k ts q = if begins opens_parenthesis ts then not_understood else complete_expression (length ts) q >>= defined_tree k
 
--- what a condition of these tokens comes to
+-- the result of a condition
 abbrev pub IsCondition : EnvironmentView → ConditionKind → List Lexeme → Result Bool ExpandFault → Type 0
 IsCondition k True ts r = (q : Result (Tree × ℕ) ExprFault) × IsParsed ts q × (r ≡ (complete_expression (length ts) q >>= (λ e. truth (k.value e))))
 IsCondition k Defined ts r = (q : Result (Tree × ℕ) ExprFault) × IsParsed ts q × (r ≡ defined_in k ts q)
@@ -118,7 +119,7 @@ IsCondition k NotBlank ts r = r ≡ Ok (not (length ts == 0))
 
 -- ---- An `.if` of any kind, and an `.elseif` that follows a false condition.
 
--- what a false condition goes on with
+-- the state after a false condition
 abbrev pub after_false_condition : State → Branch → RemainingInput → StepResult
 after_false_condition s at_end l = goes (with_remaining s l)
 after_false_condition s at_else l = goes (with_conditions s (true ∷ s.conditions) l)
@@ -133,7 +134,7 @@ if_line k s test ts = decides k test ts (λ c. unless_refused s c (condition_ste
 
 -- ---- Any other `.elseif`, `.else` and `.endif`.
 
--- the last open condition and those outside it, where more are open than at the innermost end mark
+-- the last open condition and the outer ones, if more are open than at the beginning of the innermost input
 abbrev pub without_last_condition : List Bool → ℕ → Option (Bool × List Bool)
 without_last_condition [] n = None
 without_last_condition (b ∷ bs) n = if nat_lt n (length bs + 1) then Some (b, bs) else None

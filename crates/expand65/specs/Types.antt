@@ -1,4 +1,4 @@
--- The types of lines, macros, expanders and faults that definitions name.
+-- The types of lines, macros, expanders and errors that definitions name.
 pub use Rattle.syntax65.specs.declared.expressions.words.ExprFault.{ExprFault}
 pub use Rattle.syntax65.specs.declared.fault.ExpandFault.{ExpandFault}
 pub use Rattle.syntax65.specs.declared.fault.ExpandFault.TheVariants.{NotClosed, MacroInside, NotUnderstood, FileNotFound, FileTooLong, FileError, Syntax, Nested, TooManyLines, LineTooLong, TooManyArguments, MacroTwice, NotOpened, NotConstant, CountOutOfRange, OutOfMemory}

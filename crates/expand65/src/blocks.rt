@@ -1,4 +1,4 @@
-//! Blocks of lines that are taken as a whole.
+//! Reads blocks of lines whole: bodies of macros and repeats, and branches that are skipped.
 
 ghost use Rattle.std.specs.Prelude.{◌≡◌, ◌==◌, if◌then◌else◌, length, Ok, Err, ◌<◌, ◌≤◌, [], List, drop, false, map, suc, IfErr, IfOk, IfSome, OnOk, Some};
 ghost use Rattle.base65.specs.Store.{Files};
@@ -16,45 +16,45 @@ use base65::{ListVec, Store};
 use std::alloc::{AllocError, Global};
 use syntax65::{ExpandFault, Token};
 
-/// What is taken as a whole.
+/// The kinds of blocks.
 #[derive(Clone, Copy)]
 pub enum BlockKind {
     /// The body of a macro.
     Macro,
     /// The body of a repeat.
     Repeat,
-    /// The lines that go with a false condition, up to the next branch of its level.
+    /// The lines of a false condition, up to the next branch of its level.
     Skipped,
-    /// The branches behind a true condition, through its `.endif`.
+    /// The branches after a true condition, through its `.endif`.
     RemainingBranches,
 }
 
-/// What closes a block.
+/// The directive that closes a block.
 #[derive(Drop)]
 pub enum BlockEnd {
-    /// `.elseif`, with what stands behind it.
+    /// `.elseif`, with the rest of its line.
     ElseIf(StoredLine),
     Else,
     /// The end of a macro, a repeat or a condition.
     End,
 }
 
-/// The lines of a body, and what closed the block.
+/// The lines of a body, and the directive that closed the block.
 #[derive(Drop)]
 pub struct WholeBlock {
     pub lines: ListVec<StoredLine>,
     pub end: BlockEnd,
 }
 
-/// What a line does to the block that it stands in.
+/// The effect of a line on the block that contains it.
 #[derive(Drop)]
 pub enum BlockStep {
-    /// The block goes on, with so many others open in it.
+    /// The block continues, with this many nested blocks open.
     Open(u32),
     Closed(BlockEnd),
 }
 
-/// A block is closed by a directive that nothing stands behind.
+/// Closes a block. Nothing may follow the directive in its line.
 fn closed_alone(tokens: &[Token<'_>], end: BlockEnd) -> Result<BlockStep, ExpandFault>
     ensures { result ≡ (if length (drop 1 (lexemes tokens.now)) == 0
         then Ok (BlockStep.Closed end) else Err ExpandFault.NotUnderstood) }
@@ -65,7 +65,7 @@ fn closed_alone(tokens: &[Token<'_>], end: BlockEnd) -> Result<BlockStep, Expand
     }
 }
 
-/// One more is open, unless there are too many to be counted.
+/// Opens a nested block, unless there are too many to count.
 fn deeper(depth: u32) -> Result<BlockStep, ExpandFault>
     ensures step { IfOk result (λ s. s ≡ BlockStep.On (suc depth)) }
     ensures outside { IfErr result (λ f. f ≡ ExpandFault.OutOfMemory) }
@@ -76,7 +76,7 @@ fn deeper(depth: u32) -> Result<BlockStep, ExpandFault>
     }
 }
 
-/// What a directive does to the body of a macro, in which no other may be defined.
+/// Returns the effect of a directive on a macro body, which must not define another macro.
 fn macro_step(
     directive: Directive,
     tokens: &[Token<'_>],
@@ -93,7 +93,7 @@ fn macro_step(
     }
 }
 
-/// What a directive does to the body of a repeat with so many others open in it.
+/// Returns the effect of a directive on a repeat body with `depth` nested repeats open.
 fn repeat_step(
     directive: Directive,
     tokens: &[Token<'_>],
@@ -111,7 +111,8 @@ fn repeat_step(
     }
 }
 
-/// What a directive does to lines through an `.endif` with so many conditions open in them.
+/// Returns the effect of a directive on lines skipped through an `.endif`, with `depth` nested
+/// conditions open.
 fn passed_step(directive: Directive, depth: u32) -> Result<BlockStep, ExpandFault>
     ensures step { (ts : List Lexeme) →
         RefinesVerdict result (block_verdict BlockKind.Passed depth ts (Some directive)) }
@@ -125,7 +126,7 @@ fn passed_step(directive: Directive, depth: u32) -> Result<BlockStep, ExpandFaul
     }
 }
 
-/// What a directive does to lines that are skipped with no condition open in them.
+/// Returns the effect of a directive on skipped lines with no nested condition open.
 fn branch_step(
     alloc: Global,
     directive: Directive,
@@ -147,7 +148,7 @@ fn branch_step(
     }
 }
 
-/// What a directive does to lines that are skipped with so many conditions open in them.
+/// Returns the effect of a directive on skipped lines with `depth` nested conditions open.
 fn skipped_step(
     alloc: Global,
     directive: Directive,
@@ -169,14 +170,14 @@ fn skipped_step(
 }
 
 impl BlockKind {
-    /// Whether the lines are kept.
+    /// Returns whether the lines are kept.
     fn is_kept(self) -> bool
         ensures { result ≡ is_kept self }
     {
         matches!(self, BlockKind::Macro | BlockKind::Repeat)
     }
 
-    /// What tokens do to the block with so many others open in it.
+    /// Returns the effect of tokens on the block with `depth` nested blocks open.
     fn token_step(
         self,
         alloc: Global,
@@ -200,7 +201,7 @@ impl BlockKind {
         }
     }
 
-    /// What a line does to the block with so many others open in it.
+    /// Returns the effect of a line on the block with `depth` nested blocks open.
     fn step(self, alloc: Global, line: &StoredLine, depth: u32) -> Result<BlockStep, ExpandFault>
         ensures step { RefinesVerdict result (judge self depth (tokens_in line.now)) }
         ensures inside { IfErr result (λ e. is_failure e ≡ false) }
@@ -212,7 +213,7 @@ impl BlockKind {
         self.token_step(alloc, tokens.as_slice(), depth)
     }
 
-    /// Puts a line behind the others, where they are kept.
+    /// Appends a line, if lines of this kind are kept.
     fn keep(self, lines: &mut ListVec<StoredLine>, line: StoredLine) -> Result<(), AllocError>
         ensures { OnOk result (map tokens_in lines.new ≡
             with_line self (map tokens_in lines.old) (tokens_in line)) }
@@ -225,7 +226,7 @@ impl BlockKind {
 }
 
 impl InputStack {
-    /// Passes over plain lines where lines aren't kept.
+    /// Skips plain lines, if lines of this kind aren't kept.
     fn pass_unkept(&mut self, kind: BlockKind)
         ensures passed { (m : Files) → IsPassedOver (is_kept kind) (remaining_of m self.old) (remaining_of m self.new) }
         ensures room { self.new.room ≤ self.old.room }
@@ -237,7 +238,7 @@ impl InputStack {
         }
     }
 
-    /// The lines of a block up to the one that closes it.
+    /// Reads the lines of a block, up to the directive that closes it.
     pub fn block<S: Store>(
         &mut self,
         alloc: Global,

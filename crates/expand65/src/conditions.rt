@@ -1,4 +1,4 @@
-//! Conditions, and expressions in directives.
+//! Evaluates conditions and the expressions in directives.
 
 ghost use Rattle.std.specs.Prelude.{◌≡◌, ◌∷◌, option_map, [], false, length, IfErr, IfNone, List, OnOk, ℕ, Result};
 ghost use Rattle.syntax65.specs.Expressions.{IsParsed};
@@ -18,7 +18,7 @@ use std::alloc::{AllocError, Global};
 use std::marker::Model;
 use syntax65::{ExpandFault, Expr, ExprKind, Name, Token, read_expr};
 
-/// An expression of all the tokens.
+/// Parses tokens that are one expression.
 pub fn expression(alloc: Global, tokens: &[Token<'_>]) -> Result<Expr, ExpandFault>
     ensures value { RefinesRel is_system_error (λ x. x) result
         (λ r. (q : Result (Tree × ℕ) ExprFault) × IsParsed (lexemes tokens.now) q ×
@@ -32,7 +32,7 @@ pub fn expression(alloc: Global, tokens: &[Token<'_>]) -> Result<Expr, ExpandFau
     Ok(value)
 }
 
-/// Whether an expression of all the tokens isn't 0.
+/// Returns whether the value of an expression isn't 0. The tokens must be one expression.
 fn holds<K: Knows>(alloc: Global, knows: &K, tokens: &[Token<'_>]) -> Result<bool, ExpandFault>
     ensures value { RefinesRel is_system_error (λ b. b) result
         (IsCondition (K.meaning knows.now) ConditionKind.True (lexemes tokens.now)) }
@@ -45,14 +45,14 @@ fn holds<K: Knows>(alloc: Global, knows: &K, tokens: &[Token<'_>]) -> Result<boo
     }
 }
 
-/// Whether tokens begin with an opening parenthesis.
+/// Returns whether the first token is an opening parenthesis.
 fn begins_parenthesis(tokens: &[Token<'_>]) -> bool
     ensures { result ≡ begins opens_parenthesis (lexemes tokens.now) }
 {
     matches!(tokens, [first, ..] if opens_parenthesis(first))
 }
 
-/// Whether a name is that of a label or constant; another expression isn't understood.
+/// Returns whether a name is that of a label or constant. Any other expression is an error.
 fn is_name_defined<K: Knows>(alloc: Global, knows: &K, expr: &Expr) -> Result<bool, ExpandFault>
     ensures value { Refines is_system_error (λ b. b) result (defined_tree (K.meaning knows.now) expr.now) }
     ensures inside { IfErr result (λ e. is_failure e ≡ false) }
@@ -64,7 +64,7 @@ fn is_name_defined<K: Knows>(alloc: Global, knows: &K, expr: &Expr) -> Result<bo
     }
 }
 
-/// Whether a name, which all the tokens are, is that of a label or constant.
+/// Returns whether a name is that of a label or constant. The tokens must be one name.
 fn is_defined<K: Knows>(alloc: Global, knows: &K, tokens: &[Token<'_>]) -> Result<bool, ExpandFault>
     ensures value { RefinesRel is_system_error (λ b. b) result
         (IsCondition (K.meaning knows.now) ConditionKind.Defined (lexemes tokens.now)) }
@@ -77,7 +77,7 @@ fn is_defined<K: Knows>(alloc: Global, knows: &K, tokens: &[Token<'_>]) -> Resul
     is_name_defined(alloc, knows, &name)
 }
 
-/// What a condition of these tokens comes to.
+/// Evaluates a condition.
 pub fn condition<K: Knows>(
     alloc: Global,
     knows: &K,
@@ -97,7 +97,8 @@ pub fn condition<K: Knows>(
     }
 }
 
-/// For each open condition whether an `.else` added it. Contracts see the innermost first.
+/// For each open condition, whether an `.else` added it. The contract view lists the innermost
+/// first.
 #[derive(Drop)]
 pub struct Conditions {
     flags: Vec<bool>,
@@ -132,7 +133,7 @@ impl Conditions {
         Ok(self.flags.push(flag)?)
     }
 
-    /// Takes the innermost away where more than so many are open.
+    /// Removes and returns the innermost condition, if more than `bound` are open.
     pub fn pop_above(&mut self, bound: usize) -> Option<bool>
         ensures pops { without_last_condition self.old bound ≡ option_map (λ b. (b, self.new)) result }
         ensures same { IfNone result (self.new ≡ self.old) }
@@ -143,7 +144,7 @@ impl Conditions {
         self.flags.pop()
     }
 
-    /// LeavesStore only so many of the outermost.
+    /// Keeps only the `count` outermost conditions.
     pub fn truncate(&mut self, count: usize)
         ensures { self.new ≡ outermost count self.old }
     {

@@ -1,4 +1,4 @@
-//! The statements of a source, one after another.
+//! Returns the statements of a source one by one.
 
 ghost use Rattle.std.specs.Prelude.{◌≡◌, ◌≤◌, IfSome, length, ◌<◌, ◌+◌, ◌*◌, true, false, take, drop, Err, IfOk, IsErrOf, List, OnErr, OnOk, ℕ};
 ghost use Rattle.syntax65.specs.Tokens.{lexemes, Lexeme, HoldsNothing, stored_lexemes};
@@ -26,34 +26,34 @@ use std::alloc::{AllocError, Global};
 use std::mem;
 use syntax65::{ExpandFault, LineTokens, SourceLocation, Token};
 
-/// How many lines are read, skipped, collected and replayed at most, all together.
+/// The maximum number of lines that are read, skipped, collected and replayed, all together.
 const MAX_LINES: u32 = 1_048_576;
 
-/// Where files are looked for.
+/// Options of the preprocessor.
 #[derive(Drop)]
 pub struct Options {
-    /// The folders in which an included file is looked for behind that of the file that includes it.
+    /// The folders in which an included file is searched, after the folder of the including file.
     pub include: ListVec<PathString>,
 }
 
 /// A statement of a source.
 #[derive(Drop)]
 pub enum Statement {
-    /// A label with its colon. It comes before the rest of its line.
+    /// A label with its colon. The rest of its line is the next statement.
     Label(StoredLine),
-    /// Anything else. It begins with no label.
+    /// Any other statement. It has no label.
     Plain(StoredLine),
 }
 
-/// What stands in front of the lines that are left.
+/// What the expander reads before the next line.
 #[derive(Drop)]
 pub enum PendingLine {
     Nothing,
-    /// What stands behind a label.
+    /// The rest of a line, after its label.
     Rest(StoredLine),
-    /// What stands behind an `.elseif` that has to be decided.
+    /// The rest of an `.elseif` line whose condition is evaluated next.
     Branch(StoredLine),
-    /// The end, whatever is left.
+    /// The end, even if lines remain.
     End,
 }
 
@@ -65,7 +65,7 @@ impl PendingLine {
     }
 }
 
-/// The statements of a source that are left.
+/// The state of the expansion of a source.
 #[derive(Drop)]
 pub struct Expander {
     pub rewriter: Preprocessor,
@@ -74,11 +74,12 @@ pub struct Expander {
 }
 
 impl Expander {
-    /// Opens a source. The statements that it gives are those of its lines, with macros, repeats, conditions and
-    /// included files rewritten.
+    /// Opens a source, whose lines are then expanded: macros, repeats, conditions and included
+    /// files.
     ///
     /// # Errors
-    /// The source isn't found or has more than 16,777,216 bytes, the store fails, or memory runs out.
+    /// The source doesn't exist or has more than 16,777,216 bytes; a failure of the store; out of
+    /// memory.
     pub fn open<S: Store>(
         alloc: Global,
         store: &mut S,
@@ -114,12 +115,12 @@ impl Expander {
         })
     }
 
-    /// The next statement, or none where no line is left. Behind a refusal every call answers that an earlier call was
-    /// refused.
+    /// Returns the next statement, or `None` at the end. After an error every call returns
+    /// `FailedBefore`.
     ///
     /// # Errors
-    /// The first fault of the lines up to the next statement, which is that of the place behind the call; the store
-    /// fails, or memory runs out.
+    /// The first error up to the next statement, at the location that `place` then returns; a
+    /// failure of the store; out of memory.
     pub fn next<S: Store, K: Knows>(
         &mut self,
         store: &mut S,
@@ -129,12 +130,12 @@ impl Expander {
             FollowsFrom m (K.meaning knows.now) self.old result self.new) }
         ensures placed { IfSome (S.files store.old) (λ m.
             IsPositioned m self.old → OnOk result (IsPositioned m self.new)) }
-        // Where the store fails: the place is that of the line that was read last.
+        // If the store fails, the location is that of the line read last.
         ensures stopped { IfSome (S.files store.old) (λ m.
             StopsBetweenStatements m (S.last_failure store.new) (K.meaning knows.now) self.old result self.new) }
         ensures failed { OnErr result (self.new.failed ≡ true) }
         ensures before { self.old.failed ≡ true → result ≡ Err ExpandFault.FailedBefore }
-        // Statements end.
+        // Expansion terminates.
         ensures size { IfOk result (λ o. IfSome o (λ _. measure_of self.new < measure_of self.old)) }
         ensures files { S.files store.new ≡ S.files store.old }
         ensures count { PropagatesIoError ExpandFault.FileError (S.failures store.old) (S.failures store.new) result }
@@ -150,7 +151,7 @@ impl Expander {
         result
     }
 
-    /// The next line, where it is a file's and all of it is at hand, and its tokens.
+    /// Returns the next line and its tokens, if it comes from a file and is buffered whole.
     #[inline(always)]
     pub fn peek<'a>(&'a self, tokens: &mut LineTokens<'a>) -> Option<Peeked>
         requires { HoldsNothing tokens.old }
@@ -163,8 +164,9 @@ impl Expander {
         self.rewriter.reader.peek(self.rewriter.alloc, tokens)
     }
 
-    /// How many tokens the label has of a line that is given as it stands: behind it stands nothing, or a statement. None
-    /// where it begins with a directive of expansion there, or calls a macro.
+    /// Returns the number of tokens of the label of a line that needs no expansion (0 if it has
+    /// none). The rest is then empty or a statement. Returns `None` if the rest begins with a
+    /// preprocessor directive or calls a macro.
     #[inline(always)]
     pub fn label_of_given(&self, tokens: &[Token<'_>]) -> Option<usize>
         ensures given { IfSome result (λ n. IsGivenAs n self.now.rewriter (lexemes tokens.now)) }
@@ -181,7 +183,7 @@ impl Expander {
         }
     }
 
-    /// Takes the next line, which is this one.
+    /// Reads the line that `peek` returned.
     #[inline(always)]
     pub fn take_peeked(&mut self, line: Peeked)
         ensures given { (n : ℕ) (ts : List Lexeme) → IsAhead self.old line ts →
@@ -196,8 +198,9 @@ impl Expander {
         self.rewriter.reader.take_peeked(line);
     }
 
-    /// The innermost open file and the number of its line that was read last, 0 before the first. Behind a statement it
-    /// is the statement's place, and behind a refusal the fault's.
+    /// Returns the innermost open file and the number of its line read last, 0 before the first.
+    /// After a statement this is the location of the statement, and after an error that of the
+    /// error.
     pub fn place(&self) -> (&str, u32)
         ensures place { (result.0.now ≡ (place_of self.now).file) × (result.1 ≡ (place_of self.now).line) }
         ensures stands { (m : Files) (s : State) →
@@ -208,7 +211,7 @@ impl Expander {
         (place.file.as_str(), place.line)
     }
 
-    /// Steps up to the next statement or the end.
+    /// Expands up to the next statement or the end.
     #[inline(always)]
     fn advance<S: Store, K: Knows>(
         &mut self,
@@ -236,7 +239,7 @@ impl Expander {
         }
     }
 
-    /// Rewrites what comes first.
+    /// Processes the pending line or the next one.
     #[inline(always)]
     fn turn<S: Store, K: Knows>(
         &mut self,
@@ -268,7 +271,7 @@ impl Expander {
         }
     }
 
-    /// Puts what a turn leads to in front of the lines; the statement that it gives, if it gives one.
+    /// Stores the pending line of an outcome. Returns its statement, if any.
     #[inline(always)]
     fn follow(&mut self, turn: LineOutcome) -> Option<Statement>
         ensures led { (m : Files) →
@@ -291,7 +294,7 @@ impl Expander {
     }
 }
 
-/// The lines of a source, before the first.
+/// Returns the input stack before the first line of a source.
 fn reader_of(alloc: Global, file: &str) -> Result<InputStack, AllocError>
     ensures lines { IfOk result (λ r. (m : Files) →
         length (bytes_of m file.now) ≤ 16777216 → remaining_of m r ≡ first_left file.now
@@ -316,7 +319,7 @@ fn reader_of(alloc: Global, file: &str) -> Result<InputStack, AllocError>
     })
 }
 
-/// A copy of texts.
+/// Copies strings.
 fn copy_of(alloc: Global, texts: &[PathString]) -> Result<ListVec<PathString>, AllocError>
     ensures { IfOk result (λ copy. copy ≡ texts.now) }
 {

@@ -1,4 +1,4 @@
-//! Open files, read a buffer at a time.
+//! Reads open files through a buffer.
 
 ghost use Rattle.std.specs.Prelude.{◌≡◌, ◌<◌, ◌≤◌, ◌+◌, ◌-◌, ◌++◌, [], min, length, drop, true, false, IsTrue, IfErr, IfOk, IfSome, List, OnOk, ℕ};
 ghost use Rattle.std.specs.List.{prefix_len};
@@ -12,28 +12,28 @@ use std::alloc::Global;
 use std::mem;
 use syntax65::{ExpandFault, LexFault, MAX_FILE, MAX_LINE};
 
-/// How many bytes of a file are at hand at most.
+/// The capacity of the buffer in bytes.
 const BUFFER: usize = 4096;
 
-/// A piece that is taken for this long at least.
+/// The least length of a piece that is copied at once.
 const SHORTEST: usize = 32;
 
-/// A file that is read line by line: the bytes at hand of which some were taken, and how many bytes of the file were
-/// read.
+/// A file that is read line by line: the buffer, how much of it was consumed, and how many bytes of
+/// the file were read.
 #[derive(Drop)]
 pub struct OpenFile {
     pub name: PathString,
     pub buffer: Vec<u8>,
     pub at: usize,
     pub next: u64,
-    /// How many lines were taken.
+    /// The number of lines read.
     pub line: u32,
-    /// Room that a line before had, for the next one.
+    /// The buffer of an earlier line, for reuse.
     pub spare: Vec<u8>,
 }
 
-/// Reads so many bytes at most that a file has from a place on, in the place of those that were there. A file that isn't
-/// there has no bytes.
+/// Replaces the buffer by at most `want` bytes of the file, from an offset. A file that doesn't
+/// exist counts as empty.
 fn read_piece<S: Store>(
     store: &mut S,
     name: &str,
@@ -49,7 +49,7 @@ fn read_piece<S: Store>(
     ensures frame { FailedReadFrame S.files S.failures S.last_failure (λ b. FailedAt b name.now at)
         store.old store.new result }
 {
-    // Where as many were read before, there is nothing to fill.
+    // If as many bytes were read before, there is nothing to fill.
     bytes.resize(want, 0)?;
     let n = match store.read_at(name, at, bytes.as_mut_slice()) {
         Ok(n) => n,
@@ -60,8 +60,9 @@ fn read_piece<S: Store>(
     Ok(n)
 }
 
-/// How many bytes to read from a place on, behind a piece of so many. A short piece mostly ends a file: behind it room is
-/// made for twice as many, and not for all that may be read.
+/// Returns how many bytes to read from offset `at`, after a piece of length `last`. A short piece
+/// is mostly the end of a file, so after it only twice as many bytes are allocated, not a whole
+/// buffer.
 fn wanted(at: u64, last: usize) -> usize
     ensures few { result ≤ min 4096 (16777216 - at) }
     ensures some { at < 16777216 → 0 < result }
@@ -74,7 +75,7 @@ fn wanted(at: u64, last: usize) -> usize
 }
 
 impl OpenFile {
-    /// A file that is there, before its first line.
+    /// Opens an existing file before its first line.
     pub fn new(alloc: Global, name: PathString) -> Self
         ensures name { result.name ≡ name }
         ensures lines { (m : Files) →
@@ -93,7 +94,7 @@ impl OpenFile {
         }
     }
 
-    /// Reads on where nothing is at hand.
+    /// Refills the buffer if it is empty.
     fn read_on<S: Store>(&mut self, store: &mut S) -> Result<(), ExpandFault>
         requires all { length self.old.buffer.items ≤ self.old.at }
         requires more { self.old.next < 16777216 }
@@ -114,7 +115,7 @@ impl OpenFile {
         Ok(())
     }
 
-    /// Whether the file has more, which is then at hand.
+    /// Returns whether the file has more bytes, after filling the buffer.
     #[inline(always)]
     pub fn has_more<S: Store>(&mut self, store: &mut S) -> Result<bool, ExpandFault>
         ensures kept { IfSome (S.files store.old) (λ m. OnOk result (rest_of m self.new ≡ rest_of m self.old)) }
@@ -130,7 +131,7 @@ impl OpenFile {
         if self.at < self.buffer.len() {
             return Ok(true);
         }
-        // A file that was opened has no more bytes than that.
+        // An open file has at most this many bytes.
         if self.next >= MAX_FILE {
             return Ok(false);
         }
@@ -138,7 +139,7 @@ impl OpenFile {
         Ok(!self.buffer.is_empty())
     }
 
-    /// Puts what is at hand of a line behind what was taken of it; whether the line has ended.
+    /// Appends the buffered bytes of a line. Returns whether the line is complete.
     fn take_piece(&mut self, line: &mut Vec<u8>) -> Result<bool, ExpandFault>
         requires more { self.old.at < length self.old.buffer.items }
         requires part { prefix_len is_inside line.old.items ≡ length line.old.items }
@@ -171,7 +172,7 @@ impl OpenFile {
         Ok(true)
     }
 
-    /// The next line.
+    /// Reads the next line.
     #[inline(never)]
     pub fn next_line<S: Store>(
         &mut self,
@@ -204,7 +205,7 @@ impl OpenFile {
     }
 }
 
-/// Drops a CR at a line's end.
+/// Removes a CR at the end of a line.
 fn drop_return(line: &mut Vec<u8>)
     ensures { line.new.items ≡ without_return line.old.items }
 {
@@ -213,7 +214,7 @@ fn drop_return(line: &mut Vec<u8>)
     }
 }
 
-/// How many bytes stand before the first LF.
+/// Returns the number of bytes before the first LF.
 pub fn line_len(bytes: &[u8]) -> usize
     ensures count { result ≡ prefix_len is_inside bytes.now }
     ensures within { result ≤ length bytes.now }

@@ -1,4 +1,4 @@
-//! The first words of a line: labels and directives of expansion.
+//! Recognises labels and preprocessor directives at the start of lines.
 
 ghost use Rattle.std.specs.Prelude.{◌≡◌, None, false, ◌≤◌, drop, length, option_map};
 ghost use Rattle.expand65.specs.Fronts.{among, block_words, condition_words, directive_of, macro_words, closes_brace, directive_in, front_directive, is_colon, is_comma, is_label_name, is_mislabelled, label_len, line_directive, may_follow_label, name_in, opens_brace, opens_parenthesis, quoted_in, string_of};
@@ -6,7 +6,7 @@ ghost use Rattle.syntax65.specs.Tokens.{lexeme_of, lexemes};
 
 use syntax65::{Punctuation, Token, TokenKind, is_reserved};
 
-/// What a condition asks for.
+/// The kinds of conditions.
 #[derive(Clone, Copy)]
 pub enum ConditionKind {
     /// `.if`
@@ -21,7 +21,7 @@ pub enum ConditionKind {
     NotBlank,
 }
 
-/// A directive of expansion.
+/// A preprocessor directive.
 #[derive(Clone, Copy)]
 pub enum Directive {
     Macro,
@@ -97,7 +97,7 @@ fn block_word(word: &[u8]) -> Option<Directive>
     }
 }
 
-/// The directive of expansion that a word is, if it is one.
+/// Returns the preprocessor directive with this name.
 pub fn directive_of(word: &[u8]) -> Option<Directive>
     ensures { result ≡ directive_of word.now }
 {
@@ -125,28 +125,28 @@ pub fn is_comma(token: &Token<'_>) -> bool
     matches!(token.kind, TokenKind::Symbol(Punctuation::Comma))
 }
 
-/// Whether a token is a `{`.
+/// Returns whether a token is `{`.
 pub fn opens_brace(token: &Token<'_>) -> bool
     ensures { result ≡ opens_brace (lexeme_of token.now) }
 {
     matches!(token.kind, TokenKind::Symbol(Punctuation::OpenBrace))
 }
 
-/// Whether a token is a `}`.
+/// Returns whether a token is `}`.
 pub fn closes_brace(token: &Token<'_>) -> bool
     ensures { result ≡ closes_brace (lexeme_of token.now) }
 {
     matches!(token.kind, TokenKind::Symbol(Punctuation::CloseBrace))
 }
 
-/// Whether a token is a `(`.
+/// Returns whether a token is `(`.
 pub fn opens_parenthesis(token: &Token<'_>) -> bool
     ensures { result ≡ opens_parenthesis (lexeme_of token.now) }
 {
     matches!(token.kind, TokenKind::Symbol(Punctuation::OpenParenthesis))
 }
 
-/// The bytes of an identifier that is neither a mnemonic nor a register.
+/// Returns the bytes of an identifier that is neither a mnemonic nor a register.
 pub fn name_in<'a>(token: &Token<'a>) -> Option<&'a [u8]>
     ensures { option_map (λ s. s.now) result ≡ name_in (lexeme_of token.now) }
 {
@@ -156,7 +156,7 @@ pub fn name_in<'a>(token: &Token<'a>) -> Option<&'a [u8]>
     }
 }
 
-/// The bytes between the quotes of a string.
+/// Returns the bytes between the quotes of a string.
 fn quoted_in<'a>(token: &Token<'a>) -> Option<&'a [u8]>
     ensures { option_map (λ s. s.now) result ≡ quoted_in (lexeme_of token.now) }
 {
@@ -167,7 +167,7 @@ fn quoted_in<'a>(token: &Token<'a>) -> Option<&'a [u8]>
     }
 }
 
-/// The bytes of one string.
+/// Returns the bytes of a string, if it is the only token.
 pub fn string_of<'a>(tokens: &[Token<'a>]) -> Option<&'a [u8]>
     ensures { option_map (λ s. s.now) result ≡ string_of (lexemes tokens.now) }
 {
@@ -177,7 +177,7 @@ pub fn string_of<'a>(tokens: &[Token<'a>]) -> Option<&'a [u8]>
     }
 }
 
-/// Whether a token is a name or a cheap name.
+/// Returns whether a token is a name or a cheap local name.
 pub fn is_label_name(token: &Token<'_>) -> bool
     ensures { result ≡ is_label_name (lexeme_of token.now) }
 {
@@ -188,7 +188,7 @@ pub fn is_label_name(token: &Token<'_>) -> bool
     }
 }
 
-/// How many tokens the label at the front has, with its colon; 0 where there is none.
+/// Returns the number of tokens of the label at the start, with its colon; 0 if there is none.
 #[inline(always)]
 pub fn label_len(tokens: &[Token<'_>]) -> usize
     ensures count { result ≡ label_len (lexemes tokens.now) }
@@ -201,7 +201,7 @@ pub fn label_len(tokens: &[Token<'_>]) -> usize
     }
 }
 
-/// The directive of expansion that a token is.
+/// Returns the preprocessor directive that a token is.
 #[inline(always)]
 pub fn directive_in(token: &Token<'_>) -> Option<Directive>
     ensures { result ≡ directive_in (lexeme_of token.now) }
@@ -212,7 +212,7 @@ pub fn directive_in(token: &Token<'_>) -> Option<Directive>
     }
 }
 
-/// The directive of expansion at the front.
+/// Returns the preprocessor directive at the start.
 #[inline(always)]
 pub fn front_directive(tokens: &[Token<'_>]) -> Option<Directive>
     ensures { result ≡ front_directive (lexemes tokens.now) }
@@ -220,7 +220,7 @@ pub fn front_directive(tokens: &[Token<'_>]) -> Option<Directive>
     directive_in(tokens.first()?)
 }
 
-/// Whether a label may stand before a directive of expansion, or before another statement.
+/// Returns whether a label may precede this directive, or another statement.
 fn may_follow_label(directive: Option<Directive>) -> bool
     ensures { result ≡ may_follow_label directive }
 {
@@ -231,21 +231,21 @@ fn may_follow_label(directive: Option<Directive>) -> bool
     }
 }
 
-/// The directive of a line, behind its label if it has one.
+/// Returns the preprocessor directive of a line, after its label if it has one.
 pub fn line_directive(tokens: &[Token<'_>]) -> Option<Directive>
     ensures { result ≡ line_directive (lexemes tokens.now) }
 {
     front_directive(&tokens[label_len(tokens)..])
 }
 
-/// Whether a line has a label before a directive that it may not stand before.
+/// Returns whether a label precedes a directive that must not have one.
 pub fn is_mislabelled(tokens: &[Token<'_>]) -> bool
     ensures { result ≡ is_mislabelled (lexemes tokens.now) }
 {
     label_len(tokens) > 0 && !may_follow_label(line_directive(tokens))
 }
 
-/// What stands behind the first token.
+/// Returns the tokens after the first.
 pub fn after_first<'a, 'b>(tokens: &'b [Token<'a>]) -> &'b [Token<'a>]
     ensures { lexemes result.now ≡ drop 1 (lexemes tokens.now) }
 {

@@ -1,4 +1,4 @@
-//! Files that are included, and where they are looked for.
+//! Finds included files.
 
 ghost use Rattle.std.specs.Prelude.{◌≡◌, ◌<◌, ◌+◌, ◌^◌, ◌++◌, if◌then◌else◌, true, false, map, IfNone, IfOk, IfSome, IsErrOf, List, ℕ, Result};
 ghost use Rattle.std.specs.FinMap as fmap;
@@ -16,7 +16,7 @@ use base65::{PathString, Store, StoreFault};
 use std::alloc::{AllocError, Global};
 use syntax65::{ExpandFault, MAX_FILE};
 
-/// A file's name up to and with its last `/`, nothing where it has none.
+/// Returns the name of a file up to and including its last `/`, or nothing if it has none.
 fn folder_of(file: &[u8]) -> &[u8]
     ensures { result.now ≡ folder_of file.now }
 {
@@ -28,7 +28,7 @@ fn folder_of(file: &[u8]) -> &[u8]
     folder
 }
 
-/// How many bytes the folder has through the byte at a place, from those that it has before it.
+/// Updates the length of the folder's name for the byte at an index.
 fn folder_len(before: usize, place: usize, byte: u8) -> usize
     requires { place < 2 ^ 63 }
     ensures { result ≡ (if is_slash byte then place + 1 else before) }
@@ -42,7 +42,7 @@ fn begins_with_slash(name: &[u8]) -> bool
     name.first() == Some(&b'/')
 }
 
-/// A name behind a folder's that ends in `/`, or behind nothing.
+/// Joins the name of a folder, empty or ending in `/`, and a name.
 fn joined(alloc: Global, folder: &[u8], name: &[u8]) -> Result<Vec<u8>, AllocError>
     ensures { IfOk result (λ v. v.items ≡ folder.now ++ name.now) }
 {
@@ -52,7 +52,7 @@ fn joined(alloc: Global, folder: &[u8], name: &[u8]) -> Result<Vec<u8>, AllocErr
     Ok(whole)
 }
 
-/// A name in a folder.
+/// Returns the path of a name in a folder.
 fn within(alloc: Global, name: &[u8], folder: &[u8]) -> Result<Vec<u8>, AllocError>
     ensures { IfOk result (λ v. v.items ≡ path_in name.now folder.now) }
 {
@@ -63,7 +63,7 @@ fn within(alloc: Global, name: &[u8], folder: &[u8]) -> Result<Vec<u8>, AllocErr
     Ok(whole)
 }
 
-/// Whether a file is there; one with too many bytes is refused.
+/// Returns whether a file exists. A file with too many bytes is an error.
 pub fn is_there<S: Store>(store: &mut S, name: &str) -> Result<bool, ExpandFault>
     ensures there { IfSome (S.files store.old) (λ m.
         Refines is_system_error (λ b. b) result (is_there (fmap.get m name.now))) }
@@ -81,7 +81,7 @@ pub fn is_there<S: Store>(store: &mut S, name: &str) -> Result<bool, ExpandFault
     }
 }
 
-/// Bytes as text, if they are text.
+/// Returns bytes as a string, if they are UTF-8.
 fn text_of(bytes: &[u8]) -> Option<&str>
     ensures text { IfSome result (λ text. (text.now ≡ bytes.now) × (is_utf8 bytes.now ≡ true)) }
     ensures other { IfNone result (is_utf8 bytes.now ≡ false) }
@@ -92,7 +92,8 @@ fn text_of(bytes: &[u8]) -> Option<&str>
     }
 }
 
-/// A name as it is looked for in a file's own folder alone, if it is a text. A name that begins with `/` stays as given.
+/// Returns the path of a name relative to a file's own folder, if it is UTF-8. A name that begins
+/// with `/` is unchanged.
 pub fn name_beside(alloc: Global, file: &str, name: &[u8]) -> Result<Option<PathString>, AllocError>
     ensures { IfOk result (λ text. text ≡ as_text (beside file.now name.now)) }
 {
@@ -108,7 +109,7 @@ pub fn name_beside(alloc: Global, file: &str, name: &[u8]) -> Result<Option<Path
     }
 }
 
-/// The file of a name, if it is there.
+/// Returns the file with this name, if it exists.
 fn look_up<S: Store>(
     alloc: Global,
     store: &mut S,
@@ -132,7 +133,7 @@ fn look_up<S: Store>(
     }
 }
 
-/// The first of the folders' files of a name.
+/// Returns the first existing file of this name in the folders.
 fn find_in_folders<S: Store>(
     alloc: Global,
     store: &mut S,
@@ -154,7 +155,7 @@ fn find_in_folders<S: Store>(
     Err(ExpandFault::FileNotFound)
 }
 
-/// The first file of a name that is there, looked for beside a file and then in the folders.
+/// Searches a file beside another file, and then in the folders. Returns the first that exists.
 pub fn find_file<S: Store>(
     alloc: Global,
     store: &mut S,

@@ -1,4 +1,4 @@
-//! Where lines come from.
+//! Sources of lines: files, macro calls and repeats.
 
 ghost use Rattle.std.specs.Prelude.{◌≡◌, ◌↔◌, ◌<◌, ◌+◌, drop, length, true, false, [], ◌∷◌, Ok, IsTrue, IfErr, IfOk, IfSome, OnOk, Result};
 ghost use Rattle.std.specs.List.{prefix_len};
@@ -17,27 +17,27 @@ use base65::{ListVec, Store};
 use std::alloc::{AllocError, Global};
 use syntax65::{ExpandFault, Token, TokenKind};
 
-/// Where lines come from.
+/// A source of lines.
 #[derive(Drop)]
 pub enum LineSource {
     File(OpenFile),
     Call(Replay),
-    /// A body with the number of the turn that comes next, and of turns.
+    /// A body, with the number of the next iteration and the number of all iterations.
     Repeat(Replay, u32, u32),
 }
 
-/// What comes next of a source of lines.
+/// The kind of line that comes next.
 #[derive(Clone, Copy)]
 pub enum NextLine {
     AtEnd,
-    /// A line of a file, by its number.
+    /// A line of a file, with its number.
     Numbered(u32),
     /// A line of a body.
     Replayed,
 }
 
 impl NextLine {
-    /// Whether nothing comes next.
+    /// Returns whether no line comes next.
     pub fn is_end(self) -> bool
         ensures { IsTrue result ↔ (self ≡ NextLine.AtEnd) }
     {
@@ -45,7 +45,7 @@ impl NextLine {
     }
 }
 
-/// A number as a line of one token.
+/// Returns a number as a line of one token.
 pub fn number_line(alloc: Global, number: u32) -> Result<StoredLine, AllocError>
     ensures { IfOk result (λ line. tokens_in line ≡ number_token number ∷ []) }
 {
@@ -58,7 +58,7 @@ pub fn number_line(alloc: Global, number: u32) -> Result<StoredLine, AllocError>
 }
 
 impl OpenFile {
-    /// Whether the file has a line more, and its number.
+    /// Returns the number of the file's next line, if it has one.
     fn begin_line<S: Store>(&mut self, store: &mut S) -> Result<NextLine, ExpandFault>
         ensures comes { IfSome (S.files store.old) (λ m.
             IfOk result (λ n. ComesNext (left_in_file m self.new) n)) }
@@ -85,7 +85,7 @@ impl OpenFile {
         }
     }
 
-    /// Takes the next line, which ends behind so many bytes of those at hand.
+    /// Reads the next line, which is the first `len` buffered bytes.
     #[inline(always)]
     fn take_at_hand(&mut self, alloc: Global, len: usize) -> Result<StoredLine, ExpandFault>
         requires end { len ≡ prefix_len is_inside (drop self.old.at self.old.buffer.items) }
@@ -106,7 +106,7 @@ impl OpenFile {
         Ok(line)
     }
 
-    /// Takes the next line, which begins in what is at hand.
+    /// Reads the next line, whose start is buffered.
     fn take_line<S: Store>(
         &mut self,
         alloc: Global,
@@ -139,7 +139,7 @@ impl OpenFile {
 }
 
 impl Replay {
-    /// Whether a line more is left of the body.
+    /// Returns whether the body has another line.
     fn has_line(&self) -> bool
         ensures more { IsTrue result → self.now.at < length self.now.body.value.lines }
         ensures none { result ≡ false → left_to_play self.now ≡ [] }
@@ -147,7 +147,7 @@ impl Replay {
         self.at < self.body.lines.len()
     }
 
-    /// What comes next of the body.
+    /// Returns the kind of the body's next line.
     fn next_line(&self) -> NextLine
         ensures comes { ComesNext (left_to_play self.now) result }
         ensures ready { (result ≡ NextLine.AtEnd → ⊥) → self.now.at < length self.now.body.value.lines }
@@ -160,7 +160,7 @@ impl Replay {
         }
     }
 
-    /// Takes the next line.
+    /// Reads the next line.
     fn take_line(&mut self, alloc: Global) -> Result<StoredLine, ExpandFault>
         requires { self.old.at < length self.old.body.value.lines }
         ensures taken { TakesLine (left_to_play self.old) result (left_to_play self.new) }
@@ -174,7 +174,8 @@ impl Replay {
     }
 }
 
-/// Begins the next turn of a repeat where the turn before is over; whether a line more is left.
+/// Begins the next iteration of a repeat if the current one has ended. Returns whether a line
+/// remains.
 fn begin_iteration(
     alloc: Global,
     replay: &mut Replay,
@@ -208,14 +209,14 @@ fn begin_iteration(
 }
 
 impl LineSource {
-    /// Whether it is an expansion.
+    /// Returns whether it is a macro call.
     pub fn is_call(&self) -> bool
         ensures { result ≡ is_call self.now }
     {
         matches!(self, LineSource::Call(_))
     }
 
-    /// What comes next, which is then at hand.
+    /// Returns the kind of the next line, and buffers its start.
     pub fn begin_line<S: Store>(
         &mut self,
         alloc: Global,
@@ -243,7 +244,7 @@ impl LineSource {
         }
     }
 
-    /// Takes the next line.
+    /// Reads the next line.
     pub fn take_line<S: Store>(
         &mut self,
         alloc: Global,

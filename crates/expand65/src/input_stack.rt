@@ -1,4 +1,4 @@
-//! The open files, expansions and repeats, one inside the other.
+//! The stack of open files, macro calls and repeats.
 
 ghost use Rattle.std.specs.Prelude.{◌≡◌, ◌<◌, ◌≤◌, ◌+◌, if◌then◌else◌, length, IfErr, IfNone, IfOk, IfSome, IsTrue, OnOk, [], false, option_map};
 ghost use Rattle.base65.specs.Store.{Files};
@@ -15,10 +15,11 @@ use std::alloc::Global;
 use std::mem;
 use syntax65::{ExpandFault, SourceLocation};
 
-/// How many files, expansions and repeats are open at most inside the source.
+/// The maximum number of files, macro calls and repeats open inside the source.
 const MAX_NESTING: usize = 256;
 
-/// An open file, expansion or repeat. At its end so many conditions have to be open, and a file goes back to a place.
+/// An open file, macro call or repeat. At its end this many conditions must be open, and after an
+/// included file the location is restored.
 #[derive(Drop)]
 pub struct Input {
     pub source: LineSource,
@@ -26,7 +27,8 @@ pub struct Input {
     pub back: Option<SourceLocation>,
 }
 
-/// All that is open, the innermost apart, how many lines may still be taken, and the place of the last one that was.
+/// The open inputs (the innermost separately), the line budget, and the location of the line read
+/// last.
 #[derive(Drop)]
 pub struct InputStack {
     pub top: Input,
@@ -35,14 +37,14 @@ pub struct InputStack {
     pub place: SourceLocation,
 }
 
-/// The end of an expansion: so many conditions stay open, and whether anything is left behind it.
+/// The end of a macro call: how many conditions stay open, and whether any input remains.
 #[derive(Clone, Copy)]
 pub struct MacroEnd {
     pub conditions: usize,
     pub more: bool,
 }
 
-/// Moves on to a line of a place's file.
+/// Moves the location to a line of its file.
 fn move_by(place: &mut SourceLocation, next: NextLine)
     ensures { place.new ≡ moved_by next place.old }
 {
@@ -52,7 +54,7 @@ fn move_by(place: &mut SourceLocation, next: NextLine)
 }
 
 impl InputStack {
-    /// The next line, or none at the end mark of the innermost input.
+    /// Reads the next line, or returns `None` at the end of the innermost input.
     #[inline(always)]
     pub fn next_line<S: Store>(
         &mut self,
@@ -87,7 +89,7 @@ impl InputStack {
         Ok(Some(line))
     }
 
-    /// The next line of a block, which has to be closed in the input that opened it.
+    /// Reads the next line of a block, which must be closed in the input that opened it.
     pub fn block_line<S: Store>(
         &mut self,
         alloc: Global,
@@ -111,7 +113,7 @@ impl InputStack {
         }
     }
 
-    /// Puts an input inside the innermost one.
+    /// Pushes an input.
     pub fn enter(&mut self, input: Input) -> Result<(), ExpandFault>
         ensures entered { (m : Files) →
             RefinesLocated (λ _. remaining_of m self.new) self.new.place result
@@ -132,8 +134,8 @@ impl InputStack {
         Ok(())
     }
 
-    /// Takes the innermost input away, unless it is the source, with the place that it goes back to; whether anything
-    /// is left.
+    /// Pops the innermost input, unless it is the source, and keeps the location to restore.
+    /// Returns whether any input remains.
     fn drop_top(&mut self, back: &mut Option<SourceLocation>) -> bool
         ensures left { (m : Files) →
             (if result then (remaining_of m self.new).items else []) ≡ outer_items m self.old.outer.items }
@@ -158,7 +160,8 @@ impl InputStack {
         }
     }
 
-    /// LeavesStore the innermost input, at whose end so many conditions are open; whether anything is left.
+    /// Closes the innermost input, at whose end `conditions` conditions must be open. Returns
+    /// whether any input remains.
     pub fn leave(&mut self, conditions: usize) -> Result<bool, ExpandFault>
         ensures left { (m : Files) →
             remaining_in m self.old.top.source ≡ [] → RefinesLocated
@@ -180,7 +183,7 @@ impl InputStack {
         Ok(more)
     }
 
-    /// LeavesStore the innermost expansion with all that is open in it.
+    /// Closes the innermost macro call and all inputs opened in it.
     pub fn leave_macro(&mut self) -> Option<MacroEnd>
         ensures left { (m : Files) →
             outside_macro (remaining_of m self.old).items self.old.place ≡ option_map
@@ -209,7 +212,7 @@ impl InputStack {
         }
     }
 
-    /// Goes back to the place of the line that a file was included from.
+    /// Restores the location of the line that included the file.
     fn go_back(&mut self, back: Option<SourceLocation>)
         ensures place { self.new.place ≡ come_back self.old.place back }
         ensures top { self.new.top ≡ self.old.top }
@@ -223,7 +226,7 @@ impl InputStack {
 }
 
 impl InputStack {
-    /// Goes back to the line that includes a file of which no line was read: it is the one that was read last.
+    /// Restores the location of the including line if no line of the included file was read.
     pub fn go_back_unread(&mut self)
         ensures place { self.new.place ≡ last_read self.old.place self.old.top.back }
     {
@@ -234,7 +237,7 @@ impl InputStack {
     }
 }
 
-/// Of two places that are gone back to one after another, the last.
+/// Keeps the later of two locations to restore.
 fn keep_last(back: &mut Option<SourceLocation>, next: Option<SourceLocation>)
     ensures { (p : SourceLocation) → come_back p back.new ≡ come_back (come_back p back.old) next }
 {

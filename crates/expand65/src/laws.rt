@@ -1,17 +1,18 @@
-//! What is proved of the definitions, each law as the contract of a function that does nothing.
+//! Laws about the definitions. Each law is the contract of a function that does nothing.
 
 ghost use Rattle.expand65.specs.Expansion.{NextIsUnique};
 ghost use Rattle.expand65.specs.Laws.{NextExists};
 
-/// From a state one thing at most comes next: one statement with the state behind it, the end, or one fault with its
-/// place.
+/// Expansion is deterministic: from a state at most one thing comes next, a statement with the next
+/// state, the end, or an error with its location.
 #[tactic(auto, using(crate::proofs::Unique::one_next))]
 pub fn next_is_unique()
     ensures { NextIsUnique }
 {}
 
-/// From the first state of a source on something comes next, whatever the files are and names mean; its fault is never
-/// one from outside, and less is left behind each statement.
+/// Expansion is total and terminates: from the first state of a source something comes next, for
+/// all files and environments. Its error is never a system error, and after each statement less
+/// input remains.
 #[tactic(auto, using(crate::proofs::SomeNext::some_next))]
 pub fn next_exists()
     ensures { NextExists }

@@ -1,4 +1,4 @@
-//! A source's lines and its statements: macros, repeats, conditions and includes rewritten, line by line.
+//! The preprocessor: expands macros, repeats, conditions and included files, line by line.
 #![tactic(auto)]
 
 mod blocks;

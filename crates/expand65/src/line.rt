@@ -1,4 +1,4 @@
-//! Lines that are kept.
+//! Lines stored as tokens.
 
 ghost use Rattle.std.specs.Prelude.{◌≡◌, ◌≤◌, ◌++◌, [], false, length, slice_get, option_map, take, IsTrue, IfErr, IfOk, IfSome, List, OnOk, Result};
 ghost use Rattle.base65.specs.Relations.{RefinesRel};
@@ -14,7 +14,7 @@ use base65::ListVec;
 use std::alloc::{AllocError, Global};
 use syntax65::{ExpandFault, Lexer, Punctuation, Token, TokenKind};
 
-/// What a token of a line is, how many of the line's bytes part it from the token before, and how many are its own.
+/// A stored token: its kind, the number of blanks before it, and its length in bytes.
 #[derive(Clone, Copy)]
 pub struct StoredToken {
     pub kind: TokenKind,
@@ -22,7 +22,7 @@ pub struct StoredToken {
     pub len: u32,
 }
 
-/// The tokens of a line, with its bytes up to the last token's end.
+/// A line as tokens, with its bytes up to the end of the last token.
 #[derive(Drop)]
 pub struct StoredLine {
     pub spans: ListVec<StoredToken>,
@@ -30,7 +30,7 @@ pub struct StoredLine {
 }
 
 impl StoredToken {
-    /// A token of so many bytes, behind so many others.
+    /// Returns a token of length `len` after `blanks` blanks.
     #[inline(always)]
     fn new(kind: TokenKind, blanks: usize, len: usize) -> Result<StoredToken, AllocError>
         ensures { IfOk result (λ w. (w.kind ≡ kind) × (w.blanks ≡ blanks) × (w.len ≡ len)) }
@@ -41,7 +41,7 @@ impl StoredToken {
         Ok(StoredToken { kind, blanks, len })
     }
 
-    /// The token of the word at the front of some bytes, and what stands behind it.
+    /// Splits the token off the start of the bytes. Returns it and the rest.
     #[inline(always)]
     fn token<'a>(&self, bytes: &'a [u8]) -> (Token<'a>, &'a [u8])
         ensures token { lexeme_of result.0 ≡ text_of self.now bytes.now }
@@ -55,7 +55,7 @@ impl StoredToken {
 }
 
 impl StoredLine {
-    /// A line of these tokens.
+    /// Returns a line of these tokens.
     #[inline(always)]
     pub fn copy_of(alloc: Global, tokens: &[Token<'_>]) -> Result<StoredLine, AllocError>
         ensures { IfOk result (λ line. tokens_in line ≡ lexemes tokens.now) }
@@ -73,14 +73,14 @@ impl StoredLine {
         })
     }
 
-    /// The tokens of a line of a file.
+    /// Splits a line of a file into tokens.
     #[inline(always)]
     pub fn read(alloc: Global, bytes: &[u8]) -> Result<StoredLine, ExpandFault>
         ensures tokens { RefinesRel is_system_error tokens_in result
             (λ r. (q : Result (List Lexeme) LexFault) × IsRead bytes.now q × (r ≡ file_line_tokens q)) }
         ensures inside { IfErr result (λ e. is_failure e ≡ false) }
     {
-        // Room for most lines, and not more: those of a macro stay as they are.
+        // This capacity suffices for most lines. Lines of macros are kept, so it isn't larger.
         let mut words = Vec::with_capacity(alloc, (bytes.len() / 2 + 1).min(8))?;
         let len = read_words(bytes, &mut words)?;
         let (pending, _) = bytes.split_at(len);
@@ -91,7 +91,7 @@ impl StoredLine {
         })
     }
 
-    /// Puts the line's tokens behind others.
+    /// Appends the line's tokens.
     pub fn add_to<'a>(&'a self, tokens: &mut Vec<Token<'a>>) -> Result<(), AllocError>
         ensures { OnOk result (lexemes tokens.new.items ≡ lexemes tokens.old.items ++ tokens_in self.now) }
     {
@@ -104,7 +104,7 @@ impl StoredLine {
         Ok(())
     }
 
-    /// Puts the line's tokens into the front of some room, where they fit; how many they are.
+    /// Stores the line's tokens at the start of `room`, if they fit. Returns their number.
     #[inline(always)]
     pub fn put_in<'a>(&'a self, room: &mut [Token<'a>]) -> Option<usize>
         ensures within { IfSome result (λ n. n ≤ length room.new) }
@@ -124,7 +124,7 @@ impl StoredLine {
         Some(count)
     }
 
-    /// The first token.
+    /// Returns the first token.
     pub fn first(&self) -> Option<Token<'_>>
         ensures { option_map lexeme_of result ≡ slice_get (tokens_in self.now) 0 }
     {
@@ -133,12 +133,12 @@ impl StoredLine {
         Some(token)
     }
 
-    /// The directive of expansion at the front.
+    /// Returns the preprocessor directive at the start.
     pub fn directive(&self) -> Option<Directive>
         ensures { result ≡ front_directive (tokens_in self.now) }
     {
         let word = self.spans.as_slice().first()?;
-        // Most lines begin with no directive, and then their bytes aren't looked at.
+        // Most lines begin with no directive, so their bytes aren't read.
         if !matches!(word.kind, TokenKind::Directive) {
             return None;
         }
@@ -146,7 +146,7 @@ impl StoredLine {
         directive_in(&token)
     }
 
-    /// Whether a word is there at a place, and is a colon.
+    /// Returns whether the token at an index is a colon.
     fn is_colon_at(&self, at: usize) -> bool
         ensures { IsColonIn (slice_get self.now.spans at) result }
     {
@@ -156,7 +156,7 @@ impl StoredLine {
         }
     }
 
-    /// Whether neither of the first two words is a colon, so that the line has no label.
+    /// Returns whether neither of the first two tokens is a colon, so that the line has no label.
     fn has_no_colon(&self) -> bool
         ensures { IsTrue result → label_len (tokens_in self.now) ≡ 0 }
     {
@@ -168,14 +168,14 @@ impl StoredLine {
         !second
     }
 
-    /// Whether the line has no label, and no directive of expansion.
+    /// Returns whether the line has no label and no preprocessor directive.
     pub fn is_plain(&self) -> bool
         ensures { IsTrue result → IsPlain (tokens_in self.now) }
     {
         self.has_no_colon() && self.directive().is_none()
     }
 
-    /// The label at the front and what stands behind it, if there is a label.
+    /// Splits the line into its label and the rest, if it has a label.
     pub fn split_label(
         &self,
         alloc: Global,
@@ -201,7 +201,7 @@ impl StoredLine {
         Ok(Some((label, rest)))
     }
 
-    /// The line's tokens.
+    /// Returns the line's tokens.
     pub fn tokens(&self, alloc: Global) -> Result<Vec<Token<'_>>, AllocError>
         ensures { IfOk result (λ tokens. lexemes tokens.items ≡ tokens_in self.now) }
     {
@@ -211,7 +211,7 @@ impl StoredLine {
     }
 }
 
-/// Reads the words of a line of a file; how many of its bytes stand in front of the last one's end.
+/// Reads the tokens of a line of a file. Returns the offset of the last one's end.
 #[inline(always)]
 fn read_words(bytes: &[u8], words: &mut Vec<StoredToken>) -> Result<usize, ExpandFault>
     requires { words.old.items ≡ [] }
@@ -227,7 +227,7 @@ fn read_words(bytes: &[u8], words: &mut Vec<StoredToken>) -> Result<usize, Expan
             Some(token) => {
                 let len = token.text.len();
                 let blanks = left - lexer.rest.len() - len;
-                // A line has 4,096 bytes at most, so both fit.
+                // A line has at most 4,096 bytes, so both fit.
                 words.push(StoredToken {
                     kind: token.kind,
                     blanks: blanks as u32,

@@ -1,4 +1,4 @@
-//! Bodies of macros and repeats, replayed with names replaced, and an expansion's own names.
+//! Replays the bodies of macros and repeats with parameters and local names replaced.
 
 ghost use Rattle.std.specs.Prelude.{◌≡◌, ◌++◌, ◌∷◌, [], List, true, map, IfOk, OnOk, position, false, IfErr, unwrap_or, Some};
 ghost use Rattle.base65.specs.Store.{Files};
@@ -19,7 +19,7 @@ use std::alloc::{AllocError, Global};
 use std::rc::Rc;
 use syntax65::{ExpandFault, Token, TokenKind};
 
-/// What stands for a name of an expansion's own.
+/// Returns the replacement of a local name in a macro call.
 fn own_line(alloc: Global, number: u64, name: &[u8]) -> Result<StoredLine, AllocError>
     ensures { IfOk result (λ line. tokens_in line ≡ own_token number name.now ∷ []) }
 {
@@ -35,7 +35,7 @@ fn own_line(alloc: Global, number: u64, name: &[u8]) -> Result<StoredLine, Alloc
 }
 
 impl Replay {
-    /// One more name of the expansion's own.
+    /// Adds a local name to the macro call.
     fn add_local(&mut self, alloc: Global, name: &[u8]) -> Result<(), AllocError>
         ensures added { OnOk result
             (replacing_of self.new ≡ with_locals (name.now ∷ []) (replacing_of self.old)) }
@@ -48,7 +48,7 @@ impl Replay {
         Ok(())
     }
 
-    /// More names of the expansion's own.
+    /// Adds local names to the macro call.
     fn add_locals(&mut self, alloc: Global, names: &[&[u8]]) -> Result<(), AllocError>
         ensures added { OnOk result
             (replacing_of self.new ≡ with_locals (map (λ s. s.now) names.now)
@@ -64,7 +64,7 @@ impl Replay {
 }
 
 impl LineSource {
-    /// More names of an expansion's own.
+    /// Adds local names to a macro call.
     pub fn add_locals(&mut self, alloc: Global, names: &[&[u8]]) -> Result<(), AllocError>
         requires { is_call self.old ≡ true }
         ensures added { (m : Files) (k : InputEnd) (is : List Item) →
@@ -79,10 +79,10 @@ impl LineSource {
     }
 }
 
-/// How many tokens a line has at most once names are replaced.
+/// The maximum number of tokens of a line after replacement.
 const MAX_TOKENS: usize = 4096;
 
-/// What is replayed: the lines, and the names in them that something is given for.
+/// The lines of a macro or repeat, and the names that are replaced in them.
 #[derive(Drop)]
 pub struct Body {
     pub params: IndexSet<Vec<u8>>,
@@ -93,16 +93,16 @@ pub struct Body {
 #[derive(Drop)]
 pub struct Replay {
     pub body: Rc<Body>,
-    /// How many of the lines were replayed.
+    /// The number of lines replayed.
     pub at: usize,
     pub arguments: ListVec<StoredLine>,
-    /// What stands for `.paramcount`.
+    /// The replacement of `.paramcount`.
     pub count: Option<StoredLine>,
     pub locals: IndexMap<Vec<u8>, Line, Seed>,
     pub number: u64,
 }
 
-/// What stands for a token.
+/// The replacement of a token.
 pub enum Replacement<'a> {
     Itself,
     Nothing,
@@ -110,7 +110,7 @@ pub enum Replacement<'a> {
 }
 
 impl Replay {
-    /// What is given for the parameter at a place.
+    /// Returns the argument of the parameter at an index.
     fn argument_at(&self, place: usize) -> Replacement<'_>
         ensures { tokens_for result ≡ argument_at (replacing_of self.now).arguments (Some place) }
     {
@@ -120,7 +120,7 @@ impl Replay {
         }
     }
 
-    /// What is given for a parameter, if a name is one.
+    /// Returns the argument of a parameter, if the name is one.
     fn argument(&self, name: &[u8]) -> Replacement<'_>
         ensures { tokens_for result ≡ argument_at (replacing_of self.now).arguments
             (position (bytes_eq name.now) (replacing_of self.now).params) }
@@ -131,7 +131,7 @@ impl Replay {
         }
     }
 
-    /// What stands for a name of the expansion's own.
+    /// Returns the replacement of a local name.
     fn own(&self, name: &[u8]) -> Replacement<'_>
         ensures { tokens_for result ≡ lookup (bytes_eq name.now) (replacing_of self.now).locals }
     {
@@ -169,7 +169,7 @@ impl Replay {
         }
     }
 
-    /// Puts what stands for a token behind others.
+    /// Appends the replacement of a token.
     fn put<'a>(&'a self, token: Token<'a>, out: &mut Vec<Token<'a>>) -> Result<(), AllocError>
         ensures { OnOk result
             (lexemes out.new.items ≡ lexemes out.old.items ++ unwrap_or
@@ -183,7 +183,7 @@ impl Replay {
         }
     }
 
-    /// A line with what stands for its tokens.
+    /// Replaces the tokens of a line.
     pub fn replaced(&self, alloc: Global, line: &StoredLine) -> Result<StoredLine, ExpandFault>
         ensures value { Refines is_system_error tokens_in result
             (body_line_tokens (substituted_line (replacing_of self.now) (tokens_in line.now))) }

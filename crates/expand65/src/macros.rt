@@ -1,4 +1,4 @@
-//! Macros: their definitions, their calls and the arguments of these.
+//! Macros: definitions, calls and arguments.
 
 ghost use Rattle.std.specs.Prelude.{Option, ◌≡◌, ◌<◌, ◌≤◌, ◌+◌, ◌^◌, IfOk, IsSome, IsTrue, length, map, option_map, false, is_some, IfErr, Ok, Some};
 ghost use Rattle.syntax65.specs.Tokens.{lexeme_of, lexemes};
@@ -26,7 +26,7 @@ use std::alloc::{AllocError, Global};
 use std::rc::Rc;
 use syntax65::{ExpandFault, Token, TokenKind};
 
-/// The name at a place, if one stands there.
+/// Returns the name at an index, if the token is one.
 pub fn name_at<'a>(tokens: &[Token<'a>], at: usize) -> Option<&'a [u8]>
     ensures name { option_map (λ s. s.now) result ≡ name_at (lexemes tokens.now) at }
     ensures inside { IsSome result → at < length tokens.now }
@@ -34,7 +34,7 @@ pub fn name_at<'a>(tokens: &[Token<'a>], at: usize) -> Option<&'a [u8]>
     name_in(tokens.get(at)?)
 }
 
-/// Whether a comma stands at a place.
+/// Returns whether the token at an index is a comma.
 pub fn is_comma_at(tokens: &[Token<'_>], at: usize) -> bool
     ensures comma { result ≡ is_comma_at (lexemes tokens.now) at }
     ensures inside { IsTrue result → at < length tokens.now }
@@ -42,7 +42,7 @@ pub fn is_comma_at(tokens: &[Token<'_>], at: usize) -> bool
     matches!(tokens.get(at), Some(token) if is_comma(token))
 }
 
-/// One name or more with commas between them.
+/// Parses one or more names separated by commas.
 pub fn names_of<'a>(
     alloc: Global,
     tokens: &[Token<'a>],
@@ -69,7 +69,7 @@ pub fn names_of<'a>(
     }
 }
 
-/// How many braces are open behind a token.
+/// Returns the number of open braces after a token.
 fn braces_after(depth: usize, token: &Token<'_>) -> usize
     requires { depth < 2 ^ 62 }
     ensures { result ≡ braces_after depth (lexeme_of token.now) }
@@ -83,7 +83,7 @@ fn braces_after(depth: usize, token: &Token<'_>) -> usize
     }
 }
 
-/// How many tokens stand before the first comma that isn't within braces.
+/// Returns the number of tokens before the first comma outside braces.
 fn part_len(tokens: &[Token<'_>]) -> usize
     ensures count { result ≡ part_len 0 (lexemes tokens.now) }
     ensures within { result ≤ length tokens.now }
@@ -98,7 +98,7 @@ fn part_len(tokens: &[Token<'_>]) -> usize
     tokens.len()
 }
 
-/// Whether the brace that was opened before these tokens is closed by the last of them.
+/// Returns whether the last token closes the brace that was opened before the first.
 fn closes_last(tokens: &[Token<'_>]) -> bool
     ensures { result ≡ closes_last 0 (lexemes tokens.now) }
 {
@@ -112,14 +112,14 @@ fn closes_last(tokens: &[Token<'_>]) -> bool
     false
 }
 
-/// Whether one pair of braces stands round all the tokens.
+/// Returns whether one pair of braces encloses all tokens.
 fn is_braced(tokens: &[Token<'_>]) -> bool
     ensures { result ≡ is_braced (lexemes tokens.now) }
 {
     matches!(tokens, [first, following @ ..] if opens_brace(first) && closes_last(following))
 }
 
-/// An argument without the pair of braces round it.
+/// Removes the pair of braces around an argument.
 fn unbraced<'a, 'b>(tokens: &'b [Token<'a>]) -> &'b [Token<'a>]
     ensures { lexemes result.now ≡ without_braces (lexemes tokens.now) }
 {
@@ -129,7 +129,7 @@ fn unbraced<'a, 'b>(tokens: &'b [Token<'a>]) -> &'b [Token<'a>]
     }
 }
 
-/// What stands between the commas that aren't within braces.
+/// Splits tokens at the commas outside braces.
 fn parts_of(alloc: Global, tokens: &[Token<'_>]) -> Result<ListVec<StoredLine>, AllocError>
     ensures { IfOk result (λ lines. map tokens_in lines ≡ map without_braces (parts_within 0 (lexemes tokens.now))) }
 {
@@ -148,7 +148,7 @@ fn parts_of(alloc: Global, tokens: &[Token<'_>]) -> Result<ListVec<StoredLine>, 
     }
 }
 
-/// The arguments in the tokens behind a macro's name.
+/// Parses the arguments after a macro's name.
 pub fn arguments_of(alloc: Global, tokens: &[Token<'_>]) -> Result<ListVec<StoredLine>, AllocError>
     ensures { IfOk result (λ lines. map tokens_in lines ≡ arguments_of (lexemes tokens.now)) }
 {
@@ -158,14 +158,14 @@ pub fn arguments_of(alloc: Global, tokens: &[Token<'_>]) -> Result<ListVec<Store
     parts_of(alloc, tokens)
 }
 
-/// A macro's name and its parameters.
+/// The name and parameters of a macro.
 #[derive(Drop)]
 pub struct Header {
     pub name: Vec<u8>,
     pub params: IndexSet<Vec<u8>>,
 }
 
-/// Names of which no two are alike.
+/// Collects names that must be distinct.
 fn distinct(alloc: Global, names: &[&[u8]]) -> Result<IndexSet<Vec<u8>>, ExpandFault>
     ensures set { Refines is_system_error (λ s. map (λ k. k.items) s.keys) result
         (ok_or_unknown (distinct_of (map (λ s. s.now) names.now))) }
@@ -181,7 +181,7 @@ fn distinct(alloc: Global, names: &[&[u8]]) -> Result<IndexSet<Vec<u8>>, ExpandF
     Ok(set)
 }
 
-/// No parameters, or names with commas between them.
+/// Parses parameters: nothing, or names separated by commas.
 fn params_of(alloc: Global, tokens: &[Token<'_>]) -> Result<IndexSet<Vec<u8>>, ExpandFault>
     ensures params { Refines is_system_error (λ s. map (λ k. k.items) s.keys) result
         (ok_or_unknown (params_of (lexemes tokens.now))) }
@@ -196,7 +196,7 @@ fn params_of(alloc: Global, tokens: &[Token<'_>]) -> Result<IndexSet<Vec<u8>>, E
     }
 }
 
-/// A macro's name and its parameters.
+/// Parses the name and parameters of a macro.
 fn header_of(alloc: Global, tokens: &[Token<'_>]) -> Result<Header, ExpandFault>
     ensures header { Refines is_system_error (λ h. (h.name.items, map (λ k. k.items) h.params.keys)) result
         (ok_or_unknown (header_of (lexemes tokens.now))) }
@@ -214,7 +214,7 @@ fn header_of(alloc: Global, tokens: &[Token<'_>]) -> Result<Header, ExpandFault>
 }
 
 impl Preprocessor {
-    /// `.macro` and what stands behind it.
+    /// Executes `.macro`, given the rest of its line.
     pub fn begin_macro<S: Store>(
         &mut self,
         store: &mut S,
@@ -238,30 +238,30 @@ impl Preprocessor {
         Ok(LineOutcome::Continue)
     }
 
-    /// Whether a macro has a name.
+    /// Returns whether a macro has this name.
     fn has_macro(&self, name: &[u8]) -> bool
         ensures { result ≡ is_some (macro_of (macros_of self.now) name.now) }
     {
         self.macros.get(name).is_some()
     }
 
-    /// Whether a token names a macro.
+    /// Returns whether a token is the name of a macro.
     #[inline(always)]
     pub fn is_macro(&self, token: &Token<'_>) -> bool
         ensures { result ≡ is_some (macro_at (macros_of self.now) (lexeme_of token.now)) }
     {
-        // Most sources define no macro, and then no line's first name is looked up.
+        // Most sources define no macro, and then no name is looked up.
         !self.macros.is_empty()
             && matches!(token.kind, TokenKind::Identifier)
             && self.has_macro(token.text)
     }
 
-    /// The macro that a token names.
+    /// Returns the macro that a token names.
     fn macro_at(&self, token: &Token<'_>) -> Result<Option<Rc<Body>>, AllocError>
         ensures { IfOk result (λ found. macro_at (macros_of self.now) (lexeme_of token.now) ≡
             option_map (λ b. definition_of b.value) found) }
     {
-        // Most sources define no macro, and then no line's first name is looked up.
+        // Most sources define no macro, and then no name is looked up.
         if self.macros.is_empty() {
             return Ok(None);
         }
@@ -274,7 +274,7 @@ impl Preprocessor {
         }
     }
 
-    /// A call of a macro with what stands behind its name.
+    /// Calls a macro, given the tokens after its name.
     fn call(&mut self, body: Rc<Body>, tokens: &[Token<'_>]) -> Result<LineOutcome, ExpandFault>
         ensures turns { LeadsTo self.old self.new result (λ s.
             call_result s (definition_of body.value) (arguments_of (lexemes tokens.now))) }
@@ -288,7 +288,7 @@ impl Preprocessor {
         self.replay(body, arguments)
     }
 
-    /// The macro's lines with these arguments in them.
+    /// Begins to replay the macro's lines with these arguments.
     fn replay(
         &mut self,
         body: Rc<Body>,
@@ -324,7 +324,7 @@ impl Preprocessor {
         Ok(LineOutcome::Continue)
     }
 
-    /// A line without a directive of expansion: nothing, a call or a statement.
+    /// Processes a line without preprocessor directive: an empty line, a macro call or a statement.
     pub fn call_or_give(&mut self, line: StoredLine) -> Result<LineOutcome, ExpandFault>
         ensures turns { LeadsTo self.old self.new result (λ s. ordinary s (tokens_in line)) }
         ensures keeps { (files : Option Files) → PreservesPositions files self.old self.new result }

@@ -1,4 +1,4 @@
-//! Lines rewritten one after another.
+//! Executes the lines of a source: directives, macro calls and statements.
 
 ghost use Rattle.std.specs.Prelude.{Option, ◌≡◌, ◌≤◌, ◌<◌, ◌+◌, [], true, false, length, IfErr, IfOk, IfSome, Ok, OnOk};
 ghost use Rattle.base65.specs.Store.{Files};
@@ -29,35 +29,35 @@ use std::alloc::Global;
 use std::rc::Rc;
 use syntax65::{ExpandFault, SourceLocation, Token};
 
-/// Where a line or an end mark leads to.
+/// The outcome of processing a line or the end of an input.
 #[derive(Drop)]
 pub enum LineOutcome {
-    /// On to the next line.
+    /// Continue with the next line.
     Continue,
     Yield(StoredLine),
-    /// A label, and what stands behind it.
+    /// A label and the rest of its line.
     LabelAndRest(StoredLine, StoredLine),
-    /// What stands behind an `.elseif` that has to be decided next.
+    /// The rest of an `.elseif` line whose condition is evaluated next.
     DecideElseIf(StoredLine),
-    /// No line is left.
+    /// No line remains.
     EndOfInput,
 }
 
-/// What the lines that are left are rewritten with.
+/// The state of the preprocessor: input stack, macros and open conditions.
 #[derive(Drop)]
 pub struct Preprocessor {
     pub alloc: Global,
     pub reader: InputStack,
     pub macros: IndexMap<Vec<u8>, Rc<Body>, Seed>,
     pub conditions: Conditions,
-    /// How many macros were called.
+    /// The number of macro calls.
     pub expansions: u64,
-    /// The folders that files are also looked for in.
+    /// The folders in which included files are searched.
     pub folders: ListVec<PathString>,
 }
 
 impl Preprocessor {
-    /// An `.if` of some kind, or an `.elseif` that has to be decided.
+    /// Executes an `.if`, `.ifdef` and the like, or an `.elseif` after a false condition.
     pub fn begin_if<S: Store, K: Knows>(
         &mut self,
         store: &mut S,
@@ -89,7 +89,7 @@ impl Preprocessor {
         }
     }
 
-    /// An `.endif` of an open condition.
+    /// Executes the `.endif` of an open condition.
     pub fn end_if(&mut self) -> Result<LineOutcome, ExpandFault>
         ensures turns { LeadsTo self.old self.new result (λ s. ended_if s (last_condition s)) }
         ensures keeps { (files : Option Files) → PreservesPositions files self.old self.new result }
@@ -101,7 +101,7 @@ impl Preprocessor {
         }
     }
 
-    /// An `.elseif` or `.else` behind a condition that was true.
+    /// Skips from an `.elseif` or `.else` after a true condition to its `.endif`.
     pub fn pass_else<S: Store>(&mut self, store: &mut S) -> Result<LineOutcome, ExpandFault>
         ensures turns { HasLineOutcome (S.files store.old) self.old self.new result (λ m s.
             StepReaches m (else_line s (last_condition s))) }
@@ -121,7 +121,7 @@ impl Preprocessor {
         }
     }
 
-    /// `.include` and what stands behind it.
+    /// Executes `.include`, given the rest of its line.
     fn include<S: Store>(
         &mut self,
         store: &mut S,
@@ -144,7 +144,7 @@ impl Preprocessor {
         self.enter_file(file)
     }
 
-    /// The lines of a file that is there.
+    /// Pushes an existing file onto the input stack.
     fn enter_file(&mut self, file: PathString) -> Result<LineOutcome, ExpandFault>
         ensures turns { (m : Files) →
             length (bytes_of m file) ≤ 16777216 → RefinesLineOutcome result (state_of m self.new)
@@ -166,7 +166,7 @@ impl Preprocessor {
         Ok(LineOutcome::Continue)
     }
 
-    /// A directive that nothing stands behind.
+    /// Executes a directive that takes no operands.
     fn execute_bare<S: Store>(
         &mut self,
         store: &mut S,
@@ -195,7 +195,7 @@ impl Preprocessor {
         }
     }
 
-    /// A directive and what stands behind it.
+    /// Executes a directive, given the rest of its line.
     fn execute_with_operands<S: Store, K: Knows>(
         &mut self,
         store: &mut S,
@@ -233,7 +233,7 @@ impl Preprocessor {
         }
     }
 
-    /// A line without a label.
+    /// Executes a line without a label.
     #[inline(always)]
     pub fn execute_line<S: Store, K: Knows>(
         &mut self,
@@ -259,7 +259,7 @@ impl Preprocessor {
         }
     }
 
-    /// A line that may begin with a label.
+    /// Executes a line that may begin with a label.
     #[inline(always)]
     fn begin<S: Store, K: Knows>(
         &mut self,
@@ -284,7 +284,7 @@ impl Preprocessor {
         }
     }
 
-    /// The end mark of the innermost input.
+    /// Ends the innermost input.
     fn end_input(&mut self) -> Result<LineOutcome, ExpandFault>
         ensures turns { (m : Files) →
             remaining_in m self.old.reader.top.source ≡ [] → RefinesLineOutcome result (state_of m self.new)
@@ -301,7 +301,7 @@ impl Preprocessor {
         }
     }
 
-    /// The next line, or the end mark of the innermost input.
+    /// Executes the next line, or ends the innermost input.
     #[inline(always)]
     pub fn take<S: Store, K: Knows>(
         &mut self,

@@ -1,4 +1,4 @@
-//! Repeats, the names of an expansion's own, and leaving one.
+//! Executes `.repeat`, `.local` and `.exitmacro`.
 
 ghost use Rattle.std.specs.Prelude.{Option, ◌≡◌, false, map, IfErr, ℕ, Ok, Result};
 ghost use Rattle.std.specs.List.{list_any};
@@ -30,14 +30,14 @@ use std::alloc::Global;
 use std::rc::Rc;
 use syntax65::{ExpandFault, Expr, Token, read_expr};
 
-/// Whether a name was made of one of an expansion's own.
+/// Returns whether a name is the replacement of a local name.
 fn is_made(name: &[u8]) -> bool
     ensures { result ≡ is_made name.now }
 {
     name.iter().any(|b| *b == b'?')
 }
 
-/// Whether one of the names was made.
+/// Returns whether one of the names is the replacement of a local name.
 fn is_one_made(names: &[&[u8]]) -> bool
     ensures { result ≡ list_any is_made (map (λ s. s.now) names.now) }
 {
@@ -49,7 +49,7 @@ fn is_one_made(names: &[&[u8]]) -> bool
     false
 }
 
-/// Names with commas between them, none of which was made.
+/// Parses names separated by commas, none of which is the replacement of a local name.
 fn new_names<'a>(alloc: Global, tokens: &[Token<'a>]) -> Result<Vec<&'a [u8]>, ExpandFault>
     ensures names { Refines is_system_error (λ v. map (λ s. s.now) v.items) result
         (ok_or_unknown (new_names (lexemes tokens.now))) }
@@ -65,7 +65,7 @@ fn new_names<'a>(alloc: Global, tokens: &[Token<'a>]) -> Result<Vec<&'a [u8]>, E
 }
 
 impl Preprocessor {
-    /// `.local` and what stands behind it.
+    /// Executes `.local`, given the rest of its line.
     pub fn add_locals(&mut self, tokens: &[Token<'_>]) -> Result<LineOutcome, ExpandFault>
         ensures turns { LeadsTo self.old self.new result (λ s. local_line s (lexemes tokens.now)) }
         ensures keeps { (files : Option Files) → PreservesPositions files self.old self.new result }
@@ -82,7 +82,7 @@ impl Preprocessor {
         Ok(LineOutcome::Continue)
     }
 
-    /// LeavesStore the innermost expansion.
+    /// Leaves the innermost macro call.
     pub fn exit_macro(&mut self) -> Result<LineOutcome, ExpandFault>
         ensures turns { LeadsTo self.old self.new result exit_macro }
         ensures keeps { (files : Option Files) → PreservesPositions files self.old self.new result }
@@ -100,17 +100,17 @@ impl Preprocessor {
     }
 }
 
-/// How many turns a repeat has at most.
+/// The maximum number of iterations of a repeat.
 const MAX_ITERATIONS: i64 = 65_536;
 
-/// How many turns there are, and the variable, if there is one.
+/// The number of iterations, and the variable if there is one.
 #[derive(Drop)]
 pub struct Header {
     pub count: Expr,
     pub variable: IndexSet<Vec<u8>>,
 }
 
-/// Nothing, or a comma and a name.
+/// Parses an optional variable: nothing, or a comma and a name.
 fn variable_of(alloc: Global, tokens: &[Token<'_>]) -> Result<IndexSet<Vec<u8>>, ExpandFault>
     ensures variable { Refines is_system_error (λ s. map (λ k. k.items) s.keys) result
         (ok_or_unknown (variable_of (lexemes tokens.now))) }
@@ -130,7 +130,7 @@ fn variable_of(alloc: Global, tokens: &[Token<'_>]) -> Result<IndexSet<Vec<u8>>,
     Ok(names)
 }
 
-/// The expression of a count, and the variable, if there is one.
+/// Parses the expression of a count and the optional variable.
 fn header_of(alloc: Global, tokens: &[Token<'_>]) -> Result<Header, ExpandFault>
     ensures header { RefinesRel is_system_error (λ h. (h.count, map (λ k. k.items) h.variable.keys))
         result (λ r. (q : Result (Tree × ℕ) ExprFault) × IsParsed (lexemes tokens.now) q ×
@@ -153,7 +153,7 @@ fn iterations_of(value: Option<i64>) -> Result<u32, ExpandFault>
     }
 }
 
-/// How many turns the expression of a count says.
+/// Evaluates the expression of a count.
 fn iterations_given<K: Knows>(alloc: Global, knows: &K, count: Expr) -> Result<u32, ExpandFault>
     ensures said { Refines is_system_error (λ n. n) result
         (iterations_of ((K.meaning knows.now).value count)) }
@@ -163,7 +163,7 @@ fn iterations_given<K: Knows>(alloc: Global, knows: &K, count: Expr) -> Result<u
 }
 
 impl Preprocessor {
-    /// `.repeat` and what stands behind it.
+    /// Executes `.repeat`, given the rest of its line.
     pub fn begin_repeat<S: Store, K: Knows>(
         &mut self,
         store: &mut S,
@@ -182,7 +182,7 @@ impl Preprocessor {
         self.repeat(store, count, variable)
     }
 
-    /// The lines that follow, so many times.
+    /// Repeats the lines that follow.
     fn repeat<S: Store>(
         &mut self,
         store: &mut S,

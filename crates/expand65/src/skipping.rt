@@ -1,4 +1,4 @@
-//! Lines of a file that are passed over or read where they stand.
+//! Skips lines of files, or reads them without copying.
 
 ghost use Rattle.std.specs.Prelude.{◌≡◌, ◌<◌, ◌≤◌, ◌-◌, List, IfSome, IsTrue, false, Ok, Some};
 ghost use Rattle.syntax65.specs.Tokens.{IsFront, Lexeme, lexeme_of, HoldsNothing, stored_lexemes};
@@ -17,14 +17,14 @@ use crate::input_stack::InputStack;
 use std::alloc::Global;
 use syntax65::{LineFront, LineTokens, Token, line_front};
 
-/// Whether a token is there that is a colon.
+/// Returns whether a token exists and is a colon.
 fn is_colon_there(token: Option<Token<'_>>) -> bool
     ensures { result ≡ option_map_or is_colon (option_map lexeme_of token.entry) false }
 {
     matches!(token, Some(token) if is_colon(&token))
 }
 
-/// Whether a line that begins so has no label, and no directive of expansion.
+/// Returns whether a line that begins with these tokens has no label and no preprocessor directive.
 fn is_plain_front(pending: LineFront<'_>) -> bool
     ensures { (ts : List Lexeme) → IsFront ts pending.entry → IsTrue result → IsPlain ts }
 {
@@ -37,7 +37,7 @@ fn is_plain_front(pending: LineFront<'_>) -> bool
     }
 }
 
-/// Whether a line has tokens, but no label and no directive of expansion.
+/// Returns whether a line has valid tokens, but no label and no preprocessor directive.
 fn is_plain_line(line: &[u8]) -> bool
     ensures { IsTrue result → IsPlainLine line.now }
 {
@@ -47,7 +47,7 @@ fn is_plain_line(line: &[u8]) -> bool
     }
 }
 
-/// A line without a CR at its end.
+/// Removes the CR at the end of a line.
 pub fn trimmed(line: &[u8]) -> &[u8]
     ensures { result.now ≡ without_return line.now }
 {
@@ -58,7 +58,7 @@ pub fn trimmed(line: &[u8]) -> &[u8]
     line
 }
 
-/// How many bytes the first line of some has, where its end is there and it is plain.
+/// Returns the length of the first line, if its end is there and it is plain.
 fn plain_len(bytes: &[u8]) -> Option<usize>
     ensures { IfSome result (λ n. (ts : List Lexeme) × IsFirstLine bytes.now n ts × IsPlain ts) }
 {
@@ -70,14 +70,14 @@ fn plain_len(bytes: &[u8]) -> Option<usize>
     is_plain_line(trimmed(line)).then_some(len)
 }
 
-/// A line at hand: where the next one begins, and its number.
+/// A buffered line: where the next one begins, and its number.
 #[derive(Clone, Copy)]
 pub struct Peeked {
     pub following: usize,
     pub number: u32,
 }
 
-/// The tokens of the first line of some bytes, where its end is there; how many bytes it has.
+/// Splits the first line into tokens, if its end is there. Returns its length.
 #[inline(always)]
 fn peek<'a>(alloc: Global, bytes: &'a [u8], tokens: &mut LineTokens<'a>) -> Option<usize>
     requires { HoldsNothing tokens.old }
@@ -96,7 +96,7 @@ fn peek<'a>(alloc: Global, bytes: &'a [u8], tokens: &mut LineTokens<'a>) -> Opti
 }
 
 impl OpenFile {
-    /// The next line, where all of it is at hand and it is plain.
+    /// Returns the next line if it is buffered whole and plain.
     fn peek_plain(&self) -> Option<Peeked>
         ensures { IfSome result (λ p. (ts : List Lexeme) × IsFirstOf self.now p ts × IsPlain ts) }
     {
@@ -109,7 +109,7 @@ impl OpenFile {
         Some(Peeked { following, number })
     }
 
-    /// The next line, where all of it is at hand, and its tokens.
+    /// Returns the next line and its tokens, if it is buffered whole.
     #[inline(always)]
     fn peek<'a>(&'a self, alloc: Global, tokens: &mut LineTokens<'a>) -> Option<Peeked>
         requires { HoldsNothing tokens.old }
@@ -125,7 +125,7 @@ impl OpenFile {
         Some(Peeked { following, number })
     }
 
-    /// Takes the next line, which is this one.
+    /// Reads the line that `peek` returned.
     #[inline(always)]
     fn take_peeked(&mut self, line: Peeked)
         ensures taken { (m : Files) (ts : List Lexeme) → IsFirstOf self.old line ts →
@@ -139,7 +139,7 @@ impl OpenFile {
 }
 
 impl LineSource {
-    /// The next line, where it is a file's, all of it is at hand and it is plain.
+    /// Returns the next line if it comes from a file, is buffered whole and is plain.
     fn peek_plain(&self) -> Option<Peeked>
         ensures { IfSome result (λ p. (ts : List Lexeme) × IsAtHand self.now p ts × IsPlain ts) }
     {
@@ -149,7 +149,7 @@ impl LineSource {
         }
     }
 
-    /// The next line, where it is a file's and all of it is at hand, and its tokens.
+    /// Returns the next line and its tokens, if it comes from a file and is buffered whole.
     #[inline(always)]
     fn peek<'a>(&'a self, alloc: Global, tokens: &mut LineTokens<'a>) -> Option<Peeked>
         requires { HoldsNothing tokens.old }
@@ -162,7 +162,7 @@ impl LineSource {
         }
     }
 
-    /// Takes the next line of a file, which is this one.
+    /// Reads the line that `peek` returned.
     #[inline(always)]
     fn take_peeked(&mut self, line: Peeked)
         ensures taken { (m : Files) (ts : List Lexeme) → IsAtHand self.old line ts →
@@ -179,7 +179,8 @@ impl LineSource {
 }
 
 impl InputStack {
-    /// The next line, where it is a file's, all of it is at hand, and a line more may be taken; and its tokens.
+    /// Returns the next line and its tokens, if it comes from a file, is buffered whole and is
+    /// within the line budget.
     #[inline(always)]
     pub fn peek<'a>(&'a self, alloc: Global, tokens: &mut LineTokens<'a>) -> Option<Peeked>
         requires { HoldsNothing tokens.old }
@@ -192,7 +193,7 @@ impl InputStack {
         self.top.source.peek(alloc, tokens)
     }
 
-    /// Takes the next line, which is this one.
+    /// Reads the line that `peek` returned.
     #[inline(always)]
     pub fn take_peeked(&mut self, line: Peeked)
         ensures taken { (m : Files) (ts : List Lexeme) → IsNextLine self.old line ts →
@@ -208,7 +209,8 @@ impl InputStack {
         self.place.line = line.number;
     }
 
-    /// Passes over the next line where it is a file's, all of it is at hand and it is plain; whether it was.
+    /// Skips the next line if it comes from a file, is buffered whole and is plain. Returns whether
+    /// it did.
     fn pass_line(&mut self) -> bool
         ensures passed { (m : Files) → IsTrue result → PassesPlain (remaining_of m self.old) (remaining_of m self.new) }
         ensures room { IsTrue result → self.new.room < self.old.room }
@@ -226,7 +228,7 @@ impl InputStack {
         true
     }
 
-    /// Passes over plain lines of a file, each of which is taken. It stops at the latest where the bytes at hand end.
+    /// Skips plain lines of a file, as far as they are buffered.
     pub fn pass_plain_lines(&mut self)
         ensures passed { (m : Files) → SkipsPlainLines (remaining_of m self.old) (remaining_of m self.new) }
         ensures room { self.new.room ≤ self.old.room }

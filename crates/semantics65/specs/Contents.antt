@@ -1,4 +1,4 @@
--- What statements put into an object.
+-- The content of statements in an object.
 use Rattle.std.specs.Prelude.{ℕ, Bool, List, zero, ◌+◌, pos, true, false, [], ◌∷◌, filter_map, replicate, take, drop, Option, Some, None, Result, Ok, Err, if◌then◌else◌}
 use Rattle.semantics65.specs.Types.{SourceLocation, Action, Width, Branch, AsmFault, OutOfRange, ImportedAndDefined, Assertion, FileNameTooLong, Operand, Immediate, Address, Indirect, IndirectX, IndirectY, EncodingChoice, FillByte, FileOffset, Context}
 use Rattle.object65.specs.Form.{Form, lit, sec}
@@ -11,58 +11,58 @@ use Rattle.base65.specs.declared.values.Op2.TheVariants.{Subtract}
 use Rattle.semantics65.specs.Symbols.{Symbols, named, definition_index}
 use Rattle.semantics65.specs.Norms.{defined_form, fold_result}
 
--- ---- What a module's statements put into its object: parts of sections, and what is said to other modules and to the linker.
+-- ---- The content of a module's object: parts of sections, and declarations for other modules and the linker.
 
 -- a part of a section
 pub data Part : Type 0 where
-  -- bytes that are known
+  -- known bytes
   Known : List ℕ → Part
-  -- so many bytes of the linker's fill value
+  -- bytes of the linker's fill value
   Filled : ℕ → Part
-  -- a value that the linker computes, and where its statement stands
+  -- a value that the linker computes, and the location of its statement
   Waiting : Width → SourceLocation → Form → Part
 
--- what a statement says
+-- a declaration of a statement
 pub data Declaration : Type 0 where
-  -- a name that the module defines for others, and where that is said
+  -- a name that the module exports, and the location of the export
   Exported : List ℕ → SourceLocation → Form → Declaration
-  -- an import that is asked for though no form may hold it
+  -- an import that is requested even if no form uses it
   ForcedImport : List ℕ → Declaration
-  -- what the linker has to check, and the text that is printed otherwise
+  -- a condition that the linker checks, and the text that it prints otherwise
   Asserted : Action → SourceLocation → List ℕ → Form → Declaration
 
 abbrev pub exported_name : Declaration → Option (List ℕ)
 exported_name (Exported n place f) = Some n
 exported_name s = None
 
--- the names that are exported among what is said
+-- the exported names of declarations
 abbrev pub exported_names : List Declaration → List (List ℕ)
 exported_names ss = filter_map exported_name ss
 
--- a piece of a statement as the object has it
+-- the content of a piece of a statement in the object
 pub record Content : Type 0 where
-  -- the segment in which it stands, by its place among the segments
+  -- the segment, as an index into the segments
   pub segment : ℕ
-  -- it asks for a section of the segment
+  -- whether it requests a section of the segment
   pub asks : Bool
-  -- what it puts into the section
+  -- its parts of the section
   pub parts : List Part
   pub said : List Declaration
 
--- ---- Where an object can hold the name of the file.
+-- ---- Files whose name an object can hold.
 
--- what is written with its place, where an object can hold the name of the file
+-- the value, if its location can be stored: an object can hold the name of the file
 abbrev pub located_declarations : {A : Type 0} → SourceLocation → A → Result A AsmFault
 located_declarations place a = if is_file_name place.file then Ok a else Err FileNameTooLong
 
 -- ---- Parts of sections.
 
--- a value whose form is a literal is stored, after its range check; another one is written
+-- a value whose form is a literal is checked and stored as bytes; any other is stored as a form
 abbrev pub value_part : Width → SourceLocation → Form → Result Part AsmFault
 value_part width place (lit v) = if fits_width width v then Ok (Known (value_bytes width v)) else Err OutOfRange
 value_part width place f = located_declarations place (Waiting width place f)
 
--- a branch stores how far its target lies from behind it
+-- a branch stores the distance of its target from the next instruction
 abbrev pub operand_form : Width → Context → Form → Result Form AsmFault
 operand_form Branch s f = fold_result (fold2 Subtract f (sec s.segment (pos (s.offset + 2))))
 operand_form width s f = Ok f
@@ -79,19 +79,19 @@ abbrev pub opcode_part : Option ℕ → Part
 opcode_part None = Known []
 opcode_part (Some code) = Known (code ∷ [])
 
--- so many bytes, of the linker's fill value where no value is given
+-- reserved bytes: of the given value, or else of the linker's fill value
 abbrev pub room_part : ℕ → EncodingChoice → Part
 room_part count (FillByte byte) = Known (replicate count byte)
 room_part count _ = Filled count
 
--- so many bytes of a file from one on
+-- bytes of a file, from an offset on
 abbrev pub file_bytes : ℕ → Option (List ℕ) → EncodingChoice → List ℕ
 file_bytes count (Some bytes) (FileOffset start) = take count (drop start bytes)
 file_bytes count bytes _ = []
 
--- ---- What a statement says to other modules and to the linker.
+-- ---- Declarations of a statement.
 
--- an import that the module defines
+-- the error of an import that the module also defines
 abbrev pub import_fault : Symbols → List ℕ → Result (List Declaration) AsmFault
 import_fault y n = go (definition_index y (named 0 n))
   where
@@ -103,7 +103,7 @@ abbrev pub export_said : Symbols → SourceLocation → List ℕ → Result (Lis
 export_said y place n absent None = absent
 export_said y place n absent (Some j) = defined_form y j >>= (λ f. located_declarations place (Exported n place f ∷ []))
 
--- an assertion whose form is a literal is decided; another one is the linker's
+-- an assertion whose form is a literal is decided; any other is passed to the linker
 abbrev pub decided_assertion : Action → SourceLocation → List ℕ → Form → Result (List Declaration) AsmFault
 decided_assertion action.Error place words (lit (pos zero)) = Err (Assertion words)
 decided_assertion act place words (lit v) = Ok []
@@ -111,7 +111,7 @@ decided_assertion act place words f = located_declarations place (Asserted act p
 
 -- ---- Contents of one kind.
 
--- the section of a segment is asked for
+-- a request for the section of a segment
 abbrev pub section_request : ℕ → Content
 section_request g = record { segment = g; asks = true; parts = []; said = [] }
 
@@ -119,6 +119,6 @@ section_request g = record { segment = g; asks = true; parts = []; said = [] }
 abbrev pub section_part : ℕ → Part → Content
 section_part g p = record { segment = g; asks = false; parts = p ∷ []; said = [] }
 
--- what is said
+-- declarations
 abbrev pub declaration_content : List Declaration → Content
 declaration_content ss = record { segment = 0; asks = false; parts = []; said = ss }

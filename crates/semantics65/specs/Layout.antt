@@ -1,4 +1,4 @@
--- Where statements stand, and the faults that a line has there.
+-- The layout of statements, and the errors that a line has there.
 use Rattle.std.specs.Prelude.{ℕ, zero, suc, ◌+◌, max, Bool, true, false, List, [], ◌∷◌, ◌++◌, length, Option, Some, None, codes, if◌then◌else◌, ◌-◌, ◌==◌, ℤ, pos, nat_le, nat_lt, not, ◌&&◌, Result, Ok, Err, slice_get}
 use Rattle.std.specs.List.{position, list_any}
 use Rattle.std.specs.Str.{bytes_eq}
@@ -10,20 +10,20 @@ use Rattle.semantics65.specs.Norms.{constant_in, byte_count, length_of, settled_
 use Rattle.syntax65.specs.Trees.{Tree, name, unary, binary}
 use Rattle.object65.specs.Objects.{section_limit}
 
--- ---- How statements are laid one behind the other.
+-- ---- The layout of statements, one after the other.
 
--- the multiples to which a section can be aligned
+-- the alignments of sections
 abbrev pub powers : List ℕ
 powers = 1 ∷ 2 ∷ 4 ∷ 8 ∷ 16 ∷ 32 ∷ 64 ∷ 128 ∷ 256 ∷ 512 ∷ 1024 ∷ 2048 ∷ 4096 ∷ 8192 ∷ 16384 ∷ 32768 ∷ []
 
--- what stands behind statements
+-- the position after some statements
 pub record Cursor : Type 0 where
   pub scope : ℕ
   pub opened : ℕ
   pub region : ℕ
   pub unnamed : ℕ
   pub segments : List Segment
-  -- the segment in which the next statement stands, and those that were kept, the last one first
+  -- the segment of the next statement, and the pushed segments, the last one first
   pub current : ℕ
   pub kept : List ℕ
 
@@ -44,7 +44,7 @@ segment_at (g ∷ gs) (suc i) = segment_at gs i
 abbrev pub place_of : List Segment → List ℕ → Option ℕ
 place_of gs n = position (λ g. bytes_eq g.name n) gs
 
--- a new segment is absolute where no size is given, but for ZEROPAGE
+-- without a given size a new segment is absolute, except ZEROPAGE
 abbrev pub first_size : List ℕ → Option AddressSize → AddressSize
 first_size n (Some own) = own
 first_size n None = if bytes_eq n (codes "ZEROPAGE") then size.ZeroPage else size.Absolute
@@ -96,12 +96,12 @@ context_of w = record { scope = w.scope; opened = w.opened; region = w.region; u
 abbrev pub own_size : Cursor → AddressSize
 own_size w = (segment_at w.segments w.current).size
 
--- the address size of what a statement defines
+-- the address size of the name that a statement defines
 abbrev pub size_stated : Symbols → Context → AddressSize → Statement → AddressSize
 size_stated y s own (statement.Constant n e) = size_of y s own e
 size_stated y s own _ = own
 
--- a statement behind those of a symbol table
+-- a statement after those of a symbol table
 abbrev pub laid_out_statement : Symbols → Cursor → SourceLocation → Statement → LaidOutStatement
 laid_out_statement y w place x = record {
   stated = x;
@@ -122,11 +122,11 @@ closes_scope statement.CloseScope = true
 closes_scope statement.CloseProc = true
 closes_scope _ = false
 
--- the scope that is open behind a statement
+-- the scope that is open after a statement
 abbrev pub scope_after : Symbols → Cursor → Statement → ℕ
 scope_after y w x = if opens_scope x then suc w.opened else if closes_scope x then enclosing y.scopes w.scope else w.scope
 
--- the multiple to which a statement aligns its section
+-- the alignment that a statement gives its section
 abbrev pub multiple_of : Symbols → Context → Statement → ℕ
 multiple_of y s (statement.Align n v) = byte_count (constant_in y s n)
 multiple_of y s _ = 1
@@ -142,7 +142,7 @@ cursor_after y w x = record {
   kept = kept_after w x;
 }
 
--- ---- All statements, each with its place.
+-- ---- All statements, each with its location.
 
 pub record Layout : Type 0 where
   pub laid : List LaidOutStatement
@@ -154,9 +154,9 @@ layout_after y place x = record { laid = y.laid ++ laid_out_statement (symbols_o
 abbrev pub nothing_laid : Layout
 nothing_laid = record { laid = []; cursor = start }
 
--- ---- The faults that are found at a statement's line, in their order.
+-- ---- The errors at a statement's line, in order.
 
--- the first of some faults, if there is one
+-- the first error, if there is one
 abbrev pub first_fault : List (Option AsmFault) → Option AsmFault
 first_fault [] = None
 first_fault (Some e ∷ es) = Some e
@@ -174,12 +174,12 @@ abbrev pub where_there : {A : Type 0} → Option A → AsmFault → Option AsmFa
 where_there None e = None
 where_there (Some x) e = Some e
 
--- a fault, or else this
+-- the error if there is one, otherwise the value
 abbrev pub unless_fault : {A : Type 0} → Option AsmFault → A → Result A AsmFault
 unless_fault None x = Ok x
 unless_fault (Some e) x = Err e
 
--- ---- Names in the global scope alone.
+-- ---- Statements that are allowed in the global scope only.
 
 abbrev pub stands_outside : Statement → Bool
 stands_outside (statement.Import s names) = true
@@ -240,7 +240,7 @@ abbrev pub lost_scopes : List Scope → ℕ → List Tree → Option AsmFault
 lost_scopes cs scope [] = None
 lost_scopes cs scope (e ∷ es) = or_then (lost_scope cs scope e) (lost_scopes cs scope es)
 
--- ---- Names and scopes that are there already.
+-- ---- Names and scopes that exist already.
 
 -- the name of the scope that a statement opens
 abbrev pub scope_name : Statement → Option (List ℕ)
@@ -276,7 +276,7 @@ abbrev pub is_there : {A : Type 0} → Option A → Bool
 is_there None = false
 is_there (Some x) = true
 
--- what has to be constant is, and lies in its range
+-- an operand that must be constant is, and is within its range
 abbrev pub operand_fault : Symbols → Context → Statement → Option AsmFault
 operand_fault y s (statement.Reserve n v) = when (not (is_count (constant_in y s n) && is_byte_value (optional_value y s v (pos 0)))) BadOperand
 operand_fault y s (statement.Align n v) = when (not (is_there (constant_in y s n) && is_byte_value (optional_value y s v (pos 0)))) BadOperand
@@ -300,7 +300,7 @@ abbrev pub missing_file : Statement → Option AsmFault
 missing_file (statement.Incbin bytes start len) = unless_there bytes FileNotFound
 missing_file _ = None
 
--- a part of a file of so many bytes
+-- whether a file of this size has the part
 abbrev pub is_part : ℕ → Option ℤ → Option ℤ → Bool
 is_part count (Some (pos start)) (Some (pos len)) = nat_le (start + len) count
 is_part count _ _ = false
@@ -334,12 +334,12 @@ abbrev pub is_scope : Option Scope → Bool
 is_scope None = false
 is_scope (Some c) = not c.is_proc
 
--- what is said of an open scope
+-- an open scope
 abbrev pub opened_as : List Scope → ℕ → Option Scope
 opened_as cs zero = None
 opened_as cs (suc i) = slice_get cs i
 
--- a scope or a proc is closed by its own kind
+-- `.scope` and `.proc` are closed by their own directives
 abbrev pub block_fault : List Scope → ℕ → Statement → Option AsmFault
 block_fault cs scope statement.CloseScope = when (not (is_open scope && is_scope (opened_as cs scope))) BadScope
 block_fault cs scope statement.CloseProc = when (not (is_open scope && not (is_scope (opened_as cs scope)))) BadScope
@@ -353,9 +353,9 @@ abbrev pub pop_fault : List ℕ → Statement → Option AsmFault
 pop_fault kept statement.PopSegment = when (not (is_kept kept)) PopWithoutPush
 pop_fault kept _ = None
 
--- ---- The first fault of a statement that is understood, behind those of a symbol table.
+-- ---- The first error of a statement at its line.
 
--- the faults of a statement whose names are understood, the first one first
+-- the errors of a statement whose names are understood, in the order in which they are reported
 abbrev pub placing_faults : Symbols → Cursor → Statement → List (Option AsmFault)
 placing_faults y w x =
     let s : Context = context_of w in

@@ -15,19 +15,19 @@ use Rattle.semantics65.specs.Numbering.{object_with}
 use Rattle.syntax65.specs.Opcodes.{opcode_of}
 use Rattle.syntax65.specs.Trees.{Tree}
 
--- ---- Faults with their places.
+-- ---- Errors with their locations.
 
--- its line is 0 where none was read
+-- an error with its location, whose line is 0 before the first line
 pub record LocatedFault : Type 0 where
   pub place : SourceLocation
   pub fault : AsmFault
 
--- a fault is found at a place
+-- adds the location to an error
 abbrev pub at_place : {A : Type 0} → SourceLocation → Result A AsmFault → Result A LocatedFault
 at_place place (Ok x) = Ok x
 at_place place (Err e) = Err (record { place = place; fault = e })
 
--- ---- What is said.
+-- ---- Output.
 
 -- `file:line: Warning: text`
 abbrev pub warning_at : SourceLocation → List ℕ → List ℕ
@@ -42,12 +42,12 @@ abbrev pub warning_of : SourceLocation → Statement → List ℕ
 warning_of place (statement.Warning words) = warning_at place words
 warning_of place _ = []
 
--- an assertion that is decided by the assembler and isn't so
+-- the text of an assertion that the assembler decides and that fails
 abbrev pub failed_assertion_text : SourceLocation → Action → List ℕ → Result Form AsmFault → List ℕ
 failed_assertion_text place action.Warning words (Ok (lit (pos zero))) = warning_at place words
 failed_assertion_text place act words r = []
 
--- what statements print while they are read
+-- the text that statements print while they are assembled
 abbrev pub stdout_text : List LaidOutStatement → List ℕ
 stdout_text ls = flat_map (λ l. out_of l.stated) ls
 
@@ -56,23 +56,23 @@ warning_text ls = flat_map (λ l. warning_of l.place l.stated) ls
 
 -- ---- Pieces.
 
--- what the value of an expression is for
+-- the purpose of an expression's value
 pub data Purpose : Type 0 where
-  -- an element of a list, an operand of an instruction
+  -- an element of a list, or an operand of an instruction
   datum : Width → Purpose
   operand : Width → Purpose
-  -- a constant, which puts nothing anywhere but has the fault of its expression
+  -- a constant, which has no content, only the error of its expression
   equated : Purpose
   asserted : Action → List ℕ → Purpose
 
 pub data Piece : Type 0 where
-  -- what needs no value
+  -- a part that needs no value
   given : Part → Piece
   valued : Purpose → Tree → Piece
-  -- a name that the module doesn't define, and one that is written regardless
+  -- a name that the module doesn't define, and one that is imported regardless
   imported : List ℕ → Piece
   demanded : List ℕ → Piece
-  -- a name that is exported where it is defined, or has to be defined
+  -- a name that is exported if it is defined, or that must be defined
   exported : (must : Bool) → List ℕ → Piece
 
 abbrev pub item_piece : Width → Item → Piece
@@ -88,7 +88,7 @@ instruction_pieces m o (InMode mode) =
     given (opcode_part (opcode_of m mode)) ∷ operand_pieces (width_of mode) (operand_tree o)
 instruction_pieces m o _ = []
 
--- the pieces of a statement of so many bytes, of which this is settled
+-- the pieces of a statement of this length and with these encoding decisions
 abbrev pub pieces_of : ℕ → EncodingChoice → Statement → List Piece
 pieces_of count s (Instruction m o) = instruction_pieces m o s
 pieces_of count s (Values width items) = map (item_piece width) items
@@ -103,9 +103,9 @@ pieces_of count s (ForceImport names) = map imported names ++ map demanded names
 pieces_of count s (Assert e act words) = valued (asserted act words) e ∷ []
 pieces_of count s _ = []
 
--- ---- What a piece comes to.
+-- ---- The result of a piece.
 
--- a content, and the warning of an assertion that isn't so
+-- a content, and the warning of a failed assertion
 pub record PieceResult : Type 0 where
   pub content : Content
   pub warning : List ℕ
@@ -119,12 +119,12 @@ as_part g p = Ok (quietly (section_part g p))
 abbrev pub as_said : List Declaration → Result PieceResult AsmFault
 as_said ss = Ok (quietly (declaration_content ss))
 
--- what an export says that isn't defined
+-- the result of an export whose name isn't defined
 abbrev pub absent_of : (must : Bool) → List ℕ → Result (List Declaration) AsmFault
 absent_of true n = Err (NotDefined n)
 absent_of false n = Ok []
 
--- what a form comes to, of an expression that stands here
+-- the result of a form, for an expression at this location
 abbrev pub value_result : SourceLocation → Context → Purpose → Form → Result PieceResult AsmFault
 value_result place s (datum width) f = value_part width place f >>= as_part s.segment
 value_result place s (operand width) f =
@@ -134,7 +134,7 @@ value_result place s (asserted act words) f =
     decided_assertion act place words f
     >>= (λ ss. Ok (record { content = declaration_content ss; warning = failed_assertion_text place act words (Ok f) }))
 
--- what a piece of a statement that stands here comes to by a symbol table, or its fault
+-- the result of a piece of a statement at this location, by a symbol table; or its error
 abbrev pub made_of : Symbols → SourceLocation → Context → Piece → Result PieceResult AsmFault
 made_of y place s (given p) = as_part s.segment p
 made_of y place s (valued why e) = norm_of y s e >>= value_result place s why
@@ -145,81 +145,81 @@ made_of y place s (exported must n) =
 
 -- ---- Slots, in the order of the source.
 
--- a piece that waits, and where it stands
+-- a deferred piece, and its location
 pub record Fixup : Type 0 where
   pub place : SourceLocation
   pub context : Context
   pub piece : Piece
 
--- a content, or a piece whose content is decided behind the last line
+-- a content, or a piece whose content is decided after the last line
 pub data Slot : Type 0 where
   resolved : Content → Slot
   deferred : Fixup → Slot
 
--- a piece of a laid statement
+-- a piece of a laid-out statement
 abbrev pub waiting_at : LaidOutStatement → Piece → Slot
 waiting_at l p = deferred (record { place = l.place; context = l.context; piece = p })
 
--- a laid statement asks for its section, where it does, and then comes piece by piece
+-- a laid-out statement requests its section, if it needs one, and then has its pieces in order
 abbrev pub slots_of : LaidOutStatement → List Slot
 slots_of l =
     (if needs_section l.stated then resolved (section_request l.context.segment) ∷ [] else [])
     ++ map (waiting_at l) (pieces_of l.length l.settled l.stated)
 
--- an export of one of these names, which were exported before: it does nothing
+-- an export of a name that was exported before, which has no effect
 abbrev pub is_repeated : List (List ℕ) → Piece → Bool
 is_repeated names (exported must n) = list_any (bytes_eq n) names
 is_repeated names p = false
 
--- what a piece that stands here comes to by the symbol table of all statements, behind exports of these names
+-- the result of a piece by the symbol table of all statements, after exports of these names
 abbrev pub piece_result : Symbols → List (List ℕ) → SourceLocation → Context → Piece → Result PieceResult AsmFault
 piece_result y names place s p = if is_repeated names p then as_said [] else made_of y place s p
 
--- what a slot comes to so, or its fault
+-- the result of a slot, or its error
 abbrev pub slot_result : Symbols → List (List ℕ) → Slot → Result PieceResult LocatedFault
 slot_result y names (resolved c) = Ok (quietly c)
 slot_result y names (deferred w) = at_place w.place (piece_result y names w.place w.context w.piece)
 
--- what was found, or the first fault; and the warnings of assertions up to there
+-- the contents, or the first error; and the warnings of assertions up to there
 pub record Resolution : Type 0 where
   pub found : Result (List Content) LocatedFault
   pub warned : List ℕ
 
--- what was made, before what follows it; its fault ends all
+-- a result, followed by the rest; an error ends the resolution
 abbrev pub result_then : Result PieceResult LocatedFault → (PieceResult → Resolution) → Resolution
 result_then (Ok m) rest =
     record { found = (rest m).found >>= (λ cs. Ok (m.content ∷ cs)); warned = m.warning ++ (rest m).warned }
 result_then (Err e) rest = record { found = Err e; warned = [] }
 
--- slots are gone through once, in the order of the source, behind exports of these names
+-- resolves slots once, in source order, after exports of these names
 abbrev pub resolution_of : Symbols → List (List ℕ) → List Slot → Resolution
 resolution_of y names [] = record { found = Ok []; warned = [] }
 resolution_of y names (x ∷ slots) =
     result_then (slot_result y names x) (λ m. resolution_of y (names ++ exported_names m.content.said) slots)
 
--- ---- What a module comes to.
+-- ---- The object of a module.
 
--- what laid statements come to, by the symbol table of all
+-- the resolution of laid-out statements, by the symbol table of all
 abbrev pub module_resolution : List LaidOutStatement → Resolution
 module_resolution ls = resolution_of (symbols_of ls) [] (flat_map slots_of ls)
 
--- the object of laid statements
+-- the object of laid-out statements
 abbrev pub object_of : Layout → Result Object LocatedFault
 object_of y =
     let names : List (List ℕ) = (symbols_of y.laid).imports in
     (module_resolution y.laid).found >>= (λ cs. Ok (object_with y.cursor.segments names cs))
 
--- the warnings of a module whose lines have no fault: those of assertions stand behind the others
+-- the warnings of a module without an error at a line: those of assertions come last
 abbrev pub all_warned : List LaidOutStatement → List ℕ
 all_warned ls = warning_text ls ++ (module_resolution ls).warned
 
--- the object or the first fault, and what is said up to there
+-- the object or the first error, and the output up to there
 pub record Outcome : Type 0 where
   pub result : Result Object LocatedFault
   pub out : List ℕ
   pub err : List ℕ
 
--- a fault of a line stands before all others, and before the warnings of assertions
+-- the error of a line comes before all others, and before the warnings of assertions
 abbrev pub outcome_of : Layout → Option LocatedFault → Outcome
 outcome_of y None = record { result = object_of y; out = stdout_text y.laid; err = all_warned y.laid }
 outcome_of y (Some e) = record { result = Err e; out = stdout_text y.laid; err = warning_text y.laid }

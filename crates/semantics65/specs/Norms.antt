@@ -1,4 +1,4 @@
--- Values and forms of expressions, forms that stay, sizes, addressing forms and lengths.
+-- Values and normal forms of expressions, final forms, address sizes, addressing modes and lengths.
 use Rattle.std.specs.Prelude.{ℕ, zero, suc, ℤ, pos, length, Option, Some, None, slice_get, Result, Ok, Err, ◌≡◌, ◌++◌, List, ◌+◌, ◌-◌, negsuc, Bool, true, false, nat_lt, [], take, drop, sum_by, if◌then◌else◌}
 use Rattle.base65.specs.Outcome.{◌>>=◌}
 use Rattle.syntax65.specs.Trees.{Tree, number, here, unary, binary}
@@ -22,7 +22,7 @@ use Rattle.ast65.specs.declared.language.Index.{Index}
 use Rattle.ast65.specs.declared.language.Index.TheVariants as index
 use Rattle.ast65.specs.declared.language.Operand.TheVariants as operands
 
--- ---- Normal forms of expressions by a symbol table, and what is constant there.
+-- ---- Normal forms of expressions by a symbol table, and constant values.
 
 abbrev pub fold_result : Result Form FormFault → Result Form AsmFault
 fold_result (Ok f) = Ok f
@@ -34,7 +34,7 @@ fold_result (Err form.TooLarge) = Err TooLarge
 abbrev pub address_of : Context → Form
 address_of s = sec s.segment (pos s.offset)
 
--- the form of an expression, where it is known of what an operand stands for
+-- the form of an expression, given the form of each operand
 abbrev pub form_by : (Tree → Result Form AsmFault) → Context → Tree → Result Form AsmFault
 form_by operand s (number v) = Ok (lit (pos v))
 form_by operand s here = Ok (address_of s)
@@ -42,7 +42,7 @@ form_by operand s (unary op e) = form_by operand s e >>= (λ f. fold_result (fol
 form_by operand s (binary op e g) = form_by operand s e >>= (λ f. form_by operand s g >>= (λ h. fold_result (fold2 op f h)))
 form_by operand s e = operand e
 
--- a constant has the form of its expression at its own place, and a label its address
+-- a constant has the form of its expression at the constant's own location, and a label its address
 abbrev pub form_of_value : (Context → Tree → Result Form AsmFault) → Context → Option Tree → Result Form AsmFault
 form_of_value constant_form s None = Ok (address_of s)
 form_of_value constant_form s (Some e) = constant_form s e
@@ -55,18 +55,17 @@ abbrev pub form_of_meaning : (Context → Tree → Result Form AsmFault) → Sym
 form_of_meaning constant_form y (imported_as k) = Ok (imp k)
 form_of_meaning constant_form y (defined_at j) = form_of_definition constant_form (slice_get y.definitions j)
 
--- The normal form of an expression, where at most so many expressions stand one inside the other, each but the first as
--- a constant of the one before.
+-- The normal form of an expression, if constants are expanded at most this deep.
 abbrev pub norm : ℕ → Symbols → Context → Tree → Result Form AsmFault
 norm zero y s e = Err Circular
 norm (suc n) y s e = form_by (λ operand. binding_of y s operand >>= form_of_meaning (norm n y) y) s e
 
--- The normal form of an expression. With it there are at most as many expressions as definitions and one, so a constant
--- that needs more of them one inside the other leads back to itself.
+-- The normal form of an expression. There are as many constants as definitions at most, so an expression
+-- that must be expanded deeper is circular.
 abbrev pub norm_of : Symbols → Context → Tree → Result Form AsmFault
 norm_of y s e = norm (suc (length y.definitions)) y s e
 
--- the form of what is defined at a place
+-- the form of the definition at an index
 abbrev pub defined_form : Symbols → ℕ → Result Form AsmFault
 defined_form y j = form_of_meaning (norm_of y) y (defined_at j)
 
@@ -80,7 +79,7 @@ constant_in y s e = literal_in (norm_of y s e)
 
 -- ---- Symbol tables that grow, and forms that stay whatever statements follow.
 
--- the definitions and scopes of the second begin with those of the first; imports are free
+-- the definitions and scopes of y are a prefix of those of z; imports may differ
 pub record Extends (y z : Symbols) : Type 0 where
   pub later_definitions : List Definition
   pub definitions : z.definitions ≡ y.definitions ++ later_definitions
@@ -131,8 +130,9 @@ abbrev pub size_by : AddressSize → Option ℤ → AddressSize
 size_by other None = other
 size_by other (Some v) = size_of_value v
 
--- The size of an expression by what is known at its line, where the segment has this size: that of its value where it is
--- constant; a byte behind `<`, `>` and `^`; else that of what it names, and the largest of its parts.
+-- The address size of an expression, from what is known at its line and the size of the segment: that of
+-- its value if it is constant; a byte after `<`, `>` and `^`; otherwise that of the name, and the largest
+-- of its operands.
 abbrev pub size_of : Symbols → Context → AddressSize → Tree → AddressSize
 size_of y s own (unary op e) = size_by (if takes_byte op then size.ZeroPage else size_of y s own e) (constant_in y s (unary op e))
 size_of y s own (binary op e f) = size_by (larger (size_of y s own e) (size_of y s own f)) (constant_in y s (binary op e f))
@@ -150,7 +150,7 @@ mode_for size.Absolute None = Absolute
 mode_for size.Absolute (Some index.X) = AbsoluteX
 mode_for size.Absolute (Some index.Y) = AbsoluteY
 
--- the first of two forms that the instruction has
+-- the first of two modes that the instruction has
 abbrev pub first_of : Mnemonic → Mode → Mode → Option Mode
 first_of m a b = go (opcode_of m a) (opcode_of m b)
   where
@@ -159,7 +159,7 @@ first_of m a b = go (opcode_of m a) (opcode_of m b)
     go None (Some y) = Some b
     go None None = None
 
--- the form of an address that a prefix forces, or that goes by the size of its expression
+-- the addressing mode of an address, by a prefix or by the size of its expression
 abbrev pub address_mode : Mnemonic → Option AddressSize → AddressSize → Option Index → Option Mode
 address_mode m (Some forced) own r = first_of m (mode_for forced r) (mode_for forced r)
 address_mode m None size.ZeroPage r = first_of m (mode_for size.ZeroPage r) (mode_for size.Absolute r)
@@ -172,12 +172,12 @@ is_branch m = go (opcode_of m Relative)
     go None = false
     go (Some x) = true
 
--- a branch takes a target alone, without a prefix
+-- a branch takes only a target, without a prefix
 abbrev pub branch_mode : Option AddressSize → Option Index → Option Mode
 branch_mode None None = Some Relative
 branch_mode forced r = None
 
--- the addressing form of an operand, if the instruction has it
+-- the addressing mode of an operand, if the instruction has it
 abbrev pub mode_of : Symbols → Context → AddressSize → Mnemonic → Operand → Option Mode
 mode_of y s own m operands.Absent = first_of m Implied Accumulator
 mode_of y s own m operands.Accumulator = first_of m Accumulator Accumulator
@@ -187,7 +187,7 @@ mode_of y s own m (operands.Indirect e) = first_of m Indirect Indirect
 mode_of y s own m (operands.IndirectX e) = first_of m IndirectX IndirectX
 mode_of y s own m (operands.IndirectY e) = first_of m IndirectY IndirectY
 
--- how the operand of a form is stored
+-- the width of the operand in a mode
 abbrev pub width_of : Mode → Option Width
 width_of Implied = None
 width_of Accumulator = None
@@ -221,17 +221,17 @@ abbrev pub optional_value : Symbols → Context → Option Tree → ℤ → Opti
 optional_value y s None default = Some default
 optional_value y s (Some e) default = constant_in y s e
 
--- how far the end of the section moves up to a multiple
+-- the number of bytes up to the next multiple
 abbrev pub gap : ℕ → Option ℤ → ℕ
 gap offset (Some (pos (suc n))) = next_multiple_of offset (suc n) - offset
 gap offset _ = 0
 
--- the bytes of a file from a start on, so many or all that follow
+-- the bytes of a file from a start on: the given number, or all that follow
 abbrev pub bytes_between : List ℕ → ℕ → Option ℤ → List ℕ
 bytes_between bytes start None = []
 bytes_between bytes start (Some len) = take (byte_count (Some len)) (drop start bytes)
 
--- the byte of a file at which the part that is taken begins, and how long the part is
+-- the offset in the file at which a part begins, and its length
 abbrev pub part_start : Symbols → Context → Option Tree → ℕ
 part_start y s start = byte_count (optional_value y s start (pos 0))
 
@@ -240,7 +240,7 @@ part_len y s None start len = 0
 part_len y s (Some bytes) start len =
     length (bytes_between bytes (part_start y s start) (optional_value y s len (pos (length bytes - part_start y s start))))
 
--- How many bytes a statement places, by what is known at its line, where the segment has this size.
+-- The length of a statement in bytes, from what is known at its line and the size of the segment.
 abbrev pub length_of : Symbols → Context → AddressSize → Statement → ℕ
 length_of y s own (Instruction m operand) = mode_len (mode_of y s own m operand)
 length_of y s own (Values width items) = sum_by (item_len width) items
@@ -249,7 +249,7 @@ length_of y s own (Align n v) = gap s.offset (constant_in y s n)
 length_of y s own (Incbin bytes start len) = part_len y s bytes start len
 length_of y s own _ = 0
 
--- ---- What is settled.
+-- ---- Encoding decisions.
 
 abbrev pub mode_settled : Option Mode → EncodingChoice
 mode_settled None = Undecided
@@ -259,7 +259,7 @@ abbrev pub fill_settled : Symbols → Context → Option Tree → EncodingChoice
 fill_settled y s None = Undecided
 fill_settled y s (Some v) = FillByte (byte_count (constant_in y s v))
 
--- what is settled of a statement at its line, where the segment has this size
+-- the encoding decisions of a statement at its line, given the size of the segment
 abbrev pub settled_of : Symbols → Context → AddressSize → Statement → EncodingChoice
 settled_of y s own (Instruction m operand) = mode_settled (mode_of y s own m operand)
 settled_of y s own (Reserve n v) = fill_settled y s v

@@ -1,4 +1,4 @@
--- The object of contents: its sections, names and files by number, and whether it is sound.
+-- The object of contents: its sections, names and files by number, and its well-formedness.
 use Rattle.std.specs.Prelude.{ℕ, zero, ◌+◌, nat_eq, Bool, true, false, not, List, [], ◌∷◌, ◌++◌, map, filter_map, Option, Some, None, unwrap_or, slice_get, if◌then◌else◌, ◌≡◌, ◌≤◌, ◌<◌, nat_lt, length, sum_by, take, ⊤}
 use Rattle.std.specs.List.{position, list_any, flat_map, filter, list_all, AllByRecursion}
 use Rattle.std.specs.Str.{bytes_eq}
@@ -24,7 +24,7 @@ use Rattle.semantics65.specs.Norms.{length_of, settled_of}
 
 -- ---- Numbers.
 
--- keys behind those found, each once, in the order in which they first come
+-- appends keys that aren't there yet, in order of first occurrence
 abbrev pub distinct_keys : List ℕ → List ℕ → List ℕ
 distinct_keys found [] = found
 distinct_keys found (k ∷ ks) = distinct_keys (if list_any (nat_eq k) found then found else found ++ k ∷ []) ks
@@ -32,7 +32,7 @@ distinct_keys found (k ∷ ks) = distinct_keys (if list_any (nat_eq k) found the
 abbrev pub number_of : List ℕ → ℕ → ℕ
 number_of keys k = unwrap_or (position (nat_eq k) keys) 0
 
--- the form with the numbers of sections and imports
+-- the form with the numbers of sections and imports in the object
 abbrev pub renumbered_form : (sections imports : List ℕ) → Form → Form
 renumbered_form sections imports (lit v) = lit v
 renumbered_form sections imports (sec g a) = sec (number_of sections g) a
@@ -40,7 +40,7 @@ renumbered_form sections imports (imp k) = imp (number_of imports k)
 renumbered_form sections imports (prefix op f) = prefix op (renumbered_form sections imports f)
 renumbered_form sections imports (binary op f g) = binary op (renumbered_form sections imports f) (renumbered_form sections imports g)
 
--- ---- Sections, in the order of the first statement that asks for one.
+-- ---- Sections, in the order of the first request.
 
 abbrev pub segments_asked : List Content → List ℕ
 segments_asked cs = map (λ c. c.segment) (filter (λ c. c.asks) cs)
@@ -48,7 +48,7 @@ segments_asked cs = map (λ c. c.segment) (filter (λ c. c.asks) cs)
 abbrev pub section_keys : List Content → List ℕ
 section_keys cs = distinct_keys [] (segments_asked cs)
 
--- ---- Imports, in the order in which written forms first hold them.
+-- ---- Imports, in the order in which stored forms first use them.
 
 abbrev pub imports_in : Form → List ℕ
 imports_in (lit v) = []
@@ -70,7 +70,7 @@ optional_key (Some k) = k ∷ []
 abbrev pub key_of : List (List ℕ) → List ℕ → Option ℕ
 key_of names n = position (λ m. bytes_eq m n) names
 
--- names are those of all imports, in the order of their keys
+-- the keys of imports, in their order
 abbrev pub said_imports : List (List ℕ) → Declaration → List ℕ
 said_imports names (Exported n place f) = imports_in f
 said_imports names (ForcedImport n) = optional_key (key_of names n)
@@ -87,19 +87,19 @@ name_of names k = unwrap_or (slice_get names k) []
 
 -- ---- Fragments.
 
--- a part, where places have these origins
+-- the fragment of a part, given the origin of each location
 abbrev pub fragment_of : (at : SourceLocation → Origin) (sections imports : List ℕ) → Part → Fragment
 fragment_of at sections imports (Known bytes) = Literal bytes
 fragment_of at sections imports (Filled n) = Fill n
 fragment_of at sections imports (Waiting width place f) = Value width (at place) (renumbered_form sections imports f)
 
--- of no byte
+-- a fragment without bytes
 abbrev pub is_empty : Fragment → Bool
 is_empty (Literal []) = true
 is_empty (Fill zero) = true
 is_empty _ = false
 
--- a fragment and those behind it, of which neighbours of one kind are one
+-- a fragment and those after it, with neighbours of one kind merged
 abbrev pub merged_fragments : Fragment → List Fragment → List Fragment
 merged_fragments f [] = f ∷ []
 merged_fragments (Literal a) (Literal b ∷ fs) = merged_fragments (Literal (a ++ b)) fs
@@ -114,7 +114,7 @@ all_joined (f ∷ fs) = merged_fragments f fs
 abbrev pub fragments_of : (at : SourceLocation → Origin) (sections imports : List ℕ) → List Part → List Fragment
 fragments_of at sections imports ps = filter (λ f. not (is_empty f)) (map (fragment_of at sections imports) ps)
 
--- what statements put into a segment
+-- the parts of statements in a segment
 abbrev pub parts_in : List Content → ℕ → List Part
 parts_in cs g = flat_map (λ c. c.parts) (filter (λ c. nat_eq c.segment g) cs)
 
@@ -124,7 +124,7 @@ abbrev pub segment_name : Option Segment → List ℕ
 segment_name None = []
 segment_name (Some s) = s.name
 
--- the power of two to a multiple of which a segment is aligned
+-- the power of two to which a segment is aligned
 abbrev pub segment_power : Option Segment → ℕ
 segment_power None = 0
 segment_power (Some s) = number_of powers s.align
@@ -149,9 +149,9 @@ assert_of at sections imports _ = None
 abbrev pub all_said : List Content → List Declaration
 all_said cs = flat_map (λ c. c.said) cs
 
--- ---- Files, in the order in which what is written first names them.
+-- ---- Files, in the order in which the object first names them.
 
--- names behind those found, each once, in the order in which they first come
+-- appends names that aren't there yet, in order of first occurrence
 abbrev pub names_once : List (List ℕ) → List (List ℕ) → List (List ℕ)
 names_once found [] = found
 names_once found (n ∷ ns) = names_once (if list_any (bytes_eq n) found then found else found ++ n ∷ []) ns
@@ -169,7 +169,7 @@ abbrev pub assert_files : Declaration → List (List ℕ)
 assert_files (Asserted act place words f) = place.file ∷ []
 assert_files _ = []
 
--- those of the values of each section in its turn, then of exports, then of assertions
+-- the files of the values of each section in turn, then of exports, then of assertions
 abbrev pub files_named : List Content → List (List ℕ)
 files_named cs = flat_map (λ g. flat_map part_files (parts_in cs g)) (section_keys cs)
     ++ flat_map export_files (all_said cs) ++ flat_map assert_files (all_said cs)
@@ -177,13 +177,13 @@ files_named cs = flat_map (λ g. flat_map part_files (parts_in cs g)) (section_k
 abbrev pub files_of : List Content → List (List ℕ)
 files_of cs = names_once [] (files_named cs)
 
--- where a place lies, by its file's place among these
+-- the origin of a location: the index of its file among these, and the line
 abbrev pub in_files : List (List ℕ) → SourceLocation → Origin
 in_files files place = record { file = position (bytes_eq place.file) files; line = place.line }
 
 -- ---- The object.
 
--- of this version, with these files, where places have these origins
+-- the object of this version with these files, given the origin of each location
 abbrev pub object_by : ℕ → List (List ℕ) → (at : SourceLocation → Origin) → List Segment → List (List ℕ) → List Content → Object
 object_by version files at segments names cs =
     let sections : List ℕ = section_keys cs in
@@ -202,7 +202,7 @@ object_with segments names cs = object_by 2 (files_of cs) (in_files (files_of cs
 
 -- ---- Tokens and statements.
 
--- an identifier is a name that objects can hold
+-- a name of this kind that an object can hold
 abbrev pub IsNamed : TokenKind → List ℕ → Type 0
 IsNamed token.Identifier t = is_name t ≡ true
 IsNamed _ t = ⊤
@@ -210,7 +210,7 @@ IsNamed _ t = ⊤
 abbrev pub AreSymbolNames : List Lexeme → Type 0
 AreSymbolNames ts = AllByRecursion (λ t. IsNamed t.0 t.1) ts
 
--- what a statement hands to the object are names, and texts that are short enough
+-- the names of a statement fit an object, and its texts are short enough
 abbrev pub IsWellFormedStatement : Statement → Type 0
 IsWellFormedStatement (statement.Segment n own) = is_name n ≡ true
 IsWellFormedStatement (statement.Import own names) = list_all is_name names ≡ true
@@ -225,7 +225,7 @@ IsWellFormedStatement _ = ⊤
 abbrev pub statements_in : List LaidOutStatement → ℕ → List LaidOutStatement
 statements_in ls g = filter (λ l. nat_eq l.context.segment g) ls
 
--- a statement places as many bytes as is said behind those before it, and what is settled of it is what is said there
+-- the length and the encoding decisions of a statement are those of the layout rules
 pub record IsMeasured (y : Symbols) (l : LaidOutStatement) : Type 0 where
   pub length : l.length ≡ length_of y l.context l.size l.stated
   pub settled : l.settled ≡ settled_of y l.context l.size l.stated
@@ -239,7 +239,7 @@ pub record IsSoundLayout (y : Layout) : Type 0 where
 
 -- ---- Contents.
 
--- the segments whose sections a form holds
+-- the segments whose sections occur in a form
 abbrev pub sections_in : Form → List ℕ
 sections_in (lit v) = []
 sections_in (sec g a) = g ∷ []
@@ -247,13 +247,13 @@ sections_in (imp k) = []
 sections_in (prefix op f) = sections_in f
 sections_in (binary op f g) = sections_in f ++ sections_in g
 
--- a form that can be written, where these segments have sections and there are so many imports
+-- a form that can be stored, given the segments with a section and the number of imports
 pub record IsSoundForm (asked : List ℕ) (count : ℕ) (f : Form) : Type 0 where
   pub folded : IsFolded f
   pub sections : list_all (λ g. list_any (nat_eq g) asked) (sections_in f) ≡ true
   pub imports : list_all (λ k. nat_lt k count) (imports_in f) ≡ true
 
--- what is written with its place: an object can hold the name of the file and the form
+-- a located form that can be stored: an object can hold the name of its file and the form
 pub record IsSoundAt (asked : List ℕ) (count : ℕ) (place : SourceLocation) (f : Form) : Type 0 where
   pub file : is_file_name place.file ≡ true
   pub form : IsSoundForm asked count f
@@ -277,7 +277,7 @@ part_len (Known bytes) = length bytes
 part_len (Filled n) = n
 part_len (Waiting width place f) = width_len width
 
--- what the object of contents with these segments and imports rests on
+-- the conditions for the object of contents with these segments and imports
 pub record AreSound (segments : List Segment) (names : List (List ℕ)) (cs : List Content) : Type 0 where
   pub named : are_names (map (λ g. g.name) segments) ≡ true
   pub imported : are_names names ≡ true

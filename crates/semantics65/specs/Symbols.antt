@@ -1,4 +1,4 @@
--- The symbol table that laid statements make, and what names mean in it.
+-- The symbol table of laid-out statements, and name resolution.
 use Rattle.std.specs.Prelude.{ℕ, Bool, true, false, ◌||◌, List, [], ◌∷◌, ◌++◌, Option, Some, None, ◌==◌, ◌&&◌, if◌then◌else◌, zero, suc, slice_get, ◌+◌, ◌-◌, nat_le, take, Result, Ok, Err, codes}
 use Rattle.semantics65.specs.Types.{SourceLocation, AddressSize, EncodingChoice, Context, Statement, Label, CheapLabel, UnnamedLabel, Constant, Instruction, Values, Reserve, Align, Incbin, OpenProc, Assert, OpenScope, Import, Global, ForceImport, AsmFault, Undefined, NoSuchScope, NoSuchLabel}
 use Rattle.syntax65.specs.Trees.{Tree, here, unary, binary, name, cheap, forward, backward}
@@ -6,20 +6,20 @@ use Rattle.std.specs.List.{flat_map, list_any, position}
 use Rattle.std.specs.Str.{bytes_eq}
 use Rattle.syntax65.specs.declared.lexing.tokens.AddressSize.TheVariants as size
 
--- ---- What statements lie by: places, scopes, regions, segments, offsets.
+-- ---- The context of statements: locations, scopes, regions, segments, offsets.
 
--- a statement with what it lies by
+-- a statement with its layout
 pub record LaidOutStatement : Type 0 where
   pub stated : Statement
   pub place : SourceLocation
   pub context : Context
-  -- how many bytes it places in its section
+  -- the number of its bytes in the section
   pub length : ℕ
-  -- the address size of what it defines: that of a constant's expression at its line, or of the segment
+  -- the address size of the name it defines: that of a constant's expression at its line, or of the segment
   pub size : AddressSize
   pub settled : EncodingChoice
 
--- a name before a colon and that of a proc open a new region of cheap labels
+-- a name before a colon and that of a proc open a new region of cheap local labels
 abbrev pub opens_region : Statement → Bool
 opens_region (Label n) = true
 opens_region (OpenProc n) = true
@@ -31,14 +31,14 @@ is_unnamed _ = false
 
 -- ---- Which segments have a section.
 
--- the expression has a `*`
+-- whether the expression contains `*`
 abbrev pub has_here : Tree → Bool
 has_here here = true
 has_here (unary op e) = has_here e
 has_here (binary op e f) = has_here e || has_here f
 has_here _ = false
 
--- a statement that asks for a section of the segment in which it stands
+-- whether a statement requests a section of its segment
 abbrev pub needs_section : Statement → Bool
 needs_section (Label n) = true
 needs_section (CheapLabel n) = true
@@ -55,40 +55,40 @@ needs_section _ = false
 
 -- ---- The symbol table of statements: what they define, the scopes that they open, the names that they import.
 
--- by what a definition is found
+-- the key of a definition
 pub data Key : Type 0 where
   -- a name, directly in a scope
   named : (scope : ℕ) → List ℕ → Key
-  -- a cheap label, in a region
+  -- a cheap local label, in a region
   cheap_in : (region : ℕ) → List ℕ → Key
-  -- the unnamed label before which so many stand
+  -- an unnamed label, by the number of unnamed labels before it
   unnamed_at : ℕ → Key
 
 pub record Definition : Type 0 where
   pub key : Key
-  -- the expression of a constant; what has none is the address of where it stands
+  -- the expression of a constant; a definition without one is the address of its location
   pub value : Option Tree
   pub context : Context
   pub size : AddressSize
 
 pub record Scope : Type 0 where
-  -- the scope in which it was opened
+  -- the parent scope
   pub within : ℕ
   pub name : Option (List ℕ)
-  -- it was opened by `.proc`, else by `.scope`
+  -- whether `.proc` opened it, and not `.scope`
   pub is_proc : Bool
 
 pub record Symbols : Type 0 where
-  -- each definition, in the order of the source
+  -- all definitions, in source order
   pub definitions : List Definition
-  -- each scope but the global one, in the order in which they were opened: the one of number i + 1 is at i
+  -- all scopes but the global one, in the order in which they were opened: scope number i + 1 has index i
   pub scopes : List Scope
-  -- the names of the imports, in the order in which they were first named
+  -- the names of imports, in order of first occurrence
   pub imports : List (List ℕ)
-  -- those that were imported for the zero page, in the order in which they were
+  -- the names imported for the zero page, in the same order
   pub zero_page : List (List ℕ)
 
--- ---- What a statement adds.
+-- ---- The definitions of a statement.
 
 abbrev pub key_defined : Context → Statement → Option Key
 key_defined s (Label n) = Some (named s.scope n)
@@ -120,13 +120,13 @@ imports_of (Global own names) = names
 imports_of (ForceImport names) = names
 imports_of _ = []
 
--- the names that were imported for the zero page
+-- the names that a statement imports for the zero page
 abbrev pub zero_page_names : Statement → List (List ℕ)
 zero_page_names (Import size.ZeroPage names) = names
 zero_page_names (Global size.ZeroPage names) = names
 zero_page_names _ = []
 
--- names, each once, in the order in which they were first named
+-- adds names that aren't there yet, in order of first occurrence
 abbrev pub with_new : List (List ℕ) → List (List ℕ) → List (List ℕ)
 with_new known [] = known
 with_new known (n ∷ names) = with_new (if list_any (λ k. bytes_eq n k) known then known else known ++ n ∷ []) names
@@ -140,7 +140,7 @@ symbols_of ls = record {
   zero_page = with_new [] (flat_map (λ l. zero_page_names l.stated) ls);
 }
 
--- ---- What is found there.
+-- ---- Lookup.
 
 abbrev pub same_key : Key → Key → Bool
 same_key (named s n) (named t m) = s == t && bytes_eq n m
@@ -148,21 +148,21 @@ same_key (cheap_in r n) (cheap_in q m) = r == q && bytes_eq n m
 same_key (unnamed_at j) (unnamed_at k) = j == k
 same_key _ _ = false
 
--- the place of the first definition of a key
+-- the index of the first definition of a key
 abbrev pub definition_index : Symbols → Key → Option ℕ
 definition_index y k = position (λ d. same_key d.key k) y.definitions
 
--- the place of an import
+-- the index of an import
 abbrev pub import_index : Symbols → List ℕ → Option ℕ
 import_index y n = position (λ k. bytes_eq n k) y.imports
 
--- ---- What names mean by a symbol table.
+-- ---- The bindings of names.
 
--- what a name means
+-- the binding of a name
 pub data Binding : Type 0 where
-  -- the definition at this place
+  -- the definition at this index
   defined_at : ℕ → Binding
-  -- the import at this place
+  -- the import at this index
   imported_as : ℕ → Binding
 
 abbrev pub or_else : {A : Type 0} → Option A → Option A → Option A
@@ -179,23 +179,23 @@ abbrev pub parent_scope : Option Scope → ℕ
 parent_scope None = zero
 parent_scope (Some c) = c.within
 
--- the scope in which a scope was opened; the global one stands in no other
+-- the parent of a scope; the global scope has none
 abbrev pub enclosing : List Scope → ℕ → ℕ
 enclosing cs zero = zero
 enclosing cs (suc i) = parent_scope (slice_get cs i)
 
--- a scope and those around it, so many at most
+-- a scope and its ancestors, at most this many
 abbrev pub outward_from : List Scope → ℕ → ℕ → List ℕ
 outward_from cs n zero = zero ∷ []
 outward_from cs zero (suc i) = suc i ∷ []
 outward_from cs (suc n) (suc i) = suc i ∷ outward_from cs n (enclosing cs (suc i))
 
--- A scope and those around it, innermost first. A scope stands in scopes that were opened before it, so there are no more
--- of them than its own number.
+-- A scope and its ancestors, from the innermost on. The parent of a scope was opened before it, so their
+-- number is at most that of the scope.
 abbrev pub scopes_from : List Scope → ℕ → List ℕ
 scopes_from cs s = outward_from cs s s
 
--- what is found in the first of some scopes that has it
+-- the result in the first of some scopes that has one
 abbrev pub first_found : {A : Type 0} → (ℕ → Option A) → List ℕ → Option A
 first_found find [] = None
 first_found find (s ∷ ss) = or_else (find s) (first_found find ss)
@@ -204,11 +204,11 @@ abbrev pub one_based : Option ℕ → Option ℕ
 one_based None = None
 one_based (Some i) = Some (suc i)
 
--- the scope of a name that was opened directly in a scope
+-- the scope with this name that was opened directly in a scope
 abbrev pub scope_in : List Scope → ℕ → List ℕ → Option ℕ
 scope_in cs scope n = one_based (position (λ c. c.within == scope && is_named n c.name) cs)
 
--- the scope that the names lead to, one inside the other
+-- the scope of a path of names
 abbrev pub nested_scope : List Scope → List (List ℕ) → Option ℕ → Option ℕ
 nested_scope cs names None = None
 nested_scope cs [] (Some scope) = Some scope
@@ -216,7 +216,7 @@ nested_scope cs (n ∷ names) (Some scope) = nested_scope cs names (scope_in cs 
 
 -- ---- Names.
 
--- names joined by `::`, as they are shown
+-- names joined by `::`, as they are printed
 abbrev pub qualified_name : List (List ℕ) → List ℕ
 qualified_name [] = []
 qualified_name (n ∷ []) = n
@@ -231,18 +231,18 @@ or_fault e (Some i) other = Ok (defined_at i)
 or_fault e None (Some k) = Ok (imported_as k)
 or_fault e None None = Err e
 
--- a plain name: that of the innermost scope, from the use outward, which defines it; else an import
+-- the binding of a plain name: in the innermost scope around the use that defines it; otherwise an import
 abbrev pub plain_meaning : Symbols → ℕ → List ℕ → Result Binding AsmFault
 plain_meaning y scope n = or_fault (Undefined n) (first_found (λ s. definition_index y (named s n)) (scopes_from y.scopes scope)) (import_index y n)
 
--- a name behind `::`: that of the scope itself; imports stand in the global scope
+-- the binding of a name after `::`: in the scope itself; imports belong to the global scope
 abbrev pub member_meaning : Symbols → List ℕ → AsmFault → AsmFault → Option ℕ → Result Binding AsmFault
 member_meaning y n absent lost None = Err lost
 member_meaning y n absent lost (Some zero) = or_fault absent (definition_index y (named zero n)) (import_index y n)
 member_meaning y n absent lost (Some (suc i)) = or_fault absent (definition_index y (named (suc i) n)) None
 
--- The scope of a name with `::`, of these scopes, which were opened before the use. The first is searched from the
--- innermost scope outward, or in the global scope behind a leading `::`.
+-- The scope of a name with `::`, among the scopes opened before the use. The first part is searched from
+-- the innermost scope outward, or in the global scope after a leading `::`.
 abbrev pub scope_from : List Scope → ℕ → Bool → List (List ℕ) → Option ℕ
 scope_from cs scope true scopes = nested_scope cs scopes (Some zero)
 scope_from cs scope false [] = None
@@ -265,18 +265,18 @@ scoped_meaning y s global parts =
 
 -- ---- Labels.
 
--- a cheap label of the same region
+-- a cheap local label of the same region
 abbrev pub cheap_meaning : Symbols → ℕ → List ℕ → Result Binding AsmFault
 cheap_meaning y region n = or_fault (Undefined n) (definition_index y (cheap_in region n)) None
 
--- the unnamed label before which so many stand
+-- the unnamed label with this number
 abbrev pub unnamed_meaning : Symbols → ℕ → Result Binding AsmFault
 unnamed_meaning y k = or_fault NoSuchLabel (definition_index y (unnamed_at k)) None
 
 abbrev pub backward_meaning : Symbols → ℕ → ℕ → Result Binding AsmFault
 backward_meaning y k n = if nat_le n k then unnamed_meaning y (k - n) else Err NoSuchLabel
 
--- ---- What an operand means where it stands.
+-- ---- The binding of an operand.
 abbrev pub binding_of : Symbols → Context → Tree → Result Binding AsmFault
 binding_of y s (name false (n ∷ [])) = plain_meaning y s.scope n
 binding_of y s (name global parts) = scoped_meaning y s global parts

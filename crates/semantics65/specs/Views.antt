@@ -1,4 +1,4 @@
--- What the code says to other modules and to the linker, as the definitions have it: at the place of the statement.
+-- The contract view of declarations, with their locations.
 use Rattle.std.specs.Prelude.{ℕ, List}
 use Rattle.semantics65.specs.Types.{SourceLocation}
 use Rattle.semantics65.specs.declared.contents.Declaration.{Declaration}
@@ -12,7 +12,7 @@ place_in file line = record { file = file; line = line }
 abbrev pub place_at : LocationRef → SourceLocation
 place_at at = place_in at.file.now at.line
 
--- what is said, of a statement that stands here
+-- a declaration of a statement at this location
 abbrev pub said_at : SourceLocation → Declaration → parts.Declaration
 said_at place (said.Exported name form) = parts.Exported name place form
 said_at place (said.ForcedImport name) = parts.ForcedImport name

@@ -1,21 +1,21 @@
-//! What statements say to other modules and to the linker, and the segments that they lay. Where a statement stands is said
-//! beside what it says.
+//! Declarations of statements, and the segments of a module. The source location of a declaration
+//! is stored apart.
 
 use base65::ListVec;
 use object65::{Action, Norm};
 use syntax65::AddressSize;
 
-/// What a statement says to other modules and to the linker.
+/// An export, forced import or assertion that a statement passes to the linker.
 #[derive(Drop)]
 pub enum Declaration {
-    /// A name that the module defines for others.
+    /// A name that the module exports.
     Exported {
         name: ListVec<u8>,
         form: Norm,
     },
-    /// An import that is asked for though no form may hold it.
+    /// An import that is requested even if no form uses it.
     ForcedImport(ListVec<u8>),
-    /// What the linker has to check.
+    /// A condition that the linker checks.
     Asserted {
         action: Action,
         text: ListVec<u8>,
@@ -23,14 +23,14 @@ pub enum Declaration {
     },
 }
 
-/// A segment as far as it has been laid.
+/// A segment, as far as it is laid out.
 #[derive(Drop)]
 pub struct Segment {
     pub name: ListVec<u8>,
-    /// The address size of what lies in it.
+    /// The address size of its contents.
     pub size: AddressSize,
-    /// The end of its section.
+    /// The size of its section so far.
     pub end: u32,
-    /// The largest multiple to which the section was aligned.
+    /// The largest alignment of the section.
     pub align: u32,
 }

@@ -1,8 +1,8 @@
-//! What statements lie by.
+//! The context of a statement, and encoding decisions.
 
 use syntax65::Mode;
 
-/// A place in a source: a file, and the number of a line in it, 0 where none was read.
+/// A borrowed source location: a file and a line number, 0 before the first line.
 #[derive(Clone, Copy)]
 pub struct LocationRef<'a> {
     pub file: &'a str,
@@ -12,31 +12,32 @@ pub struct LocationRef<'a> {
 /// The number of the global scope.
 pub const GLOBAL_SCOPE: u32 = 0;
 
-/// Where a statement stands.
+/// The context of a statement in the source.
 #[derive(Clone, Copy)]
 pub struct Context {
-    /// The innermost open scope: 0 is the global one, the others have their numbers in the order in which they are opened.
+    /// The innermost open scope: 0 is the global one, the others are numbered in the order in which
+    /// they are opened.
     pub scope: u32,
-    /// How many scopes were opened before.
+    /// The number of scopes opened before.
     pub opened: u32,
-    /// How many regions of cheap labels were opened before.
+    /// The number of regions of cheap local labels opened before.
     pub region: u32,
-    /// How many unnamed labels stand before.
+    /// The number of unnamed labels before.
     pub unnamed: u32,
-    /// The segment, by its place among the segments in the order in which they were first named.
+    /// The segment, as an index into the segments in the order in which they were first named.
     pub segment: u32,
     /// The offset in the segment's section.
     pub offset: u32,
 }
 
-/// What is settled of a statement at its line, by what is known there.
+/// Encoding decisions made at the statement's line, from what is known there.
 #[derive(Clone, Copy)]
 pub enum EncodingChoice {
     Undecided,
     /// The addressing mode of an instruction.
     InMode(Mode),
-    /// The byte that fills room, where one is named.
+    /// The fill byte, if the statement names one.
     FillByte(u8),
-    /// The byte of a file at which the part that is taken begins.
+    /// The offset in the file at which `.incbin` begins.
     FileOffset(u32),
 }

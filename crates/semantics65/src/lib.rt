@@ -1,4 +1,5 @@
-//! What statements mean: how they are laid, what they put into an object, and what the statements of a module come to.
+//! The meaning of statements: their layout, their content in the object, and the object of a
+//! module.
 #![tactic(auto)]
 
 mod contents;

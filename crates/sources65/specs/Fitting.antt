@@ -1,4 +1,4 @@
--- That the numbers and texts of a source's object are those of their types.
+-- The numbers and texts of a source's object are within the limits of their types.
 use Rattle.std.specs.Prelude.{◌≡◌, ◌<◌, ◌^◌, List, Ok}
 use Rattle.std.specs.List.{AllByRecursion}
 use Rattle.base65.specs.Holding.{HoldBytes}
@@ -8,11 +8,12 @@ use Rattle.semantics65.specs.Module.{Outcome}
 use Rattle.sources65.specs.Reading.{IsOutcome, Define, Job}
 use Rattle.semantics65.specs.Types.{Object}
 
--- the values of the command line's constants are those of 32 bits
+-- the values of `-D` constants have 32 bits
 abbrev pub AreOfTypes : List Define → Type 0
 AreOfTypes defines = AllByRecursion (λ d. d.1 < 2 ^ 32) defines
 
--- so the numbers and texts of a source's object are those of their types, by the limits of lines, of repeats and of sections
+-- the numbers and texts of a source's object are within the limits of their types, by the limits of lines,
+-- repeats and sections
 abbrev pub FittingObjectLaw : Type 0
 FittingObjectLaw =
     (m : Files) (job : Job) (a : Outcome) (o : Object) → HoldBytes m → AreOfTypes job.defines →

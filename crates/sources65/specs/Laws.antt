@@ -1,4 +1,4 @@
--- That each expression has a form, and each source a layout and an answer, or a fault of its own.
+-- Each expression has a form, and each source a layout and an outcome, or an error that is no system error.
 use Rattle.std.specs.Prelude.{◌≡◌, Bool, false, IfSome}
 use Rattle.base65.specs.SystemErrors.{IsNoSystemError}
 use Rattle.base65.specs.Store.{Files}
@@ -11,22 +11,22 @@ use Rattle.semantics65.specs.Norms.{norm_of}
 use Rattle.semantics65.specs.Symbols.{Symbols}
 use Rattle.semantics65.specs.declared.laid.Context.{Context}
 
--- a fault comes from outside, wherever it is found
+-- whether a located error is a system error
 abbrev pub is_found_outside : LocatedFault → Bool
 is_found_outside e = is_system_error e.fault
 
--- An expression has a form by any symbol table, wherever it stands, or a first fault: also where names go round, and
--- where its form has too many nodes.
+-- By any symbol table an expression has a form, in any context, or a first error: also if names are
+-- circular or its form has too many nodes.
 abbrev pub FormExists : Type 0
 FormExists = (y : Symbols) (s : Context) (e : Tree) → IsNoSystemError is_system_error (norm_of y s e)
 
--- whatever the files are, a source is laid up to its last line or to the first fault of a line
+-- for all files, a source is laid out up to its last line or to the first error of a line
 abbrev pub LayoutExists : Type 0
 LayoutExists =
     (m : Files) (job : Job) →
     (r : ReachedState Layout) × AreLaidOut m job r × IfSome r.fault (λ e. is_found_outside e ≡ false)
 
--- and it comes to an object or a first fault
+-- and its outcome is an object or a first error
 abbrev pub AnswerExists : Type 0
 AnswerExists =
     (m : Files) (job : Job) →

@@ -1,4 +1,4 @@
--- The machine of one pass, and what holds of it and of what a source means.
+-- The one-pass machine, and laws about it and about the meaning of sources.
 use Rattle.std.specs.Prelude.{◌≡◌, ℕ, List, [], ◌∷◌, ◌++◌, Option, Some, None, Result, Ok, Err, if◌then◌else◌}
 use Rattle.base65.specs.Outcome.{◌>>=◌}
 use Rattle.base65.specs.Store.{Files}
@@ -14,9 +14,9 @@ use Rattle.semantics65.specs.Norms.{Extends, IsFinal}
 use Rattle.syntax65.specs.Trees.{Tree}
 use Rattle.object65.specs.Form.{Form}
 
--- ---- What stands between statements.
+-- ---- States between statements.
 
--- a symbol table with what one more statement adds
+-- a symbol table with the definitions of one more statement
 abbrev pub symbols_after : Symbols → LaidOutStatement → Symbols
 symbols_after y l = record {
   definitions = y.definitions ++ definitions_of l;
@@ -28,9 +28,9 @@ symbols_after y l = record {
 pub record State : Type 0 where
   pub symbols : Symbols
   pub cursor : Cursor
-  -- what was put into the sections and said to the linker, and what waits, in the order of the source
+  -- contents, declarations and deferred pieces, in source order
   pub slots : List Slot
-  -- what was printed, and the warnings
+  -- the text for standard output, and the warnings
   pub out : List ℕ
   pub err : List ℕ
 
@@ -51,27 +51,27 @@ with_fixup t w = record t { slots = t.slots ++ deferred w ∷ [] }
 abbrev pub with_content : State → Content → State
 with_content t c = record t { slots = t.slots ++ resolved c ∷ [] }
 
--- it asks for its section, where it does
+-- requests the section of a statement, if it needs one
 abbrev pub with_section_request : State → LaidOutStatement → State
 with_section_request t l = if needs_section l.stated then with_content t (section_request l.context.segment) else t
 
--- whatever statements follow, and whatever was exported before, the piece comes to this content, and to no warning
+-- whatever statements follow, and whatever was exported before, the piece has this content and no warning
 abbrev pub IsSettled : Symbols → SourceLocation → Context → Piece → Content → Type 0
 IsSettled y place s p c =
     (z : Symbols) (names : List (List ℕ)) → Extends y z →
     slot_result z names (deferred (record { place = place; context = s; piece = p })) ≡ Ok (quietly c)
 
--- a piece is entered at its line where it is settled there, or it waits
+-- a piece is emitted at its line, if it is resolved there, or it is deferred
 pub data PieceStep (place : SourceLocation) (s : Context) (t : State) (p : Piece) : State → Type 0 where
   at_once : (c : Content) → IsSettled t.symbols place s p c → PieceStep place s t p (with_content t c)
   later : PieceStep place s t p (with_fixup t (record { place = place; context = s; piece = p }))
 
--- one behind the other
+-- the pieces in order
 abbrev pub PieceSteps : SourceLocation → Context → State → List Piece → State → Type 0
 PieceSteps place s t [] u = u ≡ t
 PieceSteps place s t (p ∷ ps) u = (v : State) × PieceStep place s t p v × PieceSteps place s v ps u
 
--- then its names are known, and what it prints is said
+-- then its names are defined, and its output is printed
 abbrev pub with_symbols : State → LaidOutStatement → State
 with_symbols t l = record t {
   symbols = symbols_after t.symbols l;
@@ -90,7 +90,7 @@ abbrev pub UnlessFault :
 UnlessFault None Next r = Next r
 UnlessFault (Some e) Next r = r ≡ Err e
 
--- a statement's first fault at its line, or what stands behind it
+-- the first error of a statement at its line, or the next state
 abbrev pub StepsTo : State → SourceLocation → Statement → Result State AsmFault → Type 0
 StepsTo t place x r =
     UnlessFault (line_fault t.symbols t.cursor x) (StepsWithoutError t (laid_out_statement t.symbols t.cursor place x)) r
@@ -106,13 +106,13 @@ machine_semantics = record {
 abbrev pub RunsStatements : Files → Job → ReachedState State → Type 0
 RunsStatements m job r = IsSource m machine_semantics job initial_state r
 
--- ---- Behind the last line.
+-- ---- After the last line.
 
--- what a state comes to behind the last line
+-- the resolution of a state after the last line
 abbrev pub resolution_of_state : State → Resolution
 resolution_of_state t = resolution_of t.symbols [] t.slots
 
--- what is answered behind the last line, or at a line's fault
+-- the outcome after the last line, or at the error of a line
 abbrev pub outcome_of_state : State → Option LocatedFault → Outcome
 outcome_of_state t None =
     let object : List Content → Object = object_with t.cursor.segments t.symbols.imports in
@@ -123,38 +123,37 @@ outcome_of_state t None =
     }
 outcome_of_state t (Some e) = record { result = Err e; out = t.out; err = t.err }
 
--- ---- What holds of a source's layout, its answer and the one pass.
+-- ---- Laws about a source's layout and outcome, and the one pass.
 
--- a source is laid in one way at most
+-- a source has at most one layout
 abbrev pub LayoutIsUnique : Type 0
 LayoutIsUnique =
     (m : Files) (job : Job) (a b : ReachedState Layout) →
     AreLaidOut m job a → AreLaidOut m job b → a ≡ b
 
--- a source comes to one answer at most: one object or one fault with its place, and one text on each
--- stream
+-- a source has at most one outcome: an object or an error with its location, and one text for each stream
 abbrev pub AnswerIsUnique : Type 0
 AnswerIsUnique =
     (m : Files) (job : Job) (a b : Outcome) →
     IsOutcome m job a → IsOutcome m job b → a ≡ b
 
--- what a source lays is sound
+-- the layout of a source is well-formed
 abbrev pub SoundLayoutLaw : Type 0
 SoundLayoutLaw =
     (m : Files) (job : Job) (r : ReachedState Layout) →
     AreLaidOut m job r → IsSoundLayout r.following
 
--- what the object of a sound layout's contents rests on holds
+-- the conditions for the object of a well-formed layout hold
 abbrev pub SoundContents : Type 0
 SoundContents =
     (y : Layout) (cs : List Content) →
     IsSoundLayout y → (module_resolution y.laid).found ≡ Ok cs →
     AreSound y.cursor.segments (symbols_of y.laid).imports cs
 
--- ---- The machine of one pass.
+-- ---- The one-pass machine.
 
--- A state stands for laid statements: it has their symbol table, what stands behind them and what
--- they print; and what waits comes to what their pieces come to.
+-- Representation relation: the state t has the symbol table, cursor and output of the layout y, and its
+-- slots have the same resolution as the pieces of y.
 pub record SimulatesLayout (y : Layout) (t : State) : Type 0 where
   pub symbols : t.symbols ≡ symbols_of y.laid
   pub cursor : t.cursor ≡ y.cursor
@@ -162,27 +161,26 @@ pub record SimulatesLayout (y : Layout) (t : State) : Type 0 where
   pub err : t.err ≡ warning_text y.laid
   pub ending : resolution_of_state t ≡ module_resolution y.laid
 
--- what the machine reaches stands for what is laid, with the same fault of a line
+-- the states that the machine reaches represent the layouts, with the same error of a line
 abbrev pub MachineSimulatesLayout : Type 0
 MachineSimulatesLayout =
     (m : Files) (job : Job) (r : ReachedState State) → RunsStatements m job r →
     (y : Layout) × AreLaidOut m job (record { following = y; fault = r.fault })
     × SimulatesLayout y r.following
 
--- a value whose form is final is settled with what that form comes to, where it has no fault and no
--- warning
+-- a value whose form is final has the result of that form at its line, if that has no error and no warning
 abbrev pub FinalSettles : Type 0
 FinalSettles =
     (y : Symbols) (place : SourceLocation) (s : Context) (why : Purpose) (e : Tree) (f : Form) (c : Content) →
     IsFinal y s e f → value_result place s why f ≡ Ok (quietly c) → IsSettled y place s (valued why e) c
 
--- one pass over the lines, and then over what waits, assembles them
+-- one pass over the lines, and then one over the deferred pieces, assembles a source
 abbrev pub OnePassSuffices : Type 0
 OnePassSuffices =
     (m : Files) (job : Job) (r : ReachedState State) → RunsStatements m job r →
     IsOutcome m job (outcome_of_state r.following r.fault)
 
--- whatever is laid can be reached: no line stops the machine but by its fault
+-- the machine reaches each layout: no line stops it except by its error
 abbrev pub LayoutIsReachable : Type 0
 LayoutIsReachable =
     (m : Files) (job : Job) (r : ReachedState Layout) → AreLaidOut m job r →

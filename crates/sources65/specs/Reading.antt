@@ -1,4 +1,4 @@
--- How the statements of a source are taken, one after the other, and laid, and its outcome.
+-- The statements of a source in order, their layout, and the outcome.
 use Rattle.std.specs.Prelude.{Result, Ok, Err, ◌≡◌, ℕ, List, [], ◌∷◌, Option, Some, None, if◌then◌else◌, Bool, true, false}
 use Rattle.semantics65.specs.Types.{SourceLocation, AsmFault, BadScope, Expansion, Statement, Constant, Incbin, IncbinPath}
 use Rattle.base65.specs.Outcome.{AndThen, Unless}
@@ -17,14 +17,14 @@ use Rattle.semantics65.specs.Symbols.{Binding, defined_at, binding_of, Symbols, 
 use Rattle.semantics65.specs.Module.{Outcome, LocatedFault, outcome_of}
 use Rattle.semantics65.specs.Norms.{constant_in}
 
--- ---- How the statements of a source are taken one behind the other, over what stands between them.
+-- ---- The statements of a source in order, over any kind of state.
 
--- what a statement at a place comes to behind others: what stands behind it, or its first fault
+-- the step relation of a statement: state, location, statement, and next state or first error
 abbrev pub StepRelation : Type 0 → Type 1
 StepRelation S = S → SourceLocation → Statement → Result S AsmFault → Type 0
 
--- What stands between statements: what it makes of the next one, what names and expressions mean
--- there, and which scope is the innermost open one.
+-- The semantics of statements over states S: the step relation, the environment of conditions, and the
+-- innermost open scope.
 pub record StatementSemantics (S : Type 0) : Type 1 where
   pub takes : StepRelation S
   pub meaning : S → expand.EnvironmentView
@@ -38,11 +38,11 @@ abbrev pub IsLabelled :
 IsLabelled Takes y place None r = r ≡ Ok y
 IsLabelled Takes y place (Some x) r = Takes y place x r
 
--- the bytes of the file of a name, in the folder of the file in which a statement stands
+-- the bytes of a file, relative to the folder of the file that contains the statement
 abbrev pub bytes_for : Files → SourceLocation → List ℕ → Option (List ℕ)
 bytes_for m place n = file_named m (beside place.file n)
 
--- a statement with the bytes that it takes from a file
+-- a statement with the bytes that it reads from a file
 abbrev pub with_bytes : Files → SourceLocation → Statement → Statement
 with_bytes m place (IncbinPath n start len) = Incbin (bytes_for m place n) start len
 with_bytes m place x = x
@@ -55,14 +55,14 @@ IsRest m Takes y place (t ∷ ts) r =
     (x : Result Statement AsmFault) × IsStatement (t ∷ ts) x
     × AndThen x (λ s. Takes y place (with_bytes m place s)) r
 
--- a label's tokens
+-- the tokens of a label
 abbrev pub IsLabel :
     {S : Type 0} → Files → StepRelation S → S → SourceLocation → List Lexeme → Result S AsmFault → Type 0
 IsLabel m Takes y place ts r =
     (q : Result _ AsmFault) × IsLabelled Takes y place (label_of ts).0 q
     × AndThen q (λ z. IsRest m Takes z place (label_of ts).1) r
 
--- a statement that expansion gives: a label, or what begins with none
+-- an expanded statement: a label, or a statement without one
 abbrev pub AssemblesExpanded :
     {S : Type 0} → Files → StepRelation S → S → SourceLocation → expand.ExpandedStatement → Result S AsmFault → Type 0
 AssemblesExpanded m Takes y place (expand.label ts) r = IsLabel m Takes y place ts r
@@ -70,7 +70,7 @@ AssemblesExpanded m Takes y place (expand.plain ts) r = IsRest m Takes y place t
 
 -- ---- All statements.
 
--- what stands behind the statements up to the first fault of a line, and that fault, if any
+-- the state after the statements up to the first error of a line, and that error, if any
 pub record ReachedState (S : Type 0) : Type 0 where
   pub following : S
   pub fault : Option LocatedFault
@@ -78,13 +78,13 @@ pub record ReachedState (S : Type 0) : Type 0 where
 abbrev pub stopped_at : {S : Type 0} → S → SourceLocation → AsmFault → ReachedState S
 stopped_at y place e = record { following = y; fault = Some (record { place = place; fault = e }) }
 
--- a scope that is open behind the last line
+-- the error of a scope that is open after the last line
 abbrev pub open_fault : SourceLocation → ℕ → Option LocatedFault
 open_fault last scope =
     if is_open scope then Some (record { place = last; fault = BadScope }) else None
 
--- From what is left of a source and what stands before it: expansion gives one statement after the
--- other, by what names and expressions mean there, and each is taken.
+-- From a state of expansion and a state S: expansion yields one statement after the other, in the
+-- environment of the state before it, and each is assembled.
 pub data AreTaken {S : Type 0} (m : Files) (b : StatementSemantics S) : expand.State → S → ReachedState S → Type 0 where
   taken :
       (s t : expand.State) (x : expand.ExpandedStatement) (y z : S) (r : ReachedState S) →
@@ -104,11 +104,11 @@ pub data AreTaken {S : Type 0} (m : Files) (b : StatementSemantics S) : expand.S
 
 -- ---- A source.
 
--- a name of the command line, and its value
+-- the name of a `-D` constant, and its value
 abbrev pub Define : Type 0
 Define = List ℕ × ℕ
 
--- constants of the global scope stand before the first line
+-- `-D` constants are defined in the global scope before the first line
 abbrev pub AreDefined :
     {S : Type 0} → StepRelation S → S → SourceLocation → List Define → Result S AsmFault → Type 0
 AreDefined Takes y place [] r = r ≡ Ok y
@@ -116,7 +116,7 @@ AreDefined Takes y place (d ∷ ds) r =
     (q : Result _ AsmFault) × Takes y place (Constant d.0 (number d.1)) q
     × AndThen q (λ z. AreDefined Takes z place ds) r
 
--- what is assembled: a file, the folders of its includes, and the command line's constants
+-- the input of the assembler: a file, the folders of its includes, and the `-D` constants
 pub record Job : Type 0 where
   pub source : List ℕ
   pub include : List (List ℕ)
@@ -125,7 +125,7 @@ pub record Job : Type 0 where
 abbrev pub no_line : List ℕ → SourceLocation
 no_line file = record { file = file; line = 0 }
 
--- the statements of an opened source, behind the constants, or a constant's fault
+-- the statements of an opened source after the `-D` constants, or the error of a constant
 abbrev pub AssemblesAfterDefines : {S : Type 0} → Files → StatementSemantics S → expand.State → SourceLocation → S →
     Result S AsmFault → ReachedState S → Type 0
 AssemblesAfterDefines m b s place y (Ok z) r = AreTaken m b s z r
@@ -138,47 +138,47 @@ IsBegun m b job y (Ok s) r =
     (q : Result _ AsmFault) × AreDefined b.takes y (no_line job.source) job.defines q
     × AssemblesAfterDefines m b s (no_line job.source) y q r
 
--- what a source comes to behind what stands first
+-- the state that a source reaches from an initial one
 abbrev pub IsSource : {S : Type 0} → Files → StatementSemantics S → Job → S → ReachedState S → Type 0
 IsSource m b job y r = IsBegun m b job y (opened_in m job.source job.include) r
 
--- ---- What a call that takes statements answers.
+-- ---- Results of calls that assemble statements.
 
--- it holds what such an answer says, or refuses as one does, unless it was refused from outside
+-- represents the state after a success, or has the error, unless a system error occurred
 abbrev pub RepresentsOrFails :
     {S X : Type 0} → (Result S AsmFault → Type 0) → (S → Type 0) → Result X AsmFault → Type 0
 RepresentsOrFails IsAnswer Holds (Ok x) = (z : _) × IsAnswer (Ok z) × Holds z
 RepresentsOrFails IsAnswer Holds (Err e) = Unless (is_system_error e) (IsAnswer (Err e))
 
--- ---- From the middle of a source: what is left decides.
+-- ---- From the middle of a source: the rest decides.
 
--- what the statements from a state of expansion on come to behind what stands there, all come to
+-- the statements from a state of expansion on lead to the final state of all
 abbrev pub GoesOn :
     {S : Type 0} → Files → StatementSemantics S → (ReachedState S → Type 0) → expand.State → S → Type 0
 GoesOn m b IsAll s y = (r : ReachedState _) → AreTaken m b s y r → IsAll r
 
--- what an expander still gives comes, behind what stands there, to what all come to
+-- the remaining statements of an expander lead to the final state of all
 abbrev pub ContinuesTo :
     {S : Type 0} → Files → StatementSemantics S → (ReachedState S → Type 0) → Expander → S → Type 0
 ContinuesTo m b IsAll e y = (s : expand.State) × RepresentsState m e s × GoesOn m b IsAll s y
 
--- ---- What names and expressions mean at a line.
+-- ---- The environment at a line.
 
--- an import is no definition, nor is a name in a scope that isn't there
+-- an import is no definition, and neither is a name in a missing scope
 abbrev pub is_definition : Result Binding AsmFault → Bool
 is_definition (Ok (defined_at i)) = true
 is_definition _ = false
 
--- by the statements before it
+-- the environment by the statements before
 abbrev pub known_at : Symbols → Cursor → expand.EnvironmentView
 known_at y w = record {
   value = constant_in y (context_of w);
   defined = λ global parts. is_definition (binding_of y (context_of w) (name global parts));
 }
 
--- ---- From the statements of a source to laid ones, or the first fault that is found at a line.
+-- ---- From the statements of a source to its layout, or the first error of a line.
 
--- a statement behind those before it, or its first fault there
+-- the layout with one more statement, or its first error
 abbrev pub with_statement : Layout → SourceLocation → Statement → Result Layout AsmFault
 with_statement y place x =
     unless_fault (line_fault (symbols_of y.laid) y.cursor x) (layout_after y place x)
@@ -193,10 +193,10 @@ layout_semantics = record {
   scope = λ y. y.cursor.scope;
 }
 
--- the statements of a source up to the first fault of a line, and that fault, if any
+-- the statements of a source up to the first error of a line, and that error, if any
 abbrev pub AreLaidOut : Files → Job → ReachedState Layout → Type 0
 AreLaidOut m job r = IsSource m layout_semantics job nothing_laid r
 
--- what a source comes to
+-- the outcome of a source
 abbrev pub IsOutcome : Files → Job → Outcome → Type 0
 IsOutcome m job a = (r : ReachedState Layout) × AreLaidOut m job r × (a ≡ outcome_of r.following r.fault)

@@ -1,66 +1,67 @@
-//! What holds of the definitions, each as the contract of a function that does nothing.
+//! Laws about the definitions. Each law is the contract of a function that does nothing.
 
 ghost use Rattle.sources65.specs.Fitting.{FittingObjectLaw};
 ghost use Rattle.sources65.specs.Laws.{AnswerExists, FormExists, LayoutExists};
 ghost use Rattle.sources65.specs.Machine.{FinalSettles, LayoutIsReachable, AnswerIsUnique, LayoutIsUnique, OnePassSuffices, MachineSimulatesLayout, SoundContents, SoundLayoutLaw};
 
-/// A source is laid in one way at most.
+/// A source has at most one layout.
 pub fn layout_is_unique()
     ensures { LayoutIsUnique }
 {}
 
-/// A source comes to one answer at most.
+/// Assembly is deterministic: a source has at most one outcome.
 pub fn answer_is_unique()
     ensures { AnswerIsUnique }
 {}
 
-/// An expression has a form by any symbol table, or a first fault, which is never one from outside.
+/// By any symbol table an expression has a form or a first error, which is never a system error.
 pub fn form_exists()
     ensures { FormExists }
 {}
 
-/// Whatever the files are, a source is laid up to its last line, or to a first fault of a line, which is never one from
-/// outside.
+/// For all files, a source is laid out up to its last line or to the first error of a line, which
+/// is never a system error.
 pub fn layout_exists()
     ensures { LayoutExists }
 {}
 
-/// Whatever the files are, a source comes to an answer; its fault is never one from outside.
+/// Assembly is total: for all files a source has an outcome, whose error is never a system error.
 pub fn answer_exists()
     ensures { AnswerExists }
 {}
 
-/// What a source lays is sound: names are names, and each section has room.
+/// The layout of a source is well-formed: names are valid, and each section is within its size
+/// limit.
 pub fn sound_layout()
     ensures { SoundLayoutLaw }
 {}
 
-/// The contents of a sound layout are sound.
+/// The contents of a well-formed layout are well-formed.
 pub fn sound_contents()
     ensures { SoundContents }
 {}
 
-/// What the machine of one pass reaches stands for what is laid.
+/// Each state that the one-pass machine reaches represents the layout.
 pub fn machine_simulates_layout()
     ensures { MachineSimulatesLayout }
 {}
 
-/// A value whose form is final is settled at its line.
+/// A value whose form is final is resolved at its line.
 pub fn final_settles()
     ensures { FinalSettles }
 {}
 
-/// One pass over the statements, and then over what waits, assembles them.
+/// One pass over the statements, and then one over the deferred pieces, assembles a source.
 pub fn one_pass_suffices()
     ensures { OnePassSuffices }
 {}
 
-/// Whatever is laid can be reached in one pass.
+/// The one-pass machine reaches each layout.
 pub fn layout_is_reachable()
     ensures { LayoutIsReachable }
 {}
 
-/// The numbers and texts of a source's object are those of their types.
+/// The numbers and texts of a source's object are within the limits of their types.
 pub fn fitting_object()
     ensures { FittingObjectLaw }
 {}

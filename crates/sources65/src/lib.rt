@@ -1,5 +1,6 @@
-//! What a source means: how its statements are read one after the other, the machine that finds its outcome in one pass, and the laws that
-//! hold of both. It is apart from semantics65, since what symbol tables are proved of needs no expansion.
+//! The meaning of sources: their statements in order, the one-pass machine that computes the
+//! outcome, and the laws about both. A crate of its own, since the proofs about symbol tables need
+//! no preprocessor.
 #![tactic(auto)]
 
 pub mod laws;

@@ -1,4 +1,4 @@
--- The phrases of the expression grammar, by places in a list of tokens.
+-- The grammar of expressions, over indices in a list of tokens.
 use Rattle.std.specs.Prelude.{ℕ, ◌-◌, ◌==◌, ◌&&◌, ◌||◌, Bool, List, length, codes, slice_index, nat_lt, Option, Some, None, is_some, if◌then◌else◌, ◌≡◌, ◌≢◌, ◌+◌, ◌<◌, true, false, [], ◌∷◌, slice_get, option_and_then, Result, Ok, Err, ⊤}
 use Rattle.std.specs.Option.{option_map_or}
 use Rattle.std.specs.Str.{str_eq_ignore_ascii_case}
@@ -19,7 +19,7 @@ use Rattle.base65.specs.declared.values.Op1.TheVariants.{Not}
 use Rattle.syntax65.specs.declared.expressions.words.ExprFault.{ExprFault}
 use Rattle.syntax65.specs.declared.expressions.words.ExprFault.TheVariants.{OperandExpected, ParenthesisExpected, TooDeep}
 
--- ---- What a token means within an expression.
+-- ---- The meaning of a token within an expression.
 
 abbrev pub is_register : List ℕ → Bool
 is_register text =
@@ -29,7 +29,7 @@ is_register text =
 abbrev pub is_reserved : List ℕ → Bool
 is_reserved text = is_register text || is_some (mnemonic_of text)
 
--- one `+` or `-` is the first label
+-- a single `+` or `-` refers to the first label
 abbrev pub unnamed_start : List ℕ → OperandStart
 unnamed_start text = if nat_lt 0 (length text - 1) && (slice_index text 1 == 43) then Forward (length text - 1) else Backward (length text - 1)
 
@@ -97,13 +97,13 @@ binary_of_word text =
     else (if str_eq_ignore_ascii_case text (codes ".xor") then Some Xor
     else (if str_eq_ignore_ascii_case text (codes ".or") then Some Or else None))))))))
 
--- the operator for two operands that a token is
+-- the binary operator that a token is
 abbrev pub binary_of : TokenKind → List ℕ → Option Op2
 binary_of token.Directive text = binary_of_word text
 binary_of (token.Symbol m) text = binary_of_mark m
 binary_of _ text = None
 
--- the tightest first; prefix operators have level 0
+-- the tightest binary operators have level 1; prefix operators have level 0
 abbrev pub level_of : Op2 → ℕ
 level_of Multiply = 1
 level_of Divide = 1
@@ -125,13 +125,13 @@ level_of And = 4
 level_of Xor = 4
 level_of Or = 5
 
--- ---- The phrases of the expression grammar, by places in a list of tokens.
+-- ---- The phrases of the expression grammar, over indices in a list of tokens.
 
--- how the token at a place can begin an operand
+-- how the token at an index can begin an operand
 abbrev pub opening_at : List Lexeme → ℕ → OperandStart
 opening_at ts i = option_map_or (λ t. opening_of t.0 t.1) (slice_get ts i) Nothing
 
--- the operator for two operands at a place
+-- the binary operator at an index
 abbrev pub binary_at : List Lexeme → ℕ → Option Op2
 binary_at ts i = option_and_then (λ t. binary_of t.0 t.1) (slice_get ts i)
 
@@ -142,11 +142,11 @@ abbrev pub is_close : TokenKind → Bool
 is_close (token.Symbol mark.CloseParenthesis) = true
 is_close _ = false
 
--- whether a `)` stands at a place
+-- whether the token at an index is `)`
 abbrev pub closes_at : List Lexeme → ℕ → Bool
 closes_at ts i = option_map_or (λ t. is_close t.0) (slice_get ts i) false
 
--- the operand of one token
+-- the operand that consists of one token
 abbrev pub leaf_of : OperandStart → List ℕ → Option Tree
 leaf_of (Number v) text = Some (number v)
 leaf_of Here text = Some here
@@ -155,7 +155,7 @@ leaf_of (Forward n) text = Some (forward n)
 leaf_of (Backward n) text = Some (backward n)
 leaf_of _ text = None
 
--- names with `::` between them, as far as these go on
+-- names joined by `::`, as many as there are
 pub data HasParts (ts : List Lexeme) : (i j : ℕ) → List (List ℕ) → Type 0 where
   last_part : (i : ℕ) → opening_at ts i ≡ Name → opening_at ts (i + 1) ≢ Scope → HasParts ts i (i + 1) (text_at ts i ∷ [])
   next_part : (i j : ℕ) (parts : List (List ℕ)) → opening_at ts i ≡ Name → opening_at ts (i + 1) ≡ Scope → HasParts ts (i + 2) j parts → HasParts ts i j (text_at ts i ∷ parts)
@@ -165,8 +165,8 @@ pub data LacksPart (ts : List Lexeme) : (i k : ℕ) → Type 0 where
   no_part : (i : ℕ) → opening_at ts i ≢ Name → LacksPart ts i i
   after_part : (i k : ℕ) → opening_at ts i ≡ Name → opening_at ts (i + 1) ≡ Scope → LacksPart ts (i + 2) k → LacksPart ts i k
 
--- The tokens from i up to j are a phrase of level n, with room for so many levels inside. Level 0 has the
--- prefix operators, 1 to 5 the operators for two operands, and 6 the negation.
+-- The tokens from i up to j are a phrase of level n, nested at most this deep. Level 0 has the prefix
+-- operators, levels 1 to 5 the binary operators, and level 6 the negation.
 pub data Phrase (ts : List Lexeme) : (room n i j : ℕ) → Tree → Type 0 where
   a_leaf : (room i : ℕ) (t : Tree) → leaf_of (opening_at ts i) (text_at ts i) ≡ Some t → Phrase ts room 0 i (i + 1) t
   a_name : (room i j : ℕ) (parts : List (List ℕ)) → HasParts ts i j parts → Phrase ts room 0 i j (name false parts)
@@ -177,7 +177,7 @@ pub data Phrase (ts : List Lexeme) : (room n i j : ℕ) → Tree → Type 0 wher
   joined : (room n i j k : ℕ) (op : Op2) (t u : Tree) → Phrase ts room (n + 1) i j t → binary_at ts j ≡ Some op → level_of op ≡ n + 1 → Phrase ts room n (j + 1) k u → Phrase ts room (n + 1) i k (binary op t u)
   negated : (room i j : ℕ) (t : Tree) → opening_at ts i ≡ Negation → Phrase ts room 6 (i + 1) j t → Phrase ts (room + 1) 6 i j (unary Not t)
 
--- no operator of level n or of a tighter one stands at j
+-- the token at j is no operator of level n or a tighter one
 abbrev pub NoOperator : List Lexeme → ℕ → ℕ → Type 0
 NoOperator ts n j = (op : Op2) → binary_at ts j ≡ Some op → n < level_of op
 
@@ -191,7 +191,7 @@ OpensLevel (Prefix op) = ⊤
 OpensLevel Parenthesis = ⊤
 OpensLevel _ = ⊥
 
--- a phrase of level n that begins at i can't go on at k
+-- a phrase of level n that begins at i has its first error at k
 pub data PhraseFailsAt (ts : List Lexeme) : (room n i k : ℕ) → ExprFault → Type 0 where
   no_operand : (room i : ℕ) → (BeginsOperand (opening_at ts i) → ⊥) → PhraseFailsAt ts room 0 i i OperandExpected
   no_name : (room i k : ℕ) → opening_at ts i ≡ Name → LacksPart ts i k → PhraseFailsAt ts room 0 i k OperandExpected
@@ -210,16 +210,16 @@ pub record IsPhrase (ts : List Lexeme) (room n i j : ℕ) (t : Tree) : Type 0 wh
   pub phrase : Phrase ts room n i j t
   pub ends : NoOperator ts n j
 
--- what the tokens from i on are read as: a phrase of level n that no operator follows, or the first fault
+-- the result for the tokens from i on: a phrase of level n that no operator follows, or the first error
 abbrev pub IsLevel : List Lexeme → (room n i : ℕ) → Result (Tree × ℕ) ExprFault → Type 0
 IsLevel ts room n i (Ok x) = IsPhrase ts room n i x.1 x.0
 IsLevel ts room n i (Err f) = (k : ℕ) × PhraseFailsAt ts room n i k f
 
--- what the tokens at the front are read as: an expression and how many tokens it has, or their first fault
+-- the result for all tokens: an expression at their start with its number of tokens, or the first error
 abbrev pub IsParsed : List Lexeme → Result (Tree × ℕ) ExprFault → Type 0
 IsParsed ts r = IsLevel ts 64 6 0 r
 
--- names with `::` between them from i on, or that one is missing
+-- names joined by `::` from i on, or the error that one is missing
 abbrev pub AreNames : List Lexeme → ℕ → Result (List (List ℕ) × ℕ) ExprFault → Type 0
 AreNames ts i (Ok x) = HasParts ts i x.1 x.0
 AreNames ts i (Err f) = (f ≡ OperandExpected) × ((k : ℕ) × LacksPart ts i k)

@@ -1,4 +1,4 @@
--- The faults of tokens, of expressions and of expansion: their words, and which of them come from outside.
+-- Errors of tokens, expressions and the preprocessor: their texts, and which are system errors.
 use Rattle.std.specs.Prelude.{ℕ, List, codes, Bool, true, false}
 use Rattle.syntax65.specs.declared.lexing.tokens.LexFault.{LexFault}
 use Rattle.syntax65.specs.declared.expressions.words.ExprFault.{ExprFault}
@@ -9,7 +9,7 @@ use Rattle.base65.specs.declared.store.StoreFault.TheVariants as store
 use Rattle.syntax65.specs.declared.fault.ExpandFault.{ExpandFault}
 use Rattle.syntax65.specs.declared.fault.ExpandFault.TheVariants.{FailedBefore, OutOfMemory, Syntax, FileNotFound, FileError, NotConstant, Nested, TooManyLines, NotClosed, NotOpened, TooManyArguments, MacroTwice, MacroInside, CountOutOfRange, FileTooLong, Error, NotUnderstood, LineTooLong}
 
--- ---- The words of faults of tokens and expressions.
+-- ---- The texts of errors of tokens and expressions.
 
 abbrev pub lex_fault_words : LexFault → List ℕ
 lex_fault_words lex.OutOfMemory = codes "out of memory"
@@ -19,7 +19,7 @@ lex_fault_words lex.StringNotClosed = codes "string not closed"
 lex_fault_words lex.LineTooLong = codes "line too long"
 lex_fault_words lex.NameTooLong = codes "name too long"
 
--- whether the fault comes from outside: from memory
+-- whether the error is a system error: out of memory
 abbrev pub is_lex_system_error : LexFault → Bool
 is_lex_system_error lex.OutOfMemory = true
 is_lex_system_error _ = false
@@ -34,9 +34,9 @@ abbrev pub is_expr_system_error : ExprFault → Bool
 is_expr_system_error expr.OutOfMemory = true
 is_expr_system_error _ = false
 
--- ---- The faults of expansion: their words, and which of them come from outside.
+-- ---- The errors of the preprocessor: their texts, and which are system errors.
 
--- the words of a message
+-- the text of the message
 abbrev pub expand_words : ExpandFault → List ℕ
 expand_words (Syntax fault) = lex_fault_words fault
 expand_words (Error text) = text
@@ -57,28 +57,28 @@ expand_words FileTooLong = codes "file too long"
 expand_words NotUnderstood = codes "directive not understood"
 expand_words LineTooLong = codes "replaced line too long"
 
--- memory ran out or the store failed
+-- out of memory, or a failure of the store
 abbrev pub is_system_error : ExpandFault → Bool
 is_system_error OutOfMemory = true
 is_system_error FileError = true
 is_system_error _ = false
 
--- the store failed
+-- a failure of the store
 abbrev pub is_failure : ExpandFault → Bool
 is_failure FileError = true
 is_failure _ = false
 
--- a fault of a line's tokens
+-- the error of a line that can't be split into tokens
 abbrev pub fault_of_lexing : LexFault → ExpandFault
 fault_of_lexing lex.OutOfMemory = OutOfMemory
 fault_of_lexing fault = Syntax fault
 
--- an expression that can't be read isn't understood
+-- an expression that can't be parsed is a directive that isn't understood
 abbrev pub fault_of_parsing : ExprFault → ExpandFault
 fault_of_parsing expr.OutOfMemory = OutOfMemory
 fault_of_parsing fault = NotUnderstood
 
--- a fault of the store
+-- the error for one of the store
 abbrev pub fault_of_store : StoreFault → ExpandFault
 fault_of_store store.OutOfMemory = OutOfMemory
 fault_of_store store.FileNotFound = FileNotFound

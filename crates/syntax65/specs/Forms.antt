@@ -1,4 +1,4 @@
--- The classes of bytes, the values of numbers, the forms of tokens, and the longest one at a place.
+-- The classes of bytes, the values of numbers, the forms of tokens, and the longest token at a position.
 use Rattle.std.specs.Prelude.{ℕ, not, Bool, true, false, ◌==◌, if◌then◌else◌, ◌-◌, ◌≤◌, List, [], ◌∷◌, length, take, slice_index, Option, Some, None, ◌≡◌, ◌≢◌, ◌⊎◌, ◌<◌, IsTrue, drop, codes, ⊤}
 use Rattle.std.specs.Char.{is_ascii_alphabetic, is_ascii_digit}
 use Rattle.syntax65.specs.declared.lexing.places.Class.{Class}
@@ -14,7 +14,7 @@ use Rattle.syntax65.specs.declared.lexing.tokens.TokenKind.TheVariants.{Identifi
 use Rattle.syntax65.specs.declared.lexing.tokens.LexFault.{LexFault}
 use Rattle.syntax65.specs.declared.lexing.tokens.LexFault.TheVariants.{OutOfMemory, BadCharacter, BadNumber, StringNotClosed, LineTooLong, NameTooLong}
 
--- ---- The classes of bytes, by what a byte may begin.
+-- ---- The classes of bytes.
 
 -- letters and `_`, digits, `$` and `%`, then one byte each, and blank and tab
 abbrev pub class_of : ℕ → Class
@@ -69,7 +69,7 @@ number_of (b ∷ bs) =
     else (if b == 37 then digits 2 bs
     else plain_number_of (b ∷ bs))
 
--- ---- The forms of tokens, and the longest one at a place.
+-- ---- The forms of tokens, and the longest token at a position.
 
 -- only letters, digits and `_`
 abbrev pub AllWord : List ℕ → Type 0
@@ -131,12 +131,12 @@ spelling Comma = codes ","
 spelling OpenBrace = codes "{"
 spelling CloseBrace = codes "}"
 
--- what was found is so, or nothing is so
+-- P holds of the value, if there is one; otherwise it holds of no value
 abbrev pub IsFound : {A : Type 0} → (A → Type 0) → Option A → Type 0
 IsFound Is None = (x : _) → Is x → ⊥
 IsFound Is (Some x) = Is x
 
--- a text of this form; what the number is that it spells, and how long a name is, isn't looked at
+-- a text of this form, whatever the value of its number and the length of its name
 abbrev pub IsForm : TokenKind → List ℕ → Type 0
 IsForm k [] = ⊥
 IsForm Identifier (b ∷ bs) = (class_of b ≡ Letter) × AllWord bs
@@ -154,23 +154,23 @@ abbrev pub NotColonOrEqual : List ℕ → Type 0
 NotColonOrEqual [] = ⊤
 NotColonOrEqual (b ∷ bs) = (b ≢ 58) × (b ≢ 61)
 
--- a size prefix isn't the line's first token, and neither `:` nor `=` stands right behind it
+-- a size prefix isn't the first token of its line, and neither `:` nor `=` follows it
 abbrev pub MayStand : Bool → TokenKind → List ℕ → Type 0
 MayStand first (SizePrefix s) following = (first ≡ false) × NotColonOrEqual following
 MayStand first _ following = ⊤
 
--- the first n bytes are a text of this form that may stand here
+-- the first n bytes have this form, and it is allowed here
 pub record TokenMatchesAt (first : Bool) (k : TokenKind) (n : ℕ) (here : List ℕ) : Type 0 where
   pub room : n ≤ length here
   pub form : IsForm k (take n here)
   pub allowed : MayStand first k (drop n here)
 
--- and no longer one stands here
+-- and no longer text matches here
 pub record IsLongest (first : Bool) (k : TokenKind) (n : ℕ) (here : List ℕ) : Type 0 where
   pub stands : TokenMatchesAt first k n here
   pub longest : (j : TokenKind) (m : ℕ) → n < m → TokenMatchesAt first j m here → ⊥
 
--- nothing of any form stands here
+-- no form matches here
 abbrev pub NoForm : Bool → List ℕ → Type 0
 NoForm first here = (k : TokenKind) (n : ℕ) → TokenMatchesAt first k n here → ⊥
 
@@ -185,7 +185,7 @@ abbrev pub HasValue : TokenKind → List ℕ → Type 0
 HasValue (Number v) text = number_of text ≡ Some v
 HasValue _ text = ⊤
 
--- a token stands here
+-- a token of kind k and length n is here
 pub record IsToken (first : Bool) (k : TokenKind) (n : ℕ) (here : List ℕ) : Type 0 where
   pub longest : IsLongest first k n here
   pub short : length (name_in k (take n here)) ≤ 200
@@ -195,7 +195,7 @@ abbrev pub BeginsWithClass : Class → List ℕ → Type 0
 BeginsWithClass c [] = ⊥
 BeginsWithClass c (b ∷ bs) = class_of b ≡ c
 
--- no token stands here, and why
+-- no token is here, for this reason
 abbrev pub FaultAt : Bool → List ℕ → LexFault → Type 0
 FaultAt first here OutOfMemory = ⊥
 FaultAt first here BadCharacter = NoForm first here × (BeginsWithClass Quote here → ⊥)

@@ -1,2 +1,2 @@
--- What only the contracts within the crate cite: definitions in the terms of its code.
+-- Definitions that only contracts within the crate cite, in the terms of its code.
 pub mod Places

@@ -1,4 +1,4 @@
--- The tokens of a line, or its fault, and those that are held.
+-- The tokens of a line, or its error, and how they are stored.
 use Rattle.std.specs.Prelude.{◌≡◌, ℕ, ◌≤◌, ◌<◌, Bool, true, false, List, [], ◌∷◌, length, take, drop, map, Option, Some, None, Result, Ok, Err, ⊤, ◌++◌, slice_get, option_map}
 use Rattle.std.specs.List.{prefix_len}
 use Rattle.std.specs.Option.{option_map_or}
@@ -14,30 +14,30 @@ use Rattle.syntax65.specs.declared.lexing.lines.Lexer.{Lexer}
 use Rattle.syntax65.specs.declared.lexing.lines.LineFront.{LineFront}
 use Rattle.syntax65.specs.declared.lexing.lines.LineTokens.{LineTokens}
 
--- ---- The tokens of a line, or its fault.
+-- ---- The tokens of a line, or its error.
 
--- a token as its kind and its bytes
+-- the kind and the bytes of a token
 abbrev pub Lexeme : Type 0
 Lexeme = TokenKind × List ℕ
 
 abbrev pub lexeme_of : Token → Lexeme
 lexeme_of t = (t.kind, t.text.now)
 
--- what stands behind the blanks
+-- the bytes after leading blanks
 abbrev pub after_blanks : List ℕ → List ℕ
 after_blanks line = drop (prefix_len is_blank line) line
 
--- nothing, or a comment
+-- the end of the line, or a comment
 abbrev pub IsEnd : List ℕ → Type 0
 IsEnd [] = ⊤
 IsEnd (b ∷ bs) = class_of b ≡ Semicolon
 
--- how the tokens end: with the line, or at a place where no token stands
+-- how the tokens end: at the end of the line, or with an error where no token begins
 abbrev pub EndsTokens : Bool → Option LexFault → List ℕ → Type 0
 EndsTokens first None here = IsEnd here
 EndsTokens first (Some fault) here = (IsEnd here → ⊥) × FaultAt first here fault
 
--- these tokens stand in the line one behind the other, and then it ends so
+-- the line has these tokens in this order, and then ends like this
 abbrev pub HasTokens : Bool → List ℕ → List Lexeme → Option LexFault → Type 0
 HasTokens first line [] end = EndsTokens first end (after_blanks line)
 HasTokens first line (t ∷ ts) end =
@@ -45,7 +45,7 @@ HasTokens first line (t ∷ ts) end =
     × IsToken first t.0 (length t.1) (after_blanks line)
     × HasTokens false (drop (length t.1) (after_blanks line)) ts end
 
--- what a line is read as: its tokens, or its first fault
+-- the result for a line: its tokens, or its first error
 abbrev pub IsRead : List ℕ → Result (List Lexeme) LexFault → Type 0
 IsRead line (Ok ts) = (length line ≤ 4096) × HasTokens true line ts None
 IsRead line (Err LineTooLong) = 4096 < length line
@@ -54,37 +54,37 @@ IsRead line (Err fault) = (length line ≤ 4096) × ((ts : List Lexeme) × HasTo
 abbrev pub lexemes : List Token → List Lexeme
 lexemes ts = map lexeme_of ts
 
--- ---- A line that is read token by token.
+-- ---- Lines that are split token by token.
 
--- the first token of what is left of a line, its end, or why no token stands there; and what is left behind it
+-- the first token of the rest of a line, its end, or why no token is there; and the rest after it
 abbrev pub IsNextToken : Bool → List ℕ → Result (Option Token) LexFault → Bool → List ℕ → Type 0
 IsNextToken first rest (Ok None) after left = HasTokens first rest [] None
 IsNextToken first rest (Ok (Some t)) after left = (us : List Lexeme) (end : Option LexFault) → HasTokens after left us end → HasTokens first rest (lexeme_of t ∷ us) end
 IsNextToken first rest (Err fault) after left = HasTokens first rest [] (Some fault)
 
--- what is left of a line begins with blanks or nothing, and this text; and what is left behind it
+-- the rest of a line begins with blanks or nothing, and then this text; and the rest after it
 abbrev pub IsCutOff : List ℕ → List ℕ → List ℕ → Type 0
 IsCutOff rest text left = (blanks : List ℕ) × (rest ≡ blanks ++ (text ++ left))
 
--- Behind these tokens what is left of a line is read to its end: with them in front, these are the tokens of each line that
--- goes on so behind them, or its fault.
+-- After these tokens the rest of a line is read to its end: preceded by them, the result is that of each
+-- line that continues like this after them, or its error.
 abbrev pub ReadsOn : {A : Type 0} → Lexer → List Lexeme → Result A LexFault → (A → List Lexeme) → Type 0
 ReadsOn l before r view =
     (line : List ℕ) → length line ≤ 4096 →
     ((us : List Lexeme) (end : Option LexFault) → HasTokens l.first l.rest.now us end → HasTokens true line (before ++ us) end) →
     RefinesRel is_lex_system_error view r (IsRead line)
 
--- ---- What a line begins with, once it is read whole.
+-- ---- The first tokens of a line.
 
--- the first two of these tokens, where they are there
+-- the first two of these tokens, if there are two
 abbrev pub IsFront : List Lexeme → LineFront → Type 0
 IsFront ts f = (option_map lexeme_of f.first ≡ slice_get ts 0) × (option_map lexeme_of f.second ≡ slice_get ts 1)
 
--- ---- The tokens that are held of a line.
+-- ---- The stored tokens of a line.
 
 abbrev pub stored_lexemes : LineTokens → List Lexeme
 stored_lexemes t = lexemes (option_map_or (λ many. many.items) t.many (take t.few.count t.few.room))
 
--- none yet, and a few have room
+-- no token yet, and capacity for a few
 abbrev pub HoldsNothing : LineTokens → Type 0
 HoldsNothing t = (t.few.count ≡ 0) × (t.many ≡ None) × (length t.few.room ≡ 8)

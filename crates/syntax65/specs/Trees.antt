@@ -1,4 +1,4 @@
--- Expressions, without where they lie in memory.
+-- The contract view of expressions, without their boxes.
 use Rattle.std.specs.Prelude.{◌≡◌, refl, ℕ, ◌+◌, Bool, List}
 use Rattle.std.proofs.Common.{ap}
 use Rattle.std.specs.Coded.{Coded, coded_bool, coded_list, coded_ℕ}
@@ -29,7 +29,7 @@ texts = coded_list (coded_list coded_ℕ)
 abbrev text : Coded (List ℕ)
 text = coded_list coded_ℕ
 
--- an expression as a tree of numbers, one to one
+-- an expression encoded as a tree of numbers, one to one
 abbrev pub tree_encoding : Tree → Gv
 tree_encoding (number v) = gcons (gnum 0) (gnum v)
 tree_encoding here = gcons (gnum 1) (gnum 0)

@@ -1,4 +1,4 @@
-//! Why a source's statements can't be given.
+//! Errors of the preprocessor.
 
 ghost use Rattle.std.specs.Prelude.{◌≡◌};
 ghost use Rattle.syntax65.specs.declared.fault.ExpandFault.TheVariants.{FileError, FileNotFound, OutOfMemory};
@@ -10,24 +10,24 @@ use std::alloc::{AllocError, AllocFailed};
 use std::error::Error;
 use std::fmt;
 
-/// Why a source's statements can't be given.
+/// An error of the preprocessor.
 #[derive(Debug, Drop)]
 pub enum ExpandFault {
-    /// An earlier call was refused.
+    /// An earlier call failed.
     FailedBefore,
     OutOfMemory,
-    /// A line has no tokens.
+    /// A line can't be split into tokens.
     Syntax(LexFault),
     FileNotFound,
     FileError,
     /// A condition or a count isn't constant at its line.
     NotConstant,
-    /// Too many files, expansions and repeats are open.
+    /// Too many files, macro expansions and repeats are open.
     Nested,
     TooManyLines,
     /// A block isn't closed in the file, expansion or repeat that opened it.
     NotClosed,
-    /// A block is closed, or left, that isn't open.
+    /// An end or exit directive has no open block.
     NotOpened,
     TooManyArguments,
     MacroTwice,
@@ -47,7 +47,7 @@ pub enum ExpandFault {
 impl ExpandFault {
     ghost use Rattle.syntax65.specs.Faults.{expand_words};
 
-    /// The words of a message. Those of an `.error` are the bytes of its text.
+    /// Returns the text of the message; for `.error`, the bytes of its text.
     pub fn words(&self) -> &[u8]
         ensures { result.now ≡ expand_words self.now }
     {

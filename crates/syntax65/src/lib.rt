@@ -1,5 +1,5 @@
-//! What a source line is written in: its tokens and expressions, the instructions and their opcodes; and where it stands,
-//! and why a source's statements can't be given.
+//! The syntax of source lines: tokens, expressions, mnemonics and opcodes; source locations, and
+//! errors of the preprocessor.
 #![tactic(auto)]
 
 mod expressions;

@@ -1,14 +1,15 @@
-//! Places in a source.
+//! Source locations.
 
 ghost use Rattle.std.specs.Prelude.{◌≡◌, IfOk};
 
 use base65::PathString;
 use std::alloc::{AllocError, Global};
 
-/// A source, and a file of which a part is taken, has at most so many bytes.
+/// The maximum size in bytes of a source, and of a file of which `.incbin` reads a part.
 pub const MAX_FILE: u64 = 16_777_216;
 
-/// A file and the number of the line of it that was read last, 0 where none was.
+/// A source location: the file, and the number of the line that was read last; line 0 before the
+/// first line.
 #[derive(Drop)]
 pub struct SourceLocation {
     pub file: PathString,
@@ -16,7 +17,7 @@ pub struct SourceLocation {
 }
 
 impl SourceLocation {
-    /// A copy of the place.
+    /// Copies the location.
     pub fn copy(&self, alloc: Global) -> Result<SourceLocation, AllocError>
         ensures { IfOk result (λ place. place ≡ self.now) }
     {

@@ -1,9 +1,9 @@
-//! Words in either case.
+//! Words in upper or lower case.
 
 ghost use Rattle.std.specs.Prelude.{◌≡◌};
 ghost use Rattle.std.specs.Str.{str_eq_ignore_ascii_case};
 
-/// Whether bytes are a word, in either case.
+/// Returns whether bytes spell a word, in upper or lower case.
 pub fn is_word(text: &[u8], word: &[u8]) -> bool
     ensures { result ≡ str_eq_ignore_ascii_case text.now word.now }
 {

@@ -1,4 +1,5 @@
-//! What the trials of commands share: a script and an object, and a run over files and streams in memory.
+//! Shared by the trials of commands: a script and an object, and a run over files and streams in
+//! memory.
 #![tactic(auto)]
 
 mod runs;
@@ -26,7 +27,7 @@ pub fn files(alloc: Global, object: &[u8], script: &str) -> Result<MemStore, All
     Ok(store)
 }
 
-/// What a run printed and answered.
+/// The output and the status of a run.
 #[derive(Drop)]
 pub struct Ran {
     pub status: Status,
@@ -34,7 +35,7 @@ pub struct Ran {
     pub err: Vec<u8>,
 }
 
-/// Runs words over a store, with both streams in memory.
+/// Runs a command line over a store, with both streams in memory.
 pub fn run_on<S: Store>(alloc: Global, store: &mut S, words: &[&str]) -> Ran {
     let mut out = Vec::new(alloc);
     let mut err = Vec::new(alloc);
@@ -42,17 +43,17 @@ pub fn run_on<S: Store>(alloc: Global, store: &mut S, words: &[&str]) -> Ran {
     Ran { status, out, err }
 }
 
-/// Whether a run failed with this one message and nothing else.
+/// Returns whether a run failed with this one message and printed nothing else.
 pub fn says(ran: &Ran, message: &str) -> bool {
     ran.status == Status::Failure && ran.out.is_empty() && ran.err.as_slice() == message.as_bytes()
 }
 
-/// Whether a run succeeded and said nothing.
+/// Returns whether a run succeeded and printed nothing.
 pub fn is_quiet(ran: &Ran) -> bool {
     warns(ran, "")
 }
 
-/// Whether a run succeeded with these warnings.
+/// Returns whether a run succeeded with these warnings.
 pub fn warns(ran: &Ran, warnings: &str) -> bool {
     ran.status == Status::Success && ran.out.is_empty() && ran.err.as_slice() == warnings.as_bytes()
 }

@@ -1,7 +1,7 @@
-//! Runs that meet refused memory, a disk that fails and streams that stop: here on stores and writers in memory; the real
-//! program's trials read these rows too.
+//! Runs that run out of memory, use a disk that fails or streams that stop: here on stores and
+//! writers in memory; the real program's trials read these rows, too.
 
-/// A scene a paragraph, in the form of scenes.
+/// One scene per paragraph, in the form of scenes.
 pub const RUNS: &str = "\
 text s.cfg MEMORY { ROM: start = $8000, size = $10; } SEGMENTS { CODE: load = ROM, type = ro; DATA: load = ROM, type = ro, optional = yes; }
 bytes a.o 5236356F010209000300000000434F4445030300A90060080000

@@ -16,7 +16,7 @@ use base65::MemStore;
 use std::alloc::{AllocError, Global};
 use tools65::Status;
 
-/// The value of a hexadecimal digit.
+/// Returns the value of a hexadecimal digit.
 fn digit(byte: u8) -> Option<u8> {
     match byte {
         b'0'..=b'9' => Some(byte - b'0'),
@@ -25,7 +25,7 @@ fn digit(byte: u8) -> Option<u8> {
     }
 }
 
-/// The bytes of digits, with anything else between them.
+/// Returns the bytes of hexadecimal digits, ignoring anything between them.
 fn bytes_of(alloc: Global, digits: &str) -> Result<Vec<u8>, AllocError> {
     let mut bytes = Vec::new(alloc);
     let mut high: Option<u8> = None;
@@ -41,7 +41,7 @@ fn bytes_of(alloc: Global, digits: &str) -> Result<Vec<u8>, AllocError> {
     Ok(bytes)
 }
 
-/// Lines with ` // ` between them, as bytes.
+/// Returns lines separated by ` // ` as bytes.
 fn lines_of(alloc: Global, lines: &str) -> Result<Vec<u8>, AllocError> {
     let mut text = Vec::new(alloc);
     for line in lines.split(" // ") {
@@ -51,7 +51,7 @@ fn lines_of(alloc: Global, lines: &str) -> Result<Vec<u8>, AllocError> {
     Ok(text)
 }
 
-/// What a run has to say on each stream, and whether it fails.
+/// The expected output on each stream, and whether the run fails.
 #[derive(Drop)]
 struct ExpectedOutput {
     out: Vec<u8>,
@@ -73,7 +73,7 @@ impl ExpectedOutput {
     }
 }
 
-/// What a run says that says these lines; nothing where there are none.
+/// Returns the expected output of a run that prints these lines, or nothing if there are none.
 fn saying_of(alloc: Global, lines: Option<&str>) -> Result<ExpectedOutput, AllocError> {
     let mut saying = ExpectedOutput {
         out: Vec::new(alloc),
@@ -88,7 +88,7 @@ fn saying_of(alloc: Global, lines: Option<&str>) -> Result<ExpectedOutput, Alloc
     Ok(saying)
 }
 
-/// The words of a run, written as a row, and the lines that it says, if any.
+/// Splits a row into the command line of a run and the lines that it prints, if any.
 pub fn parts_of(row: &str) -> (&str, Option<&str>) {
     match row.split_once(" ==> ") {
         None => (row, None),
@@ -96,7 +96,7 @@ pub fn parts_of(row: &str) -> (&str, Option<&str>) {
     }
 }
 
-/// The words of a run, behind the program's name.
+/// Returns the arguments of a run, without the program's name.
 pub fn words_of(alloc: Global, words: &str) -> Result<Vec<&str>, AllocError> {
     let mut list = Vec::new(alloc);
     list.push("bin65")?;
@@ -106,7 +106,7 @@ pub fn words_of(alloc: Global, words: &str) -> Result<Vec<&str>, AllocError> {
     Ok(list)
 }
 
-/// Whether a run, written as a row, ends as the row says.
+/// Returns whether a run ends as its row states.
 fn runs(alloc: Global, store: &mut MemStore, row: &str) -> Result<bool, AllocError> {
     let (words, lines) = parts_of(row);
     let saying = saying_of(alloc, lines)?;
@@ -117,7 +117,7 @@ fn runs(alloc: Global, store: &mut MemStore, row: &str) -> Result<bool, AllocErr
     Ok(is_said && (ran.status == Status::Success) != saying.fails)
 }
 
-/// Whether a file is as a row says.
+/// Returns whether a file is as its row states.
 fn is_found(
     alloc: Global,
     found: Option<&[u8]>,
@@ -139,7 +139,7 @@ fn is_found(
     )
 }
 
-/// Whether a step can be done and what it says is so.
+/// Returns whether a step succeeds and its statement holds.
 pub fn is_right(alloc: Global, store: &mut MemStore, row: &str) -> Result<bool, AllocError> {
     let (verb, row) = row.split_once(' ').unwrap_or((row, ""));
     if verb == "$" {
@@ -157,7 +157,7 @@ pub fn is_right(alloc: Global, store: &mut MemStore, row: &str) -> Result<bool, 
     is_found(alloc, store.get(name), verb, rest)
 }
 
-/// The first row of scenes that isn't so. A blank row begins a scene, with a store of its own.
+/// Returns the first row of scenes that fails. A blank row begins a scene with a new store.
 pub fn first_wrong(alloc: Global, rows: &'static str) -> Result<Option<&'static str>, AllocError> {
     let mut store = MemStore::new(alloc);
     for row in rows.lines() {

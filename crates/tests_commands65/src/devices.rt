@@ -1,4 +1,4 @@
-//! Commands on stores that give little or fail, and with streams that stop.
+//! Commands on stores that transfer few bytes or fail, and with streams that stop.
 
 use crate::stores::{ByteByByte, Counting, FailsOnce, Filling, Stopping};
 use base65::MemStore;
@@ -18,7 +18,7 @@ fn links_byte_by_byte(rt: HostRuntime) -> Result<(), Fail> {
     Ok(())
 }
 
-/// Fails each call in turn, up to the run that meets no failure.
+/// Fails each call in turn, up to the run without a failure.
 #[test]
 fn names_each_failure(rt: HostRuntime) -> Result<(), Fail> {
     let mut met = false;
@@ -46,7 +46,8 @@ fn names_each_failure(rt: HostRuntime) -> Result<(), Fail> {
     Ok(())
 }
 
-/// Whether each call that fails is named, the library's or the object's file, up to the run that meets no failure.
+/// Returns whether the file of each failing call is named, the library's or the object's, up to the
+/// run without a failure.
 fn names_all_failures(alloc: Global, words: &[&str]) -> Result<bool, AllocError> {
     for k in 0..64 {
         let mut store = FailsOnce::following(alloc, library(alloc)?, Some(k));
@@ -96,7 +97,7 @@ fn reads_and_writes_once(rt: HostRuntime) -> Result<(), Fail> {
     Ok(())
 }
 
-/// Standard output takes as many bytes of `a.o` and its line's end.
+/// Standard output accepts only `a.o` and its line end.
 #[test]
 fn stops_within_the_names(rt: HostRuntime) -> Result<(), Fail> {
     for k in 0..5 {
@@ -130,12 +131,13 @@ fn stops_with_its_stream(rt: HostRuntime) -> Result<(), Fail> {
 
 const LINK_WITH_MAP: [&str; 7] = ["bin65", "ld65", "-C", "s.cfg", "-m", "a.map", "a.o"];
 
-/// A script and an object, of which each writing takes one byte and the call behind so many others fails.
+/// Returns a script and an object on a store where each append writes one byte and the call number
+/// `left` fails.
 fn written_by_bytes(alloc: Global, left: u64) -> Result<FailsOnce, AllocError> {
     Ok(FailsOnce::following(alloc, files(alloc, O1, S1)?, Some(left)).by_bytes())
 }
 
-/// How many calls a link with a map makes before it creates its output.
+/// Returns how many calls a link with a map makes before it creates its output.
 fn reading_calls(alloc: Global) -> Result<Option<u64>, AllocError> {
     let mut store = written_by_bytes(alloc, 10_000)?;
     run_on(alloc, &mut store, &LINK_WITH_MAP);
@@ -181,7 +183,7 @@ fn stops_after_two_bytes(rt: HostRuntime) -> Result<(), Fail> {
     Ok(())
 }
 
-/// A store that never ends is no source, no script and no library.
+/// A store with endless files has no source, script or library.
 #[test]
 fn refuses_what_never_ends(rt: HostRuntime) {
     let source = ["bin65", "ca65", "x.s"];

@@ -1,5 +1,5 @@
-//! Runs of which each call of the store fails in turn, and of which each stream stops behind each byte. What they leave is
-//! compared with what the same run leaves where nothing fails.
+//! Runs in which each call of the store fails in turn, and in which each stream stops after each
+//! byte. Their results are compared with those of the same run without failures.
 
 use crate::stores::{FailsOnce, Stopping};
 use base65::{MemStore, PathString};
@@ -8,7 +8,7 @@ use std::test::Fail;
 use testkit65::{RUNS, Ran, is_right, parts_of, run_on, words_of};
 use tools65::{Status, run};
 
-/// How many bytes a file has at most. A file is looked for by what stands behind them.
+/// The maximum size of a file in bytes. A search for a file reads at this offset.
 const MAX_FILE: u64 = 16_777_216;
 
 /// Adds a name to those that are kept, where it isn't there.
@@ -76,7 +76,8 @@ fn is_line(alloc: Global, place: &str, file: &str, line: usize) -> Result<bool, 
     Ok(wanted.as_str() == place)
 }
 
-/// A run in which nothing fails: its words, the names of all files, the files before it, what it said, and its store behind it.
+/// A run without failures: its arguments, the names of all files, the files before it, its output,
+/// and the store after it.
 #[derive(Drop)]
 struct Plain<'a> {
     words: Vec<&'a str>,
@@ -86,7 +87,8 @@ struct Plain<'a> {
     store: FailsOnce,
 }
 
-/// A run over files of these names in which nothing fails. The files that it creates are added to the names.
+/// Runs over files with these names without failures. The files that it creates are added to the
+/// names.
 fn plain_run<'a>(
     alloc: Global,
     files: &MemStore,
@@ -174,7 +176,7 @@ impl Plain<'_> {
         Ok(store.failed_for(library) && (member.is_empty() || !self.is_written(store)))
     }
 
-    /// Whether the call that failed was one of those that write.
+    /// Returns whether the failing call was one of those that write.
     fn is_written(&self, store: &FailsOnce) -> bool {
         match self.store.created.first() {
             Some(first) => !store.created.is_empty() || store.failed_for(first.as_str()),
@@ -182,8 +184,8 @@ impl Plain<'_> {
         }
     }
 
-    /// Whether a run says first parts of what the plain one says, all of it where it was writing, and then that the file of the call
-    /// that failed couldn't be read or written.
+    /// Returns whether a run prints prefixes of the other run's output (all of it if it was
+    /// writing), and then that the failing call's file couldn't be read or written.
     fn is_said(&self, alloc: Global, ran: &Ran, store: &FailsOnce) -> Result<bool, AllocError> {
         let Ok(text) = std::str::from_utf8(ran.err.as_slice()) else {
             return Ok(false);
@@ -202,8 +204,8 @@ impl Plain<'_> {
         )
     }
 
-    /// Whether a file is as it has to be: as before where it wasn't created, a first part of what it gets where a call for it
-    /// failed, else whole.
+    /// Returns whether a file is as expected: as before if it wasn't created, a prefix of its new
+    /// content if a call for it failed, otherwise complete.
     fn is_file_left(&self, name: &str, store: &FailsOnce) -> bool {
         let found = store.files.get(name);
         let is_created = store.created.iter().any(|it| it.as_str() == name);
@@ -217,7 +219,7 @@ impl Plain<'_> {
         }
     }
 
-    /// Whether all files are as they have to be where a call failed.
+    /// Returns whether all files are as expected after a failure.
     fn is_left(&self, store: &FailsOnce) -> bool {
         begins_with(self.store.created.as_slice(), store.created.as_slice())
             && self
@@ -226,12 +228,13 @@ impl Plain<'_> {
                 .all(|name| self.is_file_left(name.as_str(), store))
     }
 
-    /// Whether all files are as before, or as behind the plain run.
+    /// Returns whether all files are as before, or as after the run without failures.
     fn are_files(&self, files: &MemStore, wanted: &MemStore) -> bool {
         self.names.iter().all(|name| files.get(name.as_str()) == wanted.get(name.as_str()))
     }
 
-    /// Whether a run ends as it has to where one of its calls failed; as the plain one where none did.
+    /// Returns whether a run with a failing call ends as expected; without a failure, as the run
+    /// without failures.
     fn is_ended(&self, alloc: Global, ran: &Ran, store: &FailsOnce) -> Result<bool, AllocError> {
         if store.failed {
             let is_said = self.is_said(alloc, ran, store)?;
@@ -245,7 +248,7 @@ impl Plain<'_> {
         )
     }
 
-    /// How many calls fail in turn, where each run ends as it has to.
+    /// Returns the number of calls that fail in turn, if each run ends as expected.
     fn fail_in_turn(&self, alloc: Global) -> Result<Option<u64>, AllocError> {
         for k in 0..1000 {
             let files = copy_of(alloc, &self.before, self.names.as_slice())?;
@@ -261,7 +264,7 @@ impl Plain<'_> {
         Ok(None)
     }
 
-    /// Whether a run whose standard output stops behind so many bytes ends as it has to.
+    /// Returns whether a run whose standard output stops after `left` bytes ends as expected.
     fn stops_output(&self, alloc: Global, left: usize, fails: bool) -> Result<bool, AllocError> {
         let mut store = copy_of(alloc, &self.before, self.names.as_slice())?;
         let mut out = Stopping::following(alloc, left, fails);
@@ -277,7 +280,7 @@ impl Plain<'_> {
         Ok(err.as_slice() == wanted && self.is_stopped(status, &out, text, &store))
     }
 
-    /// Whether a run whose standard error stops behind so many bytes ends as it has to.
+    /// Returns whether a run whose standard error stops after `left` bytes ends as expected.
     fn stops_errors(&self, alloc: Global, left: usize, fails: bool) -> Result<bool, AllocError> {
         let mut store = copy_of(alloc, &self.before, self.names.as_slice())?;
         let mut err = Stopping::following(alloc, left, fails);
@@ -287,8 +290,8 @@ impl Plain<'_> {
         Ok(out.as_slice() == self.ran.out.as_slice() && self.is_stopped(status, &err, text, &store))
     }
 
-    /// Whether a stream has taken the first part of its text that it takes, and the status and all files are as they have to be:
-    /// as behind the plain run where it took all.
+    /// Returns whether a stream contains the part of its text that it accepts, and the status and
+    /// all files are as expected: as after the run without failures if it accepted all.
     fn is_stopped(&self, status: Status, stream: &Stopping, text: &[u8], files: &MemStore) -> bool {
         let taken = stream.taken.as_slice();
         if taken.len() < text.len() {
@@ -301,7 +304,7 @@ impl Plain<'_> {
         taken == text && status == self.ran.status && self.are_files(files, &self.store.files)
     }
 
-    /// Whether the run ends as it has to wherever a stream stops.
+    /// Returns whether the run ends as expected wherever a stream stops.
     fn stop_in_turn(&self, alloc: Global) -> Result<bool, AllocError> {
         for fails in [true, false] {
             for left in 0..=self.ran.out.len() {
@@ -319,8 +322,8 @@ impl Plain<'_> {
     }
 }
 
-/// The names of all files behind a run, written as a row, that ends as it has to: as the row says, where each call fails in turn,
-/// and where each stream stops behind each byte; none where it doesn't.
+/// Returns the names of all files after a run that ends as its row states, also if each call fails
+/// in turn and each stream stops after each byte; `None` if it doesn't.
 fn names_behind(
     alloc: Global,
     files: &MemStore,
@@ -330,7 +333,7 @@ fn names_behind(
     let (words, _) = parts_of(row.strip_prefix("$ ").unwrap_or(row));
     let plain = plain_run(alloc, files, names, words)?;
     let mut copy = copy_of(alloc, files, plain.names.as_slice())?;
-    // A run reads two places of a file at least.
+    // A run reads a file at two offsets at least.
     let is_right = is_right(alloc, &mut copy, row)?
         && plain.are_files(&copy, &plain.store.files)
         && 1 < plain.fail_in_turn(alloc)?.unwrap_or(0)
@@ -338,7 +341,7 @@ fn names_behind(
     Ok(is_right.then_some(plain.names))
 }
 
-/// The first row of a scene that isn't so, or not where something fails.
+/// Returns the first row of a scene that fails, with or without failures.
 fn first_wrong_of(alloc: Global, scene: &'static str) -> Result<Option<&'static str>, AllocError> {
     let mut names = names_of(alloc, scene)?;
     let mut files = MemStore::new(alloc);

@@ -9,7 +9,7 @@ use std::test::Fail;
 use testkit65::{S1, first_wrong, run_on, says};
 use tools65::Status;
 
-/// Which members are linked where a library stands, and how libraries are refused.
+/// Which members are linked, depending on the library's position, and how libraries are rejected.
 const SCENES: &str = "\
 text s.cfg MEMORY { ROM: start = $8000, size = $10; } SEGMENTS { CODE: load = ROM, type = ro; DATA: load = ROM, type = ro, optional = yes; }
 text a.s .export f // f: nop
@@ -108,7 +108,7 @@ fn scenes(rt: HostRuntime) -> Result<(), Fail> {
     Ok(())
 }
 
-/// An object that imports the name that stands in its ninth byte.
+/// An object that imports the name in its ninth byte.
 const MAIN: &[u8] =
     b"R65o\x01\x01\x01\x00g\x02\x09\x00\x01\x00\x00\x00\x00CODE\x03\x01\x00\x00\x08\x00\x00";
 
@@ -135,7 +135,7 @@ fn files(alloc: Global, name: u8, library: &[u8]) -> Result<MemStore, AllocError
     Ok(store)
 }
 
-/// What is said of a library of which so many bytes are there.
+/// Returns the message for the first `len` bytes of a library.
 fn cut_message(len: usize) -> &'static str {
     match len {
         0..=3 => "l: Error: not an object\n",
@@ -157,7 +157,8 @@ fn refuses_each_front_of_a_library(rt: HostRuntime) -> Result<(), Fail> {
     Ok(())
 }
 
-/// Whether a library is linked, or refused with a message and no file written; none where it is neither.
+/// Returns whether a library is linked, or rejected with a message and no file written; `None` if
+/// neither.
 fn is_linked(alloc: Global, library: &[u8]) -> Result<Option<bool>, AllocError> {
     let mut store = files(alloc, b'f', library)?;
     let ran = run_on(alloc, &mut store, &LINK);

@@ -35,7 +35,8 @@ fn is_assembling(line: &AssembleArgs<'_>) -> bool {
         && line.include.as_slice() == ["a", "b/c"].as_slice()
 }
 
-/// Whether words are the line that is looked at here; none where they are no line.
+/// Returns whether arguments are the command line that is tested; `None` if they are no command
+/// line.
 fn is_line(alloc: Global, words: &[&str]) -> Option<bool> {
     match read_line(alloc, words).ok()? {
         Line::Link(line) => Some(is_link(&line)),
@@ -84,7 +85,7 @@ fn refuses_what_is_no_constant(rt: HostRuntime) {
     }
 }
 
-/// Runs a line over a store, with both streams in memory.
+/// Runs a command over a store, with both streams in memory.
 fn run_over(alloc: Global, store: &mut MemStore, line: &Line<'_>) -> Ran {
     let mut out = Vec::new(alloc);
     let mut err = Vec::new(alloc);

@@ -1,4 +1,4 @@
-//! Stores and writers that give little or fail.
+//! Stores and writers that transfer few bytes or fail.
 
 ghost use Rattle.std.specs.Prelude.{Some, ◌≡◌, ◌≤◌, Bool, true, false, if◌then◌else◌, None, IfOk, OnErr};
 ghost use Rattle.base65.specs.Store.{max_failures};
@@ -11,7 +11,7 @@ use std::alloc::{AllocError, Global};
 use std::io;
 use std::io::{ErrorKind, Write};
 
-/// Files in memory, of which each call moves one byte at most.
+/// Files in memory. Each call transfers at most one byte.
 #[derive(Drop)]
 pub struct ByteByByte {
     pub files: MemStore,
@@ -41,7 +41,7 @@ impl Store for ByteByByte {
     ghost counted = { λ _. Prim.search rules };
 }
 
-/// Files in memory. The bytes that were read are counted, and the files that were created.
+/// Files in memory. The bytes read are counted, and the files created.
 #[derive(Drop)]
 pub struct Counting {
     pub files: MemStore,
@@ -74,7 +74,7 @@ impl Store for Counting {
     ghost counted = { λ _. Prim.search rules };
 }
 
-/// A store that fills every buffer, with zeros.
+/// A store that fills every buffer with zeros.
 #[derive(Drop)]
 pub struct Filling;
 
@@ -103,8 +103,8 @@ impl Store for Filling {
     ghost counted = { λ _. Prim.search rules };
 }
 
-/// Files in memory. One call fails, the one behind so many others, and is counted; those behind it don't. It keeps which file
-/// that call was for and where a reading began, and tells both, and which files were created, in order.
+/// Files in memory. One call fails, and is counted; those after it succeed. The store keeps which
+/// file that call was for and from which offset it read, and which files were created, in order.
 #[derive(Drop)]
 pub struct FailsOnce {
     alloc: Global,
@@ -119,7 +119,7 @@ pub struct FailsOnce {
 }
 
 impl FailsOnce {
-    /// Files of which no call fails, or the one behind so many others.
+    /// Returns a store on which no call fails, or the one after `left` others.
     pub fn following(alloc: Global, files: MemStore, left: Option<u64>) -> FailsOnce {
         FailsOnce {
             alloc,
@@ -133,18 +133,18 @@ impl FailsOnce {
         }
     }
 
-    /// The same, of which each writing takes one byte.
+    /// The same store, where each append writes one byte.
     pub fn by_bytes(mut self) -> FailsOnce {
         self.by_bytes = true;
         self
     }
 
-    /// How many calls are left before the one that fails, if it is still to come.
+    /// Returns how many calls are left before the failing one, if it is still to come.
     pub fn left(&self) -> Option<u64> {
         self.left
     }
 
-    /// Whether this is the call that fails.
+    /// Returns whether this is the failing call.
     fn fails(&mut self, name: &str, at: Option<u64>) -> Result<bool, AllocError>
         ensures files { self.new.files ≡ self.old.files }
         ensures yes { IfOk result (λ b. OnTrue b ((self.old.failed ≡ false) × (self.new.failed ≡ true))) }
@@ -171,7 +171,7 @@ impl FailsOnce {
         }
     }
 
-    /// Whether the call that failed was for a file.
+    /// Returns whether the failing call was for this file.
     pub fn failed_for(&self, name: &str) -> bool {
         match &self.asked {
             Some(asked) => asked.as_str() == name,
@@ -216,8 +216,8 @@ impl Store for FailsOnce {
     ghost counted = { λ s. elim s.failed as (λ (b : Bool). (if b then 1 else 0) ≤ max_failures) [ true ↦ Prim.search rules | false ↦ Prim.search rules ] };
 }
 
-/// A writer that stops behind so many bytes: it fails, or takes none of what is left. Asked again it takes all, and keeps
-/// that it was.
+/// A writer that stops after some bytes: it fails, or accepts no more. After that it accepts
+/// everything, and notes that it was called.
 #[derive(Drop)]
 pub struct Stopping {
     pub taken: Vec<u8>,
@@ -228,7 +228,7 @@ pub struct Stopping {
 }
 
 impl Stopping {
-    /// A writer that fails behind so many bytes, or takes no more.
+    /// Returns a writer that fails after `left` bytes, or accepts no more.
     pub fn following(alloc: Global, left: usize, fails: bool) -> Stopping {
         Stopping {
             taken: Vec::new(alloc),

@@ -10,8 +10,9 @@ use std::alloc::{AllocError, Global};
 use std::test::Fail;
 use values::Constants;
 
-/// A source whose names aren't defined, with ` // ` between its lines, an arrow, and its statements: each token has a blank
-/// behind it, a label ends in `|`, another statement in `;`. Where it is refused, the place and the words stand at the end.
+/// A source whose names aren't defined, with ` // ` between its lines, an arrow, and its
+/// statements: a blank follows each token, a label ends in `|`, another statement in `;`. If there
+/// is an error, its location and message are at the end.
 const ROWS: &str = "\
 .if 0 // .if 1/0 // .endif // .bogus // .endif // nop ==> nop ;
 .if 0 // .ifconst 5 // .endif // nop ==> nop ;
@@ -88,7 +89,7 @@ nop // .endmacro ==> nop ;b.s:2: block end without begin
 .include \"none\" ==> b.s:1: file not found
 ";
 
-/// Puts a statement's tokens behind others.
+/// Appends the tokens of a statement.
 fn spell(alloc: Global, statement: &Statement, out: &mut Vec<u8>) -> Result<(), AllocError> {
     let (line, end) = match statement {
         Statement::Label(line) => (line, b'|'),
@@ -102,7 +103,7 @@ fn spell(alloc: Global, statement: &Statement, out: &mut Vec<u8>) -> Result<(), 
     Ok(out.push(end)?)
 }
 
-/// Puts a refusal with its place behind what was spelled.
+/// Appends an error with its location.
 fn refuse(
     alloc: Global,
     expander: &Expander,
@@ -115,7 +116,7 @@ fn refuse(
     out.extend_from_slice(fault.words())
 }
 
-/// Puts so many statements that an expander gives behind others, and then why it is refused, if it is.
+/// Appends at most `count` statements of an expander, and then its error, if any.
 fn spell_all<S: Store>(
     alloc: Global,
     store: &mut S,
@@ -137,15 +138,15 @@ fn spell_all<S: Store>(
     Ok(out)
 }
 
-/// A folder in which included files are looked for.
+/// Returns options with one folder for included files.
 fn in_folder(alloc: Global, folder: &str) -> Result<Options, AllocError> {
     let mut include = ListVec::new(alloc);
     include.push(PathString::copy_of(alloc, folder)?)?;
     Ok(Options { include })
 }
 
-/// So many statements of `b.s` in a store, where all names are defined or none. (An expander has much to let go, so each way
-/// out of a function that holds one is dear to prove.)
+/// Returns the first statements of `b.s` in a store, where all names are defined or none. (An
+/// expander owns much that is dropped on each way out of a function, which is expensive to prove.)
 fn expanded<S: Store>(
     alloc: Global,
     store: &mut S,
@@ -159,7 +160,7 @@ fn expanded<S: Store>(
     }
 }
 
-/// Puts a file of these lines into a store.
+/// Adds a file of these lines to a store.
 fn put_lines(
     alloc: Global,
     store: &mut MemStore,
@@ -190,7 +191,7 @@ fn rows(rt: HostRuntime) -> Result<(), Fail> {
     Ok(())
 }
 
-/// Whether an expander refuses a call, and then each call.
+/// Returns whether an expander fails a call, and then each call.
 fn keeps_to_a_refusal(store: &mut MemStore, expander: &mut Expander) -> bool {
     let knows = Constants { all: false };
     let first = expander.next(store, &knows);

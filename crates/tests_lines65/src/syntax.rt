@@ -1,4 +1,4 @@
-//! Tests of what no contract says.
+//! Tests of what no contract states.
 
 mod expressions;
 mod instructions;

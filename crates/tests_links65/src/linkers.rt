@@ -56,7 +56,7 @@ pub fn finish(linker: Linker) -> Result<Linked, LinkFault> {
     linker.finish()
 }
 
-/// The records of a file of a store, which has so many bytes.
+/// Returns the records of a store's file with this many bytes.
 fn records_in(alloc: Global, store: &mut MemStore, limit: u64) -> Result<Vec<Record>, ObjectFault> {
     let (version, first) = read_head(store, "a.o", 0, limit)?;
     let mut records = Vec::new(alloc);
@@ -80,7 +80,7 @@ pub fn records_of(alloc: Global, bytes: &[u8]) -> Result<Vec<Record>, ObjectFaul
     }
 }
 
-/// How many values were taken behind each record of a module, which is open.
+/// Returns how many values were counted after each record of a module, which is open.
 pub fn pending_after(
     alloc: Global,
     linker: &mut Linker,
@@ -108,7 +108,8 @@ pub fn gives(linker: Linker, bytes: &[u8]) -> Result<bool, LinkFault> {
     Ok(is_image(&linked, bytes) && linked.warnings.len() == 0)
 }
 
-/// Feeds the records of an object to a module, which is open: how many values were taken behind each.
+/// Feeds the records of an object to a module, which is open. Returns how many values were counted
+/// after each.
 pub fn feed_records(
     alloc: Global,
     linker: &mut Linker,
@@ -204,8 +205,8 @@ fn tells_open_and_defined_names(rt: HostRuntime) -> Result<(), Fail> {
     Ok(())
 }
 
-/// Whether a linker takes a module of these names where an entry has others or the same; none where it refuses it otherwise
-/// than by the index, or answers otherwise behind that.
+/// Returns whether a linker accepts a module with these names if an index entry has others or the
+/// same; `None` if it fails for another reason, or behaves differently afterwards.
 fn takes(
     linker: &mut Linker,
     alloc: Global,

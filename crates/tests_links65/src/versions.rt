@@ -5,7 +5,7 @@ use link65::{LinkFault, Linker};
 use std::alloc::Global;
 use std::test::Fail;
 
-/// `nop` and a byte of the import `v`, which stands in line 2 of `i.inc`.
+/// `nop` and a byte of the import `v`, from line 2 of `i.inc`.
 const TWO: &[u8] =
     b"R65o\x02\x09\x05\0i.inc\x01\x01\0v\x02\x09\0\x02\0\0\0\0CODE\x03\x01\0\xea\x05\x0e\0\0\0\0\0\0\x02\0\0\0\x02\0\0\0\0\x08\0\0";
 
@@ -35,7 +35,7 @@ fn feed(alloc: Global, linker: &mut Linker, bytes: &[u8], is_two: bool) -> Resul
     end(linker)
 }
 
-/// Whether the object comes to an image by the script.
+/// Returns whether the object links to an image by the script.
 fn links(alloc: Global, bytes: &[u8], is_two: bool) -> Result<bool, LinkFault> {
     let mut linker = linker_by(alloc, FITS)?;
     match feed(alloc, &mut linker, bytes, is_two) {

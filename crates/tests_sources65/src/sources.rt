@@ -1,4 +1,4 @@
-//! Sources and what becomes of them: the worked ones, and what no source shows. All others are cases for the real program.
+//! Sources and their outcomes: the worked ones, and those that no test of the real program shows.
 
 mod stores;
 
@@ -11,8 +11,8 @@ use std::alloc::{AllocError, Global};
 use std::test::Fail;
 use syntax65::LexFault;
 
-/// A source with ` // ` between its lines, an arrow, and its object's bytes, or where it is refused and why. The command line
-/// gives the folder `d` and the constant n, which is 3.
+/// A source with ` // ` between its lines, an arrow, and its object's bytes, or the location and
+/// message of its error. There is the folder `d` and the `-D` constant n, which is 3.
 const ROWS: &str = "\
 nop ==> 5236356F020209000100000000434F4445030100EA080000
 ; nothing ==> 5236356F02080000
@@ -92,7 +92,7 @@ fn alone() -> AsmJob<'static> {
     }
 }
 
-/// What becomes of a source.
+/// Returns the outcome of a source.
 fn answer(alloc: Global, store: &mut MemStore, job: &AsmJob<'_>) -> Result<String, Fail> {
     let assembled = assemble(alloc, store, job).result;
     match assembled {
@@ -147,7 +147,7 @@ fn rows(rt: HostRuntime) -> Result<(), Fail> {
     Ok(())
 }
 
-/// A name of so many bytes.
+/// Returns a name of `len` bytes.
 fn long_name(alloc: Global, len: usize) -> Result<String, AllocError> {
     let mut name = String::new(alloc);
     for _ in 0..len {
@@ -156,7 +156,7 @@ fn long_name(alloc: Global, len: usize) -> Result<String, AllocError> {
     Ok(name)
 }
 
-/// What becomes of a source whose name has so many bytes.
+/// Returns the outcome of a source whose name has `len` bytes.
 fn answer_named(alloc: Global, len: usize, source: &[u8]) -> Result<String, Fail> {
     let name = long_name(alloc, len)?;
     let mut store = MemStore::new(alloc);
@@ -169,7 +169,8 @@ fn answer_named(alloc: Global, len: usize, source: &[u8]) -> Result<String, Fail
     answer(alloc, &mut store, &job)
 }
 
-/// Sources whose name has 4,097 bytes, and how what becomes of them ends: only what is written names its file.
+/// Sources whose name has 4,097 bytes, and the end of their outcome: only located records name the
+/// file.
 const LONG_NAMED: [(&[u8], &str); 12] = [
     (b".import v\n.byte v", ":2: file name too long"),
     (b".import v\nlda v", ":2: file name too long"),
@@ -251,7 +252,7 @@ fn constants_given_twice(rt: HostRuntime) -> Result<(), Fail> {
     Ok(())
 }
 
-/// What a source says on both streams.
+/// Checks the output of a source on both streams.
 #[test]
 fn texts(rt: HostRuntime) -> Result<(), Fail> {
     let mut store = MemStore::new(rt.alloc());

@@ -1,4 +1,4 @@
-//! What stands behind a directive: lists, amounts and messages.
+//! Parses the operands of directives: lists, sizes and messages.
 
 ghost use Rattle.std.specs.Prelude.{◌≡◌, ◌<◌, ◌∷◌, [], false, length, map, option_map, take, IfOk, IfSome, None, Ok};
 ghost use Rattle.syntax65.specs.Tokens.{lexemes};
@@ -18,7 +18,7 @@ use object65::{Action, Width};
 use std::alloc::{AllocError, Global};
 use syntax65::Token;
 
-/// An element of a list.
+/// Parses an element of a list.
 fn item(alloc: Global, elements: ElementKind, tokens: &[Token<'_>]) -> Result<Item, AsmFault>
     ensures { RefinesParse result (IsItem elements (lexemes tokens.now)) }
 {
@@ -31,14 +31,16 @@ fn item(alloc: Global, elements: ElementKind, tokens: &[Token<'_>]) -> Result<It
     }
 }
 
-/// No elements, with room for those of so many tokens: a comma stands between each two.
+/// Returns an empty list with capacity for the elements of `count` tokens, which have commas
+/// between them.
 fn no_elements<T: Drop>(alloc: Global, count: usize) -> Result<ListVec<T>, AllocError>
     ensures { IfOk result (λ elements. elements ≡ []) }
 {
     Ok(ListVec::from_vec(Vec::with_capacity(alloc, count / 2 + 1)?))
 }
 
-/// The number before the first comma, where it stands there by itself, and the tokens behind that comma, if there is one.
+/// Returns the number before the first comma, if it is the only token there, and the tokens after
+/// the comma, if there is one.
 #[inline(always)]
 fn first_number<'a, 'b>(tokens: &'b [Token<'a>]) -> Option<(u32, Option<&'b [Token<'a>]>)>
     ensures parts { IfSome result (λ x. parts_of (lexemes tokens.now) ≡ lexemes (take 1 tokens.now)
@@ -61,7 +63,7 @@ fn first_number<'a, 'b>(tokens: &'b [Token<'a>]) -> Option<(u32, Option<&'b [Tok
     }
 }
 
-/// The numbers of a list that has nothing else, with a comma between each two.
+/// Parses a list that consists of numbers separated by commas.
 fn numbers(alloc: Global, tokens: &[Token<'_>]) -> Result<Option<ListVec<u32>>, AllocError>
     ensures { IfOk result (λ numbers. IfSome numbers (λ ns. (elements : ElementKind) →
         EachIs (IsItem elements) (parts_of (lexemes tokens.now)) (Ok (map literal_item ns)))) }
@@ -78,7 +80,7 @@ fn numbers(alloc: Global, tokens: &[Token<'_>]) -> Result<Option<ListVec<u32>>, 
     Ok(Some(numbers))
 }
 
-/// The elements of a list, whatever they are.
+/// Parses a list of any elements.
 fn mixed(
     alloc: Global,
     elements: ElementKind,
@@ -96,7 +98,7 @@ fn mixed(
     Ok(items)
 }
 
-/// The elements of a list, with a comma between each two.
+/// Parses elements separated by commas.
 pub fn items(alloc: Global, elements: ElementKind, tokens: &[Token<'_>]) -> Result<Items, AsmFault>
     ensures { RefinesParse result (EachIs (IsItem elements) (parts_of (lexemes tokens.now))) }
 {
@@ -107,7 +109,7 @@ pub fn items(alloc: Global, elements: ElementKind, tokens: &[Token<'_>]) -> Resu
     Ok(Items::new(ItemsKind::Mixed(items)))
 }
 
-/// `.byte` and the like.
+/// Parses `.byte` and similar directives.
 pub fn list(
     alloc: Global,
     elements: ElementKind,
@@ -120,7 +122,7 @@ pub fn list(
     Ok(Statement::Values { width, items })
 }
 
-/// `.asciiz`: a string and a 0.
+/// Parses `.asciiz`: a string, followed by a byte 0.
 pub fn ended_text(alloc: Global, tokens: &[Token<'_>]) -> Result<Statement, AsmFault>
     ensures { RefinesParse result (IsDirective directive.Asciiz (lexemes tokens.now)) }
 {
@@ -136,7 +138,7 @@ pub fn ended_text(alloc: Global, tokens: &[Token<'_>]) -> Result<Statement, AsmF
     })
 }
 
-/// Names, with a comma between each two.
+/// Parses names separated by commas.
 fn names(alloc: Global, tokens: &[Token<'_>]) -> Result<ListVec<ListVec<u8>>, AsmFault>
     ensures { RefinesParse result (EachIs IsName (parts_of (lexemes tokens.now))) }
 {
@@ -150,7 +152,7 @@ fn names(alloc: Global, tokens: &[Token<'_>]) -> Result<ListVec<ListVec<u8>>, As
     Ok(names)
 }
 
-/// `.import` and the like.
+/// Parses `.import` and similar directives.
 pub fn name_list(
     alloc: Global,
     which: NameListDirective,
@@ -167,10 +169,10 @@ pub fn name_list(
     })
 }
 
-/// A start and a length, each where it is there.
+/// An optional start and an optional length.
 type PartRange = (OptionalExpr, OptionalExpr);
 
-/// What stands behind a file's name.
+/// Parses the operands after the name of a file.
 fn range(alloc: Global, following: Option<&[Token<'_>]>) -> Result<PartRange, AsmFault>
     ensures { RefinesParse result (IsRange (parts_after (option_map (λ rest. lexemes rest.now) following.entry))) }
 {
@@ -181,7 +183,7 @@ fn range(alloc: Global, following: Option<&[Token<'_>]>) -> Result<PartRange, As
     Ok((OptionalExpr::some(alloc, start)?, len))
 }
 
-/// `.incbin`
+/// Parses `.incbin`.
 pub fn file_part(alloc: Global, tokens: &[Token<'_>]) -> Result<Statement, AsmFault>
     ensures { RefinesParse result (IsDirective directive.Incbin (lexemes tokens.now)) }
 {
@@ -192,7 +194,7 @@ pub fn file_part(alloc: Global, tokens: &[Token<'_>]) -> Result<Statement, AsmFa
     Ok(Statement::IncbinPath { name, start, len })
 }
 
-/// `n[,v]`
+/// Parses `n[,v]`.
 pub fn amount(
     alloc: Global,
     which: SizedDirective,
@@ -213,7 +215,7 @@ pub fn amount(
     })
 }
 
-/// How many bytes the text of an assertion has at most.
+/// The maximum length of an assertion's text in bytes.
 const MAX_TEXT: usize = 255;
 
 fn action_word(word: &[u8]) -> Result<Action, AsmFault>
@@ -228,7 +230,7 @@ fn action_word(word: &[u8]) -> Result<Action, AsmFault>
     }
 }
 
-/// An assertion's own text.
+/// Parses the text that an assertion gives.
 fn own_text(alloc: Global, tokens: &[Token<'_>]) -> Result<ListVec<u8>, AsmFault>
     ensures { RefinesParse result (λ r. r ≡ words_of (lexemes tokens.now ∷ [])) }
 {
@@ -239,7 +241,7 @@ fn own_text(alloc: Global, tokens: &[Token<'_>]) -> Result<ListVec<u8>, AsmFault
     Ok(ListVec::copy_of(alloc, text)?)
 }
 
-/// An assertion's text, if it has one of its own.
+/// Returns the text of an assertion: the given or the default one.
 fn text_of(alloc: Global, rest: Option<&[Token<'_>]>) -> Result<ListVec<u8>, AsmFault>
     ensures { RefinesParse result (λ r. r ≡ words_of (parts_after (option_map (λ rest. lexemes rest.now) rest.entry))) }
 {
@@ -253,7 +255,7 @@ fn text_of(alloc: Global, rest: Option<&[Token<'_>]>) -> Result<ListVec<u8>, Asm
     }
 }
 
-/// `.assert`
+/// Parses `.assert`.
 pub fn assertion(alloc: Global, tokens: &[Token<'_>]) -> Result<Statement, AsmFault>
     ensures { RefinesParse result (IsDirective directive.Assert (lexemes tokens.now)) }
 {
@@ -298,7 +300,7 @@ fn lone_statement(alloc: Global, which: BareDirective) -> Result<Statement, AsmF
     }
 }
 
-/// A statement without operands.
+/// Returns a statement without operands.
 pub fn lone(
     alloc: Global,
     which: BareDirective,
@@ -313,7 +315,7 @@ pub fn lone(
     }
 }
 
-/// `.out` and `.warning`
+/// Parses `.out` and `.warning`.
 pub fn message(alloc: Global, which: Message, tokens: &[Token<'_>]) -> Result<Statement, AsmFault>
     ensures { RefinesParse result (IsDirective (directive.Message which) (lexemes tokens.now)) }
 {
@@ -324,7 +326,7 @@ pub fn message(alloc: Global, which: Message, tokens: &[Token<'_>]) -> Result<St
     })
 }
 
-/// `.setcpu`
+/// Parses `.setcpu`.
 pub fn processor(tokens: &[Token<'_>]) -> Result<Statement, AsmFault>
     ensures { RefinesParse result (IsDirective directive.SetProcessor (lexemes tokens.now)) }
 {

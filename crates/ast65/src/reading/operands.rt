@@ -1,4 +1,4 @@
-//! Expressions and operands.
+//! Parses expressions and operands.
 
 ghost use Rattle.std.specs.Prelude.{◌≡◌, ◌<◌, ◌≤◌, ◌∷◌, [], false, length, not, option_map, IfOk, IfSome, IsTrue, None, Ok, Some};
 ghost use Rattle.std.specs.List.{prefix_len};
@@ -17,7 +17,7 @@ use crate::language::{Index, Operand, OptionalExpr};
 use std::alloc::Global;
 use syntax65::{AddressSize, Expr, ExprFault, ExprKind, Punctuation, Token, TokenKind, read_expr};
 
-/// The value of a number.
+/// Returns the value of a number.
 pub fn number_in(token: &Token<'_>) -> Option<u32>
     ensures number { IfSome result (λ v. opening_of token.now.kind token.now.text.now ≡ Number v) }
     ensures text { IfSome result (λ _. quoted_in (lexeme_of token.now) ≡ None) }
@@ -29,7 +29,7 @@ pub fn number_in(token: &Token<'_>) -> Option<u32>
     }
 }
 
-/// Whether no expression goes on with these tokens: none is there, or a `,` or a `)` comes first.
+/// Returns whether an expression ends here: at the end, or before `,` or `)`.
 fn end_expression(tokens: &[Token<'_>]) -> bool
     ensures { IsTrue result → binary_at (lexemes tokens.now) 0 ≡ None }
 {
@@ -39,7 +39,7 @@ fn end_expression(tokens: &[Token<'_>]) -> bool
     }
 }
 
-/// The value of a number at the front that is an expression by itself.
+/// Returns the value of a number at the start that is a whole expression.
 #[inline(always)]
 fn lone_number(tokens: &[Token<'_>]) -> Option<u32>
     ensures read { IfSome result (λ v. IsParsed (lexemes tokens.now) (Ok (number v, 1))) }
@@ -55,7 +55,8 @@ fn lone_number(tokens: &[Token<'_>]) -> Option<u32>
     }
 }
 
-/// The expression at the front, and how many tokens it has. Most are one number, in which no operators are looked for.
+/// Parses the expression at the start. Returns it and its number of tokens. Most expressions are
+/// one number, which takes a fast path.
 fn parsed(alloc: Global, tokens: &[Token<'_>]) -> Result<(Expr, usize), ExprFault>
     ensures read { RefinesRel is_expr_system_error (λ r. r) result (IsParsed (lexemes tokens.now)) }
     ensures bound { IfOk result (λ r. r.1 ≤ length tokens.now) }
@@ -66,7 +67,7 @@ fn parsed(alloc: Global, tokens: &[Token<'_>]) -> Result<(Expr, usize), ExprFaul
     }
 }
 
-/// An expression of all the tokens.
+/// Parses an expression that consists of all tokens.
 pub fn expression(alloc: Global, tokens: &[Token<'_>]) -> Result<Expr, AsmFault>
     ensures { RefinesParse result (IsExpression (lexemes tokens.now)) }
 {
@@ -78,14 +79,14 @@ pub fn expression(alloc: Global, tokens: &[Token<'_>]) -> Result<Expr, AsmFault>
     }
 }
 
-/// How many tokens stand before the first comma.
+/// Returns the number of tokens before the first comma.
 fn part_len(tokens: &[Token<'_>]) -> usize
     ensures { result ≡ prefix_len (λ t. not (is_comma (lexeme_of t))) tokens.now }
 {
     tokens.iter().take_while(|token| !is_comma(token)).count()
 }
 
-/// The tokens before the first comma, and those behind it, if there is one.
+/// Returns the tokens before the first comma, and those after it, if there is one.
 pub fn first_part<'a, 'b>(tokens: &'b [Token<'a>]) -> (&'b [Token<'a>], Option<&'b [Token<'a>]>)
     ensures parts { parts_of (lexemes tokens.now) ≡ lexemes result.0.now ∷ parts_after (option_map (λ rest. lexemes rest.now) result.1) }
     ensures shorter { IfSome result.1 (λ rest. length rest.now < length tokens.now) }
@@ -98,7 +99,7 @@ pub fn first_part<'a, 'b>(tokens: &'b [Token<'a>]) -> (&'b [Token<'a>], Option<&
     }
 }
 
-/// An expression at the front, and the tokens behind it.
+/// Parses an expression at the start. Returns it and the rest.
 pub fn front<'a, 'b>(
     alloc: Global,
     tokens: &'b [Token<'a>],
@@ -109,7 +110,7 @@ pub fn front<'a, 'b>(
     Ok((value, &tokens[count..]))
 }
 
-/// Two expressions, the second where one may be left out.
+/// Parses an expression and an optional second one.
 fn two(
     alloc: Global,
     first: &[Token<'_>],
@@ -122,7 +123,7 @@ fn two(
     Ok((first, OptionalExpr::some(alloc, second)?))
 }
 
-/// One expression or two, with a comma between them.
+/// Parses one expression, or two separated by a comma.
 pub fn one_or_two(alloc: Global, tokens: &[Token<'_>]) -> Result<(Expr, OptionalExpr), AsmFault>
     ensures { RefinesParse result (IsOneOrTwo (parts_of (lexemes tokens.now))) }
 {
@@ -137,7 +138,7 @@ pub fn one_or_two(alloc: Global, tokens: &[Token<'_>]) -> Result<(Expr, Optional
     }
 }
 
-/// The register behind a comma, or nothing.
+/// Parses nothing, or a comma and an index register.
 fn index_of(tokens: &[Token<'_>]) -> Result<Option<Index>, AsmFault>
     ensures { result ≡ index_of (lexemes tokens.now) }
 {
@@ -149,7 +150,7 @@ fn index_of(tokens: &[Token<'_>]) -> Result<Option<Index>, AsmFault>
     }
 }
 
-/// `e`, `e,x` or `e,y`.
+/// Parses `e`, `e,x` or `e,y`.
 fn address(
     alloc: Global,
     prefix: Option<AddressSize>,
@@ -166,7 +167,7 @@ fn address(
     })
 }
 
-/// What stands behind `(` and an expression: `)`, `,x)` or `),y`.
+/// Parses the end of an indirect operand, after `(` and an expression: `)`, `,x)` or `),y`.
 fn closing_of(tokens: &[Token<'_>]) -> Result<Option<Index>, AsmFault>
     ensures { result ≡ closing_of (lexemes tokens.now) }
 {
@@ -195,7 +196,7 @@ fn indirect_by(value: Expr, index: Option<Index>) -> Operand
     }
 }
 
-/// What stands behind a `(`.
+/// Parses an indirect operand, after its `(`.
 fn indirect(alloc: Global, tokens: &[Token<'_>]) -> Result<Operand, AsmFault>
     ensures { RefinesParse result (IsEnded closing_of indirect_by (lexemes tokens.now)) }
 {
@@ -204,7 +205,7 @@ fn indirect(alloc: Global, tokens: &[Token<'_>]) -> Result<Operand, AsmFault>
     Ok(indirect_by(value, index))
 }
 
-/// `a`, or an address without a prefix.
+/// Parses `a`, or an address without a prefix.
 #[tactic(auto, unfolding(crate::specs::Parsing::IsPlainOperand))]
 fn plain_operand(alloc: Global, tokens: &[Token<'_>]) -> Result<Operand, AsmFault>
     ensures { RefinesParse result (IsPlainOperand (lexemes tokens.now)) }
@@ -216,7 +217,7 @@ fn plain_operand(alloc: Global, tokens: &[Token<'_>]) -> Result<Operand, AsmFaul
     }
 }
 
-/// What stands behind a mnemonic.
+/// Parses the operand of an instruction.
 #[inline(always)]
 pub fn operand(alloc: Global, tokens: &[Token<'_>]) -> Result<Operand, AsmFault>
     ensures { RefinesParse result (IsOperand (lexemes tokens.now)) }

@@ -1,4 +1,4 @@
-//! Labels and statements, those of directives by their words.
+//! Parses labels and statements; dispatches on directives.
 
 ghost use Rattle.std.specs.Prelude.{◌≡◌, ◌∷◌, false, Ok, option_map, IfSome, Result, Some};
 ghost use Rattle.syntax65.specs.Tokens.{lexeme_of, lexemes};
@@ -20,7 +20,7 @@ use base65::ListVec;
 use std::alloc::Global;
 use syntax65::{Identifier, Mnemonic, Token, TokenKind, is_reserved, mnemonic};
 
-/// The label that a token before a `:` is, if it is one.
+/// Returns the label that a token before `:` is, if it is one.
 fn named_label(alloc: Global, token: &Token<'_>) -> Result<Option<Statement>, AsmFault>
     ensures { RefinesParse result (λ r. r ≡ Ok (named_label (lexeme_of token.now).0 (lexeme_of token.now).1)) }
 {
@@ -39,7 +39,7 @@ fn named_label(alloc: Global, token: &Token<'_>) -> Result<Option<Statement>, As
     }
 }
 
-/// A label of a token and a `:`, and the tokens behind it.
+/// Splits off a label that consists of a token and `:`.
 fn label_before<'a, 'b>(
     alloc: Global,
     token: &Token<'a>,
@@ -59,7 +59,7 @@ fn label_before<'a, 'b>(
     }
 }
 
-/// The label at the front, if there is one, and the tokens behind it.
+/// Splits the label off the start, if there is one. Returns it and the rest.
 pub fn label<'a, 'b>(
     alloc: Global,
     tokens: &'b [Token<'a>],
@@ -78,7 +78,7 @@ pub fn label<'a, 'b>(
     }
 }
 
-/// The statement of a directive and the tokens behind it.
+/// Parses the statement of a directive from the tokens after it.
 fn directive_statement(
     alloc: Global,
     word: &[u8],
@@ -105,7 +105,7 @@ fn directive_statement(
     }
 }
 
-/// `name = e`, by the name and what stands behind the mark.
+/// Parses `name = e` from the tokens after `=` or `:=`.
 fn constant(alloc: Global, name: &[u8], tokens: &[Token<'_>]) -> Result<Statement, AsmFault>
     ensures { RefinesParse result (IsConstant name.now (lexemes tokens.now)) }
 {
@@ -117,7 +117,7 @@ fn constant(alloc: Global, name: &[u8], tokens: &[Token<'_>]) -> Result<Statemen
     Ok(Statement::Constant { name, value })
 }
 
-/// An instruction, by its name and its operand.
+/// Parses an instruction from its name and the tokens of its operand.
 fn instruction(alloc: Global, name: &[u8], tokens: &[Token<'_>]) -> Result<Statement, AsmFault>
     ensures { RefinesParse result (IsInstruction (mnemonic_of name.now) (lexemes tokens.now)) }
 {
@@ -128,8 +128,8 @@ fn instruction(alloc: Global, name: &[u8], tokens: &[Token<'_>]) -> Result<State
     Ok(Statement::Instruction { mnemonic, operand })
 }
 
-/// The mnemonic at the front of an instruction, and what stands behind it; nothing where another statement
-/// stands.
+/// Splits an instruction into its mnemonic and the tokens of its operand. Returns `None` for any
+/// other statement.
 #[inline(always)]
 pub fn instruction_front<'a, 'b>(tokens: &'a [Token<'b>]) -> Option<(Mnemonic, &'a [Token<'b>])>
     ensures { IfSome result (λ x. (r : Result Statement AsmFault) →
@@ -148,7 +148,7 @@ pub fn instruction_front<'a, 'b>(tokens: &'a [Token<'b>]) -> Option<(Mnemonic, &
     Some((mnemonic, following))
 }
 
-/// A statement that begins with an identifier.
+/// Parses a statement that begins with an identifier.
 fn named(alloc: Global, name: &[u8], tokens: &[Token<'_>]) -> Result<Statement, AsmFault>
     ensures { RefinesParse result (IsNamed name.now (lexemes tokens.now)) }
 {
@@ -164,11 +164,11 @@ fn named(alloc: Global, name: &[u8], tokens: &[Token<'_>]) -> Result<Statement, 
     }
 }
 
-/// The statement of some tokens, behind their label.
+/// Parses a statement without its label.
 ///
 /// # Errors
 ///
-/// Tokens that are no statement aren't understood.
+/// `NotUnderstood` for tokens that are no statement.
 #[inline(never)]
 pub fn statement(alloc: Global, tokens: &[Token<'_>]) -> Result<Statement, AsmFault>
     ensures { RefinesParse result (IsStatement (lexemes tokens.now)) }

@@ -1,4 +1,4 @@
-//! Tokens at places of a line, and what they are.
+//! Classifies single tokens of a line.
 
 ghost use Rattle.std.specs.Prelude.{◌≡◌, false, option_map};
 ghost use Rattle.syntax65.specs.Tokens.{lexeme_of, lexemes};
@@ -25,14 +25,14 @@ pub fn is_colon(token: &Token<'_>) -> bool
     matches!(token.kind, TokenKind::Symbol(Punctuation::Colon))
 }
 
-/// Whether a token is a `)`.
+/// Returns whether a token is `)`.
 pub fn is_close(token: &Token<'_>) -> bool
     ensures { result ≡ is_close (lexeme_of token.now) }
 {
     matches!(token.kind, TokenKind::Symbol(Punctuation::CloseParenthesis))
 }
 
-/// Whether a token is `=` or `:=`.
+/// Returns whether a token is `=` or `:=`.
 pub fn defines(token: &Token<'_>) -> bool
     ensures { result ≡ defines (lexeme_of token.now) }
 {
@@ -42,7 +42,7 @@ pub fn defines(token: &Token<'_>) -> bool
     )
 }
 
-/// The bytes between the quotes of a string.
+/// Returns the bytes between the quotes of a string.
 fn inner(quoted: &[u8]) -> &[u8]
     ensures { result.now ≡ inner quoted.now }
 {
@@ -53,7 +53,7 @@ fn inner(quoted: &[u8]) -> &[u8]
     }
 }
 
-/// The bytes of a string.
+/// Returns the bytes of a string.
 pub fn quoted_in<'a>(token: &Token<'a>) -> Option<&'a [u8]>
     ensures { option_map (λ s. s.now) result ≡ quoted_in (lexeme_of token.now) }
 {
@@ -63,7 +63,7 @@ pub fn quoted_in<'a>(token: &Token<'a>) -> Option<&'a [u8]>
     }
 }
 
-/// The bytes of an identifier.
+/// Returns the bytes of an identifier.
 pub fn word_in<'a>(token: &Token<'a>) -> Option<&'a [u8]>
     ensures { option_map (λ s. s.now) result ≡ word_in (lexeme_of token.now) }
 {
@@ -73,7 +73,7 @@ pub fn word_in<'a>(token: &Token<'a>) -> Option<&'a [u8]>
     }
 }
 
-/// The bytes of one string.
+/// Returns the bytes of a string, if it is the only token.
 pub fn string_of<'a>(tokens: &[Token<'a>]) -> Option<&'a [u8]>
     ensures { option_map (λ s. s.now) result ≡ string_of (lexemes tokens.now) }
 {
@@ -83,7 +83,7 @@ pub fn string_of<'a>(tokens: &[Token<'a>]) -> Option<&'a [u8]>
     }
 }
 
-/// The bytes of one identifier.
+/// Returns the bytes of an identifier, if it is the only token.
 pub fn word_of<'a>(tokens: &[Token<'a>]) -> Option<&'a [u8]>
     ensures { option_map (λ s. s.now) result ≡ word_of (lexemes tokens.now) }
 {
@@ -93,7 +93,7 @@ pub fn word_of<'a>(tokens: &[Token<'a>]) -> Option<&'a [u8]>
     }
 }
 
-/// Whether an identifier, if there is one, is this name in either case.
+/// Returns whether an identifier, if there is one, is this name in upper or lower case.
 pub fn is_spelled(word: Option<&[u8]>, name: &[u8]) -> bool
     ensures { result ≡ is_spelled_as (option_map (λ s. s.now) word.entry) name.now }
 {
@@ -103,14 +103,14 @@ pub fn is_spelled(word: Option<&[u8]>, name: &[u8]) -> bool
     }
 }
 
-/// Whether a token is this identifier, in either case.
+/// Returns whether a token is this identifier, in upper or lower case.
 pub fn spells(token: &Token<'_>, name: &[u8]) -> bool
     ensures { result ≡ is_word_of (lexeme_of token.now) name.now }
 {
     is_spelled(word_in(token), name)
 }
 
-/// What was looked for, which has to be there.
+/// Returns the bytes, or an error if there are none.
 pub fn ok_or_not_understood(found: Option<&[u8]>) -> Result<&[u8], AsmFault>
     ensures { ParsesAs (λ s. s.now) result
         (λ r. r ≡ ok_or_not_understood (option_map (λ s. s.now) found.entry)) }
@@ -121,7 +121,7 @@ pub fn ok_or_not_understood(found: Option<&[u8]>) -> Result<&[u8], AsmFault>
     }
 }
 
-/// The bytes of a plain name.
+/// Parses a plain name.
 pub fn name_of<'a>(tokens: &[Token<'a>]) -> Result<&'a [u8], AsmFault>
     ensures { ParsesAs (λ s. s.now) result (λ r. r ≡ name_of (lexemes tokens.now)) }
 {
@@ -144,7 +144,7 @@ fn size_word(word: &[u8]) -> Result<AddressSize, AsmFault>
     }
 }
 
-/// Nothing, or `: zeropage` or `: absolute`.
+/// Parses nothing, `: zeropage` or `: absolute`.
 fn size_after(tokens: &[Token<'_>]) -> Result<Option<AddressSize>, AsmFault>
     ensures { RefinesParse result (λ r. r ≡ size_after (lexemes tokens.now)) }
 {
@@ -176,7 +176,7 @@ fn are_letters_or_digits(bytes: &[u8]) -> bool
     bytes.iter().all(|byte| is_letter_or_digit(*byte))
 }
 
-/// Whether the bytes are those of an identifier.
+/// Returns whether the bytes are those of an identifier.
 fn is_identifier(bytes: &[u8]) -> bool
     ensures { result ≡ is_identifier bytes.now }
 {
@@ -186,7 +186,7 @@ fn is_identifier(bytes: &[u8]) -> bool
     is_letter(*first) && are_letters_or_digits(following) && bytes.len() <= MAX_NAME
 }
 
-/// `.segment`
+/// Parses `.segment`.
 pub fn segment(alloc: Global, tokens: &[Token<'_>]) -> Result<Statement, AsmFault>
     ensures { RefinesParse result (IsDirective directive.Segment (lexemes tokens.now)) }
 {
@@ -202,7 +202,7 @@ pub fn segment(alloc: Global, tokens: &[Token<'_>]) -> Result<Statement, AsmFaul
     Ok(Statement::Segment { name, size })
 }
 
-/// `.scope`
+/// Parses `.scope`.
 pub fn scope(alloc: Global, tokens: &[Token<'_>]) -> Result<Statement, AsmFault>
     ensures { RefinesParse result (IsDirective directive.Scope (lexemes tokens.now)) }
 {
@@ -213,7 +213,7 @@ pub fn scope(alloc: Global, tokens: &[Token<'_>]) -> Result<Statement, AsmFault>
     Ok(Statement::OpenScope(Some(name)))
 }
 
-/// `.proc`
+/// Parses `.proc`.
 pub fn proc(alloc: Global, tokens: &[Token<'_>]) -> Result<Statement, AsmFault>
     ensures { RefinesParse result (IsDirective directive.Proc (lexemes tokens.now)) }
 {

@@ -1,4 +1,4 @@
-//! What directives ask for.
+//! The table of directives.
 
 ghost use Rattle.std.specs.Prelude.{◌≡◌, map};
 ghost use Rattle.ast65.specs.Parsing.{among, directive_of};
@@ -6,21 +6,21 @@ ghost use Rattle.ast65.specs.Parsing.{among, directive_of};
 use object65::Width;
 use syntax65::AddressSize;
 
-/// What the elements of a list of data are.
+/// The kind of a list's elements.
 #[derive(Clone, Copy)]
 pub enum ElementKind {
     Values,
     ValuesAndTexts,
 }
 
-/// A statement that places so many bytes, or bytes up to a multiple.
+/// A directive that takes a size: `n[,v]`.
 #[derive(Clone, Copy)]
 pub enum SizedDirective {
     Reserve,
     Align,
 }
 
-/// A statement without operands.
+/// A directive without operands.
 #[derive(Clone, Copy)]
 pub enum BareDirective {
     PushSegment,
@@ -36,7 +36,7 @@ pub enum BareDirective {
     ZeroPage,
 }
 
-/// A statement with a list of names.
+/// A directive that takes a list of names.
 #[derive(Clone, Copy)]
 pub enum NameListDirective {
     Import(AddressSize),
@@ -45,14 +45,14 @@ pub enum NameListDirective {
     ForceImport,
 }
 
-/// A statement that prints.
+/// A directive that prints.
 #[derive(Clone, Copy)]
 pub enum Message {
     Out,
     Warning,
 }
 
-/// What a directive asks for.
+/// A directive, with its variant.
 #[derive(Clone, Copy)]
 pub enum Directive {
     List(ElementKind, Width),
@@ -72,7 +72,7 @@ pub enum Directive {
     SetProcessor,
 }
 
-/// The directives by their words.
+/// The directives by name.
 static WORDS: [(&[u8], Directive); 34] = [
     (
         b".byte",
@@ -137,7 +137,7 @@ static WORDS: [(&[u8], Directive); 34] = [
     (b".setcpu", Directive::SetProcessor),
 ];
 
-/// What a table says of a word, in either case.
+/// Returns the entry of a word in a table, in upper or lower case.
 fn among(table: &[(&[u8], Directive)], word: &[u8]) -> Option<Directive>
     ensures { result ≡ among (map (λ row. (row.0.now, row.1)) table.now) word.now }
 {
@@ -149,7 +149,7 @@ fn among(table: &[(&[u8], Directive)], word: &[u8]) -> Option<Directive>
     None
 }
 
-/// What a directive asks for, if it is one that is known here.
+/// Returns the directive with this name.
 pub fn directive_of(word: &[u8]) -> Option<Directive>
     ensures { result ≡ directive_of word.now }
 {

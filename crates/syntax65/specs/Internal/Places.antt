@@ -1,4 +1,4 @@
--- What stands at a place, and what the readers of one class of tokens need.
+-- The token at a position, and definitions for the readers of each class of tokens.
 use Rattle.std.specs.Prelude.{◌≡◌, ◌≢◌, ◌⊎◌, ◌+◌, ℕ, Bool, List, [], ◌∷◌, take, drop, Option, Some, None, Result, Ok, Err, ⊤}
 use Rattle.std.specs.List.{prefix_len}
 use Rattle.base65.specs.Digit.{digits}
@@ -9,7 +9,7 @@ use Rattle.syntax65.specs.declared.lexing.tokens.TokenKind.{TokenKind}
 use Rattle.syntax65.specs.declared.lexing.tokens.TokenKind.TheVariants.{CheapName, Directive, Symbol}
 use Rattle.syntax65.specs.declared.lexing.tokens.LexFault.{LexFault}
 
--- a token of this kind and length stands here, or none does for this reason
+-- a token of this kind and length is here, or there is none for this reason
 abbrev pub IsAt : Bool → List ℕ → Result (TokenKind × ℕ) LexFault → Type 0
 IsAt first here (Ok t) = IsToken first t.0 t.1 here
 IsAt first here (Err fault) = FaultAt first here fault
@@ -24,24 +24,24 @@ BeginsSigned CheapName here = BeginsWithClass At here
 BeginsSigned Directive here = BeginsWithClass Dot here
 BeginsSigned _ here = ⊥
 
--- neither `+` nor `-` is first
+-- neither `+` nor `-` comes first
 abbrev pub NoSign : List ℕ → Type 0
 NoSign [] = ⊤
 NoSign (b ∷ bs) = (b ≢ 43) × (b ≢ 45)
 
--- only a mark can stand here
+-- only punctuation can be here
 abbrev pub BeginsMark : List ℕ → Type 0
 BeginsMark here = BeginsWithClass Other here ⊎ (BeginsWithClass Colon here × NoSign (drop 1 here))
 
--- this mark of two bytes stands here, or none does
+-- this punctuation of two bytes is here, or none is
 abbrev pub IsLongMarkAt : List ℕ → Option Punctuation → Type 0
 IsLongMarkAt here None = (m : Punctuation) (first : Bool) → TokenMatchesAt first (Symbol m) 2 here → ⊥
 IsLongMarkAt here (Some m) = (first : Bool) → TokenMatchesAt first (Symbol m) 2 here
 
--- so many digits stand in front of what is no letter, digit or `_`, and have this value
+-- n digits with the value v are followed by no letter, digit or `_`
 abbrev pub AreDigitsAhead : ℕ → List ℕ → ℕ → ℕ → Type 0
 AreDigitsAhead radix bytes v n = (n ≡ prefix_len is_word bytes) × (digits radix (take n bytes) ≡ Some v)
 
--- so many bytes are a number's, up to the first that is no letter, digit or `_`, and have this value
+-- the bytes up to the first that is no letter, digit or `_` are a number with this value
 abbrev pub IsPlainNumber : List ℕ → ℕ → ℕ → Type 0
 IsPlainNumber here v n = (n ≡ 1 + prefix_len is_word (drop 1 here)) × (number_of (take n here) ≡ Some v)

@@ -1,4 +1,4 @@
-//! Reading expressions, and names with `::` between them.
+//! Parses expressions, and names joined by `::`.
 
 ghost use Rattle.std.specs.Prelude.{◌<◌, ◌≤◌, length, IfOk, ◌≡◌};
 ghost use Rattle.syntax65.specs.Expressions.{AreNames, IsLevel, IsParsed, opening_at, leaf_of};
@@ -15,7 +15,7 @@ use super::words::{
 use crate::{ListVec, Op1, Token};
 use std::alloc::{AllocError, Global};
 
-/// The names from a place on, as far as `::` goes on, and where they end.
+/// Parses names joined by `::`, from a token on. Returns them and the index after them.
 pub fn read_parts(
     alloc: Global,
     tokens: &[Token<'_>],
@@ -41,14 +41,14 @@ pub fn read_parts(
     }
 }
 
-/// How deep parentheses, prefix operators and negations nest together.
+/// The greatest nesting depth of parentheses, prefix operators and negations together.
 pub const MAX_DEPTH: u8 = 64;
 
-/// The expression at the front, and how many tokens it has.
+/// Parses the expression at the start of `tokens`. Returns it and its number of tokens.
 ///
 /// # Errors
 ///
-/// The fault of the first place where no expression can go on.
+/// The error of the first token at which no expression can continue.
 pub fn read_expr(alloc: Global, tokens: &[Token<'_>]) -> Result<(Expr, usize), ExprFault>
     ensures read { RefinesRel is_expr_system_error (λ r. r) result (IsParsed (lexemes tokens.now)) }
     ensures further { IfOk result (λ r. 0 < r.1) }
@@ -57,7 +57,7 @@ pub fn read_expr(alloc: Global, tokens: &[Token<'_>]) -> Result<(Expr, usize), E
     read_whole(alloc, tokens, 0, MAX_DEPTH)
 }
 
-/// The phrase of the last level from a place on, and where it ends.
+/// Parses a phrase of the last level, from a token on. Returns it and the index after it.
 #[cycle(expr)]
 fn read_whole(
     alloc: Global,
@@ -99,7 +99,7 @@ fn read_negated(
     ))
 }
 
-/// The phrase of a level from a place on, and where it ends.
+/// Parses a phrase of a level, from a token on. Returns it and the index after it.
 #[cycle(expr)]
 fn read_level(
     alloc: Global,
@@ -114,8 +114,8 @@ fn read_level(
     ensures inside { IfOk result (λ r. r.1 ≤ length tokens.now) }
 {
     let (mut left, mut end) = read_operand(alloc, tokens, at, room)?;
-    // No operator of its own level or of a tighter one stands behind a phrase, so what is read so far is the whole left
-    // side of the next.
+    // No operator of this level or a tighter one follows the phrase, so the phrase read so far is
+    // the left operand of the next operator.
     'operators: while let Some((op, own)) = operator_at(tokens, level, end) {
         let (right, next) = read_level(alloc, tokens, end + 1, own - 1, room)?;
         let operands = Operands { left, right };
@@ -149,7 +149,7 @@ fn read_operand(
     }
 }
 
-/// The operand of one token.
+/// Returns the operand that consists of one token.
 fn leaf_of(alloc: Global, opening: OperandStart, text: &[u8]) -> Result<Option<Expr>, AllocError>
     ensures { IfOk result (λ leaf. leaf ≡ leaf_of opening text.now) }
 {

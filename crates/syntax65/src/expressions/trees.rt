@@ -1,4 +1,4 @@
-//! The trees of expressions.
+//! Expression trees.
 
 ghost use Rattle.std.specs.Prelude.{◌≡◌, IfOk};
 ghost use Rattle.syntax65.specs.Kinds.{tree_of};
@@ -8,10 +8,10 @@ use smallvec::SmallVec;
 use std::alloc::{AllocError, Global};
 use std::marker::Model;
 
-/// How long a name alone is at most for which nothing is allocated.
+/// The length up to which a single name needs no allocation.
 const SHORT_NAME: usize = 16;
 
-/// A name alone, which contracts see as its bytes.
+/// A single name. Its contract view is its bytes.
 #[derive(Drop)]
 pub struct Identifier {
     text: SmallVec<u8, SHORT_NAME>,
@@ -29,7 +29,7 @@ impl Model for Identifier {
 }
 
 impl Identifier {
-    /// A copy of the name.
+    /// Copies a name.
     pub fn copy_of(alloc: Global, text: &[u8]) -> Result<Self, AllocError>
         ensures { IfOk result (λ n. n ≡ text.now) }
     {
@@ -38,7 +38,7 @@ impl Identifier {
         })
     }
 
-    /// The bytes of the name.
+    /// Returns the bytes of the name.
     pub fn as_slice(&self) -> &[u8]
         ensures { result.now ≡ self.now }
     {
@@ -46,19 +46,19 @@ impl Identifier {
     }
 }
 
-/// Names with `::` between them.
+/// Names joined by `::`.
 #[derive(Drop)]
 pub struct Name {
     /// Whether it begins with `::`.
     pub is_global: bool,
-    /// One name at least.
+    /// At least one name.
     pub parts: ListVec<ListVec<u8>>,
 }
 
 impl Name {
     ghost use Rattle.std.specs.Prelude.{[], ◌∷◌, false};
 
-    /// A name alone.
+    /// Returns the path that consists of one name.
     pub fn of(alloc: Global, text: &[u8]) -> Result<Self, AllocError>
         ensures { IfOk result (λ n. n ≡ record { is_global = false; parts = text.now ∷ [] }) }
     {
@@ -71,25 +71,25 @@ impl Name {
     }
 }
 
-/// An expression, which contracts see as a tree, without its boxes.
+/// An expression. Its contract view is a tree without boxes.
 #[derive(Drop)]
 #[cycle(expr)]
 pub struct Expr {
     kind: ExprKind,
 }
 
-/// What an expression is.
+/// The kinds of expressions.
 #[derive(Drop)]
 #[cycle(expr)]
 pub enum ExprKind {
     Number(u32),
-    /// `*`, the address of the start of the statement.
+    /// `*`, the address of the statement.
     Here,
-    /// A name alone.
+    /// A single name.
     Plain(Identifier),
-    /// Names with `::` between them, or before them.
+    /// Names joined by `::`, or with a leading `::`.
     Scoped(Name),
-    /// A cheap name with its `@`.
+    /// A cheap local name, with its `@`.
     Cheap(Identifier),
     /// `:+` is 1, `:++` is 2.
     Forward(usize),
@@ -99,7 +99,7 @@ pub enum ExprKind {
     Binary(Op2, Box<Operands>),
 }
 
-/// What stands on both sides of an operator.
+/// The operands of a binary operator.
 #[derive(Drop)]
 #[cycle(expr)]
 pub struct Operands {
@@ -126,14 +126,14 @@ impl Model for Expr {
 }
 
 impl Expr {
-    /// The expression of this kind.
+    /// Returns the expression of this kind.
     pub fn new(kind: ExprKind) -> Self
         ensures { result ≡ tree_of kind }
     {
         Expr { kind }
     }
 
-    /// What the expression is.
+    /// Returns the kind of the expression.
     pub fn kind(&self) -> &ExprKind
         ensures { tree_of result.now ≡ self.now }
     {

@@ -1,4 +1,4 @@
-//! What stands at a place of a list of tokens within an expression, and why there is none.
+//! Classifies the tokens of expressions; errors of expressions.
 
 ghost use Rattle.std.specs.Prelude.{◌≡◌, ◌≢◌, ◌<◌, ◌≤◌, ◌↔◌, length, slice_get, IfSome, IsSome, IsTrue, MatchOption, Some};
 ghost use Rattle.syntax65.specs.declared.expressions.words.ExprFault.TheVariants.{OutOfMemory};
@@ -11,7 +11,7 @@ use crate::{Op1, Op2, Punctuation, Token, TokenKind, mnemonic};
 use std::alloc::{AllocError, AllocFailed};
 use std::fmt;
 
-/// Why tokens are no expression.
+/// An error of an expression.
 #[derive(Clone, Copy, Debug, PartialEq, Eq)]
 pub enum ExprFault {
     OutOfMemory = 1,
@@ -23,7 +23,7 @@ pub enum ExprFault {
 impl ExprFault {
     ghost use Rattle.syntax65.specs.Faults.{expr_fault_words};
 
-    /// The words of a message.
+    /// Returns the text of the message.
     pub fn words(self) -> &'static str
         ensures { result.now ≡ expr_fault_words self }
     {
@@ -72,7 +72,7 @@ fn token_at<'a>(tokens: &[Token<'a>], at: usize) -> Option<Token<'a>>
     tokens.get(at).copied()
 }
 
-/// How the token at a place can begin an operand.
+/// Returns how the token at an index can begin an operand.
 pub fn opening_at(tokens: &[Token<'_>], at: usize) -> OperandStart
     ensures value { result ≡ opening_at (lexemes tokens.now) at }
     ensures inside { result ≢ OperandStart.Nothing → at < length tokens.now }
@@ -83,7 +83,7 @@ pub fn opening_at(tokens: &[Token<'_>], at: usize) -> OperandStart
     }
 }
 
-/// Whether a name stands at a place.
+/// Returns whether the token at an index is a name.
 pub fn is_name(tokens: &[Token<'_>], at: usize) -> bool
     ensures value { IsTrue result ↔ (opening_at (lexemes tokens.now) at ≡ OperandStart.Name) }
     ensures inside { IsTrue result → at < length tokens.now }
@@ -91,7 +91,7 @@ pub fn is_name(tokens: &[Token<'_>], at: usize) -> bool
     matches!(opening_at(tokens, at), OperandStart::Name)
 }
 
-/// Whether a `::` stands at a place.
+/// Returns whether the token at an index is `::`.
 pub fn is_scope(tokens: &[Token<'_>], at: usize) -> bool
     ensures value { IsTrue result ↔ (opening_at (lexemes tokens.now) at ≡ OperandStart.Scope) }
     ensures inside { IsTrue result → at < length tokens.now }
@@ -102,7 +102,7 @@ pub fn is_scope(tokens: &[Token<'_>], at: usize) -> bool
     }
 }
 
-/// Whether a `!` stands at a place.
+/// Returns whether the token at an index is `!`.
 pub fn is_negation(tokens: &[Token<'_>], at: usize) -> bool
     ensures value { IsTrue result ↔ (opening_at (lexemes tokens.now) at ≡ OperandStart.Negation) }
     ensures inside { IsTrue result → at < length tokens.now }
@@ -124,7 +124,7 @@ pub fn is_negation(tokens: &[Token<'_>], at: usize) -> bool
     }
 }
 
-/// The bytes of the token at a place, none where there is no token.
+/// Returns the bytes of the token at an index, or none after the last token.
 pub fn text_at<'a>(tokens: &[Token<'a>], at: usize) -> &'a [u8]
     ensures { result.now ≡ text_at (lexemes tokens.now) at }
 {
@@ -134,7 +134,7 @@ pub fn text_at<'a>(tokens: &[Token<'a>], at: usize) -> &'a [u8]
     }
 }
 
-/// The operator at a place, and its level, where that is at most `level`.
+/// Returns the operator at an index and its level, if that is at most `level`.
 pub fn operator_at(tokens: &[Token<'_>], level: u8, at: usize) -> Option<(Op2, u8)>
     ensures value { MatchOption result (NoOperator (lexemes tokens.now) level at)
         (λ x. (binary_at (lexemes tokens.now) at ≡ Some x.0) × ((level_of x.0 ≡ x.1) × (x.1 ≤ level))) }
@@ -154,7 +154,7 @@ fn binary_at(tokens: &[Token<'_>], at: usize) -> Option<Op2>
     binary_of(token.kind, token.text)
 }
 
-/// Whether a `)` stands at a place.
+/// Returns whether the token at an index is `)`.
 pub fn closes_at(tokens: &[Token<'_>], at: usize) -> bool
     ensures value { result ≡ closes_at (lexemes tokens.now) at }
     ensures inside { IsTrue result → at < length tokens.now }
@@ -165,7 +165,7 @@ pub fn closes_at(tokens: &[Token<'_>], at: usize) -> bool
     }
 }
 
-/// How a token can begin an operand, or what it is in its place.
+/// How a token can begin an operand, or why it can't.
 #[derive(Clone, Copy)]
 pub enum OperandStart {
     Number(u32),
@@ -181,7 +181,7 @@ pub enum OperandStart {
     Nothing,
 }
 
-/// Whether an identifier is a mnemonic or a register, and so no name.
+/// Returns whether an identifier is the name of a mnemonic or a register, and so no symbol.
 pub fn is_reserved(text: &[u8]) -> bool
     ensures { result ≡ is_reserved text.now }
 {
@@ -194,7 +194,7 @@ fn is_register(text: &[u8]) -> bool
     is_word(text, b"a") || is_word(text, b"x") || is_word(text, b"y")
 }
 
-/// How a token can begin an operand.
+/// Returns how a token can begin an operand.
 pub fn opening_of(kind: TokenKind, text: &[u8]) -> OperandStart
     ensures { result ≡ opening_of kind text.now }
 {
@@ -263,7 +263,7 @@ fn opening_of_word(text: &[u8]) -> OperandStart
     }
 }
 
-/// The operator for two operands that a token is.
+/// Returns the binary operator that a token is.
 pub fn binary_of(kind: TokenKind, text: &[u8]) -> Option<Op2>
     ensures { result ≡ binary_of kind text.now }
 {
@@ -325,7 +325,8 @@ fn binary_of_word(text: &[u8]) -> Option<Op2>
     }
 }
 
-/// The level of an operator, the tightest first, from 1 on; prefix operators have level 0.
+/// Returns the level of an operator. The tightest binary operators have level 1, and prefix
+/// operators level 0.
 pub fn level_of(op: Op2) -> u8
     ensures { result ≡ level_of op }
 {

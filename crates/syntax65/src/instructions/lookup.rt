@@ -1,4 +1,4 @@
-//! The mnemonic that bytes spell.
+//! Looks up mnemonics by name.
 
 ghost use Rattle.std.specs.Prelude.{◌≡◌};
 ghost use Rattle.syntax65.specs.Forms.{IsFound};
@@ -6,7 +6,7 @@ ghost use Rattle.syntax65.specs.Mnemonics.{SpellsMnemonic, mnemonic_of, name_of}
 
 use super::names::Mnemonic;
 
-/// The mnemonic that these bytes spell, in either case.
+/// Returns the mnemonic with this name, in upper or lower case.
 pub fn mnemonic(bytes: &[u8]) -> Option<Mnemonic>
     ensures value { result ≡ mnemonic_of bytes.now }
     ensures spelled { IsFound (SpellsMnemonic bytes.now) result }
@@ -21,7 +21,7 @@ pub fn mnemonic(bytes: &[u8]) -> Option<Mnemonic>
     }
 }
 
-/// The mnemonic of three small letters.
+/// Returns the mnemonic with this name of three lower-case letters.
 fn of_letters(letters: [u8; 3]) -> Option<Mnemonic>
     ensures { IsFound (λ m. letters ≡ name_of m) result }
 {

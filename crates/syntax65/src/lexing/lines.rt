@@ -1,4 +1,4 @@
-//! Lines as tokens: the whole of a line, a line a token at a time, and its first words.
+//! Splits lines into tokens: a whole line, one token at a time, or the first two tokens only.
 
 ghost use Rattle.std.specs.Prelude.{◌≡◌, ◌≤◌, ◌↔◌, ◌++◌, ◌∷◌, [], IsTrue, ◌<◌, IfOk, IfSome, MatchResult, length, List, true, Ok, Err};
 ghost use Rattle.syntax65.specs.declared.lexing.tokens.LexFault.TheVariants.{LineTooLong};
@@ -10,20 +10,20 @@ use super::places::{blank_len, token_at};
 use super::tokens::{LexFault, Token, TokenKind};
 use std::alloc::{AllocError, Global};
 
-/// How many bytes a line has at most.
+/// The maximum length of a line in bytes.
 pub const MAX_LINE: usize = 4096;
 
-/// How many tokens most lines have at most. For so many nothing is allocated.
+/// The number of tokens up to which a line needs no allocation. Most lines have fewer.
 const FEW_TOKENS: usize = 8;
 
-/// Room for a few tokens, and how many of them are there.
+/// Storage for a few tokens, and how many it contains.
 #[derive(Drop)]
 pub struct FewTokens<'a> {
     pub room: [Token<'a>; FEW_TOKENS],
     pub count: usize,
 }
 
-/// The tokens of a line. A few stand in their own place, and more of them in memory that is asked for.
+/// The tokens of a line. A few are stored inline, more of them on the heap.
 #[derive(Drop)]
 pub struct LineTokens<'a> {
     pub few: FewTokens<'a>,
@@ -31,7 +31,7 @@ pub struct LineTokens<'a> {
 }
 
 impl<'a> LineTokens<'a> {
-    /// No tokens.
+    /// Returns an empty list of tokens.
     #[inline(always)]
     pub fn new() -> Self
         ensures { HoldsNothing result }
@@ -60,7 +60,7 @@ impl<'a> LineTokens<'a> {
         }
     }
 
-    /// Reads a line.
+    /// Replaces the tokens by those of a line.
     ///
     /// # Errors
     ///
@@ -89,7 +89,7 @@ impl<'a> LineTokens<'a> {
     }
 }
 
-/// These tokens, one more, and those of what is left of their line.
+/// Collects the few tokens, one more token, and the tokens of the rest of the line.
 #[inline(never)]
 fn read_many<'a>(
     alloc: Global,
@@ -107,7 +107,7 @@ fn read_many<'a>(
     Ok(many)
 }
 
-/// Reads what is left of a line.
+/// Appends the tokens of the rest of a line.
 #[inline(always)]
 fn read_on<'a>(mut lexer: Lexer<'a>, tokens: &mut Vec<Token<'a>>) -> Result<(), LexFault>
     ensures { ReadsOn lexer.entry (lexemes tokens.old.items) result (λ _. lexemes tokens.new.items) }
@@ -120,22 +120,22 @@ fn read_on<'a>(mut lexer: Lexer<'a>, tokens: &mut Vec<Token<'a>>) -> Result<(), 
     }
 }
 
-/// The tokens of a line, each of which borrows its slice.
+/// Splits a line into tokens that borrow from it.
 ///
 /// # Errors
 ///
-/// `LineTooLong`, or else the fault of the first place where no token stands.
+/// `LineTooLong`, or the error at the first byte that begins no token.
 pub fn line_tokens(alloc: Global, line: &[u8]) -> Result<Vec<Token<'_>>, LexFault>
     ensures { RefinesRel is_lex_system_error (λ tokens. lexemes tokens.items) result (IsRead line.now) }
 {
     let lexer = Lexer::new(line)?;
-    // A token and what parts it from the next take two bytes or more, but in lists of marks.
+    // A token and its separator take at least two bytes, except in lists of punctuation.
     let mut tokens = Vec::with_capacity(alloc, line.len() / 2 + 1)?;
     read_on(lexer, &mut tokens)?;
     Ok(tokens)
 }
 
-/// What stands behind the blanks.
+/// Returns the bytes after leading blanks.
 pub fn skip_blanks(line: &[u8]) -> &[u8]
     ensures { result.now ≡ after_blanks line.now }
 {
@@ -143,7 +143,7 @@ pub fn skip_blanks(line: &[u8]) -> &[u8]
     here
 }
 
-/// Whether the line ends here, or a comment begins.
+/// Returns whether the line ends here or a comment begins.
 pub fn is_end(here: &[u8]) -> bool
     ensures { IsTrue result ↔ IsEnd here.now }
 {
@@ -153,16 +153,16 @@ pub fn is_end(here: &[u8]) -> bool
     }
 }
 
-/// What is left of a line that is read token by token.
+/// The rest of a line that is split token by token.
 #[derive(Clone, Copy)]
 pub struct Lexer<'a> {
     pub rest: &'a [u8],
-    /// Whether no token was read yet.
+    /// Whether no token has been read.
     pub first: bool,
 }
 
 impl<'a> Lexer<'a> {
-    /// A line before its first token.
+    /// Begins with a line.
     ///
     /// # Errors
     ///
@@ -181,11 +181,11 @@ impl<'a> Lexer<'a> {
         })
     }
 
-    /// The next token, or none where the line ends.
+    /// Returns the next token, or `None` at the end of the line.
     ///
     /// # Errors
     ///
-    /// The fault of the place where no token stands.
+    /// The error at a byte that begins no token.
     #[inline(always)]
     pub fn next(&mut self) -> Result<Option<Token<'a>>, LexFault>
         ensures next { IsNextToken self.old.first self.old.rest.now result self.new.first self.new.rest.now }
@@ -204,7 +204,7 @@ impl<'a> Lexer<'a> {
     }
 }
 
-/// The first two tokens of a line, where they are there.
+/// The first two tokens of a line, if it has them.
 #[derive(Clone, Copy)]
 pub struct LineFront<'a> {
     pub first: Option<Token<'a>>,
@@ -212,7 +212,7 @@ pub struct LineFront<'a> {
 }
 
 impl<'a> LineFront<'a> {
-    /// One token more of the line.
+    /// Adds the next token of the line.
     fn add(&mut self, token: Token<'a>)
         ensures { (ts : List Lexeme) → IsFront ts self.old → IsFront (ts ++ lexeme_of token.entry ∷ []) self.new }
     {
@@ -224,11 +224,12 @@ impl<'a> LineFront<'a> {
     }
 }
 
-/// The first two tokens of a line that is read whole, as by `line_tokens`, where nothing is kept of the others.
+/// Returns the first two tokens of a line. Reads the whole line, as `line_tokens` does, but stores
+/// no other token.
 ///
 /// # Errors
 ///
-/// `LineTooLong`, or else the fault of the first place where no token stands.
+/// `LineTooLong`, or the error at the first byte that begins no token.
 pub fn line_front(line: &[u8]) -> Result<LineFront<'_>, LexFault>
     ensures { MatchResult result
         (λ front. (ts : List Lexeme) × IsRead line.now (Ok ts) × IsFront ts front)

@@ -1,4 +1,4 @@
-//! The token at a place: its class, its marks, its number.
+//! Reads the token at a position: its class, punctuation and numbers.
 
 ghost use Rattle.std.specs.Prelude.{◌≡◌, ◌==◌, ◌≤◌, length, ◌∷◌, [], ◌<◌, ◌+◌, IfSome, ◌↔◌, Bool, None, IsTrue};
 ghost use Rattle.base65.specs.Digit.{IsRadix, digits};
@@ -12,7 +12,7 @@ ghost use Rattle.syntax65.specs.declared.lexing.places.Class.TheVariants.{Letter
 use super::tokens::{AddressSize, LexFault, Punctuation, TokenKind};
 use base65::digits;
 
-/// What a byte may begin.
+/// The class of a token's first byte.
 #[derive(Clone, Copy)]
 pub enum Class {
     Letter,
@@ -28,12 +28,12 @@ pub enum Class {
     Other,
 }
 
-/// The class of a byte.
+/// Returns the class of a byte.
 #[inline(always)]
 pub fn class_of(b: u8) -> Class
     ensures { result ≡ class_of b }
 {
-    // Most bytes of a source are small letters.
+    // Most bytes of a source are lower-case letters.
     if b.is_ascii_lowercase() {
         return Class::Letter;
     }
@@ -75,7 +75,7 @@ const WORDS: [bool; 256] = [
     false, false, false, false, false, false, false, false, false, false,
 ];
 
-/// Whether the byte may stand behind the first of a name or number.
+/// Returns whether the byte can continue a name or number.
 #[inline(always)]
 pub fn is_word(b: u8) -> bool
     ensures { result ≡ is_word b }
@@ -83,7 +83,7 @@ pub fn is_word(b: u8) -> bool
     WORDS[usize::from(b)]
 }
 
-/// Whether the byte parts tokens.
+/// Returns whether the byte separates tokens.
 #[inline]
 pub fn is_blank(b: u8) -> bool
     ensures { result ≡ is_blank b }
@@ -91,7 +91,7 @@ pub fn is_blank(b: u8) -> bool
     b == b' ' || b == b'\t'
 }
 
-/// How many bytes at the front are letters, digits or `_`.
+/// Returns the number of leading letters, digits and `_`.
 pub fn word_len(bytes: &[u8]) -> usize
     ensures count { result ≡ prefix_len is_word bytes.now }
     ensures within { result ≤ length bytes.now }
@@ -99,7 +99,7 @@ pub fn word_len(bytes: &[u8]) -> usize
     bytes.iter().take_while(|b| is_word(**b)).count()
 }
 
-/// How many bytes at the front are this one.
+/// Returns how often this byte is repeated at the start.
 pub fn run_len(byte: u8, bytes: &[u8]) -> usize
     ensures count { result ≡ prefix_len (λ b. b == byte) bytes.now }
     ensures within { result ≤ length bytes.now }
@@ -123,7 +123,7 @@ pub fn text_len(bytes: &[u8]) -> usize
     bytes.iter().take_while(|b| **b != b'"').count()
 }
 
-/// The mark of these two bytes.
+/// Returns the punctuation of these two bytes.
 pub fn mark_of_two(first: u8, second: u8) -> Option<Punctuation>
     ensures { IsFound (λ mark. spelling mark ≡ first ∷ second ∷ []) result }
 {
@@ -141,7 +141,7 @@ pub fn mark_of_two(first: u8, second: u8) -> Option<Punctuation>
     }
 }
 
-/// The mark of this byte.
+/// Returns the punctuation of this byte.
 #[inline(always)]
 pub fn mark_of_one(byte: u8) -> Option<Punctuation>
     ensures { IsFound (λ mark. spelling mark ≡ byte ∷ []) result }
@@ -170,7 +170,7 @@ pub fn mark_of_one(byte: u8) -> Option<Punctuation>
     })
 }
 
-/// The value of a number's text, if it is one.
+/// Returns the value of a number's text, if it is one.
 pub fn number_of(text: &[u8]) -> Option<u32>
     ensures { result ≡ number_of text.now }
 {
@@ -181,7 +181,7 @@ pub fn number_of(text: &[u8]) -> Option<u32>
     }
 }
 
-/// The value and the length of a number at the front whose digits go on up to its end, without an `h`.
+/// Returns the value and length of a leading number whose digits end it, without `h`.
 pub fn plain_digits(here: &[u8]) -> Option<(u32, usize)>
     ensures { IfSome result (λ r. IsPlainNumber here.now r.0 r.1) }
 {
@@ -192,14 +192,15 @@ pub fn plain_digits(here: &[u8]) -> Option<(u32, usize)>
     }
 }
 
-/// The same with the sign before the digits.
+/// The same with the prefix before the digits.
 fn following_sign(digits: (u32, usize)) -> Option<(u32, usize)>
     ensures { IfSome result (λ r. (r.0 ≡ digits.0) × (r.1 ≡ 1 + digits.1)) }
 {
     Some((digits.0, digits.1.checked_add(1)?))
 }
 
-/// The value of one digit or more at the front, and how many there are, where none of a name's bytes stands behind them.
+/// Returns the value and count of the leading digits, if at least one and no letter, digit or `_`
+/// follows.
 fn digits_ahead(radix: u32, bytes: &[u8]) -> Option<(u32, usize)>
     requires { IsRadix radix }
     ensures { IfSome result (λ r. AreDigitsAhead radix bytes.now r.0 r.1) }
@@ -220,7 +221,7 @@ fn digits_ahead(radix: u32, bytes: &[u8]) -> Option<(u32, usize)>
     if len == 0 { None } else { Some((number, len)) }
 }
 
-/// The value of hex digits and `h`, or of decimal digits.
+/// Returns the value of hex digits and `h`, or of decimal digits.
 fn plain_number(text: &[u8]) -> Option<u32>
     requires { 0 < length text.now }
     ensures { result ≡ plain_number_of text.now }
@@ -233,10 +234,11 @@ fn plain_number(text: &[u8]) -> Option<u32>
     }
 }
 
-/// How many bytes a name has at most, without its `@` or `.`.
+/// The maximum length of a name in bytes, without its `@` or `.`.
 pub const MAX_NAME: usize = 200;
 
-/// The kind and length of the token at the front; `first` says whether it is the line's first.
+/// Returns the kind and length of the first token; `first` says whether it is the first of its
+/// line.
 #[inline(always)]
 pub fn token_at(first: bool, here: &[u8]) -> Result<(TokenKind, usize), LexFault>
     requires no_end { IsEnd here.now → ⊥ }
@@ -255,7 +257,7 @@ pub fn token_at(first: bool, here: &[u8]) -> Result<(TokenKind, usize), LexFault
     }
 }
 
-/// A size prefix or an identifier.
+/// Reads a size prefix or an identifier.
 #[inline(always)]
 fn word_at(first: bool, here: &[u8]) -> Result<(TokenKind, usize), LexFault>
     requires { BeginsWithClass Letter here.now }
@@ -314,7 +316,7 @@ fn identifier_at(first: bool, here: &[u8]) -> Result<(TokenKind, usize), LexFaul
     }
 }
 
-/// A cheap name or a directive.
+/// Reads a cheap local name or a directive.
 fn name_at(kind: TokenKind, here: &[u8]) -> Result<(TokenKind, usize), LexFault>
     requires { BeginsSigned kind here.now }
     ensures { (first : Bool) → IsAt first here.now result }
@@ -350,7 +352,7 @@ fn number_at(here: &[u8]) -> Result<(TokenKind, usize), LexFault>
     }
 }
 
-/// A number whose value is found once its end is.
+/// Reads a number whose value depends on where it ends.
 fn spelled_number_at(here: &[u8]) -> Result<(TokenKind, usize), LexFault>
     requires { BeginsNumber here.now }
     ensures { (first : Bool) → IsAt first here.now result }
@@ -386,7 +388,7 @@ fn text_at(here: &[u8]) -> Result<(TokenKind, usize), LexFault>
     }
 }
 
-/// An unnamed reference or a mark.
+/// Reads an unnamed reference or punctuation.
 fn colon_at(here: &[u8]) -> Result<(TokenKind, usize), LexFault>
     requires { BeginsWithClass Colon here.now }
     ensures { (first : Bool) → IsAt first here.now result }
@@ -412,7 +414,7 @@ fn mark_at(here: &[u8]) -> Result<(TokenKind, usize), LexFault>
     }
 }
 
-/// The mark of two bytes at the front.
+/// Returns the punctuation of the first two bytes.
 fn long_mark_at(here: &[u8]) -> Option<Punctuation>
     ensures { IsLongMarkAt here.now result }
 {

@@ -1,4 +1,4 @@
-//! Tokens, and what keeps a line from being read as tokens.
+//! Tokens, and errors of lines that can't be split into tokens.
 
 ghost use Rattle.std.specs.Prelude.{◌≡◌};
 ghost use Rattle.syntax65.specs.declared.lexing.tokens.LexFault.TheVariants.{OutOfMemory};
@@ -6,7 +6,7 @@ ghost use Rattle.syntax65.specs.declared.lexing.tokens.LexFault.TheVariants.{Out
 use std::alloc::{AllocError, AllocFailed};
 use std::fmt;
 
-/// Why a line has no tokens.
+/// An error of a line that can't be split into tokens.
 #[derive(Clone, Copy, Debug)]
 pub enum LexFault {
     OutOfMemory = 1,
@@ -20,7 +20,7 @@ pub enum LexFault {
 impl LexFault {
     ghost use Rattle.syntax65.specs.Faults.{lex_fault_words};
 
-    /// The words of a message.
+    /// Returns the text of the message.
     pub fn words(self) -> &'static str
         ensures { result.now ≡ lex_fault_words self }
     {
@@ -132,7 +132,7 @@ pub enum Punctuation {
     CloseBrace,
 }
 
-/// What a token is.
+/// The kind of a token.
 #[derive(Clone, Copy)]
 pub enum TokenKind {
     /// A letter or `_`, then letters, digits and `_`.
@@ -155,10 +155,10 @@ pub enum TokenKind {
     Symbol(Punctuation),
 }
 
-/// A token, which borrows its bytes from the line.
+/// A token. It borrows its bytes from the line.
 #[derive(Clone, Copy)]
 pub struct Token<'a> {
     pub kind: TokenKind,
-    /// The bytes of the token as they stand in the line.
+    /// The bytes of the token in the line.
     pub text: &'a [u8],
 }

@@ -1,4 +1,4 @@
-//! Statements of lines at hand, taken where they stand.
+//! Statements of buffered lines, read without copying.
 
 use super::values::Constants;
 use super::{ROWS, in_folder, put_lines, refuse, spell};
@@ -15,7 +15,8 @@ lda #1 // .byte 1,2,3,4,5,6,7,8,9 // rts // l: inx ==> lda # 1 ;.byte 1 , 2 , 3 
 nop // ~? // nop ==> nop ;b.s:2: bad character
 ";
 
-/// Puts the statements of the next line behind others, where it is at hand and given as it stands; whether it was.
+/// Appends the statements of the next line, if it is buffered and needs no expansion. Returns
+/// whether it is.
 fn spell_at_hand(
     alloc: Global,
     expander: &mut Expander,
@@ -48,8 +49,8 @@ fn spell_at_hand(
     Ok(true)
 }
 
-/// Puts the statements that an expander gives behind others, those of lines at hand as they stand, and then why it is
-/// refused, if it is.
+/// Appends the statements of an expander, those of buffered lines without copying, and then its
+/// error, if any.
 fn spell_ahead<S: Store>(
     alloc: Global,
     store: &mut S,
@@ -80,7 +81,7 @@ fn ahead<S: Store>(alloc: Global, store: &mut S, options: &Options) -> Result<Ve
     }
 }
 
-/// Of how many rows the statements are those behind the arrow.
+/// Returns for how many rows the statements are those after the arrow.
 fn count_right(alloc: Global, rows: &str) -> Result<u32, Fail> {
     let mut store = MemStore::new(alloc);
     let options = in_folder(alloc, "d")?;

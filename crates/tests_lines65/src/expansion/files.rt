@@ -56,7 +56,7 @@ fn rows(rt: HostRuntime) -> Result<(), Fail> {
 
 const LINE: &[u8; 4] = b"nop\n";
 
-/// A store whose only file has so many bytes, lines `nop`, and which counts the bytes that it gives.
+/// A store whose only file has this many bytes, all lines `nop`. It counts the bytes read.
 #[derive(Drop)]
 struct Lines {
     len: u64,

@@ -1,4 +1,5 @@
-//! What is known of names and expressions: numbers and operators, and whether names are defined.
+//! The environment of the tests: numbers and operators have values, and all names are defined or
+//! none.
 
 ghost use Rattle.std.specs.Prelude.{◌≡◌};
 ghost use Rattle.tests_lines65.specs.Constants.{value_of};

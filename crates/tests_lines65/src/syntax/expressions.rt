@@ -1,5 +1,5 @@
-//! The trees of expressions. A row's answer has the tree, each operation in parentheses behind its name, and
-//! the number of tokens, or the fault's words.
+//! Expression trees. A row's result is the tree, with each operation in parentheses after its name,
+//! and the number of tokens; or the error's message.
 
 use std::alloc::{AllocError, Global};
 use std::test::Fail;
@@ -98,7 +98,7 @@ fn trees(rt: HostRuntime) -> Result<(), Fail> {
     Ok(())
 }
 
-/// The fault of an expression in so many pairs of parentheses.
+/// Returns the error of an expression in `count` pairs of parentheses.
 fn nested(alloc: Global, count: usize) -> Result<Option<ExprFault>, Fail> {
     let mut line = Vec::new(alloc);
     for _ in 0..count {

@@ -1,4 +1,4 @@
-//! Forms that are folded, and what folding says of them.
+//! Forms that are folded, and the results of folding.
 
 use base65::{Op1, Op2};
 use object65::laws::{binary_keeps_its_value, prefix_keeps_its_value};

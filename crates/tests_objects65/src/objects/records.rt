@@ -6,8 +6,9 @@ use object65::{Builder, ObjectFault, Record, write_object};
 use std::alloc::Global;
 use std::test::Fail;
 
-/// The records of an object behind its head, and what becomes of them: `good` where the object that is read is
-/// written as the same bytes. Rows of sections, literals and fills alone are cases for the real program.
+/// The records of an object after its head, and the result: `good` if the object that is read is
+/// written as the same bytes. Rows of sections, literals and fills alone are cases for the real
+/// program.
 const ROWS: &str = "\
 02 0900 03000000 00 434F4445  03 0300 A90060  08 0000 ==> good
 02 0900 03000000 00 434F4445  03 0300 A90060  08 0000 00 ==> bytes after the end
@@ -96,7 +97,7 @@ pub fn bytes_of_version(alloc: Global, version: u8, text: &str) -> Result<Vec<u8
     Ok(bytes)
 }
 
-/// What becomes of these bytes.
+/// Returns the result for these bytes.
 pub fn outcome(alloc: Global, bytes: &[u8]) -> Result<String, Fail> {
     match read(alloc, bytes) {
         Ok(object) => {
@@ -127,7 +128,7 @@ fn reads_and_writes_all_kinds(rt: HostRuntime) -> Result<(), Fail> {
     Ok(())
 }
 
-/// An object of an import and an export whose form has so many operations.
+/// Returns an object with an import and an export whose form has this many operations.
 fn nested(alloc: Global, operations: u16) -> Result<Vec<u8>, Fail> {
     let mut bytes = object_bytes(alloc, "01 0100 76 06")?;
     let len = operations.saturating_add(11);
@@ -156,7 +157,7 @@ fn largest_forms(rt: HostRuntime) -> Result<(), Fail> {
     Ok(())
 }
 
-/// An object of an import whose name has so many bytes.
+/// Returns an object with an import whose name has `len` bytes.
 fn named(alloc: Global, len: u16) -> Result<Vec<u8>, Fail> {
     let mut bytes = object_bytes(alloc, "01")?;
     bytes.push((len % 256) as u8)?;

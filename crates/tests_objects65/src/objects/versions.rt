@@ -4,7 +4,7 @@ use super::records::{bytes_of_version, outcome};
 use std::alloc::Global;
 use std::test::Fail;
 
-/// Objects of version 2: the records behind the head, and what becomes of them.
+/// Objects of version 2: the records after the head, and the result.
 const ROWS: &str = "\
 09 0500 692E696E63  01 0100 76  02 0900 02000000 00 434F4445  03 0100 EA  05 0E00 00 00000000 02000000 02 00000000  08 0000 ==> good
 08 0000 ==> good
@@ -71,7 +71,7 @@ fn other_versions_have_no_files(rt: HostRuntime) -> Result<(), Fail> {
     Ok(())
 }
 
-/// An object of a file whose name has so many bytes.
+/// Returns an object of a file whose name has `len` bytes.
 fn filed(alloc: Global, len: u16) -> Result<Vec<u8>, Fail> {
     let mut bytes = bytes_of_version(alloc, 2, "09")?;
     bytes.push((len % 256) as u8)?;

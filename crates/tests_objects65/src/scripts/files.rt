@@ -43,7 +43,7 @@ fn make(
     Ok(is_file(files.as_slice(), "a.out", bytes))
 }
 
-/// A row without bytes of its own leaves a gap, and what is behind it doesn't move up.
+/// A row without bytes leaves a gap, and the rows after it don't move.
 #[test]
 fn a_gap_has_the_fill(rt: HostRuntime) -> Result<(), Fail> {
     let script = read_script(rt.alloc(), TEXT)?;
@@ -66,7 +66,7 @@ fn one_row_is_a_file(rt: HostRuntime) -> Result<(), Fail> {
 const LATER_ROW: &[u8] =
     b"MEMORY { ROM: start = $8000, size = $10; } SEGMENTS { CODE: load = ROM, start = $8002; }";
 
-/// One row that begins behind its area's start has the fill before it.
+/// One row that begins after the start of its area has the fill value before it.
 #[test]
 fn one_row_after_the_start(rt: HostRuntime) -> Result<(), Fail> {
     let script = read_script(rt.alloc(), LATER_ROW)?;

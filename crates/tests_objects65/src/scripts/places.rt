@@ -97,7 +97,7 @@ const BEHIND: &str =
 const AHEAD: &str =
     "MEMORY { RAM: start = __ZP_LAST__, size = 1; ZP: start = $10, size = $20; } SEGMENTS { Z: load = ZP, type = zp; }";
 
-/// An area behind what another one holds, up to an address that the script exports.
+/// An area after the contents of another one, up to an address that the script exports.
 #[test]
 fn areas_by_sums(rt: HostRuntime) -> Result<(), Fail> {
     let rows = [row(0x10, 0x10, 3), row(0x13, 0x13, 1)];
@@ -133,7 +133,7 @@ fn areas_by_sums(rt: HostRuntime) -> Result<(), Fail> {
     Ok(())
 }
 
-/// What no object asks for, and what can't be placed.
+/// Errors that no object causes, and rows that can't be placed.
 #[test]
 fn refusals(rt: HostRuntime) -> Result<(), Fail> {
     let sizes = [("CODE", u64::MAX)];

@@ -20,7 +20,8 @@ fn spans(area: &MemoryArea, start: u32, size: u32) -> bool {
     is_number(area.start.as_slice(), start) && is_number(area.size.as_slice(), size)
 }
 
-/// An area of 16 bytes for the output, with what an attribute that isn't there stands for.
+/// Returns whether an area has 16 bytes and is for the output, with the defaults of all other
+/// attributes.
 fn is_plain_area(area: &MemoryArea) -> bool {
     area.name.as_slice() == b"ROM".as_slice()
         && spans(area, 0x8000, 0x10)
@@ -134,7 +135,7 @@ fn whole_scripts(rt: HostRuntime) -> Result<(), Fail> {
     Ok(())
 }
 
-/// Sums of which each term is another thing.
+/// Sums in which each term is of another kind.
 const SUMS: &str =
     "MEMORY { A: start = 5 - e, size = $20; B: size = e + __A_LAST__ - __S_RUN__ start __A_START__; } SEGMENTS { S: load = A; } SYMBOLS { e: type = export, value = 3; }";
 

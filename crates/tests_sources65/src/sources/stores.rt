@@ -10,7 +10,7 @@ use object65::Object;
 use std::alloc::{AllocError, Global};
 use std::test::Fail;
 
-/// A store whose calls all fail; its count of failures stands at its last value.
+/// A store whose calls all fail; its failure counter is at its maximum.
 #[derive(Drop)]
 struct Broken;
 
@@ -126,7 +126,7 @@ fn assembled_in<S: Store>(alloc: Global, store: &mut S) -> Result<Object, Diagno
     assemble(alloc, store, &alone()).result
 }
 
-/// Where `b.s` is refused and why; empty where it isn't.
+/// Returns where `b.s` is rejected and why; empty if it isn't.
 fn refusal_in<S: Store>(alloc: Global, store: &mut S) -> Result<String, AllocError> {
     match assembled_in(alloc, store) {
         Ok(_) => Ok(String::new(alloc)),
@@ -143,7 +143,8 @@ fn no_bytes_of_a_source(rt: HostRuntime) -> Result<(), Fail> {
     Ok(())
 }
 
-/// Sources that take bytes of a file that can't be read, what becomes of each, and how many calls failed.
+/// Sources that need bytes of a file that can't be read, the outcome of each, and how many calls
+/// failed.
 const UNREADABLE: [(&[u8], &str, u64); 7] = [
     (b".incbin \"u\"", "b.s:1: file error", 1),
     (b"nop\nl: .incbin \"u\",1,2", "b.s:2: file error", 1),
@@ -162,7 +163,7 @@ const UNREADABLE: [(&[u8], &str, u64); 7] = [
     (b"l:\nl: .incbin \"u\"", "b.s:2: defined twice: l", 0),
 ];
 
-/// A file is read only where nothing is wrong with the statement that comes before the file in the order of faults.
+/// A file is read only if the statement has none of the errors that come before those of the file.
 #[test]
 fn what_is_wrong_before_a_file(rt: HostRuntime) -> Result<(), Fail> {
     for (source, wanted, failures) in UNREADABLE {

@@ -1,9 +1,10 @@
 #!/usr/bin/env python3
 """Checks texts before anything is proved: the layout of code, what the linker's and the assembler's types hold, whether each mutant can be
-applied, whether the citations of the maintainers' pages exist, and whether a file contains text of an installed cc65's. Takes half a minute.
+applied, whether the citations of the maintainers' pages exist, the words of definitions and comments, and whether a file contains text of an
+installed cc65's. Takes half a minute.
 
 usage: texts.py
-The last line is 'N passed, M failed': one for each crate, mutant, claim and page."""
+The last line is 'N passed, M failed': one for each crate, its words, each mutant, claim and page."""
 import os
 import re
 import sys
@@ -13,6 +14,7 @@ import kept
 import kit
 import mutants
 import others
+import wording
 
 FOLDERS = ("must-fail", "wrong-bodies")
 
@@ -38,7 +40,7 @@ def main():
     rt = kit.load()
     rt.rtlib.guarded()
     crates = kit.crates(rt)
-    faults = [*cited.looked_at(kit.ROOT), *others.looked_at(kit.ROOT)]
+    faults = [*cited.looked_at(kit.ROOT), *others.looked_at(kit.ROOT), *wording.looked_at(kit.ROOT)]
     for crate in crates:
         faults.append((crate.name, why_stopped(rt, crate, crates) or kept.why_kept(crate.name, rt.rtlib.code_of(crate.folder))))
         for folder in FOLDERS:

@@ -3,7 +3,8 @@
 
 Mutants in one check (gate/batches.py) are tried on a crate that is made up, with what a prover prints written down here: which ones can be tried
 together, and that one counts as refused only if something is found in a function that it changes. Then: which mutants a gate tries
-(gate/mutants.py), what a failed gate says (gate/reasons.py, gate/ci.py, tests/all.py), and what runs beside the proofs.
+(gate/mutants.py), what a failed gate says (gate/reasons.py, gate/ci.py, tests/all.py), what runs beside the proofs, and which words are refused
+(gate/wording.py).
 
 usage: gate.py. The last line is 'N passed, M failed'."""
 import contextlib
@@ -20,6 +21,7 @@ import ci  # noqa: E402
 import kit  # noqa: E402
 import mutants  # noqa: E402
 import reasons  # noqa: E402
+import wording  # noqa: E402
 
 SOURCE = """//! Counts.
 
@@ -250,8 +252,29 @@ def beside():
     }
 
 
+# Definitions whose names are refused, and others.
+BAD_NAMES = ("abbrev pub Takes : State → Statement → Type 0", "pub record Holds (a : Assembler) : Type 0 where", "pub data Stopped : State → Type 0 where",
+             "abbrev pub joined : List ℕ → List ℕ", "abbrev pub begun : State", "unfoldable pub scanned : Outline → Entry → Result Item ObjectFault")
+GOOD_NAMES = ("abbrev pub StepsTo : State → Statement → Type 0", "abbrev pub Files : Type 0", "pub record Refines (a : State) : Type 0 where",
+              "abbrev pub concat_texts : List ℕ → List ℕ", "  pub joined : List ℕ", "joined [] = []")
+# Lines of comments that are refused, and others.
+BAD_LINES = ("the bytes behind the head", "What a call has is told", "where a token stands", "an error from outside", "the result is that of concat_texts here")
+GOOD_LINES = ("the bytes after the head", "what `concat_texts` returns", "`behind` is a field", "the state that it stands for")
+
+
+def words():
+    """Checks which names of definitions and which lines of comments are refused."""
+    named = {it: any(map(wording.why_named, *zip(*found))) if (found := list(wording.definitions(it))) else False for it in (*BAD_NAMES, *GOOD_NAMES)}
+    lines = {it: bool(wording.why_worded(it, {"concat_texts"}, True)) for it in (*BAD_LINES, *GOOD_LINES)}
+    return {
+        **{f"a name: {it}": named[it] == (it in BAD_NAMES) for it in named},
+        **{f"a line: {it}": lines[it] == (it in BAD_LINES) for it in lines},
+        "a line of a crate that is still to be rewritten": not wording.why_worded(BAD_LINES[0], set(), False),
+    }
+
+
 def main():
-    checks = {**together(kit.load()), **turns(), **failures(), **listed(), **beside()}
+    checks = {**together(kit.load()), **turns(), **failures(), **listed(), **beside(), **words()}
     for name, is_so in checks.items():
         if not is_so:
             print(f"FAILED: {name}")

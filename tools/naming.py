@@ -210,7 +210,7 @@ class File:
             names = self.chain(at)
             if not is_ghost or not names or self.is_part(at):
                 return None
-            path = self.bound(names[0], at, True)
+            path = self.bound(names[0], at, True) or (self.type_path(names[0], at) if names[0][0].isupper() else None)
             return ".".join([*([path] if path else []), *names[1:], word]) if path or names[0] == "Rattle" else None
         before = re.search(r"(\w*)\s*$", code[max(0, at - 60): at])[1]
         if before == "mod":
@@ -234,6 +234,11 @@ class File:
             return None
         return self.bound(word, at, False) or (f"{file.front()}{word}" if word in file.declared else None)
 
+    def type_path(self, name, at):
+        """Returns the path of a type that a clause names by its name in the code."""
+        file = self.host or self
+        return self.bound(name, at, False) or (f"{file.front()}{name}" if file.area == "src" and name in file.declared else None)
+
     def is_field(self, at, word):
         """Whether a word is a label of a record, or a field of a struct with its colon."""
         code, end = self.code, at + len(word)
@@ -250,6 +255,8 @@ class File:
     def is_short(self, at, word):
         """Whether a word of code is a field and a variable at once: `Line { place }`."""
         end = at + len(word)
+        if word[0].isupper():
+            return False
         if not re.search(r"[{,]\s*$", self.code[max(0, at - 200): at]) or not re.match(r"\s*[,}]", self.code[end: end + 200]):
             return False
         opener = None if self.is_ghost(at) else self.opener(at)
@@ -299,6 +306,8 @@ class File:
         if self.is_part(at):
             return not self.code[:at].endswith("clause-")
         names = self.chain(at)
+        if re.match(r"\w+-(?:[\w-]+-)?requires\b", self.code[at: at + 120]):
+            return True
         return self.code[at - 1: at] == "." and len(names) == 1 and names[0] in HEADS
 
     def function_at(self, at):
@@ -401,6 +410,10 @@ class Tree:
         """Returns whether a crate has a clause or a module of definitions with this name."""
         label = re.compile(rf"\b(?:ensures|requires) {re.escape(name)} \{{")
         return any(it.crate == crate and (it.area == "specs" and it.module == name or it.area == "src" and label.search(it.code)) for it in self.files)
+
+    def has_call(self, crates, name):
+        """Returns whether one of these crates has a function or method of this name."""
+        return any(it.crate in crates and it.area == "src" and name in {function for _, function in it.functions} for it in self.files)
 
     def meanings(self, name):
         """Returns the modules that declare a name."""

@@ -136,7 +136,7 @@ class Renaming:
             "source-module": [f"{crate}.{path}", *(f"{crate}.{it}.{path}" for it in GENERATED)],
             "type": [*(f"{crate}.{it}.{path}" for it in GENERATED), f"{crate}.specs.declared.{path}.{name}"],
             "function": [f"{crate}.specs.contracts.{path}", f"{crate}.proofs.{path}", f"{crate}.proofs.{home}.+{name}".replace("..", ".")],
-            "variant": [f"{crate}.specs.declared.{home}.TheVariants.{name}"],
+            "variant": [f"{crate}.specs.declared.{home}.TheVariants.{name}", f"{crate}.specs.declared.{home}.{home.rpartition('.')[2]}.{name}"],
         }[kind]
 
     def row_of(self, path):
@@ -157,7 +157,15 @@ class Renaming:
                 rest = last[len(row.old):] if row.kind == "type" and last.startswith(row.old) else ""
                 if rest[:1].isupper() and self.names.get(f"{front}.{row.old}") == row:
                     return row, row.new + rest
+                if row.kind == "method" and row.old == last.lstrip("+") and self.is_method_of(row, front):
+                    return row, last.replace(row.old, row.new)
         return None, last
+
+    def is_method_of(self, row, front):
+        """Returns whether a path is that of a type whose method a row means: by its crate, and by its module if the row names any."""
+        crate, _, home = re.sub(r"\.specs\.contracts\.|\.proofs\.", "..", front, count=1).partition("..")
+        is_named = row.module == "-" or any(home == it or home.startswith(f"{it}.") for it in row.module.split(" "))
+        return crate in row.crates and home.rpartition(".")[2][:1].isupper() and is_named
 
     def renamed_path(self, dotted):
         """Returns a dotted path with each of its segments renamed."""
@@ -214,9 +222,17 @@ class Renaming:
                 if (row.old, row.kind) == (word, "method") and self.tree.needs[file.crate] & {*row.crates}:
                     self.notes.append(f"{file.where(at)}: the call {word} is none of row {row.line}'s, which names other crates or modules")
         elif file.area != "src" or file.is_ghost(at):
-            row = self.parts[file.crate, file.source].get(word)
+            # (a type's methods can be in other modules than the type)
+            row = self.parts[file.crate, file.source].get(word) or self.part_elsewhere(file, at, word)
             if row and row.kind in kinds | ({"function", "method", "variant"} if file.is_goal_part(at, word) else set()):
                 self.change(file, at, word, row, row.new)
+
+    def part_elsewhere(self, file, at, word):
+        """Returns the row for a part of a goal of a type's method, which can be in another module than its type."""
+        if file.area != "proofs" or not file.source or not file.is_goal_part(at, word) or self.tree.has_call(self.tree.needs[file.crate], word):
+            return None
+        found = {rows[word] for (crate, _), rows in self.parts.items() if crate == file.crate and word in rows}
+        return found.pop() if len({it.new for it in found}) == 1 and found <= {it for it in found if it.kind in ("function", "method", "variant")} else None
 
     def look_at_label(self, file, at, word):
         """Renames a clause's label: in the contract, and in proofs where it is a clause of a function that has it."""

@@ -36,7 +36,7 @@ bytes_of [] = []
 bytes_of (t ∷ ts) = t.1 ++ bytes_of ts
 
 abbrev line_of : List Lexeme → StoredLine
-line_of ts = record { words = words_of ts; bytes = bytes_of ts }
+line_of ts = record { spans = words_of ts; bytes = bytes_of ts }
 
 line_kept : (ts : List Lexeme) → tokens_in (line_of ts) ≡ ts
 line_kept [] = refl

@@ -29,7 +29,7 @@ cut (w ∷ ws) bytes = text_of w bytes ∷ cut ws (after_word w bytes)
 
 -- the tokens of a line
 abbrev pub tokens_in : StoredLine → List Lexeme
-tokens_in line = cut line.words line.bytes
+tokens_in line = cut line.spans line.bytes
 
 -- ---- A line split into its label and the rest.
 

@@ -67,7 +67,7 @@ fn closed_alone(tokens: &[Token<'_>], end: BlockEnd) -> Result<BlockStep, Expand
 
 /// Opens a nested block, unless there are too many to count.
 fn deeper(depth: u32) -> Result<BlockStep, ExpandFault>
-    ensures step { IfOk result (λ s. s ≡ BlockStep.On (suc depth)) }
+    ensures step { IfOk result (λ s. s ≡ BlockStep.Open (suc depth)) }
     ensures outside { IfErr result (λ f. f ≡ ExpandFault.OutOfMemory) }
 {
     match depth.checked_add(1) {
@@ -115,7 +115,7 @@ fn repeat_step(
 /// conditions open.
 fn passed_step(directive: Directive, depth: u32) -> Result<BlockStep, ExpandFault>
     ensures step { (ts : List Lexeme) →
-        RefinesVerdict result (block_verdict BlockKind.Passed depth ts (Some directive)) }
+        RefinesVerdict result (block_verdict BlockKind.RemainingBranches depth ts (Some directive)) }
     ensures inside { IfErr result (λ e. is_failure e ≡ false) }
 {
     match directive {

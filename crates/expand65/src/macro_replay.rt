@@ -98,7 +98,7 @@ pub struct Replay {
     pub arguments: ListVec<StoredLine>,
     /// The replacement of `.paramcount`.
     pub count: Option<StoredLine>,
-    pub locals: IndexMap<Vec<u8>, Line, Seed>,
+    pub locals: IndexMap<Vec<u8>, StoredLine, Seed>,
     pub number: u64,
 }
 

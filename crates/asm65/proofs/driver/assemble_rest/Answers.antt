@@ -78,8 +78,8 @@ returns-clause-read g c = record {
       never_stops (AnswersWithoutFile (g.S.Store.last_failure c.read_part.new.store) (λ m t. IsRest m StepsTo t place (lexemes c.args.tokens.now))) 1 c.args.assembler.now c.take_sound.new.assembler c.take_sound.result c.take_sound.ensures.inside);
 }
 
-pub take_instruction-requires : goal.take_instruction-requires
-take_instruction-requires g c = grind (arith, common_steps)
+pub assemble_instruction-requires : goal.assemble_instruction-requires
+assemble_instruction-requires g c = grind (arith, common_steps)
 
 pub returns-in-Some-clause-frame : goal.returns-in-Some-clause-frame
 returns-in-Some-clause-frame g c = grind (arith, common_steps)

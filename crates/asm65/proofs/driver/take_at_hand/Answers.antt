@@ -12,8 +12,8 @@ use Rattle.asm65.proofs.Ahead.{line_is, roomy_ahead}
 use Rattle.asm65.proofs.Runs.{Answer}
 use Rattle.asm65.proofs.driver.take_at_hand.Goals as goal
 
-pub take_parts-taken-requires : goal.take_parts-taken-requires
-take_parts-taken-requires g c =
+pub assemble_parts-taken-requires : goal.assemble_parts-taken-requires
+assemble_parts-taken-requires g c =
     let e = c.args.run.now.expander in
     let ts = stored_lexemes c.peek.new.tokens in
     let P : Option Peeked → Type 0 = λ o. IfSome o (λ p. IsAhead e p ts) in

@@ -14,8 +14,8 @@ returns-in_err-take_front-clause-read g c = record {
   stopped = first_of (search rules, grind (arith, common_steps));
 }
 
-pub take_rest-requires : goal.take_rest-requires
-take_rest-requires g c =
+pub assemble_rest-requires : goal.assemble_rest-requires
+assemble_rest-requires g c =
     label_room (place_in c.args.at.file.now c.args.at.line) c.in_ok-label.label c.args.assembler.now c.take_front.new.assembler c.in_ok-take_front.field-0 c.requires c.in_ok-take_front.ensures.taken
 
 pub returns-clause-read : goal.returns-clause-read

@@ -90,7 +90,7 @@ tokens-preserved c =
     let apart : IsCutOff left text following = rw c.in-Some.is at c.in_ok-token.ensures.cut in
     let kept = so_far.1 in
     let word : StoredToken = record { kind = c.in-Some.token.kind; blanks = length left - length following - length text; len = length text } in
-    let more = more_kept c.tokens.spans.items kept.0 so_far.0 word c.in-Some.token apart.0 refl (apart_by left apart.0 text following apart.1) refl kept.2 in
+    let more = more_kept c.tokens.words.items kept.0 so_far.0 word c.in-Some.token apart.0 refl (apart_by left apart.0 text following apart.1) refl kept.2 in
     record {
       short = c.tokens.invariant.short;
       so_far = (so_far.0 ++ token ∷ [], (kept.0 ++ (apart.0 ++ text), front_more c.args.bytes.now kept.0 left apart.0 text following kept.1 apart.1, rw c.in_ok-push-in-Some.ensures.items more), λ us end h. rw append_assoc (so_far.2 (token ∷ us) end (next us end h)));
@@ -102,5 +102,5 @@ returns-in-None-clause-tokens c =
     let P : List Lexeme → Type 0 = λ ts. HasTokens true c.args.bytes.now ts None in
     let end : HasTokens c.tokens.lexer.first c.tokens.lexer.rest.now [] None = rw c.in-None.is at c.in_ok-token.ensures.next in
     let kept = so_far.1 in
-    let all : cut c.tokens.spans.items (take (length c.args.bytes.now - length c.tokens.lexer.rest.now) c.args.bytes.now) ≡ so_far.0 = ap (cut c.tokens.spans.items) (front_len c.args.bytes.now kept.0 c.tokens.lexer.rest.now kept.1) ∙ all_kept c.tokens.spans.items kept.0 so_far.0 kept.2 in
+    let all : cut c.tokens.words.items (take (length c.args.bytes.now - length c.tokens.lexer.rest.now) c.args.bytes.now) ≡ so_far.0 = ap (cut c.tokens.words.items) (front_len c.args.bytes.now kept.0 c.tokens.lexer.rest.now kept.1) ∙ all_kept c.tokens.words.items kept.0 so_far.0 kept.2 in
     (Ok so_far.0, (c.tokens.invariant.short, subst P (append-nil so_far.0) (so_far.2 [] None end)), ap Ok all)

@@ -42,20 +42,20 @@ returns-in_err-end-clause-frame g c modules stands =
     let p = err_from_is_err_and c.from_residual-in_err-end.result c.from_residual-in_err-end.ensures.1 in
     let head = c.in_ok-head.ensures.frame in
     let begun = c.in_ok-begin_module.ensures.begun modules stands in
-    rw (p.1, p.2) (fault_after _ _ _ _ c.in_err-end.field-0.0 head.files (kept_count _ _ _ head.count) (c.in_err-end.ensures.kept modules c.args.object.now.name.now _ begun))
+    rw (p.1, p.2) (fault_after _ _ _ _ c.in_err-end.field-0.0 head.files (kept_count _ _ _ head.count) (c.in_err-end.ensures.frame modules c.args.object.now.name.now _ begun))
 
 pub returns-in_err-check_end-clause-frame : goal.returns-in_err-check_end-clause-frame
 returns-in_err-check_end-clause-frame g c modules stands =
     let p = err_from_is_err_and c.from_residual-in_err-check_end.result c.from_residual-in_err-check_end.ensures.1 in
     let head = c.in_ok-head.ensures.frame in
-    let fed = c.in_ok-end.ensures.kept modules c.args.object.now.name.now _ (c.in_ok-begin_module.ensures.begun modules stands) in
+    let fed = c.in_ok-end.ensures.frame modules c.args.object.now.name.now _ (c.in_ok-begin_module.ensures.begun modules stands) in
     rw (p.1, p.2) (unread_after _ _ _ _ c.in_err-check_end.field-0.0 (fed.files ∙ head.files) (none_passed _ _ _ fed.count ∙ kept_count _ _ _ head.count) c.in_err-check_end.ensures.frame)
 
 pub returns-clause-frame : goal.returns-clause-frame
 returns-clause-frame g c modules stands =
     let head = c.in_ok-head.ensures.frame in
     let begun = c.in_ok-begin_module.ensures.begun in
-    let fed = c.in_ok-end.ensures.kept modules c.args.object.now.name.now _ (begun modules stands) in
+    let fed = c.in_ok-end.ensures.frame modules c.args.object.now.name.now _ (begun modules stands) in
     let end = c.in_ok-check_end.ensures.frame in
     untouched _ _ _ c.end_module.result (end.files ∙ fed.files ∙ head.files) (kept_count _ _ _ end.count ∙ none_passed _ _ _ fed.count ∙ kept_count _ _ _ head.count)
     (end_free c.in_ok-head.head c.in_ok-end.end _ (input_of c.args.object.now) c.args.linker.now c.begin_module.new.self c.feed_records.new.linker c.end_module.new.self c.end_module.result begun c.in_ok-end.ensures.fed c.end_module.ensures.ended modules stands)

@@ -36,7 +36,7 @@ returns-in_err-record-clause-fed g c =
 pub returns-in_err-record-clause-frame : goal.returns-in_err-record-clause-frame
 returns-in_err-record-clause-frame g c modules called entry stands =
     let p = err_from_is_err_and c.from_residual-in_err-record.result c.from_residual-in_err-record.ensures.1 in
-    let read = c.in_ok-next.ensures.kept in
+    let read = c.in_ok-next.ensures.frame in
     let free = refused_free _ (input_of c.args.object.now) c.args.head c.records.next c.args.linker.now c.records.linker c.record.new.self (entry_of c.record-record.result.now) c.in_err-record.field-0.0 c.records.invariant.stands c.in_err-record.ensures.taken modules called entry stands in
     rw (p.1, p.2) (untouched _ _ _ _ (read.files ∙ c.records.invariant.files) (kept_count _ _ _ read.count ∙ c.records.invariant.count) (λ h. free (err_is _ _ h)))
 
@@ -49,9 +49,9 @@ pub records-preserved : goal.records-preserved
 records-preserved g c =
     let read = seen _ (λ m. in_file (get m c.args.object.now.file.now) (record_at c.args.head.0 c.records.next c.args.object.now.end)) _ _ c.in_ok-next.next c.record-record.ensures (where_ahead _ c.args.object.now.file.now c.records.reader _ c.records.invariant.ahead c.in_ok-next.ensures.read) in
     record {
-      files = c.in_ok-next.ensures.kept.files ∙ c.records.invariant.files;
-      ahead = stays_ahead _ _ c.args.object.now.file.now c.records.reader c.read.new.self c.in_ok-next.ensures.kept.files c.records.invariant.ahead c.in_ok-next.ensures.ahead;
-      count = kept_count _ _ _ c.in_ok-next.ensures.kept.count ∙ c.records.invariant.count;
+      files = c.in_ok-next.ensures.frame.files ∙ c.records.invariant.files;
+      ahead = stays_ahead _ _ c.args.object.now.file.now c.records.reader c.read.new.self c.in_ok-next.ensures.frame.files c.records.invariant.ahead c.in_ok-next.ensures.ahead;
+      count = kept_count _ _ _ c.in_ok-next.ensures.frame.count ∙ c.records.invariant.count;
       opened = c.in_ok-record.ensures.opened;
       keeps = keeps_on _ _ _ c.records.invariant.keeps c.in_ok-record.ensures.keeps;
       stands = goes_further _ (input_of c.args.object.now) c.args.head c.records.next _ c.args.linker.now c.records.linker c.record.new.self (entry_of c.record-record.result.now, c.in_ok-next.next) c.records.invariant.files c.records.invariant.stands read (omega (arith, c.in_ok-next.ensures.bound.0)) c.in_ok-record.ensures.taken c.if-record-eq-END.false;
@@ -62,7 +62,7 @@ records-preserved g c =
 pub returns-in_err-next-clause-frame : goal.returns-in_err-next-clause-frame
 returns-in_err-next-clause-frame g c modules called entry stands =
     let p = err_from_is_err_and c.from_residual.result c.from_residual.ensures.1 in
-    rw (p.1, p.2) (unread_after _ _ _ _ c.in_err-next.field-0.0 c.records.invariant.files c.records.invariant.count c.in_err-next.ensures.kept)
+    rw (p.1, p.2) (unread_after _ _ _ _ c.in_err-next.field-0.0 c.records.invariant.files c.records.invariant.count c.in_err-next.ensures.frame)
 
 pub returns-then-record-eq-END-clause-bound : goal.returns-then-record-eq-END-clause-bound
 returns-then-record-eq-END-clause-bound g c = (omega (arith, c.in_ok-next.ensures.bound.0, c.records.invariant.later), c.in_ok-next.ensures.bound.1)

@@ -9,8 +9,8 @@ use Rattle.library65.proofs.indexing.read_list.Goals as goal
 
 pub loop-init : goal.loop-init
 loop-init g c = record {
-  files = c.in_ok-count.ensures.kept.files;
-  count = kept_count _ _ _ c.in_ok-count.ensures.kept.count;
+  files = c.in_ok-count.ensures.frame.files;
+  count = kept_count _ _ _ c.in_ok-count.ensures.frame.count;
   limit = omega arith;
   some = omega arith;
   names = rw (c.new-names.ensures.empty, c.new-members.ensures.items) refl;
@@ -40,8 +40,8 @@ loop-preserved g c =
     let name = c.in_ok-name.ensures.items ∙ c.as_slice.ensures in
     let new = pushed_name (λ n. n.items) c.loop.names.keys c.in_ok-name.name names refl (rw name c.in_ok-member.ensures.new) in
     record {
-      files = c.in_ok-member.ensures.kept.files ∙ c.loop.invariant.files;
-      count = kept_count _ _ _ c.in_ok-member.ensures.kept.count ∙ c.loop.invariant.count;
+      files = c.in_ok-member.ensures.frame.files ∙ c.loop.invariant.files;
+      count = kept_count _ _ _ c.in_ok-member.ensures.frame.count ∙ c.loop.invariant.count;
       limit = c.in_ok-member.ensures.end.1;
       some = omega (arith, c.in_ok-member.ensures.end.0);
       names = ap (map (λ n. n.items)) c.in_ok-insert.ensures.keys ∙ new ∙ name_pushed ms c.in_ok-member.member _ names c.in_ok-name.name.items c.loop.invariant.names name c.in_ok-push.ensures.items;

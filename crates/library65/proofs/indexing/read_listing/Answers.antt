@@ -55,5 +55,5 @@ returns-in_err-size-clause-before g c =
 pub returns-in_err-exports-clause-before : goal.returns-in_err-exports-clause-before
 returns-in_err-exports-clause-before g c =
     let p = err_from_is_err_and c.from_residual-in_err-exports.result c.from_residual-in_err-exports.ensures.1 in
-    let files = c.in_ok-size.ensures.kept.files ∙ c.in_ok-name.ensures.kept.files in
+    let files = c.in_ok-size.ensures.frame.files ∙ c.in_ok-name.ensures.frame.files in
     rw (p.1, p.2) (λ h. exports_failed _ _ _ c.args.file.now files c.args.at _ (c.in_ok-name.name, c.in_ok-name.end) c.in_ok-name.ensures.read (c.in_err-exports.ensures.before (fault_of c.in_err-exports.field-0.0 h)))

@@ -22,8 +22,8 @@ pub loop-init : goal.loop-init
 loop-init g c =
     let all = counted_at c.args.at in
     record {
-      files = c.in_ok-count.ensures.kept.files;
-      count = kept_count _ _ _ c.in_ok-count.ensures.kept.count;
+      files = c.in_ok-count.ensures.frame.files;
+      count = kept_count _ _ _ c.in_ok-count.ensures.frame.count;
       limit = c.in_ok-count.ensures.limit;
       later = omega arith;
       read = rw c.new-names.ensures (goes_on c.args.file.now all all (number_at c.args.at) (λ n. symbols_at (n - 0) [] (c.args.at + 4)) (counted_begins c.args.at) _ _ c.in_ok-count.count refl (begins _ c.args.file.now all) c.in_ok-count.ensures.read);
@@ -50,8 +50,8 @@ loop-preserved g c =
     let good : is_name c.in_ok-name.name ≡ true = search rules in
     let read = goes_on c.args.file.now (counted_at c.args.at) (symbols_at (n - i) c.loop.names c.loop.end) (name_at c.loop.end) (go_on n i c.loop.names) (symbols_more n i c.loop.names c.loop.end c.loop-test.true) _ _ (c.in_ok-name.name, c.in_ok-name.next) c.loop.invariant.files c.loop.invariant.read c.in_ok-name.ensures.read in
     record {
-      files = c.in_ok-name.ensures.kept.files ∙ c.loop.invariant.files;
-      count = kept_count _ _ _ c.in_ok-name.ensures.kept.count ∙ c.loop.invariant.count;
+      files = c.in_ok-name.ensures.frame.files ∙ c.loop.invariant.files;
+      count = kept_count _ _ _ c.in_ok-name.ensures.frame.count ∙ c.loop.invariant.count;
       limit = c.in_ok-name.ensures.end.1;
       later = omega (arith, c.loop.invariant.later, c.in_ok-name.ensures.end.0);
       read = rw (c.in_ok-push.ensures.ok) (rw good at read);

@@ -26,8 +26,8 @@ returns-in_err-marks c =
     let p = err_from_is_err_and c.from_residual-in_err-marks.result c.from_residual-in_err-marks.ensures.1 in
     rw (p.1, p.2) tt
 
-pub pass-requires : goal.pass-requires
-pass-requires c = record {
+pub check_and_emit-requires : goal.check_and_emit-requires
+check_and_emit-requires c = record {
   ready = record {
     found = subst (λ (ms : List ExportState). AllFound ms) (sym c.as_slice-10.ensures.value) c.in_ok-marks.ensures.found;
     named = c.requires.names ∙ sym (ap (λ (cs : List SegmentContent). map (λ x. x.name) cs) c.as_slice-8.ensures.value);

@@ -25,7 +25,7 @@ pub returns-in_err-next-clause-frame : goal.returns-in_err-next-clause-frame
 returns-in_err-next-clause-frame g c =
     let p = err_from_is_err_and c.from_residual.result c.from_residual.ensures.1 in
     let s = g.S.Store in
-    rw (p.1, p.2) (after_same s.files s.failures s.last_failure c.args.name.now c.args.store.now c.records.store c.read.new.store _ c.records.invariant.files c.records.invariant.count (refuses_on s.files s.failures s.last_failure c.args.name.now c.records.store c.read.new.store c.in_err-next.field-0.0 c.in_err-next.ensures.kept))
+    rw (p.1, p.2) (after_same s.files s.failures s.last_failure c.args.name.now c.args.store.now c.records.store c.read.new.store _ c.records.invariant.files c.records.invariant.count (refuses_on s.files s.failures s.last_failure c.args.name.now c.records.store c.read.new.store c.in_err-next.field-0.0 c.in_err-next.ensures.frame))
 
 pub returns-in_err-take-clause-read : goal.returns-in_err-take-clause-read
 returns-in_err-take-clause-read g c =
@@ -38,10 +38,10 @@ returns-in_err-take-clause-frame g c =
     let p = err_from_is_err_and c.from_residual-in_err-take.result c.from_residual-in_err-take.ensures.1 in
     let e = c.in_err-take.field-0.0 in
     let taken = c.in_err-take.ensures.taken in
-    let same = kept_count _ _ _ c.in_ok-next.ensures.kept.count ∙ c.records.invariant.count in
+    let same = kept_count _ _ _ c.in_ok-next.ensures.frame.count ∙ c.records.invariant.count in
     let entry = entry_of c.record.result.now in
     rw (p.1, p.2) (record {
-      files = c.in_ok-next.ensures.kept.files ∙ c.records.invariant.files;
+      files = c.in_ok-next.ensures.frame.files ∙ c.records.invariant.files;
       count = none_passed _ _ e same (not_stored c.records.builder entry e taken);
       last_failure = λ h. (let stored : e ≡ FileError = cc h in absurd (not_stored c.records.builder entry e taken stored));
     })
@@ -53,13 +53,13 @@ returns-then-is_ended-clause-read g c =
 pub returns-then-is_ended-clause-frame : goal.returns-then-is_ended-clause-frame
 returns-then-is_ended-clause-frame g c =
     let s = g.S.Store in
-    after_same s.files s.failures s.last_failure c.args.name.now c.args.store.now c.records.store c.read.new.store _ c.records.invariant.files c.records.invariant.count (answers_on s.files s.failures s.last_failure c.args.name.now c.records.store c.read.new.store c.in_ok-next.next _ c.in_ok-next.ensures.kept)
+    after_same s.files s.failures s.last_failure c.args.name.now c.args.store.now c.records.store c.read.new.store _ c.records.invariant.files c.records.invariant.count (answers_on s.files s.failures s.last_failure c.args.name.now c.records.store c.read.new.store c.in_ok-next.next _ c.in_ok-next.ensures.frame)
 
 pub records-preserved : goal.records-preserved
 records-preserved g c =
     record {
-      files = c.in_ok-next.ensures.kept.files ∙ c.records.invariant.files;
-      ahead = stays_ahead _ _ c.args.name.now c.records.reader c.read.new.self c.in_ok-next.ensures.kept.files c.records.invariant.ahead c.in_ok-next.ensures.ahead;
-      count = kept_count _ _ _ c.in_ok-next.ensures.kept.count ∙ c.records.invariant.count;
+      files = c.in_ok-next.ensures.frame.files ∙ c.records.invariant.files;
+      ahead = stays_ahead _ _ c.args.name.now c.records.reader c.read.new.self c.in_ok-next.ensures.frame.files c.records.invariant.ahead c.in_ok-next.ensures.ahead;
+      count = kept_count _ _ _ c.in_ok-next.ensures.frame.count ∙ c.records.invariant.count;
       read = goes_on_in c.args.head.0 c.args.limit c.args.head.1 c.records.next _ _ c.args.name.now c.records.builder c.take.new.self (entry_of c.record.result.now, c.in_ok-next.next) c.records.invariant.files c.records.invariant.read (seen _ (λ m. in_file (get m c.args.name.now) (record_at c.args.head.0 c.records.next c.args.limit)) _ _ c.in_ok-next.next c.record.ensures (where_ahead _ c.args.name.now c.records.reader _ c.records.invariant.ahead c.in_ok-next.ensures.read)) (omega (arith, c.in_ok-next.ensures.bound.0)) c.in_ok-take.ensures.taken (sym c.is_ended.ensures ∙ c.if-is_ended.false);
     }

@@ -7,11 +7,11 @@ use Rattle.asm65.proofs.assembler.Assembler.enter_assertion.Goals as goal
 
 pub returns-then-branch : goal.returns-then-branch
 returns-then-branch c =
-    let so = c.in_ok-is_so.ensures c.if-branch.true in
+    let so = c.in_ok-is_known_true.ensures c.if-branch.true in
     so_enters c.args.self.now (place_in c.args.site.at.file.now c.args.site.at.line) c.args.site.context c.args.action c.args.text c.args.value so.value so.other so.final
 
 pub returns : goal.returns
 returns c =
-    ok_then c.wait.result
-    (λ waits. waits_enters c.args.self.now c.wait.new.assembler (place_in c.args.site.at.file.now c.args.site.at.line) c.args.site.context (valued (asserted c.args.action c.args.text) c.args.value) waits)
-    c.wait.ensures.waits
+    ok_then c.defer.result
+    (λ waits. waits_enters c.args.self.now c.defer.new.assembler (place_in c.args.site.at.file.now c.args.site.at.line) c.args.site.context (valued (asserted c.args.action c.args.text) c.args.value) waits)
+    c.defer.ensures.waits

@@ -32,8 +32,8 @@ returns-then-is_some-clause-entered c =
 pub returns-clause-entered : goal.returns-clause-entered
 returns-clause-entered c =
     let old : Assembler = c.args.self.now in
-    let new : Assembler = c.wait.new.assembler in
+    let new : Assembler = c.defer.new.assembler in
     let place : SourceLocation = place_in c.args.site.at.file.now c.args.site.at.line in
     let s : Context = c.args.site.context in
-    subst (λ (e : Tree). OnOk c.wait.result (EmitsPieces place s (valued equated e ∷ []) old new)) c.in_ok-value.ensures
-    (ok_then c.wait.result (λ kept. waits_enters old new place s (valued equated c.in_ok-value.value) kept) c.wait.ensures.waits)
+    subst (λ (e : Tree). OnOk c.defer.result (EmitsPieces place s (valued equated e ∷ []) old new)) c.in_ok-value.ensures
+    (ok_then c.defer.result (λ kept. waits_enters old new place s (valued equated c.in_ok-value.value) kept) c.defer.ensures.waits)

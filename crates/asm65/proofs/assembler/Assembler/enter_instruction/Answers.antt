@@ -15,9 +15,9 @@ returns c =
     let place = place_in c.args.site.at.file.now c.args.site.at.line in
     let s = c.args.site.context in
     let old = c.args.self.now in
-    let mid = c.enter_code.new.assembler in
+    let mid = c.emit_opcode.new.assembler in
     let new = c.enter_operand_of.new.assembler in
-    let code = subst (λ code. EmitsPieces place s (given (opcode_part code) ∷ []) old mid) c.opcode.ensures (c.in_ok-enter_code.ensures place) in
+    let code = subst (λ code. EmitsPieces place s (given (opcode_part code) ∷ []) old mid) c.opcode.ensures (c.in_ok-emit_opcode.ensures place) in
     ok_then c.enter_operand_of.result
     (λ value. enters_both place s (given (opcode_part (opcode_of c.args.mnemonic c.args.mode)) ∷ []) (operand_pieces (width_of c.args.mode) (operand_tree c.args.operand)) old mid new code
     (subst (λ (e : Option Tree). EmitsPieces place s (operand_pieces (width_of c.args.mode) e) mid new) c.operand_value.ensures

@@ -15,7 +15,7 @@ loop-name-preserved c =
     let place : SourceLocation = place_in c.args.site.at.file.now c.args.site.at.line in
     let s : Context = c.args.site.context in
     let before : Assembler = c.loop-name.self in
-    let new : Assembler = c.wait.new.assembler in
+    let new : Assembler = c.defer.new.assembler in
     let f : List ℕ → piece.Piece = name_use_piece c.args.mention in
     let n : List ℕ = c.name-item.result in
     let some : List piece.Piece = take c.loop-name.name-index (map f c.args.names.now) in
@@ -25,8 +25,8 @@ loop-name-preserved c =
           subst (λ (ps : List piece.Piece). Represents count (all_awaiting place s t ps) new) (taken_more f c.args.names.now c.loop-name.name-index c.name-item.result (omega arith) c.name-item.is)
           (subst (λ (u : State). Represents count u new) (sym (one_more_awaiting place s t some (f n)))
           (subst (λ (p : piece.Piece). Represents count (with_fixup (all_awaiting place s t some) (record { place = place; context = s; piece = p })) new) is
-          (c.in_ok-wait.ensures.waits count (all_awaiting place s t some) (c.loop-name.invariant.mentioned count t h))));
-      tables = keeps_both c.args.self.now before new c.loop-name.invariant.tables c.in_ok-wait.ensures.tables;
+          (c.in_ok-defer.ensures.waits count (all_awaiting place s t some) (c.loop-name.invariant.mentioned count t h))));
+      tables = keeps_both c.args.self.now before new c.loop-name.invariant.tables c.in_ok-defer.ensures.tables;
     }
 
 pub returns-clause-mentioned : goal.returns-clause-mentioned

@@ -65,18 +65,18 @@ lines-preserved g c =
     let line = c.in_ok-line.line in
     let taken = moved_to (λ m. TakesInBlock (remaining_of m mid) (Ok (tokens_in line, remaining_of m new))) o (g.S.Store.files c.lines.store) c.lines.invariant.files c.in_ok-line.ensures.read in
     let P : BlockStep → Type 0 = λ s. RefinesVerdict (Ok s) (judge k c.lines.depth (tokens_in line)) in
-    let goes = subst P c.in-On.is c.in_ok-end.ensures.step in
-    let Q : List (List Lexeme) → Type 0 = λ b. IfSome o (Leads k c.in-On.deeper b new c.args.self.now) in
+    let goes = subst P c.in-Open.is c.in_ok-end.ensures.step in
+    let Q : List (List Lexeme) → Type 0 = λ b. IfSome o (Leads k c.in-Open.deeper b new c.args.self.now) in
     let stands_on : StandsIn o c.lines.self → StandsIn o new = λ h. stands_back o (g.S.Store.files c.lines.store) mid new c.lines.invariant.files c.in_ok-line.ensures.stands (stands_so o c.lines.self mid c.pass_unkept.ensures.stands h) in
     record {
       outer = c.in_ok-line.ensures.stays.outer ∙ c.pass_unkept.ensures.stays.outer ∙ c.lines.invariant.outer;
       mark = c.in_ok-line.ensures.stays.mark ∙ c.pass_unkept.ensures.stays.mark ∙ c.lines.invariant.mark;
       room = omega (arith, c.in_ok-line.ensures.room, c.pass_unkept.ensures.room, c.lines.invariant.room);
-      files = c.in_ok-line.ensures.leaves.files ∙ c.lines.invariant.files;
+      files = c.in_ok-line.ensures.frame.files ∙ c.lines.invariant.files;
       count = search rules;
       stands = λ h. stands_on (c.lines.invariant.stands h);
-      reads = line_read k o c.args.self.now mid new c.lines.depth c.in-On.deeper (tokens_in line) reads taken goes;
-      so_far = subst Q (sym c.in_ok-keep-in-On.ensures) (line_goes_on k o c.args.self.now mid new c.lines.depth c.in-On.deeper body (tokens_in line) so_far taken goes);
+      reads = line_read k o c.args.self.now mid new c.lines.depth c.in-Open.deeper (tokens_in line) reads taken goes;
+      so_far = subst Q (sym c.in_ok-keep-in-Open.ensures) (line_goes_on k o c.args.self.now mid new c.lines.depth c.in-Open.deeper body (tokens_in line) so_far taken goes);
     }
 
 pub returns-in_err-line-clause-stopped : goal.returns-in_err-line-clause-stopped

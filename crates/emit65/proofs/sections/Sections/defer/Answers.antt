@@ -5,7 +5,7 @@ use Rattle.emit65.specs.SectionContents.{fixup_of, names_in, piece_of, stands_in
 use Rattle.emit65.specs.declared.entries.SectionEntry.TheVariants.{FixupEntry}
 use Rattle.emit65.specs.declared.fixups.Fixup.{Fixup}
 use Rattle.emit65.proofs.Standings.{stands_put}
-use Rattle.emit65.proofs.sections.Sections.wait.Goals as goal
+use Rattle.emit65.proofs.sections.Sections.defer.Goals as goal
 
 pub returns : goal.returns
 returns c = λ xs h.

@@ -1,6 +1,6 @@
 use Rattle.std.proofs.lemmas.Grind.{common_steps}
 use Rattle.std.proofs.Common.{arith}
-use Rattle.expand65.proofs.preprocessor.Preprocessor.act_by.Goals as goal
+use Rattle.expand65.proofs.preprocessor.Preprocessor.execute_with_operands.Goals as goal
 
 pub returns-in-Else-clause-stopped : goal.returns-in-Else-clause-stopped
 returns-in-Else-clause-stopped g c = c.execute_bare.ensures.stopped (g.K.Knows.meaning c.args.knows.now)

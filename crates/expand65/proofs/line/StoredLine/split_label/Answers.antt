@@ -2,7 +2,7 @@ use Rattle.std.proofs.Common.{◌∙◌, ap, sym}
 use Rattle.syntax65.specs.Tokens.{lexemes}
 use Rattle.expand65.specs.Replay.{tokens_in}
 use Rattle.expand65.proofs.Labels.{parts}
-use Rattle.expand65.proofs.line.StoredLine.parted.Goals as goal
+use Rattle.expand65.proofs.line.StoredLine.split_label.Goals as goal
 
 pub returns-clause-parts : goal.returns-clause-parts
 returns-clause-parts c =

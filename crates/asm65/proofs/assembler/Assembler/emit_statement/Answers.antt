@@ -3,7 +3,7 @@ use Rattle.ast65.specs.declared.language.Statement.{Statement}
 use Rattle.ast65.specs.declared.language.Statement.TheVariants as statement
 use Rattle.semantics65.specs.Views.{place_in}
 use Rattle.asm65.proofs.Namings.{adds_pieces, nothing_follows, puts_nothing, taken_as}
-use Rattle.asm65.proofs.assembler.Assembler.enter.Goals as goal
+use Rattle.asm65.proofs.assembler.Assembler.emit_statement.Goals as goal
 
 pub returns-in-Instruction : goal.returns-in-Instruction
 returns-in-Instruction c =
@@ -21,9 +21,9 @@ returns-in-Values c =
     let s = c.args.site.context in
     let m = c.args.measured in
     let old = c.args.self.now in
-    let new = c.enter_values.new.assembler in
+    let new = c.emit_values.new.assembler in
     let x : Statement = statement.Values c.in-Values.width c.in-Values.items in
-    taken_as place s m old new c.enter_values.result x c.args.statement (sym c.in-Values.is) (λ h. adds_pieces place s m old new x (λ y. nothing_follows y) h) c.enter_values.ensures
+    taken_as place s m old new c.emit_values.result x c.args.statement (sym c.in-Values.is) (λ h. adds_pieces place s m old new x (λ y. nothing_follows y) h) c.emit_values.ensures
 
 pub returns-in-Reserve : goal.returns-in-Reserve
 returns-in-Reserve c =
@@ -31,9 +31,9 @@ returns-in-Reserve c =
     let s = c.args.site.context in
     let m = c.args.measured in
     let old = c.args.self.now in
-    let new = c.enter_room.new.assembler in
+    let new = c.emit_reserve.new.assembler in
     let x : Statement = statement.Reserve c.in-Reserve.count c.in-Reserve.value in
-    taken_as place s m old new c.enter_room.result x c.args.statement (sym c.in-Reserve.is) (λ h. adds_pieces place s m old new x (λ y. nothing_follows y) (h place)) c.enter_room.ensures
+    taken_as place s m old new c.emit_reserve.result x c.args.statement (sym c.in-Reserve.is) (λ h. adds_pieces place s m old new x (λ y. nothing_follows y) (h place)) c.emit_reserve.ensures
 
 pub returns-in-Align : goal.returns-in-Align
 returns-in-Align c =
@@ -41,19 +41,19 @@ returns-in-Align c =
     let s = c.args.site.context in
     let m = c.args.measured in
     let old = c.args.self.now in
-    let new = c.enter_room-in-Align.new.assembler in
+    let new = c.emit_reserve-in-Align.new.assembler in
     let x : Statement = statement.Align c.in-Align.alignment c.in-Align.value in
-    taken_as place s m old new c.enter_room-in-Align.result x c.args.statement (sym c.in-Align.is) (λ h. adds_pieces place s m old new x (λ y. nothing_follows y) (h place)) c.enter_room-in-Align.ensures
+    taken_as place s m old new c.emit_reserve-in-Align.result x c.args.statement (sym c.in-Align.is) (λ h. adds_pieces place s m old new x (λ y. nothing_follows y) (h place)) c.emit_reserve-in-Align.ensures
 
-pub returns-in-FilePart : goal.returns-in-FilePart
-returns-in-FilePart c =
+pub returns-in-Incbin : goal.returns-in-Incbin
+returns-in-Incbin c =
     let place = place_in c.args.site.at.file.now c.args.site.at.line in
     let s = c.args.site.context in
     let m = c.args.measured in
     let old = c.args.self.now in
-    let new = c.enter_part.new.assembler in
-    let x : Statement = statement.Incbin c.in-FilePart.bytes c.in-FilePart.start c.in-FilePart.len in
-    taken_as place s m old new c.enter_part.result x c.args.statement (sym c.in-FilePart.is) (λ h. adds_pieces place s m old new x (λ y. nothing_follows y) (h place)) c.enter_part.ensures
+    let new = c.emit_incbin.new.assembler in
+    let x : Statement = statement.Incbin c.in-Incbin.bytes c.in-Incbin.start c.in-Incbin.len in
+    taken_as place s m old new c.emit_incbin.result x c.args.statement (sym c.in-Incbin.is) (λ h. adds_pieces place s m old new x (λ y. nothing_follows y) (h place)) c.emit_incbin.ensures
 
 pub returns-in-Assert : goal.returns-in-Assert
 returns-in-Assert c =
@@ -68,4 +68,4 @@ returns-in-Assert c =
 pub enter_names-requires-clause-named : goal.enter_names-requires-clause-named
 enter_names-requires-clause-named c =
     let x = c.in_default in
-    puts_nothing c.args.statement x.not-Instruction x.not-Values x.not-Reserve x.not-Align x.not-FilePart x.not-Assert
+    puts_nothing c.args.statement x.not-Instruction x.not-Values x.not-Reserve x.not-Align x.not-Incbin x.not-Assert

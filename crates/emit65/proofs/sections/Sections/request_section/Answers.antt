@@ -1,6 +1,6 @@
 use Rattle.std.proofs.Common.{◌∙◌, Some, ap, refl}
 use Rattle.emit65.proofs.Standings.{stands_again, stands_asked}
-use Rattle.emit65.proofs.sections.Sections.ask.Goals as goal
+use Rattle.emit65.proofs.sections.Sections.request_section.Goals as goal
 
 pub returns : goal.returns
 returns c = λ xs h. stands_asked c.args.self.now _ c.args.segment xs c.in_ok-insert.ensures.keys refl refl refl h

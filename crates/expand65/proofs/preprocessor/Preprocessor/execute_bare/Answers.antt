@@ -1,6 +1,6 @@
 use Rattle.std.proofs.lemmas.Grind.{common_steps}
 use Rattle.std.proofs.Common.{arith}
-use Rattle.expand65.proofs.preprocessor.Preprocessor.act_alone.Goals as goal
+use Rattle.expand65.proofs.preprocessor.Preprocessor.execute_bare.Goals as goal
 
 pub returns-in-EndIf-clause-keeps : goal.returns-in-EndIf-clause-keeps
 returns-in-EndIf-clause-keeps g c = c.end_if.ensures.keeps (g.S.Store.files c.args.store.now)

@@ -2,7 +2,7 @@ use Rattle.ast65.specs.Faults.{is_system_error}
 use Rattle.semantics65.specs.Views.{place_in}
 use Rattle.symbols65.proofs.Measures.{unless_then}
 use Rattle.asm65.proofs.Takings.{takes_entered, takes_refused}
-use Rattle.asm65.proofs.assembler.Assembler.take.Goals as goal
+use Rattle.asm65.proofs.assembler.Assembler.assemble_statement.Goals as goal
 
 pub returns-in-Err-clause-taken : goal.returns-in-Err-clause-taken
 returns-in-Err-clause-taken c = λ count t h few.
@@ -10,7 +10,7 @@ returns-in-Err-clause-taken c = λ count t h few.
     let place = place_in c.args.at.file.now c.args.at.line in
     rw c.refused.ensures (unless_then (is_system_error e) (takes_refused t place c.args.statement e) (c.in-Err.ensures.refused count t h)))
 
-pub returns-in_ok-enter-in-Ok-clause-taken : goal.returns-in_ok-enter-in-Ok-clause-taken
-returns-in_ok-enter-in-Ok-clause-taken c = λ count t h few.
+pub returns-in_ok-emit_statement-in-Ok-clause-taken : goal.returns-in_ok-emit_statement-in-Ok-clause-taken
+returns-in_ok-emit_statement-in-Ok-clause-taken c = λ count t h few.
     (let found = c.in-Ok.field-0 in
-    takes_entered count t (place_in c.args.at.file.now c.args.at.line) c.args.statement found.context found.measured c.args.self.now c.place.new.self c.enter.new.self h (c.in-Ok.ensures.placed count t h) (c.in-Ok.ensures.holds count t h) c.in_ok-enter-in-Ok.ensures)
+    takes_entered count t (place_in c.args.at.file.now c.args.at.line) c.args.statement found.context found.measured c.args.self.now c.lay_out.new.self c.emit_statement.new.self h (c.in-Ok.ensures.placed count t h) (c.in-Ok.ensures.holds count t h) c.in_ok-emit_statement-in-Ok.ensures)

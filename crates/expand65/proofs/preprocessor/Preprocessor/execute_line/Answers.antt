@@ -7,7 +7,7 @@ use Rattle.expand65.specs.Representation.{state_of}
 use Rattle.expand65.specs.Expansion.{line_step, directive_step}
 use Rattle.expand65.proofs.Going.{acted_by, turns_by}
 use Rattle.expand65.proofs.Stopping.{stops_by}
-use Rattle.expand65.proofs.preprocessor.Preprocessor.act.Goals as goal
+use Rattle.expand65.proofs.preprocessor.Preprocessor.execute_line.Goals as goal
 
 pub returns-in_ok-tokens-in-Some-clause-turns : goal.returns-in_ok-tokens-in-Some-clause-turns
 returns-in_ok-tokens-in-Some-clause-turns g c =

@@ -5,7 +5,7 @@ use Rattle.semantics65.specs.Views.{place_in}
 use Rattle.symbols65.proofs.Measures.{unless_then}
 use Rattle.asm65.proofs.Namings.{adds_pieces, nothing_follows}
 use Rattle.asm65.proofs.Takings.{takes_entered, takes_refused}
-use Rattle.asm65.proofs.assembler.Assembler.take_instruction.Goals as goal
+use Rattle.asm65.proofs.assembler.Assembler.assemble_instruction.Goals as goal
 
 pub returns-in-Err-clause-taken : goal.returns-in-Err-clause-taken
 returns-in-Err-clause-taken c = λ count t h few.

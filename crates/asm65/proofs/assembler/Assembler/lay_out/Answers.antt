@@ -19,14 +19,14 @@ use Rattle.asm65.specs.Internal.AssemblerState.{AreBefore, Represents, IsNew, as
 use Rattle.asm65.proofs.Insides.{measured_inside}
 use Rattle.asm65.proofs.Placings.{more_counted, moved_after, placed_is, refused_is}
 use Rattle.asm65.proofs.Takings.{holds_known, holds_stepped, is_new}
-use Rattle.asm65.proofs.assembler.Assembler.place.Goals as goal
+use Rattle.asm65.proofs.assembler.Assembler.lay_out.Goals as goal
 
 pub advance-requires-clause-numbers : goal.advance-requires-clause-numbers
 advance-requires-clause-numbers c =
     let old : Assembler = c.args.self.now in
-    let mid : Assembler = c.ask.new.self in
+    let mid : Assembler = c.request_section.new.self in
     let (count, t, h, few) = c.requires in
-    let tables = c.in_ok-ask.ensures.tables in
+    let tables = c.in_ok-request_section.ensures.tables in
     subst (λ (y : Symbols). HasNumbers y mid.cursor) (sym (ap table_of tables.symbols ∙ h.symbols))
     (subst (λ (w : Cursor). HasNumbers t.symbols w) (sym (tables.cursor ∙ h.cursor)) (has_numbers count t.symbols t.cursor h.counted h.inside few))
 
@@ -37,36 +37,36 @@ returns-clause-placed c = λ count t h.
 pub returns-clause-new : goal.returns-clause-new
 returns-clause-new c =
     let old : Assembler = c.args.self.now in
-    let mid : Assembler = c.ask.new.self in
+    let mid : Assembler = c.request_section.new.self in
     let x : Statement = c.args.statement.now in
     let y : Symbols = table_of old.symbols in
     let w : Cursor = old.cursor in
     let (count, t, h, few) = c.requires in
     let before : AreBefore w.unnamed y.definitions = subst (λ (z : Symbols). AreBefore w.unnamed z.definitions) (sym h.symbols) (subst (λ (v : Cursor). AreBefore v.unnamed t.symbols.definitions) (sym h.cursor) h.unnamed) in
     let new : IsNew y (layout.context_of w) x = is_new y w x (without_fault y w x c.in_ok-measured.measured c.in_ok-measured.ensures.measured) before in
-    subst (λ (z : Symbols). IsNew z (c.context-context.result) x) (ap table_of (sym c.in_ok-ask.ensures.tables.symbols))
+    subst (λ (z : Symbols). IsNew z (c.context-context.result) x) (ap table_of (sym c.in_ok-request_section.ensures.tables.symbols))
     (subst (λ (s : Context). IsNew y s x) (sym c.context-context.ensures) new)
 
 pub returns-clause-holds : goal.returns-clause-holds
 returns-clause-holds c = λ count t h.
     (let old : Assembler = c.args.self.now in
-    let mid : Assembler = c.ask.new.self in
+    let mid : Assembler = c.request_section.new.self in
     let x : Statement = c.args.statement.now in
     let place : SourceLocation = place_in c.args.at.file.now c.args.at.line in
     let m : StatementLayout = c.in_ok-measured.measured in
     let y : Symbols = table_of old.symbols in
     let w : Cursor = old.cursor in
-    let same : table_of mid.symbols ≡ y = ap table_of c.in_ok-ask.ensures.tables.symbols in
-    let site : mid.cursor ≡ w = c.in_ok-ask.ensures.tables.cursor in
+    let same : table_of mid.symbols ≡ y = ap table_of c.in_ok-request_section.ensures.tables.symbols in
+    let site : mid.cursor ≡ w = c.in_ok-request_section.ensures.tables.cursor in
     let segment = ap (λ (s : Context). s.segment) c.context-context.ensures ∙ ap (λ (v : Cursor). (layout.context_of v).segment) h.cursor in
-    let knows = holds_known count t old c.measure.new.known h c.in_ok-measured.ensures.table in
-    let held : Represents count (asked_of (layout.context_of t.cursor).segment x t) mid = subst (λ (g : ℕ). Represents count (asked_of g x t) mid) segment (c.in_ok-ask.ensures.asked count t knows) in
+    let knows = holds_known count t old c.lay_out_statement.new.known h c.in_ok-measured.ensures.table in
+    let held : Represents count (asked_of (layout.context_of t.cursor).segment x t) mid = subst (λ (g : ℕ). Represents count (asked_of g x t) mid) segment (c.in_ok-request_section.ensures.asked count t knows) in
     let moved : c.advance.new.self ≡ layout.cursor_after t.symbols t.cursor x =
     c.in_ok-advance.ensures
     ∙ ap (λ (z : Symbols). cursor_with_bytes z mid.cursor x m.length m.alignment) same
     ∙ ap (λ (v : Cursor). cursor_with_bytes y v x m.length m.alignment) site
     ∙ moved_after count t old h x m c.in_ok-measured.ensures.measured in
-    holds_stepped count t place x mid c.advance.new.self c.say.new.self held moved (more_counted count t old h x m c.in_ok-measured.ensures.measured) c.in_ok-say.ensures.out c.in_ok-say.ensures.err)
+    holds_stepped count t place x mid c.advance.new.self c.record_output.new.self held moved (more_counted count t old h x m c.in_ok-measured.ensures.measured) c.in_ok-record_output.ensures.out c.in_ok-record_output.ensures.err)
 
 pub returns-in_err-measured-clause-refused : goal.returns-in_err-measured-clause-refused
 returns-in_err-measured-clause-refused c = λ count t h.

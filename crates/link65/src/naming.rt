@@ -16,7 +16,7 @@ use std::alloc::{AllocError, Global};
 
 /// `__N_PART__`
 fn attribute_name(alloc: Global, name: &[u8], part: &[u8]) -> Result<ListVec<u8>, AllocError>
-    ensures { IfOk result (λ text. text ≡ attribute_name name.now attribute_symbol.now) }
+    ensures { IfOk result (λ text. text ≡ attribute_name name.now part.now) }
 {
     join(alloc, &[b"__", name, b"_", part, b"__"])
 }

@@ -95,7 +95,7 @@ repeat_few k ts q = grind (arith, common_steps, turns_few)
 module _ (m : Files) where
   -- so many tokens were given, or are acted on, and each macro that was called took one more
   pub record IsStateFit (n : ℕ) (s : State) : Type 0 where
-    pub remaining_input : IsLeftFit m (n + s.expansions) s.left
+    pub left : IsLeftFit m (n + s.expansions) s.left
     pub macros : AllByRecursion (λ e. AreAllFit m e.1.body) s.macros
 
   -- fewer were given

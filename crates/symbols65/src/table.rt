@@ -145,7 +145,7 @@ impl Symbols {
 
     /// The scope of a name that was opened directly in a scope.
     pub fn scope_in(&self, within: usize, name: &[u8]) -> Option<usize>
-        ensures { result ≡ scope_in (table_of self.now).scopes parent_scope name.now }
+        ensures { result ≡ scope_in (table_of self.now).scopes within name.now }
     {
         match self.word(name) {
             Some(word) => match self.place_opened(ScopeKey::Named { within, word }) {
@@ -229,7 +229,7 @@ impl Symbols {
     ) -> Result<ScopeKey, AllocError>
         ensures table { table_of self.new ≡ table_of self.old }
         ensures scopes { self.new.scopes ≡ self.old.scopes }
-        ensures opening { IfOk result (λ k. IsOpening (words_of self.new) (length self.new.scopes.entries) parent_scope (option_map (λ n. n.now) name.entry) k) }
+        ensures opening { IfOk result (λ k. IsOpening (words_of self.new) (length self.new.scopes.entries) within (option_map (λ n. n.now) name.entry) k) }
     {
         match name {
             Some(name) => {
@@ -263,7 +263,7 @@ impl Symbols {
         name: Option<&[u8]>,
         is_proc: bool,
     ) -> Result<(), AllocError>
-        ensures { OnOk result (opened_twice (table_of self.old).scopes parent_scope (option_map (λ n. n.now) name.entry) ≡ None → table_of self.new ≡ with_scope (table_of self.old) (record { within = parent_scope; name = option_map (λ n. n.now) name.entry; is_proc = is_proc })) }
+        ensures { OnOk result (opened_twice (table_of self.old).scopes within (option_map (λ n. n.now) name.entry) ≡ None → table_of self.new ≡ with_scope (table_of self.old) (record { within = within; name = option_map (λ n. n.now) name.entry; is_proc = is_proc })) }
     {
         let opening = self.enter_opening(alloc, within, name)?;
         self.put_scope(opening, is_proc)

@@ -2,7 +2,8 @@
 """The merge gate: texts first, then every proof, mutant and test of the crates, then the real program on real files.
 
 usage: all.py    ALL_LANES is how many scripts run at a time (default: the number of processors).
-The lines before the last say which part failed and why; the last line is 'N passed, M failed'."""
+The lines before the last say which part failed and why; the last line is 'N passed, M failed'. What it printed is kept in
+$XDG_CACHE_HOME/bin65/gate.txt (default: ~/.cache/bin65/gate.txt), so that the times of the last run can be looked up."""
 import hashlib
 import os
 import re
@@ -38,6 +39,25 @@ SCRIPTS = [
     "workbench_faults", "packaging", "release", "bench",
 ]
 EXAMPLES = ["first", "programs", "library", "sizes"]
+
+
+class Kept:
+    """Standard output that is also written to a file; the file is left out if it can't be written."""
+
+    def __init__(self, out):
+        self.out, folder = out, os.path.join(os.environ.get("XDG_CACHE_HOME") or os.path.expanduser("~/.cache"), "bin65")
+        try:
+            os.makedirs(folder, exist_ok=True)
+            self.copy = open(os.path.join(folder, "gate.txt"), "w", encoding="utf-8", buffering=1)
+        except OSError:
+            self.copy = open(os.devnull, "w", encoding="utf-8")
+
+    def write(self, text):
+        self.copy.write(text)
+        return self.out.write(text)
+
+    def flush(self):
+        self.out.flush()
 
 
 class Part:
@@ -94,6 +114,7 @@ def scripts():
 
 
 def main():
+    sys.stdout = Kept(sys.stdout)
     # (a make that a test calls is a user's own: one that knows itself below another says which folders it enters)
     for it in ("MAKEFLAGS", "MAKELEVEL", "MFLAGS"):
         os.environ.pop(it, None)

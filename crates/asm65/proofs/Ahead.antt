@@ -45,10 +45,10 @@ no_tokens (t ∷ ts) e =
 
 module _ (o : Option Files) (last_failure : LastFailure) (place : SourceLocation) where
   abbrev RestStops : List Lexeme → Assembler → Assembler → Answer → Type 0
-  RestStops ts = StopsQuietly (AnswersWithoutFile last_failure (λ m t. IsRest m StepsTo t place ts)) 1
+  RestStops ts = StopsQuietly (AnswersWithoutFile o last_failure (λ m t. IsRest m StepsTo t place ts)) 1
 
   abbrev LabelStops : List Lexeme → Assembler → Assembler → Answer → Type 0
-  LabelStops ts = StopsQuietly (AnswersWithoutFile last_failure (λ m t. IsLabel m StepsTo t place ts)) 2
+  LabelStops ts = StopsQuietly (AnswersWithoutFile o last_failure (λ m t. IsLabel m StepsTo t place ts)) 2
 
   pub none_after : (ts : List Lexeme) (a : Assembler) → ts ≡ [] → TakesAll o last_failure place (given_after ts) a a (Ok tt)
   none_after ts a e = rw e (none a)
@@ -56,7 +56,7 @@ module _ (o : Option Files) (last_failure : LastFailure) (place : SourceLocation
   pub taken_after : (ts : List Lexeme) (old new : Assembler) (r : Answer) → (ts ≡ [] → ⊥) → TakesBy (AreSymbolNames ts) (RestBy o place ts) 1 old new r → RestStops ts old new r → TakesAll o last_failure place (given_after ts) old new r
   taken_after [] old new r some taken stops = absurd (some refl)
   taken_after (t ∷ ts) old new (Ok v) some taken stops = one_more old new new (plain (t ∷ ts)) [] (Ok tt) (record { taken = wider (AreSymbolNames (t ∷ ts)) (RestBy o place (t ∷ ts)) old new (Ok v) taken; stopped = tt }) (none new)
-  taken_after (t ∷ ts) old new (Err e) some taken stops = refused old new (plain (t ∷ ts)) [] e (record { taken = wider (AreSymbolNames (t ∷ ts)) (RestBy o place (t ∷ ts)) old new (Err e) taken; stopped = stops_wider (AnswersWithoutFile last_failure (λ m s. IsRest m StepsTo s place (t ∷ ts))) old new (Err e) stops })
+  taken_after (t ∷ ts) old new (Err e) some taken stops = refused old new (plain (t ∷ ts)) [] e (record { taken = wider (AreSymbolNames (t ∷ ts)) (RestBy o place (t ∷ ts)) old new (Err e) taken; stopped = stops_wider (AnswersWithoutFile o last_failure (λ m s. IsRest m StepsTo s place (t ∷ ts))) old new (Err e) stops })
 
   pub only_rest : (ls ts : List Lexeme) (old new : Assembler) (r : Answer) → ls ≡ [] → TakesAll o last_failure place (given_after ts) old new r → TakesAll o last_failure place (given_parts ls ts) old new r
   only_rest ls ts old new r e h = rw e h

@@ -4,6 +4,7 @@ pub mod Defines
 pub mod Enterings
 pub mod Exports
 pub mod Insides
+pub mod LaidStops
 pub mod Namings
 pub mod Outcomes
 pub mod Placings

@@ -1,6 +1,6 @@
 -- What is answered, from what the statements of a source come to.
 use Rattle.std.proofs.Common.{◌≡◌, ◌∙◌, ℕ, ◌+◌, ◌*◌, ◌≤◌, ◌<◌, inl, inr, arith, nat_lt, Bool, true, false, List, [], Option, Some, None, refl, sym, ap, subst}
-use Rattle.std.specs.Prelude.{Result, Ok, Err, IfOk, IfErr, IfSome, ⊤, ◌||◌}
+use Rattle.std.specs.Prelude.{Result, Ok, Err, IfOk, IfErr, IfSome, ⊤, ◌||◌, ◌⊎◌}
 use Rattle.base65.specs.Outcome.{RefinesProp, Unless, ◌>>=◌}
 use Rattle.base65.specs.Store.{Files, FailedAt, PropagatesIoError, PropagatesIoErrors, LastFailure}
 use Rattle.std.proofs.lemmas.Bool.Decides.{nat_tests}
@@ -33,7 +33,8 @@ use Rattle.asm65.specs.declared.assembling.Assembly.{Assembly}
 use Rattle.asm65.specs.declared.texts.Diagnostic.{Diagnostic}
 use Rattle.asm65.specs.declared.driver.Run.{Run}
 use Rattle.asm65.specs.Assembly.{RefinesOutcome, answer_of, has_failed, is_from_memory, is_from_outside, is_diagnostic_system_error, placed_of}
-use Rattle.asm65.specs.Failing.{nowhere, StopsAll, StoreFailureStops, StopsSo, StopsAfter, StartsRun}
+use Rattle.asm65.specs.Failing.{nowhere, StopsFirst}
+use Rattle.asm65.specs.Internal.Stopping.{StartsRun, RunStops, RunStopsSo, StopsAll}
 use Rattle.asm65.specs.Internal.AssemblerState.{Represents}
 use Rattle.asm65.specs.Internal.RunState.{RepresentsWithin, RunRepresents, IsReached, at_first, following, RepresentsSome, IsRunning, RefinesTransition, RefinesRun, SaysAs, running_limit}
 use Rattle.asm65.proofs.Sources.{RanAll, some_all, some_both, some_then}
@@ -236,18 +237,18 @@ memory_silent (Ok o) P f h = absurd cc
 memory_silent (Err e) P f h = f (memory_outside e.fault h)
 
 -- the store didn't fail
-never_so : (m : Files) (last_failure : LastFailure) (job : Job) (a : Assembly) → IfErr a.result (λ e. has_failed e ≡ false) → StopsSo m last_failure job a
+never_so : (m : Files) (last_failure : LastFailure) (job : Job) (a : Assembly) → IfErr a.result (λ e. has_failed e ≡ false) → RunStopsSo m last_failure job a
 never_so m last_failure job a none = by a.result none
   where
-    by : (r : Found) → IfErr r (λ e. has_failed e ≡ false) → IfErr r (λ e. has_failed e ≡ true → StoreFailureStops m last_failure job (placed_of e) a.out a.err)
+    by : (r : Found) → IfErr r (λ e. has_failed e ≡ false) → IfErr r (λ e. has_failed e ≡ true → StopsFirst last_failure job (placed_of e) a.out a.err ⊎ RunStops m last_failure job (placed_of e) a.out a.err)
     by (Ok o) h = tt
     by (Err e) h = λ yes. absurd (let both : true ≡ false = sym yes ∙ h in cc)
 
-pub stops_never_so : (o : Option Files) (last_failure : LastFailure) (job : Job) (a : Assembly) → IfErr a.result (λ e. has_failed e ≡ false) → IfSome o (λ m. StopsSo m last_failure job a)
-stops_never_so o last_failure job a none = some_all (λ m. StopsSo m last_failure job a) o (λ m. never_so m last_failure job a none)
+pub stops_never_so : (o : Option Files) (last_failure : LastFailure) (job : Job) (a : Assembly) → IfErr a.result (λ e. has_failed e ≡ false) → IfSome o (λ m. RunStopsSo m last_failure job a)
+stops_never_so o last_failure job a none = some_all (λ m. RunStopsSo m last_failure job a) o (λ m. never_so m last_failure job a none)
 
 abbrev pub StopsFrom : Files → LastFailure → Run → Assembly → Type 0
-StopsFrom m last_failure first a = (job : Job) → StartsRun m job first → StopsSo m last_failure job a
+StopsFrom m last_failure first a = (job : Job) → StartsRun m job first → RunStopsSo m last_failure job a
 
 pub stops_never_from : (o : Option Files) (last_failure : LastFailure) (first : Run) (a : Assembly) → IfErr a.result (λ e. has_failed e ≡ false) → IfSome o (λ m. StopsFrom m last_failure first a)
 stops_never_from o last_failure first a none = some_all (λ m. StopsFrom m last_failure first a) o (λ m job begins. never_so m last_failure job a none)
@@ -261,10 +262,10 @@ as_memory (Ok o) h = tt
 as_memory (Err x) h = ap is_failure h
 
 -- it failed before a line was read
-pub stops_first : (o : Option Files) (last_failure : LastFailure) (job : Job) (e : ExpandFault) (a : Assembly) → IfErr a.result (λ x. has_failed x ≡ is_failure (Expansion e)) → (is_failure (Expansion e) ≡ true → IfErr a.result (λ x. (x.fault ≡ Expansion e) × ((placed_of x).place ≡ nowhere))) → (is_from_outside a.result ≡ true → (a.out ≡ []) × (a.err ≡ [])) → (e ≡ FileError → FailedAt last_failure job.source 16777216) → IfSome o (λ m. StopsSo m last_failure job a)
-stops_first o last_failure job e a failed first silent asked = some_all (λ m. StopsSo m last_failure job a) o (λ m. by m a.result failed first silent)
+pub stops_first : (o : Option Files) (last_failure : LastFailure) (job : Job) (e : ExpandFault) (a : Assembly) → IfErr a.result (λ x. has_failed x ≡ is_failure (Expansion e)) → (is_failure (Expansion e) ≡ true → IfErr a.result (λ x. (x.fault ≡ Expansion e) × ((placed_of x).place ≡ nowhere))) → (is_from_outside a.result ≡ true → (a.out ≡ []) × (a.err ≡ [])) → (e ≡ FileError → FailedAt last_failure job.source 16777216) → IfSome o (λ m. RunStopsSo m last_failure job a)
+stops_first o last_failure job e a failed first silent asked = some_all (λ m. RunStopsSo m last_failure job a) o (λ m. by m a.result failed first silent)
   where
-    by : (m : Files) (r : Found) → IfErr r (λ x. has_failed x ≡ is_failure (Expansion e)) → (is_failure (Expansion e) ≡ true → IfErr r (λ x. (x.fault ≡ Expansion e) × ((placed_of x).place ≡ nowhere))) → (is_from_outside r ≡ true → (a.out ≡ []) × (a.err ≡ [])) → IfErr r (λ x. has_failed x ≡ true → StoreFailureStops m last_failure job (placed_of x) a.out a.err)
+    by : (m : Files) (r : Found) → IfErr r (λ x. has_failed x ≡ is_failure (Expansion e)) → (is_failure (Expansion e) ≡ true → IfErr r (λ x. (x.fault ≡ Expansion e) × ((placed_of x).place ≡ nowhere))) → (is_from_outside r ≡ true → (a.out ≡ []) × (a.err ≡ [])) → IfErr r (λ x. has_failed x ≡ true → StopsFirst last_failure job (placed_of x) a.out a.err ⊎ RunStops m last_failure job (placed_of x) a.out a.err)
     by m (Ok x) failed first silent = tt
     by m (Err x) failed first silent = λ yes.
         (let is : is_failure (Expansion e) ≡ true = sym failed ∙ yes in
@@ -283,10 +284,10 @@ stops_here o last_failure first now e a failed placed out err all =
     at : LocatedFault
     at = record { place = place_of now.expander; fault = e }
 
-    by : (m : Files) (job : Job) (r : Found) → StoppedAt (place_of now.expander) e r → StopsAfter m last_failure job (record { place = place_of now.expander; fault = e }) now.assembler.texts.out now.assembler.texts.err → IfErr r (λ x. has_failed x ≡ true → StoreFailureStops m last_failure job (placed_of x) a.out a.err)
+    by : (m : Files) (job : Job) (r : Found) → StoppedAt (place_of now.expander) e r → RunStops m last_failure job (record { place = place_of now.expander; fault = e }) now.assembler.texts.out now.assembler.texts.err → IfErr r (λ x. has_failed x ≡ true → StopsFirst last_failure job (placed_of x) a.out a.err ⊎ RunStops m last_failure job (placed_of x) a.out a.err)
     by m job (Ok x) p h = tt
     by m job (Err x) p h = λ yes.
-        inr (subst (λ (q : LocatedFault). StopsAfter m last_failure job q a.out a.err) (sym p) (subst (λ (t : List ℕ). StopsAfter m last_failure job at t a.err) (sym out) (subst (λ (t : List ℕ). StopsAfter m last_failure job at now.assembler.texts.out t) (sym err) h)))
+        inr (subst (λ (q : LocatedFault). RunStops m last_failure job q a.out a.err) (sym p) (subst (λ (t : List ℕ). RunStops m last_failure job at t a.err) (sym out) (subst (λ (t : List ℕ). RunStops m last_failure job at now.assembler.texts.out t) (sym err) h)))
 
 pub stopped_silent : (r : Found) (place : SourceLocation) (e : AsmFault) (P : Type 0) → is_failure e ≡ true → StoppedAt place e r → is_from_memory r ≡ true → P
 stopped_silent (Ok o) place e P failed p h = absurd cc
@@ -301,7 +302,7 @@ stops_after o last_failure first now e a same stopped_at said all = by (is_failu
     by false is = stops_never_from o last_failure first a (as_fault a.result e is same)
 
 -- what an opened source comes to behind its constants
-pub run_stops : (o : Option Files) (last_failure : LastFailure) (job : Job) (x : Expander) (b : Assembler) (v : Unit {0}) (a : Assembly) → AreLeft job b v → measure_of x ≤ 3145729 → IfSome o (λ m. RepresentsFirstState m (Ok x) (opened_in m job.source job.include)) → IfSome o (λ m. IsPositioned m x) → IfSome o (λ m. StopsFrom m last_failure (record { expander = x; assembler = b }) a) → IfSome o (λ m. StopsSo m last_failure job a)
+pub run_stops : (o : Option Files) (last_failure : LastFailure) (job : Job) (x : Expander) (b : Assembler) (v : Unit {0}) (a : Assembly) → AreLeft job b v → measure_of x ≤ 3145729 → IfSome o (λ m. RepresentsFirstState m (Ok x) (opened_in m job.source job.include)) → IfSome o (λ m. IsPositioned m x) → IfSome o (λ m. StopsFrom m last_failure (record { expander = x; assembler = b }) a) → IfSome o (λ m. RunStopsSo m last_failure job a)
 run_stops o last_failure job x b v a left size opens placed all =
-    some_both (λ m. RepresentsFirstState m (Ok x) (opened_in m job.source job.include) × IsPositioned m x) (λ m. StopsFrom m last_failure (record { expander = x; assembler = b }) a) (λ m. StopsSo m last_failure job a) o (λ m q r. r job (left.0, q.0, q.1, left.1, first_held x b left.0 (record { expander = x; assembler = b }) refl size left.3))
+    some_both (λ m. RepresentsFirstState m (Ok x) (opened_in m job.source job.include) × IsPositioned m x) (λ m. StopsFrom m last_failure (record { expander = x; assembler = b }) a) (λ m. RunStopsSo m last_failure job a) o (λ m q r. r job (left.0, q.0, q.1, left.1, first_held x b left.0 (record { expander = x; assembler = b }) refl size left.3))
     (some_both (λ m. RepresentsFirstState m (Ok x) (opened_in m job.source job.include)) (λ m. IsPositioned m x) (λ m. RepresentsFirstState m (Ok x) (opened_in m job.source job.include) × IsPositioned m x) o (λ m q p. (q, p)) opens placed) all

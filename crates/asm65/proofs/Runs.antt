@@ -131,22 +131,22 @@ rest_leaves o place (k ∷ ts) x y old new (Err e) some is read taken = λ count
     wrong_rest place k ts x y is o (count + 1) t new e read (taken count t room h)
 
 -- a statement that is refused before its file is read
-module _ (last_failure : LastFailure) (place : SourceLocation) (x : Statement) (old new : Assembler) (e : AsmFault) (refused : (count : ℕ) (t : State) → Represents count t old → IsRefusedUnread last_failure t place x e) (same : new.texts ≡ old.texts) where
-  pub rest_unread : (o : Option Files) (ts : List Lexeme) → (ts ≡ [] → ⊥) → IsStatement ts (Ok x) → TakesBy (AreSymbolNames ts) (RestBy o place ts) 1 old new (Err e)
-  rest_unread o [] some is = absurd (some refl)
-  rest_unread o (k ∷ ts) some is = λ count t room h.
-      fault_first (AreSymbolNames (k ∷ ts)) (RestBy o place (k ∷ ts) t) (count + 1) t new e
-      (unless_then (is_system_error e) (λ (all : (m : Files) → StepsTo t place (with_bytes m place x) (Err e)). told_all o (λ m. IsRest m StepsTo t place (k ∷ ts) (Err e)) (λ m. (Ok x, is, all m))) (refused count t h).inside)
+module _ (f : Option Files) (last_failure : LastFailure) (place : SourceLocation) (x : Statement) (old new : Assembler) (e : AsmFault) (refused : (count : ℕ) (t : State) → Represents count t old → IsRefusedUnread f last_failure t place x e) (same : new.texts ≡ old.texts) where
+  pub rest_unread : (ts : List Lexeme) → (ts ≡ [] → ⊥) → IsStatement ts (Ok x) → TakesBy (AreSymbolNames ts) (RestBy f place ts) 1 old new (Err e)
+  rest_unread [] some is = absurd (some refl)
+  rest_unread (k ∷ ts) some is = λ count t room h.
+      fault_first (AreSymbolNames (k ∷ ts)) (RestBy f place (k ∷ ts) t) (count + 1) t new e
+      (unless_then (is_system_error e) (λ (all : (m : Files) → StepsTo t place (with_bytes m place x) (Err e)). told_all f (λ m. IsRest m StepsTo t place (k ∷ ts) (Err e)) (λ m. (Ok x, is, all m))) (refused count t h).inside)
       (λ inside. says_same count t old new h same)
 
-  pub rest_stops : (ts : List Lexeme) (r : Answer) → (ts ≡ [] → ⊥) → IsStatement ts (Ok x) → (is_failure e ≡ true → e ≡ FileError) → r ≡ Err e → StopsQuietly (AnswersWithoutFile last_failure (λ m t. IsRest m StepsTo t place ts)) 1 old new r
+  pub rest_stops : (ts : List Lexeme) (r : Answer) → (ts ≡ [] → ⊥) → IsStatement ts (Ok x) → (is_failure e ≡ true → e ≡ FileError) → r ≡ Err e → StopsQuietly (AnswersWithoutFile f last_failure (λ m t. IsRest m StepsTo t place ts)) 1 old new r
   rest_stops [] r some is only fails = absurd (some refl)
-  rest_stops (k ∷ ts) r some is only fails = subst (StopsQuietly (AnswersWithoutFile last_failure (λ m t. IsRest m StepsTo t place (k ∷ ts))) 1 old new) (sym fails)
+  rest_stops (k ∷ ts) r some is only fails = subst (StopsQuietly (AnswersWithoutFile f last_failure (λ m t. IsRest m StepsTo t place (k ∷ ts))) 1 old new) (sym fails)
       (λ failed. record {
         fault = only failed;
         out = ap (λ (s : ConsoleOutput). s.out) same;
         err = ap (λ (s : ConsoleOutput). s.err) same;
-        unread = λ count t room h. (let w = (refused count t h).failed failed in (w.0, w.1, λ m none. (Ok x, is, w.2 m none)));
+        unread = λ count t room h. (let w = (refused count t h).failed failed in record { name = w.name; asked = w.asked; inside = w.inside; answered = λ m none. (Ok x, is, w.answered m none) });
       })
 
 -- what holds what another one does is followed by what that is
@@ -235,9 +235,9 @@ label_room place o old mid v held front =
     (a.3.0, a.0, omega (arith, room, few), a.3.2)
 
 -- a label says nothing, so neither does a failure behind it
-pub label_stops : (last_failure : LastFailure) (place : SourceLocation) (ts rest : List Lexeme) (o : Option Statement) (old mid new : Assembler) (v : Unit {0}) (r : Answer) → HasHeadroom 2 old → Says ts rest o → FrontBy place o old mid (Ok v) → StopsQuietly (AnswersWithoutFile last_failure (λ m t. IsRest m StepsTo t place rest)) 1 mid new r → StopsQuietly (AnswersWithoutFile last_failure (λ m t. IsLabel m StepsTo t place ts)) 2 old new r
-label_stops last_failure place ts rest o old mid new v (Ok w) held says front quiet = tt
-label_stops last_failure place ts rest o old mid new v (Err e) held says front quiet = λ failed.
+pub label_stops : (f : Option Files) (last_failure : LastFailure) (place : SourceLocation) (ts rest : List Lexeme) (o : Option Statement) (old mid new : Assembler) (v : Unit {0}) (r : Answer) → HasHeadroom 2 old → Says ts rest o → FrontBy place o old mid (Ok v) → StopsQuietly (AnswersWithoutFile f last_failure (λ m t. IsRest m StepsTo t place rest)) 1 mid new r → StopsQuietly (AnswersWithoutFile f last_failure (λ m t. IsLabel m StepsTo t place ts)) 2 old new r
+label_stops f last_failure place ts rest o old mid new v (Ok w) held says front quiet = tt
+label_stops f last_failure place ts rest o old mid new v (Err e) held says front quiet = λ failed.
     (let room = held.2 in
     let a = front held.0 held.1 (omega (arith, room)) held.3 in
     let is = parted ts rest o says in
@@ -254,7 +254,7 @@ label_stops last_failure place ts rest o old mid new v (Err e) held says front q
           (let b = front count t (omega (arith, space)) h in
           let few = b.3.1 in
           let w = q.unread b.3.0 b.0 (omega (arith, space, few)) b.3.2 in
-          (w.0, w.1, λ m none. subst (λ p. LabelAt m t place p (Err FileNotFound)) (sym is) (Ok b.0, b.1, w.2 m none)));
+          record { name = w.name; asked = w.asked; inside = w.inside; answered = λ m none. subst (λ p. LabelAt m t place p (Err FileNotFound)) (sym is) (Ok b.0, b.1, w.answered m none) });
     })
 
 abbrev pub LabelBy : Option Files → SourceLocation → List Lexeme → State → Result State AsmFault → Type 0
@@ -317,13 +317,13 @@ given_plain f place g line ts old new r is same h =
 
 -- ---- Where the store fails.
 
-abbrev pub GivenStops : LastFailure → SourceLocation → given.Statement → Assembler → Assembler → Answer → Type 0
-GivenStops last_failure place g old new r = StopsQuietly (AnswersWithoutFile last_failure (λ m t. AssemblesExpanded m StepsTo t place (statement_of g))) 2 old new r
+abbrev pub GivenStops : Option Files → LastFailure → SourceLocation → given.Statement → Assembler → Assembler → Answer → Type 0
+GivenStops f last_failure place g old new r = StopsQuietly (AnswersWithoutFile f last_failure (λ m t. AssemblesExpanded m StepsTo t place (statement_of g))) 2 old new r
 
-pub label_given_stops : (last_failure : LastFailure) (place : SourceLocation) (g : given.Statement) (line : StoredLine) (ts : List Lexeme) (old new : Assembler) (r : Answer) → g ≡ Label line → ts ≡ tokens_in line → StopsQuietly (AnswersWithoutFile last_failure (λ m t. IsLabel m StepsTo t place ts)) 2 old new r → GivenStops last_failure place g old new r
-label_given_stops last_failure place g line ts old new r is same h =
-    let Q : List Lexeme → Type 0 = λ ts. StopsQuietly (AnswersWithoutFile last_failure (λ m t. IsLabel m StepsTo t place ts)) 2 old new r in
-    subst (λ g. GivenStops last_failure place g old new r) (sym is) (subst Q same h)
+pub label_given_stops : (f : Option Files) (last_failure : LastFailure) (place : SourceLocation) (g : given.Statement) (line : StoredLine) (ts : List Lexeme) (old new : Assembler) (r : Answer) → g ≡ Label line → ts ≡ tokens_in line → StopsQuietly (AnswersWithoutFile f last_failure (λ m t. IsLabel m StepsTo t place ts)) 2 old new r → GivenStops f last_failure place g old new r
+label_given_stops f last_failure place g line ts old new r is same h =
+    let Q : List Lexeme → Type 0 = λ ts. StopsQuietly (AnswersWithoutFile f last_failure (λ m t. IsLabel m StepsTo t place ts)) 2 old new r in
+    subst (λ g. GivenStops f last_failure place g old new r) (sym is) (subst Q same h)
 
 pub stops_wider : (Is : State → Result State AsmFault → Type 0) (old new : Assembler) (r : Answer) → StopsQuietly Is 1 old new r → StopsQuietly Is 2 old new r
 stops_wider Is old new (Ok v) h = tt
@@ -331,7 +331,7 @@ stops_wider Is old new (Err e) h = λ failed.
     (let q = h failed in
     record { fault = q.fault; out = q.out; err = q.err; unread = λ count t room held. q.unread count t (omega (arith, room)) held })
 
-pub plain_given_stops : (last_failure : LastFailure) (place : SourceLocation) (g : given.Statement) (line : StoredLine) (ts : List Lexeme) (old new : Assembler) (r : Answer) → g ≡ Plain line → ts ≡ tokens_in line → StopsQuietly (AnswersWithoutFile last_failure (λ m t. IsRest m StepsTo t place ts)) 1 old new r → GivenStops last_failure place g old new r
-plain_given_stops last_failure place g line ts old new r is same h =
-    let Q : List Lexeme → Type 0 = λ ts. StopsQuietly (AnswersWithoutFile last_failure (λ m t. IsRest m StepsTo t place ts)) 2 old new r in
-    subst (λ g. GivenStops last_failure place g old new r) (sym is) (subst Q same (stops_wider _ old new r h))
+pub plain_given_stops : (f : Option Files) (last_failure : LastFailure) (place : SourceLocation) (g : given.Statement) (line : StoredLine) (ts : List Lexeme) (old new : Assembler) (r : Answer) → g ≡ Plain line → ts ≡ tokens_in line → StopsQuietly (AnswersWithoutFile f last_failure (λ m t. IsRest m StepsTo t place ts)) 1 old new r → GivenStops f last_failure place g old new r
+plain_given_stops f last_failure place g line ts old new r is same h =
+    let Q : List Lexeme → Type 0 = λ ts. StopsQuietly (AnswersWithoutFile f last_failure (λ m t. IsRest m StepsTo t place ts)) 2 old new r in
+    subst (λ g. GivenStops f last_failure place g old new r) (sym is) (subst Q same (stops_wider _ old new r h))

@@ -30,7 +30,8 @@ use Rattle.sources65.proofs.FitTokens.{AreFit, are_named}
 use Rattle.asm65.specs.declared.assembler.Assembler.{Assembler}
 use Rattle.asm65.specs.declared.driver.Run.{Run}
 use Rattle.symbols65.specs.Measuring.{opening_limit}
-use Rattle.asm65.specs.Failing.{IsTakenTo, at_first, further, IsWhere, StopsAll, StopsAfter}
+use Rattle.asm65.specs.Failing.{IsTakenTo, at_first, further, IsWhere}
+use Rattle.asm65.specs.Internal.Stopping.{RunStops, StopsAll}
 use Rattle.asm65.specs.Assembly.{AnswersWithoutFile}
 use Rattle.asm65.specs.Internal.AssemblerState.{Represents}
 use Rattle.asm65.specs.Internal.RunState.{RepresentsWithin, RunRepresents, HasHeadroom, IsRunning, RefinesRun, SaysAs, StopsQuietly, TakesAll, TakesBy, TakesLine, TakesOne, none, one_more, refused, running_limit, tokens_of}
@@ -99,7 +100,7 @@ pub record Stays (m : Files) (job : Job) (run : Run) (u : State) : Type 0 where
   pub stands : RepresentsState m run.expander here
   pub fit : IsStateFit m 0 left
   pub goes : GoesOn m machine_semantics (IsSource m machine_semantics job initial_state) left u
-  pub taken : IsTakenTo m job left u
+  pub taken : IsTakenTo m machine_semantics initial_state job left u
   pub held : RunRepresents u run
 
 abbrev pub Goes : Files → Run → Run → Type 0
@@ -255,7 +256,7 @@ module _ (m : Files) (first old mid : Run) (same : mid.assembler ≡ old.assembl
   pub stops_out : (last_failure : LastFailure) (e : ExpandFault) (r : Answer) → r ≡ Err (Expansion e) → StopsBy m last_failure old (Err e) mid → Goes m first old → StaysPlaced m first old → StopsAll m last_failure first mid r
   stops_out last_failure e r fails where_it_is so_far placed = subst (StopsAll m last_failure first mid) (sym fails) (λ failed job begun_so. by (of_store e failed) job (placed begun_so.2) (so_far job begun_so.0 begun_so.1 begun_so.3 begun_so.4))
     where
-      by : expansion.is_failure e ≡ true → (job : Job) → IsPositioned m old.expander → (u : State) × Stays m job old u → StopsAfter m last_failure job (record { place = place_of mid.expander; fault = Expansion e }) mid.assembler.texts.out mid.assembler.texts.err
+      by : expansion.is_failure e ≡ true → (job : Job) → IsPositioned m old.expander → (u : State) × Stays m job old u → RunStops m last_failure job (record { place = place_of mid.expander; fault = Expansion e }) mid.assembler.texts.out mid.assembler.texts.err
       by failed job here now =
           let u = now.0 in
           let s = now.1 in
@@ -265,10 +266,10 @@ module _ (m : Files) (first old mid : Run) (same : mid.assembler ≡ old.assembl
           record { left = s.left; following = u; taken = s.taken; where_it_is = walked (where_it_is u s.held here s.here s.stands failed); says_out = says.0; says_err = says.1 }
 
   -- it fails while a statement is taken
-  pub stops_wrong : (last_failure : LastFailure) (x : Statement) (new : Run) (e : AsmFault) (r : Answer) → r ≡ Err e → NextBy m old (Ok (Some x)) mid → measure_of mid.expander < measure_of old.expander → StopsQuietly (AnswersWithoutFile last_failure (λ m t. AssemblesExpanded m StepsTo t (place_of mid.expander) (statement_of x))) 2 mid.assembler new.assembler (Err e) → new.expander ≡ mid.expander → Goes m first old → StopsAll m last_failure first new r
+  pub stops_wrong : (last_failure : LastFailure) (x : Statement) (new : Run) (e : AsmFault) (r : Answer) → r ≡ Err e → NextBy m old (Ok (Some x)) mid → measure_of mid.expander < measure_of old.expander → StopsQuietly (AnswersWithoutFile (Some m) last_failure (λ m t. AssemblesExpanded m StepsTo t (place_of mid.expander) (statement_of x))) 2 mid.assembler new.assembler (Err e) → new.expander ≡ mid.expander → Goes m first old → StopsAll m last_failure first new r
   stops_wrong last_failure x new e r fails next less quiet stays so_far = subst (StopsAll m last_failure first new) (sym fails) (λ failed job begun_so. by failed job (so_far job begun_so.0 begun_so.1 begun_so.3 begun_so.4))
     where
-      by : is_failure e ≡ true → (job : Job) → (u : State) × Stays m job old u → StopsAfter m last_failure job (record { place = place_of new.expander; fault = e }) new.assembler.texts.out new.assembler.texts.err
+      by : is_failure e ≡ true → (job : Job) → (u : State) × Stays m job old u → RunStops m last_failure job (record { place = place_of new.expander; fault = e }) new.assembler.texts.out new.assembler.texts.err
       by failed job now =
           let u = now.0 in
           let s = now.1 in
@@ -282,7 +283,7 @@ module _ (m : Files) (first old mid : Run) (same : mid.assembler ≡ old.assembl
             left = s.left;
             following = u;
             taken = s.taken;
-            where_it_is = subst (λ f. IsWhere m last_failure s.left u f (place_of new.expander)) (sym q.fault) (record { stated = statement_of x; left = a.0; reaches = a.1; at = at_new; unread = subst (λ p. AnswersWithoutFile last_failure (λ m t. AssemblesExpanded m StepsTo t p (statement_of x)) u (Err FileNotFound)) (ap place_of (sym stays)) unread });
+            where_it_is = subst (λ f. IsWhere m machine_semantics last_failure s.left u f (place_of new.expander)) (sym q.fault) (record { stated = statement_of x; left = a.0; reaches = a.1; at = at_new; unread = subst (λ p. AnswersWithoutFile (Some m) last_failure (λ m t. AssemblesExpanded m StepsTo t p (statement_of x)) u (Err FileNotFound)) (ap place_of (sym stays)) unread });
             says_out = q.out ∙ says.0;
             says_err = q.err ∙ says.1;
           }
@@ -326,9 +327,20 @@ module _ (o p : Option Files) (told : p ≡ o) (first old mid : Run) (same : mid
           some_both (λ m. Goes m first old × NextBy m old (Ok (Some x)) mid) (TakesIn (Ok v)) (λ m. Goes m first new) o (λ m so t. goes_further m first old mid same x new v less so.1 t stays so.0)
           (some_both (λ m. Goes m first old) (λ m. NextBy m old (Ok (Some x)) mid) (λ m. Goes m first old × NextBy m old (Ok (Some x)) mid) o (λ m so n. (so, n)) so_far (given (Some x) is)) (told_taken (Ok v) taken)
 
-      pub all_stopped : (last_failure : LastFailure) (e : AsmFault) (r : Answer) → r ≡ Err e → StopsQuietly (AnswersWithoutFile last_failure (λ m t. AssemblesExpanded m StepsTo t (place_of mid.expander) (statement_of x))) 2 mid.assembler new.assembler (Err e) → IfSome o (λ m. StopsAll m last_failure first new r)
+      pub all_stopped : (last_failure : LastFailure) (e : AsmFault) (r : Answer) → r ≡ Err e → StopsQuietly (AnswersWithoutFile f last_failure (λ m t. AssemblesExpanded m StepsTo t (place_of mid.expander) (statement_of x))) 2 mid.assembler new.assembler (Err e) → IfSome o (λ m. StopsAll m last_failure first new r)
       all_stopped last_failure e r fails quiet =
-          some_both (λ m. Goes m first old) (λ m. NextBy m old (Ok (Some x)) mid) (λ m. StopsAll m last_failure first new r) o (λ m so n. stops_wrong m first old mid same last_failure x new e r fails n less quiet stays so) so_far (given (Some x) is)
+          some_both (λ m. Goes m first old × NextBy m old (Ok (Some x)) mid) Quiet (λ m. StopsAll m last_failure first new r) o (λ m so q. stops_wrong m first old mid same last_failure x new e r fails so.1 less q stays so.0)
+          (some_both (λ m. Goes m first old) (λ m. NextBy m old (Ok (Some x)) mid) (λ m. Goes m first old × NextBy m old (Ok (Some x)) mid) o (λ m so n. (so, n)) so_far (given (Some x) is)) (by o (subst Quietly there quiet))
+        where
+          Quietly : Option Files → Type 0
+          Quietly g = StopsQuietly (AnswersWithoutFile g last_failure (λ m t. AssemblesExpanded m StepsTo t (place_of mid.expander) (statement_of x))) 2 mid.assembler new.assembler (Err e)
+
+          Quiet : Files → Type 0
+          Quiet m = Quietly (Some m)
+
+          by : (g : Option Files) → Quietly g → IfSome g Quiet
+          by None h = tt
+          by (Some m) h = h
 
       pub all_wrong : (e : AsmFault) (r : Answer) → r ≡ Err e → Takes2 old mid same less f x new (Err e) → IfSome o (λ m. RanAll m first new r)
       all_wrong e r fails taken =
@@ -389,7 +401,7 @@ module _ (m : Files) (last_failure : LastFailure) (place : SourceLocation) (firs
       let wrong = goes_wrong m first (run_of e a) (run_of mid a) refl x (run_of mid b) g (Err g) refl follows.less next here_one.taken refl so_far in
       let stops = stops_wrong m first (run_of e a) (run_of mid a) refl last_failure x (run_of mid b) g (Err g) refl next follows.less here_one.stopped refl so_far in (
         λ job t opens defined held. subst (λ p. Unless (is_system_error g) ((w : State) × RunsStatements m job (stopped_at w p g) × SaysAs w b)) at (wrong job t opens defined held),
-        λ failed job begins. subst (λ p. StopsAfter m last_failure job (record { place = p; fault = g }) b.texts.out b.texts.err) at (stops failed job begins),
+        λ failed job begins. subst (λ p. RunStops m last_failure job (record { place = p; fault = g }) b.texts.out b.texts.err) at (stops failed job begins),
       )
   line_refused _ e f a b g (gives_more _ mid _ x xs follows at given) (one_more _ c _ _ _ _ one all) here so_far =
       line_refused xs mid f c b g given all here (goes_further m first (run_of e a) (run_of mid a) refl x (run_of mid c) tt follows.less (λ t held. follows.next m (known_at t.symbols t.cursor)) (taken_at (Some m) last_failure place (statement_of x) mid f a c (Ok tt) here at one).taken refl so_far)

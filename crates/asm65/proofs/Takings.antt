@@ -1,6 +1,6 @@
 -- One statement behind the others.
 use Rattle.std.proofs.Common.{◌≡◌, ◌∙◌, ℕ, zero, suc, ◌+◌, ◌≤◌, List, [], ◌∷◌, ◌++◌, refl, sym, ap, subst, append-nil, arith, true, false, Option, Some, None}
-use Rattle.std.specs.Prelude.{Bool, ◌&&◌, ◌||◌, Result, OnOk, Ok, Err, slice_get, if◌then◌else◌}
+use Rattle.std.specs.Prelude.{Bool, ◌&&◌, ◌||◌, Result, IfSome, length, OnOk, Ok, Err, slice_get, if◌then◌else◌}
 use Rattle.std.proofs.lemmas.Bool.Decides.{nat_tests}
 use Rattle.base65.specs.Outcome.{Unless}
 use Rattle.syntax65.specs.declared.source_location.SourceLocation.{SourceLocation}
@@ -28,7 +28,8 @@ use Rattle.asm65.specs.declared.assembler.Assembler.{Assembler}
 use Rattle.asm65.specs.declared.texts.ConsoleOutput.{ConsoleOutput}
 use Rattle.asm65.specs.Internal.AssemblerState.{AreBefore, Represents, IsBefore, IsNew, IsMeasuredAt, EmitsThenDefines, asked_of, laid_as, state_after_layout}
 use Rattle.asm65.proofs.Namings.{IsBeside, puts_beside}
-use Rattle.base65.specs.Store.{Files, FailedOn, LastFailure}
+use Rattle.std.specs.FinMap.{get}
+use Rattle.base65.specs.Store.{Files, FailedOn, FailedWithin, LastFailure, bytes_in}
 use Rattle.syntax65.specs.Trees.{Tree}
 use Rattle.expand65.specs.Expansion.{beside, file_named}
 use Rattle.ast65.specs.Faults.{is_failure, is_memory, is_system_error}
@@ -273,15 +274,15 @@ module _ (t : State) (place : SourceLocation) (name : List ℕ) (start len : Opt
       (takes_refused t place (Incbin None start len) FileNotFound (unread_missing t.symbols t.cursor start len h)))
 
   -- it is refused whatever the file has
-  pub refused_unread : (last_failure : LastFailure) → is_failure e ≡ false → Unless (is_memory e) (unless_fault {A = Unit {0}} found tt ≡ Err e) → IsRefusedUnread last_failure t place x e
-  refused_unread last_failure inside h = record {
+  pub refused_unread : (f : Option Files) (last_failure : LastFailure) → is_failure e ≡ false → Unless (is_memory e) (unless_fault {A = Unit {0}} found tt ≡ Err e) → IsRefusedUnread f last_failure t place x e
+  refused_unread f last_failure inside h = record {
     inside = unless_then (is_system_error e) (λ p. whatever (fault_there found e p)) (unless_either _ (is_memory e) (is_failure e) h);
     failed = λ so. absurd cc;
   }
 
   -- its file can't be read
-  pub failed_unread : (last_failure : LastFailure) (u : Unit {0}) → is_system_error e ≡ true → (is_failure e ≡ true → FailedOn last_failure (beside place.file name)) → unless_fault {A = Unit {0}} found tt ≡ Ok u → IsRefusedUnread last_failure t place x e
-  failed_unread last_failure u outside asked h = record {
+  pub failed_unread : (f : Option Files) (last_failure : LastFailure) (u : Unit {0}) → is_system_error e ≡ true → (is_failure e ≡ true → FailedOn last_failure (beside place.file name)) → (is_failure e ≡ true → IfSome f (λ m. FailedWithin last_failure (beside place.file name) 0 (length (bytes_in (get m (beside place.file name)))))) → unless_fault {A = Unit {0}} found tt ≡ Ok u → IsRefusedUnread f last_failure t place x e
+  failed_unread f last_failure u outside asked within h = record {
     inside = subst (λ b. Unless b ((m : Files) → StepsTo t place (with_bytes m place x) (Err e))) (sym outside) tt;
-    failed = λ so. (beside place.file name, asked so, without (fault_none found u h));
+    failed = λ so. record { name = beside place.file name; asked = asked so; inside = within so; answered = without (fault_none found u h) };
   }

@@ -1,10 +1,10 @@
 -- The bytes of the file of a name.
 use Rattle.std.proofs.Common.{◌≡◌, ◌∙◌, ℕ, Bool, true, false, List, Option, Some, None, take, refl, sym, ap, option_map, Ok, Err, ◌≤◌, nat_le, not, ◌∷◌, length, subst, arith}
 use Rattle.std.specs.FinMap as fmap
-use Rattle.std.specs.Prelude.{if◌then◌else◌, ◌&&◌, Result}
+use Rattle.std.specs.Prelude.{if◌then◌else◌, ◌&&◌, IfSome, Result}
 use Rattle.std.specs.Str.{is_utf8}
 use Rattle.base65.specs.Reading.{front_in}
-use Rattle.base65.specs.Store.{Files}
+use Rattle.base65.specs.Store.{LastFailure, Files, FailedWithin, bytes_in}
 use Rattle.base65.specs.declared.store.StoreFault.TheVariants.{FileNotFound}
 use Rattle.syntax65.specs.Trees.{Tree}
 use Rattle.expand65.specs.Expansion.{as_text, beside, file_named}
@@ -32,6 +32,17 @@ named m name text e = by (is_utf8 name) e
     by : (b : Bool) → Some text ≡ (if b then Some name else None) → (if b then fmap.get m name else None) ≡ fmap.get m text
     by true h = let same : text ≡ name = cc in ap (fmap.get m) (sym same)
     by false h = absurd cc
+
+same_text : (name text : List ℕ) → Some text ≡ as_text name → text ≡ name
+same_text name text e = by (is_utf8 name) e
+  where
+    by : (b : Bool) → Some text ≡ (if b then Some name else None) → text ≡ name
+    by true h = cc
+    by false h = absurd cc
+
+-- a failed read of the file of a name
+pub read_failed : (o : Option Files) (last_failure : LastFailure) (name text : List ℕ) → Some text ≡ as_text name → IfSome o (λ m. FailedWithin last_failure text 0 (length (bytes_in (fmap.get m text)))) → IfSome o (λ m. FailedWithin last_failure name 0 (length (bytes_in (fmap.get m name))))
+read_failed o last_failure name text e h = subst (λ n. IfSome o (λ m. FailedWithin last_failure n 0 (length (bytes_in (fmap.get m n))))) (same_text name text e) h
 
 -- a name that is no text has no file
 pub unnamed : (m : Files) (name : List ℕ) (most : ℕ) → None ≡ as_text name → None ≡ option_map (take most) (file_named m name)

@@ -1,9 +1,9 @@
 -- From a source to its object: what is assembled, and files that could not be read.
-use Rattle.std.specs.Prelude.{◌≡◌, ℕ, List, None, Result, Err, Bool, false, [], map, Ok, unwrap_or}
-use Rattle.base65.specs.Store.{Files, FailedOn, LastFailure}
+use Rattle.std.specs.Prelude.{◌≡◌, ℕ, List, length, Option, None, Result, Err, Bool, false, [], map, Ok, unwrap_or, IfSome}
+use Rattle.std.specs.FinMap.{get}
+use Rattle.base65.specs.Store.{LastFailure, Files, FailedOn, FailedWithin, bytes_in}
 use Rattle.expand65.specs.Expansion.{file_named}
 use Rattle.ast65.specs.declared.fault.AsmFault.{AsmFault}
-use Rattle.sources65.specs.Machine.{State}
 use Rattle.semantics65.specs.Module.{LocatedFault, Outcome}
 use Rattle.sources65.specs.Reading.{Define, Job}
 use Rattle.base65.specs.Outcome.{RefinesProp}
@@ -16,10 +16,14 @@ use Rattle.asm65.specs.declared.texts.Diagnostic.{Diagnostic}
 
 -- ---- A statement whose file can't be read.
 
--- so it is answered for any files among which the one that was asked for last isn't there
-abbrev pub AnswersWithoutFile : LastFailure → (Files → State → Result State AsmFault → Type 0) → State → Result State AsmFault → Type 0
-AnswersWithoutFile last_failure IsAnswer t r =
-    (name : List ℕ) × FailedOn last_failure name × ((m : Files) → file_named m name ≡ None → IsAnswer m t r)
+-- The answer if the file of the last failed call weren't there. That call read the file at most at its end, if the store
+-- tells its files.
+pub record AnswersWithoutFile {S : Type 0} (o : Option Files) (last_failure : LastFailure) (IsAnswer : Files → S → Result S AsmFault → Type 0)
+    (t : S) (r : Result S AsmFault) : Type 0 where
+  pub name : List ℕ
+  pub asked : FailedOn last_failure name
+  pub inside : IfSome o (λ m. FailedWithin last_failure name 0 (length (bytes_in (get m name))))
+  pub answered : (m : Files) → file_named m name ≡ None → IsAnswer m t r
 
 -- ---- What assembling a source gives.
 

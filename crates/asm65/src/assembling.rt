@@ -17,7 +17,8 @@ ghost use Rattle.object65.specs.Objects.{ObjectFits, is_well_formed_object};
 ghost use Rattle.expand65.specs.Expansion.{opened_in};
 ghost use Rattle.expand65.specs.Representation.{IsPositioned, RepresentsFirstState, measure_of, place_of};
 ghost use Rattle.syntax65.specs.Faults.{is_system_error as is_expand_system_error};
-ghost use Rattle.asm65.specs.Failing.{StartsRun, StopsSo, nowhere};
+ghost use Rattle.asm65.specs.Failing.{StopsSo, nowhere};
+ghost use Rattle.asm65.specs.Internal.Stopping.{StartsRun, RunStopsSo};
 
 use crate::assembler::Assembler;
 use crate::driver::{Run, assemble_all};
@@ -218,7 +219,7 @@ fn finished<S: Store>(alloc: Global, store: &mut S, run: Run) -> Assembly
     ensures good { IfOk result.result (λ o. is_well_formed_object o ≡ true) }
     ensures numbers { IfOk result.result ObjectFits }
     ensures stopped { IfSome (S.files store.old) (λ m. (job : Job) → StartsRun m job run →
-        StopsSo m (S.last_failure store.new) job result) }
+        RunStopsSo m (S.last_failure store.new) job result) }
     ensures silent { is_from_memory result.result ≡ true → (result.out ≡ []) × (result.err ≡ []) }
 {
     let mut run = run;
@@ -249,7 +250,7 @@ fn assembled<S: Store>(
     ensures good { IfOk result.result (λ o. is_well_formed_object o ≡ true) }
     ensures numbers { IfOk result.result ObjectFits }
     ensures stopped { IfSome (S.files store.old) (λ m.
-        StopsSo m (S.last_failure store.new) (job_of job.now) result) }
+        RunStopsSo m (S.last_failure store.new) (job_of job.now) result) }
     ensures silent { is_from_memory result.result ≡ true → (result.out ≡ []) × (result.err ≡ []) }
 {
     let mut assembler = assembler;

@@ -15,7 +15,7 @@ ghost use Rattle.expand65.specs.Replay.{tokens_in};
 ghost use Rattle.asm65.specs.Internal.RunState.{HasHeadroom, RefinesRead, TakesAll, TakesBy, TakesOne, RepresentsSome, RunRepresents, IsReached, IsRunning, AsmStoreFrame, RefinesRun, TakesLineIf};
 ghost use Rattle.expand65.specs.Expansion.{opened_in};
 ghost use Rattle.semantics65.specs.Layout.{is_open};
-ghost use Rattle.asm65.specs.Failing.{StopsAll};
+ghost use Rattle.asm65.specs.Internal.Stopping.{StopsAll};
 
 use crate::assembler::{Assembler, Knowledge};
 use crate::files::read_part;

@@ -1,8 +1,9 @@
 //! The bytes that statements take from files.
 
-ghost use Rattle.std.specs.Prelude.{◌≡◌, ℕ, IfErr, IfOk, IfSome, OnOk, false, take, true};
+ghost use Rattle.std.specs.Prelude.{◌≡◌, ℕ, IfErr, IfOk, IfSome, OnOk, false, length, take, true};
+ghost use Rattle.std.specs.FinMap as map;
 ghost use Rattle.std.specs.Option.{option_map};
-ghost use Rattle.base65.specs.Store.{FailedOn};
+ghost use Rattle.base65.specs.Store.{FailedOn, FailedWithin, bytes_in};
 ghost use Rattle.expand65.specs.Expansion.{beside, file_named};
 ghost use Rattle.ast65.specs.declared.fault.AsmFault.TheVariants.{FileError};
 ghost use Rattle.ast65.specs.Faults.{is_failure, is_system_error, is_memory};
@@ -39,6 +40,9 @@ fn bytes_beside<S: Store>(
     ensures failed { IfErr result (λ e. is_failure e ≡ true → e ≡ FileError) }
     ensures last_failure { IfErr result (λ e. is_failure e ≡ true →
         FailedOn (S.last_failure store.new) (beside file.now name.now)) }
+    ensures inside { IfErr result (λ e. is_failure e ≡ true → IfSome (S.files store.old)
+        (λ m. let path = beside file.now name.now in
+        FailedWithin (S.last_failure store.new) path 0 (length (bytes_in (map.get m path))))) }
     ensures frame { AsmStoreFrame S.files S.failures store.old store.new result }
 {
     let Some(name) = name_beside(alloc, file, name)? else {
@@ -90,7 +94,7 @@ fn with_bytes<S: Store>(
     ensures held { (count : ℕ) (t : State) → Represents count t assembler.old →
         OnOk result (Represents count t assembler.new) }
     ensures refused { (count : ℕ) (t : State) → Represents count t assembler.old → IfErr result
-        (IsRefusedUnread (S.last_failure store.new) t (place_at at.entry)
+        (IsRefusedUnread (S.files store.old) (S.last_failure store.new) t (place_at at.entry)
         statement) }
     ensures texts { assembler.new.texts ≡ assembler.old.texts }
     ensures failed { IfErr result (λ e. is_failure e ≡ true → e ≡ FileError) }
@@ -125,7 +129,7 @@ pub fn read_part<S: Store>(
     ensures held { (count : ℕ) (t : State) → Represents count t assembler.old →
         OnOk result (Represents count t assembler.new) }
     ensures refused { (count : ℕ) (t : State) → Represents count t assembler.old → IfErr result
-        (IsRefusedUnread (S.last_failure store.new) t (place_at at.entry)
+        (IsRefusedUnread (S.files store.old) (S.last_failure store.new) t (place_at at.entry)
         statement.old) }
     ensures texts { assembler.new.texts ≡ assembler.old.texts }
     ensures failed { IfErr result (λ e. is_failure e ≡ true → e ≡ FileError) }

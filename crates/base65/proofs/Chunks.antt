@@ -1,5 +1,5 @@
 -- A file that is read chunk by chunk.
-use Rattle.std.proofs.Common.{◌≡◌, ◌∙◌, ℕ, ◌+◌, ◌-◌, ◌≤◌, ◌<◌, Bool, true, false, nat_le, List, ◌++◌, length, take, drop, Option, Some, None, Ok, min, refl, sym, ap, subst, arith, length-drop}
+use Rattle.std.proofs.Common.{◌≡◌, ◌∙◌, ℕ, ◌+◌, ◌-◌, ◌≤◌, ◌<◌, Bool, true, false, nat_le, List, [], ◌++◌, length, take, drop, Option, Some, None, Ok, min, refl, sym, ap, subst, arith, length-drop}
 use Rattle.std.specs.Prelude.{IfSome}
 use Rattle.std.specs.FinMap as map
 use Rattle.std.proofs.lemmas.Bool.Decides.{nat_tests}
@@ -8,9 +8,9 @@ use Rattle.base65.specs.Store.{Files}
 use Rattle.base65.proofs.Filling.{take-add}
 use Rattle.base65.specs.Reading.{ReadsChunk, front_in}
 
--- the bytes are the first of a file, where there is one
+-- the bytes are the first of a file; none if there is no such file
 abbrev pub IsFront : Option (List ℕ) → List ℕ → Type 0
-IsFront None bytes = Unit {0}
+IsFront None bytes = bytes ≡ []
 IsFront (Some file) bytes = bytes ≡ take (length bytes) file
 
 longer : (file : List ℕ) (want n : ℕ) (old new : List ℕ) → old ≡ take (length old) file → ReadsChunk (Some file) (length old) want old new (Ok n) → new ≡ take (length old + want) file

@@ -1,5 +1,5 @@
 -- The effects of store calls on the files and on the failure counter.
-use Rattle.std.specs.Prelude.{◌≡◌, ℕ, ◌-◌, ◌^◌, ◌<◌, ◌≤◌, min, ◌⊎◌, List, [], ◌++◌, length, take, drop, get_or, IfOk, Option, Some, None, Result, Ok, Err, Bool, true, IsErrOf, IsErrAnd, IfErr, IfSome, ⊤}
+use Rattle.std.specs.Prelude.{◌≡◌, ℕ, ◌-◌, ◌^◌, ◌<◌, ◌≤◌, min, ◌⊎◌, List, [], ◌++◌, length, take, drop, get_or, unwrap_or, IfOk, Option, Some, None, Result, Ok, Err, Bool, true, IsErrOf, IsErrAnd, IfErr, IfSome, ⊤}
 use Rattle.std.specs.Ordering.{nat_cmp}
 use Rattle.std.specs.Cmp.Lexicographic.{slice_cmp}
 use Rattle.std.specs.FinMap.{FinMap, get, insert}
@@ -70,6 +70,14 @@ FailedAt last_failure name at = IfSome last_failure (λ c. (c.name ≡ name) × 
 abbrev pub FailedWithin : LastFailure → List ℕ → ℕ → ℕ → Type 0
 FailedWithin last_failure name begin end = IfSome last_failure (λ c. (c.name ≡ name) × (at : ℕ) × (c.at ≡ Some at) × (begin ≤ at) × (at ≤ end))
 
+-- the bytes of a file, none if it isn't there
+abbrev pub bytes_in : Option (List ℕ) → List ℕ
+bytes_in file = unwrap_or file []
+
+-- if a file has bytes up to an offset, the last failed call read it from there on, at most at its end
+abbrev pub FailsInside : Option (List ℕ) → LastFailure → List ℕ → ℕ → Type 0
+FailsInside file last_failure name at = at ≤ length (bytes_in file) → FailedWithin last_failure name at (length (bytes_in file))
+
 -- after a failure the last failed call satisfies P; otherwise it is unchanged
 abbrev pub RecordsFailure : {T : Type 0} → (LastFailure → Type 0) → LastFailure → LastFailure → Result T StoreFault → Type 0
 RecordsFailure IsTold old new (Err FileError) = IsTold new
@@ -130,7 +138,7 @@ ReadsFull file at buf (Err OutOfMemory) = ⊤
 
 -- the first n bytes of the buffer are those of the file from the offset
 abbrev pub FilledTo : Option (List ℕ) → ℕ → ℕ → List ℕ → Type 0
-FilledTo None at n buf = ⊤
+FilledTo None at n buf = n ≡ 0
 FilledTo (Some bytes) at n buf = (n ≤ length (drop at bytes)) × (take n buf ≡ take n (drop at bytes))
 
 -- no store call failed between the two counts

@@ -3,7 +3,7 @@
 ghost use Rattle.std.specs.Prelude.{◌≡◌, ◌≤◌, ◌<◌, ◌+◌, ◌^◌, IfOk, IfSome, IsErrOf, length};
 ghost use Rattle.std.specs.FinMap as map;
 ghost use Rattle.base65.specs.Outcome.{Refines};
-ghost use Rattle.base65.specs.Store.{FailsAtLastCount, HoldsBytes, FailedOn, PropagatesIoError};
+ghost use Rattle.base65.specs.Store.{FailsAtLastCount, HoldsBytes, FailsInside, FailedOn, FailedWithin, PropagatesIoError, bytes_in};
 ghost use Rattle.base65.specs.StoreFaults.{is_store_system_error};
 ghost use Rattle.base65.specs.Reading.{front_in, ReadsChunk};
 
@@ -28,6 +28,8 @@ fn read_chunk<S: Store>(
     ensures files { S.files store.new ≡ S.files store.old }
     ensures count { PropagatesIoError StoreFault.FileError (S.failures store.old) (S.failures store.new) result }
     ensures last_failure { IsErrOf result StoreFault.FileError → FailedOn (S.last_failure store.new) name.now }
+    ensures inside { IsErrOf result StoreFault.FileError →
+        IfSome (S.files store.old) (λ m. FailsInside (map.get m name.now) (S.last_failure store.new) name.now at) }
     ensures at_last_count { FailsAtLastCount is_store_system_error (S.failures store.old) result }
 {
     let mut chunk = [0u8; CHUNK];
@@ -50,6 +52,8 @@ pub fn read_front<S: Store>(
     ensures files { S.files store.new ≡ S.files store.old }
     ensures count { PropagatesIoError StoreFault.FileError (S.failures store.old) (S.failures store.new) result }
     ensures last_failure { IsErrOf result StoreFault.FileError → FailedOn (S.last_failure store.new) name.now }
+    ensures inside { IsErrOf result StoreFault.FileError → IfSome (S.files store.old) (λ m.
+        FailedWithin (S.last_failure store.new) name.now 0 (length (bytes_in (map.get m name.now)))) }
     ensures at_last_count { FailsAtLastCount is_store_system_error (S.failures store.old) result }
 {
     let mut bytes = Vec::new(alloc);

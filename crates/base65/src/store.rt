@@ -4,7 +4,7 @@ ghost use Rattle.std.specs.Prelude.{◌≡◌, ◌≤◌, ◌<◌, ◌+◌, ◌-
 ghost use Rattle.std.specs.FinMap as map;
 ghost use Rattle.base65.specs.declared.store.StoreFault.TheVariants.{OutOfMemory, FileError};
 ghost use Rattle.base65.specs.StoreFaults.{is_store_system_error};
-ghost use Rattle.base65.specs.Store.{Files, LastFailure, HoldsBytes, FailsAtLastCount, RecordsFailure, FailedOn, FailedAt, FailedWithin, max_failures, CountsFailure, ReadsAt, CreatesFile, AppendsToFile, RelatesFiles, ReadsFull, PropagatesIoError};
+ghost use Rattle.base65.specs.Store.{Files, LastFailure, HoldsBytes, FailsAtLastCount, RecordsFailure, FailedOn, FailedAt, FailedWithin, FailsInside, max_failures, CountsFailure, ReadsAt, CreatesFile, AppendsToFile, RelatesFiles, ReadsFull, PropagatesIoError};
 
 use crate::seed::Seed;
 use std::alloc::{AllocError, AllocFailed};
@@ -107,6 +107,8 @@ pub fn read_full<S: Store>(
     ensures count { PropagatesIoError FileError (S.failures store.old) (S.failures store.new) result }
     ensures last_failure { IsErrOf result FileError → FailedOn (S.last_failure store.new) name.now }
     ensures within { IsErrOf result FileError → FailedWithin (S.last_failure store.new) name.now at (at + (length buf.old - 1)) }
+    ensures inside { IsErrOf result FileError →
+        IfSome (S.files store.old) (λ m. FailsInside (map.get m name.now) (S.last_failure store.new) name.now at) }
     ensures at_last_count { FailsAtLastCount is_store_system_error (S.failures store.old) result }
 {
     let mut done = 0;

@@ -70,14 +70,14 @@ label_matches m R TakesA TakesB sim y t place ts r stands is = by is.0 is.2 (lab
     by (Ok u) rest h = matches_then R (IsRest m TakesA h.0 place (label_of ts).1) (IsLabel m TakesA y place ts) (λ s k. (Ok h.0, h.1, k)) r (rest_matches m R TakesA TakesB sim h.0 u place (label_of ts).1 r h.2 rest)
     by (Err e) same h = matches_same R (IsLabel m TakesA y place ts) r (Err e) (sym same) (Err e, h, refl)
 
-given_matches : {A B : Type 0} (m : Files) (R : A → B → Type 0) (TakesA : StepRelation A) (TakesB : StepRelation B) → Simulates R TakesA TakesB → (y : A) (t : B) (place : SourceLocation) (x : expand.ExpandedStatement) (r : Result B AsmFault) → R y t → AssemblesExpanded m TakesB t place x r → Matches R (AssemblesExpanded m TakesA y place x) r
+pub given_matches : {A B : Type 0} (m : Files) (R : A → B → Type 0) (TakesA : StepRelation A) (TakesB : StepRelation B) → Simulates R TakesA TakesB → (y : A) (t : B) (place : SourceLocation) (x : expand.ExpandedStatement) (r : Result B AsmFault) → R y t → AssemblesExpanded m TakesB t place x r → Matches R (AssemblesExpanded m TakesA y place x) r
 given_matches m R TakesA TakesB sim y t place (expand.label ts) r stands is = label_matches m R TakesA TakesB sim y t place ts r stands is
 given_matches m R TakesA TakesB sim y t place (expand.plain ts) r stands is = rest_matches m R TakesA TakesB sim y t place ts r stands is
 
 -- ---- All statements.
 
 -- what comes next is the same
-next_same : {A B : Type 0} (R : A → B → Type 0) (a : StatementSemantics A) (b : StatementSemantics B) → StandIn R a b → (m : Files) (s : expand.State) (y : A) (t : B) (n : Next) → R y t → ReachesNext m (b.meaning t) s n → ReachesNext m (a.meaning y) s n
+pub next_same : {A B : Type 0} (R : A → B → Type 0) (a : StatementSemantics A) (b : StatementSemantics B) → StandIn R a b → (m : Files) (s : expand.State) (y : A) (t : B) (n : Next) → R y t → ReachesNext m (b.meaning t) s n → ReachesNext m (a.meaning y) s n
 next_same R a b for m s y t n stands h = subst (λ k. ReachesNext m k s n) (sym (for.meaning y t stands)) h
 
 taken_matches : {A B : Type 0} (R : A → B → Type 0) (a : StatementSemantics A) (b : StatementSemantics B) → StandIn R a b → (m : Files) (s : expand.State) (y : A) (t : B) (r : ReachedState B) → R y t → AreTaken m b s t r → MatchesAll R (AreTaken m a s y) r
@@ -95,7 +95,7 @@ taken_matches R a b for m s y t r stands (ended _ u _ h) =
 
 -- ---- A source.
 
-defined_matches : {A B : Type 0} (R : A → B → Type 0) (TakesA : StepRelation A) (TakesB : StepRelation B) → Simulates R TakesA TakesB → (y : A) (t : B) (place : SourceLocation) (ds : List Define) (r : Result B AsmFault) → R y t → AreDefined TakesB t place ds r → Matches R (AreDefined TakesA y place ds) r
+pub defined_matches : {A B : Type 0} (R : A → B → Type 0) (TakesA : StepRelation A) (TakesB : StepRelation B) → Simulates R TakesA TakesB → (y : A) (t : B) (place : SourceLocation) (ds : List Define) (r : Result B AsmFault) → R y t → AreDefined TakesB t place ds r → Matches R (AreDefined TakesA y place ds) r
 defined_matches R TakesA TakesB sim y t place [] r stands is = matches_same R (AreDefined TakesA y place []) r (Ok t) (sym is) (y, refl, stands)
 defined_matches R TakesA TakesB sim y t place (d ∷ ds) r stands is =
     by is.0 is.2 (sim y t place (Constant d.0 (number d.1)) is.0 stands is.1) (λ z u. defined_matches R TakesA TakesB sim z u place ds r)

@@ -155,7 +155,7 @@ same_scope y t follows = ap (λ (v : State). v.cursor.scope) (sym follows.same)
 same_meaning : (y : Layout) (t : State) → Follows y t → layout_semantics.meaning y ≡ machine_semantics.meaning t
 same_meaning y t follows = ap machine_semantics.meaning (sym follows.same)
 
-laying_stands_in : StandIn Follows layout_semantics machine_semantics
+pub laying_stands_in : StandIn Follows layout_semantics machine_semantics
 laying_stands_in = record { takes = takes_follows; meaning = same_meaning; scope = same_scope }
 
 pub stands_for : (y : Layout) (slots : List Slot) → AreSame (symbols_of y.laid) slots (flat_map slots_of y.laid) → SimulatesLayout y (state_for y slots)

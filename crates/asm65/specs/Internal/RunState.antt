@@ -114,7 +114,7 @@ pub record RefinesRead (o : Option Files) (last_failure : LastFailure) (AreSo : 
     (IsAnswer : Files → State → Result State AsmFault → Type 0) (more : ℕ) (old new : Assembler)
     (r : Result (Unit {0}) AsmFault) : Type 0 where
   pub taken : TakesBy AreSo (ForKnownFiles o IsAnswer) more old new r
-  pub stopped : StopsQuietly (AnswersWithoutFile last_failure IsAnswer) more old new r
+  pub stopped : StopsQuietly (AnswersWithoutFile o last_failure IsAnswer) more old new r
 
 -- ---- A source.
 
@@ -190,9 +190,9 @@ read_bytes m place x = x
 
 -- A statement is refused before its file is read for what is wrong with it whatever the files have; where the store
 -- fails nothing is, so without its file the answer would be that it isn't there.
-pub record IsRefusedUnread (last_failure : LastFailure) (t : State) (place : SourceLocation) (x : Statement) (e : AsmFault) : Type 0 where
+pub record IsRefusedUnread (o : Option Files) (last_failure : LastFailure) (t : State) (place : SourceLocation) (x : Statement) (e : AsmFault) : Type 0 where
   pub inside : Unless (is_system_error e) ((m : Files) → StepsTo t place (with_bytes m place x) (Err e))
-  pub failed : is_failure e ≡ true → AnswersWithoutFile last_failure (λ m t. StepsTo t place (with_bytes m place x)) t (Err FileNotFound)
+  pub failed : is_failure e ≡ true → AnswersWithoutFile o last_failure (λ m t. StepsTo t place (with_bytes m place x)) t (Err FileNotFound)
 
 -- ---- What a piece comes to.
 

@@ -27,8 +27,8 @@ returns-in_err-read_part-clause-read g c =
     let some : ts ≡ [] → ⊥ = some_tokens c.args.tokens.now (some_there (length c.args.tokens.now) c.if-is_empty.ensures) in
     let P : Answer → Type 0 = TakesBy (AreSymbolNames ts) (RestBy (g.S.Store.files c.args.store.now) place ts) 1 c.args.assembler.now c.read_part.new.assembler in
     record {
-      taken = subst P (sym (p.1 ∙ ap Err p.2)) (rest_unread (g.S.Store.last_failure c.read_part.new.store) place c.in_ok-statement.statement c.args.assembler.now c.read_part.new.assembler e c.in_err-read_part.ensures.refused c.in_err-read_part.ensures.texts (g.S.Store.files c.args.store.now) ts some c.in_ok-statement.ensures.value);
-      stopped = rest_stops (g.S.Store.last_failure c.read_part.new.store) place c.in_ok-statement.statement c.args.assembler.now c.read_part.new.assembler e c.in_err-read_part.ensures.refused c.in_err-read_part.ensures.texts ts r some c.in_ok-statement.ensures.value c.in_err-read_part.ensures.failed (p.1 ∙ ap Err p.2);
+      taken = subst P (sym (p.1 ∙ ap Err p.2)) (rest_unread (g.S.Store.files c.args.store.now) (g.S.Store.last_failure c.read_part.new.store) place c.in_ok-statement.statement c.args.assembler.now c.read_part.new.assembler e c.in_err-read_part.ensures.refused c.in_err-read_part.ensures.texts ts some c.in_ok-statement.ensures.value);
+      stopped = rest_stops (g.S.Store.files c.args.store.now) (g.S.Store.last_failure c.read_part.new.store) place c.in_ok-statement.statement c.args.assembler.now c.read_part.new.assembler e c.in_err-read_part.ensures.refused c.in_err-read_part.ensures.texts ts r some c.in_ok-statement.ensures.value c.in_err-read_part.ensures.failed (p.1 ∙ ap Err p.2);
     }
 
 pub returns-in_err-operand-clause-read : goal.returns-in_err-operand-clause-read
@@ -75,7 +75,7 @@ returns-clause-read g c = record {
       takes_from (AreSymbolNames ts) (RestBy (g.S.Store.files c.args.store.now) place ts) 1 c.args.assembler.now c.read_part.new.assembler c.take_sound.new.assembler c.take_sound.result c.in_ok-read_part.ensures.held
       (rest_leaves (g.S.Store.files c.args.store.now) place ts x y c.read_part.new.assembler c.take_sound.new.assembler c.take_sound.result some c.in_ok-statement.ensures.value c.in_ok-read_part.ensures.bytes c.take_sound.ensures.taken));
   stopped = (let place = place_in c.args.at.file.now c.args.at.line in
-      never_stops (AnswersWithoutFile (g.S.Store.last_failure c.read_part.new.store) (λ m t. IsRest m StepsTo t place (lexemes c.args.tokens.now))) 1 c.args.assembler.now c.take_sound.new.assembler c.take_sound.result c.take_sound.ensures.inside);
+      never_stops (AnswersWithoutFile (g.S.Store.files c.args.store.now) (g.S.Store.last_failure c.read_part.new.store) (λ m t. IsRest m StepsTo t place (lexemes c.args.tokens.now))) 1 c.args.assembler.now c.take_sound.new.assembler c.take_sound.result c.take_sound.ensures.inside);
 }
 
 pub assemble_instruction-requires : goal.assemble_instruction-requires

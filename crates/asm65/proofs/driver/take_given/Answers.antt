@@ -8,11 +8,11 @@ use Rattle.asm65.proofs.driver.take_given.Goals as goal
 pub returns-in_ok-tokens-in-Label-clause-read : goal.returns-in_ok-tokens-in-Label-clause-read
 returns-in_ok-tokens-in-Label-clause-read g c = record {
   taken = (given_label (g.S.Store.files c.args.store.now) (place_in c.args.at.file.now c.args.at.line) c.args.given.now c.in-Label.line (lexemes c.deref.result.now) c.args.assembler.now c.take_label.new.assembler c.take_label.result c.in-Label.is (ap lexemes c.deref.ensures.value ∙ c.in_ok-tokens-in-Label.ensures) c.take_label.ensures.read.taken);
-  stopped = (label_given_stops (g.S.Store.last_failure c.take_label.new.store) (place_in c.args.at.file.now c.args.at.line) c.args.given.now c.in-Label.line (lexemes c.deref.result.now) c.args.assembler.now c.take_label.new.assembler c.take_label.result c.in-Label.is (ap lexemes c.deref.ensures.value ∙ c.in_ok-tokens-in-Label.ensures) c.take_label.ensures.read.stopped);
+  stopped = (label_given_stops (g.S.Store.files c.args.store.now) (g.S.Store.last_failure c.take_label.new.store) (place_in c.args.at.file.now c.args.at.line) c.args.given.now c.in-Label.line (lexemes c.deref.result.now) c.args.assembler.now c.take_label.new.assembler c.take_label.result c.in-Label.is (ap lexemes c.deref.ensures.value ∙ c.in_ok-tokens-in-Label.ensures) c.take_label.ensures.read.stopped);
 }
 
 pub returns-in-Plain-clause-read : goal.returns-in-Plain-clause-read
 returns-in-Plain-clause-read g c = record {
   taken = (given_plain (g.S.Store.files c.args.store.now) (place_in c.args.at.file.now c.args.at.line) c.args.given.now c.in-Plain.line (tokens_in c.in-Plain.line) c.args.assembler.now c.take_line.new.assembler c.take_line.result c.in-Plain.is refl c.take_line.ensures.read.taken);
-  stopped = (plain_given_stops (g.S.Store.last_failure c.take_line.new.store) (place_in c.args.at.file.now c.args.at.line) c.args.given.now c.in-Plain.line (tokens_in c.in-Plain.line) c.args.assembler.now c.take_line.new.assembler c.take_line.result c.in-Plain.is refl c.take_line.ensures.read.stopped);
+  stopped = (plain_given_stops (g.S.Store.files c.args.store.now) (g.S.Store.last_failure c.take_line.new.store) (place_in c.args.at.file.now c.args.at.line) c.args.given.now c.in-Plain.line (tokens_in c.in-Plain.line) c.args.assembler.now c.take_line.new.assembler c.take_line.result c.in-Plain.is refl c.take_line.ensures.read.stopped);
 }

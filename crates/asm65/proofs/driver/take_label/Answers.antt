@@ -21,5 +21,5 @@ assemble_rest-requires g c =
 pub returns-clause-read : goal.returns-clause-read
 returns-clause-read g c = record {
   taken = (label_leaves (g.S.Store.files c.args.store.now) (place_in c.args.at.file.now c.args.at.line) (lexemes c.args.tokens.now) (lexemes c.in_ok-label.rest.now) c.in_ok-label.label c.args.assembler.now c.take_front.new.assembler c.assemble_rest.new.assembler c.in_ok-take_front.field-0 c.assemble_rest.result c.in_ok-label.ensures.value c.in_ok-take_front.ensures.taken c.assemble_rest.ensures.read.taken);
-  stopped = (label_stops (g.S.Store.last_failure c.assemble_rest.new.store) (place_in c.args.at.file.now c.args.at.line) (lexemes c.args.tokens.now) (lexemes c.in_ok-label.rest.now) c.in_ok-label.label c.args.assembler.now c.take_front.new.assembler c.assemble_rest.new.assembler c.in_ok-take_front.field-0 c.assemble_rest.result c.requires c.in_ok-label.ensures.value c.in_ok-take_front.ensures.taken c.assemble_rest.ensures.read.stopped);
+  stopped = (label_stops (g.S.Store.files c.args.store.now) (g.S.Store.last_failure c.assemble_rest.new.store) (place_in c.args.at.file.now c.args.at.line) (lexemes c.args.tokens.now) (lexemes c.in_ok-label.rest.now) c.in_ok-label.label c.args.assembler.now c.take_front.new.assembler c.assemble_rest.new.assembler c.in_ok-take_front.field-0 c.assemble_rest.result c.requires c.in_ok-label.ensures.value c.in_ok-take_front.ensures.taken c.assemble_rest.ensures.read.stopped);
 }

@@ -6,7 +6,7 @@ use Rattle.asm65.proofs.files.read_part.Goals as goal
 
 pub returns-in-Err-clause-refused : goal.returns-in-Err-clause-refused
 returns-in-Err-clause-refused g c = λ count t h.
-    subst (λ s. IsRefusedUnread (g.S.Store.last_failure c.with_bytes.new.store) t (place_in c.args.at.file.now c.args.at.line) s c.in-Err.fault) c.replace-named.ensures.value (c.in-Err.ensures.refused count t h)
+    subst (λ s. IsRefusedUnread (g.S.Store.files c.args.store.now) (g.S.Store.last_failure c.with_bytes.new.store) t (place_in c.args.at.file.now c.args.at.line) s c.in-Err.fault) c.replace-named.ensures.value (c.in-Err.ensures.refused count t h)
 
 pub returns-in-Ok-clause-bytes : goal.returns-in-Ok-clause-bytes
 returns-in-Ok-clause-bytes g c =

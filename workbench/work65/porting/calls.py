@@ -3,6 +3,7 @@ from typing import List, Sequence, Set
 
 from work65.frontend import words
 from work65.frontend.edits import edited
+from work65.frontend.reach import reached
 from work65.frontend.statements import Statement, parts_of, statement_of
 from work65.frontend.tokens import Kind, Token, line_of
 from work65.porting import ranges, shifts, spelling
@@ -31,29 +32,25 @@ class Calls:
     def has_to_be_written(self, name: str, statement: Statement) -> bool:
         """Returns whether a call must be expanded: for changes since the macro was read, for its arguments, or for its location."""
         context, rest = self.context, statement.rest
-        reached = self.reached(name)
-        if any(self.is_changed(it) for it in reached):
+        macros = self.called_by(name)
+        if any(self.is_changed(it) for it in macros):
             return True
-        if any(star_in(it) for it in parts_of(rest)) and any(it.directives & words.DATA for it in reached):
+        if any(star_in(it) for it in parts_of(rest)) and any(it.directives & words.DATA for it in macros):
             return True
-        if any(it.has_shift for it in reached) and shifts.may_turn_negative(rest, context):
+        if any(it.has_shift for it in macros) and shifts.may_turn_negative(rest, context):
             return True
-        if "force_range" in context.features and ranges.may_be_cut(rest, context) and any(it.directives & words.DATA for it in reached):
+        if "force_range" in context.features and ranges.may_be_cut(rest, context) and any(it.directives & words.DATA for it in macros):
             return True
         if any(self.has_codes(it) for it in rest if it.kind is Kind.STRING) and not self.takes_lists(name, rest):
             return True
-        if any(it.text in self.state.sized_names for it in rest) and any(it.directives & words.SCOPE_BEGINS for it in reached):
+        if any(it.text in self.state.sized_names for it in rest) and any(it.directives & words.SCOPE_BEGINS for it in macros):
             return True
-        return self.is_hidden_there(reached, rest) or any(self.has_other_regions(it) for it in reached)
+        return self.is_hidden_there(macros, rest) or any(self.has_other_regions(it) for it in macros)
 
-    def reached(self, name: str) -> List[Macro]:
-        """A macro, and those that it calls."""
-        macros, found, left = self.context.macros, {name}, [name]
-        while left:
-            more = (macros[left.pop()].names & macros.keys()) - found
-            found |= more
-            left += more
-        return [macros[it] for it in found]
+    def called_by(self, name: str) -> List[Macro]:
+        """Returns a macro, and those that it calls."""
+        macros = self.context.macros
+        return [macros[it] for it in reached([name], lambda it: macros[it].names & macros.keys())]
 
     def is_changed(self, macro: Macro) -> bool:
         """Whether a macro's lines mean something else than where they were read: for a define that came
@@ -63,12 +60,12 @@ class Calls:
             return True
         return any(not context.defines[name].is_constant for name in macro.names & context.defines.keys())
 
-    def is_hidden_there(self, reached: List[Macro], rest: Sequence[Token]) -> bool:
+    def is_hidden_there(self, macros: List[Macro], rest: Sequence[Token]) -> bool:
         """Whether a scope around a call has used a name of it."""
-        names = {it.text for it in rest} | {name for it in reached for name in it.names}
-        if self.project.is_measured and not any(it.directives & ASKING for it in reached):
+        names = {it.text for it in rest} | {name for it in macros for name in it.names}
+        if self.project.is_measured and not any(it.directives & ASKING for it in macros):
             return False
-        is_inner = any(it.directives & (ASKING | words.SCOPE_BEGINS) for it in reached)
+        is_inner = any(it.directives & (ASKING | words.SCOPE_BEGINS) for it in macros)
         scopes = self.context.scopes if is_inner else self.context.scopes[:-1]
         return any(not names.isdisjoint(it.used) for it in scopes)
 

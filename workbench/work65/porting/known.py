@@ -191,19 +191,9 @@ class ModuleState:
 
     def note_segment(self, statement: Statement) -> None:
         """Notes which segment follows."""
-        context, head = self.context, statement.head
-        if head in words.SEGMENT_WORDS:
-            context.segment = head[1:].upper()
-        elif head == ".segment" and statement.rest:
-            context.segment = statement.rest[0].text.strip('"')
-            self.note_opened(context.segment)
-            if statement.rest[-1].lower in ("zeropage", "zp", "direct"):
-                context.zero_page.add(context.segment)
-                context.short_segments.add(context.segment)
-        elif head == ".pushseg":
-            context.saved_segments.append(context.segment)
-        elif head == ".popseg" and context.saved_segments:
-            context.segment = context.saved_segments.pop()
+        self.context.segments.step(statement)
+        if statement.head == ".segment" and statement.rest:
+            self.note_opened(self.context.segment)
 
     def note_opened(self, segment: str) -> None:
         """Notes that an object has a segment, also where nothing follows in it."""

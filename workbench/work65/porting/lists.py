@@ -39,7 +39,7 @@ def read(text: str, statement: Statement, context: Context, own: Sequence[str]) 
     """Returns the names of a list with what stands behind each. While a segment of the zero page is open, an import is short where nothing
     else is said; a name of the module's own isn't."""
     found = Names()
-    is_short = context.segment in context.short_segments and context.macro is None
+    is_short = context.segments.is_zero_page and context.macro is None
     for part in parts_of(statement.rest):
         if not part or part[0].kind is not Kind.NAME:
             raise Unportable(statement.body[0].text, "size-behind", "no name stands here")
@@ -49,6 +49,7 @@ def read(text: str, statement: Statement, context: Context, own: Sequence[str]) 
                 found.by_word.setdefault(".importzp", []).append(part[0].text)
             word = SHORT_IMPORTS.get(word, word)
         found.by_word.setdefault(word, []).append(part[0].text)
+    context.short_names |= {name for word in (".importzp", ".globalzp") for name in found.by_word.get(word, ())}
     return found
 
 

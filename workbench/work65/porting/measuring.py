@@ -1,9 +1,8 @@
 """Forms as cc65 takes them: the sizes of lines are compared, and `a:` or `z:` stands where bin65 takes another one."""
-from typing import AbstractSet, Callable, Dict, Iterator, List, NamedTuple, Optional, Sequence, Set, Tuple
+from typing import AbstractSet, Callable, Dict, Iterator, List, NamedTuple, Sequence, Set, Tuple
 
 from work65.frontend import words
 from work65.frontend.edits import edited
-from work65.frontend.files import Text
 from work65.frontend.statements import Statement, statement_of
 from work65.frontend.tokens import Kind, line_of
 from work65.porting.leaves import Leaf, Line, grouped

@@ -14,15 +14,13 @@ from work65.habits.habit import Finding, Habit
 from work65.porting import condes, imported, packages, scripts
 from work65.porting.leaves import Line
 from work65.porting.project import OWN, Project, Spread
-from work65.porting.script_rows import Said, Usage
+from work65.porting.script_rows import Usage
 from work65.porting.tools import Options
 from work65.porting.walk import Walk
 from work65.progress import Progress
 
 # What is said of rows that cc65 places otherwise. `work65 check` doesn't find it: it is seen in sources and script together.
 PLACE = Habit("script-place", "", "A row with `align`, `start` or `offset` whose segment nobody uses", "")
-
-
 # How many calls are open at once where files include each other as deep as they may.
 FRAMES = 8000
 
@@ -43,16 +41,23 @@ def read_project(paths: Sequence[str], options: Options) -> Project:
 
 @dataclass
 class Ported:
-    """What each file becomes, which line each of its lines was, and what can't be brought over."""
+    """What each file becomes, which line each of its lines was, what can't be converted, and the imports whose sign counts, which only
+    a comparison of the whole program tests."""
 
     project: Project
     texts: Dict[str, Text]
     origins: Dict[str, List[int]]
     findings: List[Finding]
+    imports: List[Finding]
 
     def __post_init__(self) -> None:
         self.names = {name: path for path, names in self.project.variants.items() for name in names}
         self.places = {os.path.realpath(self.project.texts[path].path): path for path in self.project.variants}
+
+    def say(self, more: Sequence[Finding]) -> None:
+        """Adds findings at lines that have none."""
+        unique = {(it.path, it.line): it for it in [*more, *reversed(self.findings)]}
+        self.findings = sorted(unique.values(), key=lambda it: (it.path, it.line))
 
     def origin(self, line: Line) -> Optional[Line]:
         """The line of the original that a line of the copy was; None where it was none."""
@@ -85,12 +90,11 @@ def ported(project: Project, is_measured: bool = False, spread: Optional[Spread]
     found, origins = _written(project)
     _add_tables(project, all_scripts, found, origins)
     findings = list(project.findings.values()) + list(_left(project, found, origins))
-    if not is_measured or len(all_scripts) > 1:
-        findings += imported.found_in(project, project.below_zero)
     for path, text in project.scripts.items():
         found[path] = _as_text(path, *script_lines(project, text, findings))
-    unique = {(it.path, it.line): it for it in reversed(findings)}
-    return Ported(project, found, origins, sorted(unique.values(), key=lambda it: (it.path, it.line)))
+    made = Ported(project, found, origins, [], list(imported.found_in(project, project.below_zero)))
+    made.say([*([] if is_measured else reversed(made.imports)), *reversed(findings)])
+    return made
 
 
 def script_lines(project: Project, text: Text, findings: List[Finding]) -> "Tuple[List[str], Text]":

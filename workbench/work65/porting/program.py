@@ -4,17 +4,16 @@ from dataclasses import dataclass, field, replace
 from typing import Dict, List, Optional, Sequence, Union
 
 from work65.commands.check import said
-from work65.frontend.files import Text, text_of
-from work65.frontend.files import read_bytes
+from work65.frontend.files import read_bytes, text_of
 from work65.frontend.link_script import OUTPUT
 from work65.habits.habit import Finding
-from work65.porting import filling, imported, known_differences
+from work65.porting import filling, known_differences
 from work65.porting.difference import difference, first_file
 from work65.porting.measuring import FORMS, Measure, Pair
 from work65.porting.port import Ported, ported, read_project, script_lines
 from work65.porting.project import Spread
 from work65.porting.tools import Linked, Options, Refused
-from work65.porting.verdict import Judge
+from work65.porting.verdict import Judge, whole_text
 from work65.porting.verify import Library, Verifier, Whole, is_same
 from work65.program import Program
 
@@ -42,11 +41,6 @@ class Answer:
     status: int = SAME
 
 
-def with_lines(text: Text, lines: List[str]) -> str:
-    """A script's text."""
-    return "\n".join(lines) + "\n"
-
-
 class Comparison:
     """Compares one program."""
 
@@ -66,7 +60,7 @@ class Comparison:
 
         self.left: List[Finding] = []
         lines, _ = script_lines(self.verifier.ported.project, self.script, self.left)
-        theirs, ours = (with_lines(self.script, it) for it in (self.script.lines, lines))
+        theirs, ours = whole_text(self.script.lines), whole_text(lines)
         libraries = [Library(it.name, keys(it.members)) for it in line.libraries]
         self.whole = Whole(theirs, ours, keys(line.sources), libraries)
 
@@ -94,8 +88,7 @@ class Comparison:
         if self.is_same(cc65, bin65):
             return self.same(cc65, notes)
         differs = difference(cc65, bin65, self.verifier.finder(self.whole, bin65))
-        project = self.verifier.ported.project
-        imports = list(imported.found_in(project, project.below_zero))
+        imports = self.verifier.ported.imports
         heading = "" if imports else known_differences.heading(self.script, bin65, differs)
         causes = [f"MIGRATING: {heading}"] if heading else []
         return Answer([differs, *causes, *(said(it) for it in [*self.verifier.ported.findings, *self.left, *imports])], OTHER)

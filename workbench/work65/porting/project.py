@@ -7,6 +7,7 @@ from typing import Dict, FrozenSet, List, Optional, Sequence, Set, Tuple
 from work65.frontend import words
 from work65.frontend.files import Text, text_of
 from work65.frontend.includes import path_of_bytes
+from work65.frontend.reach import reached
 from work65.frontend.statements import Statement, statement_of
 from work65.frontend.survey import Survey, asminc_file, surveyed
 from work65.frontend.tokens import Kind, line_of
@@ -81,7 +82,7 @@ class Project:
     below_zero: Dict[str, Dict[str, int]] = field(default_factory=dict)
     doubtful: List[Tuple[str, int, Unportable]] = field(default_factory=list)
     own_sources: List[str] = field(default_factory=list)
-    guessed: Set[Line] = field(default_factory=set)
+    guessed: Dict[Line, str] = field(default_factory=dict)
     _waiting: List[str] = field(default_factory=list)
     _is_looking: bool = False
     _words: Optional[Set[str]] = None
@@ -161,13 +162,7 @@ class Project:
 
     def closure(self, path: str) -> Set[str]:
         """A file, and all that it includes."""
-        found, left = set(), [path]
-        while left:
-            it = left.pop()
-            if it not in found:
-                found.add(it)
-                left += self.included.get(it, ())
-        return found
+        return reached([path], lambda it: self.included.get(it, ()))
 
     def sized_names(self, module: str) -> FrozenSet[str]:
         """The names of whose sizes a module asks."""

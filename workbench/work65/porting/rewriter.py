@@ -19,7 +19,6 @@ from work65.porting.renaming import Renaming, global_definition
 
 # Directives of bin65 before which no label stands.
 UNLABELLED = frozenset((".else", ".elseif", ".endif", ".local", ".exitmacro", ".exitmac", *words.MACRO_ENDS, *words.REPEAT_ENDS))
-Handler = Callable[[int, str, Statement], List[str]]
 
 
 class Rewriter:
@@ -57,9 +56,9 @@ class Rewriter:
             if named is not None:
                 return named
         if head in words.MNEMONICS and self.project.is_measured:
-            self.guess(at, text, statement)
+            self.guess(at, statement)
         elif head in words.MNEMONICS:
-            text = forms.absolute(text, statement, context)
+            text = forms.prefixed(text, forms.prefix_for(statement, context))
         shifts.refuse(statement.body, context)
         if "force_range" in context.features:
             text = ranges.cut(text, statement, context)
@@ -72,10 +71,11 @@ class Rewriter:
         self.state.note(statement)
         return self.with_size([text], statement)
 
-    def guess(self, at: int, text: str, statement: Statement) -> None:
-        """Notes a line that takes the absolute form by the rules: they count where the line isn't assembled, so isn't measured."""
-        if self.state.lines is self.project.logical(self.state.path) and forms.absolute(text, statement, self.context) != text:
-            self.project.guessed.add(Line(self.state.path, self.state.lines[at].number))
+    def guess(self, at: int, statement: Statement) -> None:
+        """Notes the size prefix that a line needs by the rules, which count if the line isn't assembled, so isn't measured."""
+        prefix = forms.prefix_for(statement, self.context)
+        if prefix and self.state.lines is self.project.logical(self.state.path):
+            self.project.guessed[Line(self.state.path, self.state.lines[at].number)] = prefix
 
     def named(self, at: int, text: str, statement: Statement) -> Optional[List[str]]:
         """The lines in place of a long branch, an undocumented instruction or a call of scrcode; None for anything else."""

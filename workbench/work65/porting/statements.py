@@ -1,15 +1,13 @@
 """Statements that become others: data, imports of sizes, assertions, instructions that aren't documented."""
 from typing import Callable, Dict, List, Optional, Sequence
 
-from work65.frontend import words
 from work65.frontend.edits import edited, text_of_tokens
 from work65.frontend.expression import scoped_name, value
 from work65.frontend.statements import Statement, parts_of
-from work65.frontend.tokens import Kind, Token, line_of
+from work65.frontend.tokens import Kind, Token
 from work65.porting.context import Context
 from work65.porting.facts import star_in
 from work65.porting.line import Unportable, commented_out, in_parentheses, replaced
-from work65.porting.structures import size_named
 from work65.porting.undocumented import OPCODES
 
 Rewrite = Callable[[str, Statement, Context], List[str]]

@@ -261,14 +261,14 @@ class Verifier:
         return sizes == {3} and measure.put(line, Pair(3, Leaf("", 0, 2, (line,))))
 
     def guess(self, debugs: Iterable[str]) -> None:
-        """Puts `a:` by the rules before operands of lines that weren't assembled, as those of another -D."""
+        """Puts size prefixes by the rules before operands of lines that weren't assembled, such as those for another -D."""
         guessed = self.ported.project.guessed
         met = {line for debug in debugs for it in of_debug_file(debug, self.key) for line in it.lines} if guessed else set()
-        for path, text in self.ported.texts.items() if guessed - met else ():
+        for path, text in self.ported.texts.items() if guessed.keys() - met else ():
             for number, line in enumerate(text.lines, 1):
                 origin = self.ported.origin(Line(path, number))
-                if origin in guessed and origin not in met:
-                    text.lines[number - 1] = prefixed(line)
+                if origin is not None and origin not in met:
+                    text.lines[number - 1] = prefixed(line, guessed.get(origin, ""))
 
     def measured(self, modules: Set[str]) -> Measure:
         """The sizes of the lines of these sources, and of those that share a file with them in which a line differs."""

@@ -202,7 +202,7 @@ class Walk:
             if self.project.is_measured and forms.may_differ(facts.tokens, facts.names, context, False):
                 plain = statement_of(facts.tokens, self.project.is_macro)
                 if plain.head in words.MNEMONICS:
-                    self.rewriter.guess(at, text, plain)
+                    self.rewriter.guess(at, plain)
             self.note_plain(facts)
             return [text]
         if not facts.tokens:

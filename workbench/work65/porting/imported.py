@@ -11,16 +11,17 @@ IMPORTS = frozenset((".import", ".importzp", ".forceimport", ".global", ".global
 # Operators that tell -1 from $FFFFFFFF; the first ones are those only between two operands.
 INFIX = frozenset(("<", ">"))
 SIGNED = frozenset(("=", "<>", "<=", ">=", "/", ".mod", ">>", ".shr"))
+AUTOIMPORT = "the names aren't known without cc65's object: each in an .import"
 HABIT = Habit("imported-negative", "", "Numbers of more than 32 bits", "")
 NOTE = "an exported constant below 0 is one above 0 where cc65 imports it: export it with `& $FFFF`, or include its definition"
 
 
 def found_in(project: Project, constants: Dict[str, Dict[str, int]]) -> Iterator[Finding]:
     """The lines in which an import's sign counts. `constants` are those below 0 of each module."""
-    exported = {it: _Lists(project, it).exported for it, own in constants.items() if own}
+    exported = {it: Lists(project, it).exported for it, own in constants.items() if own}
     below = {name for it, names in exported.items() for name in constants[it] if name in names}
     for module in project.modules_walked if below else ():
-        it = _Lists(project, module)
+        it = Lists(project, module)
         names = (it.imported & below) - constants.get(module, {}).keys()
         for path, number, statement in it.statements if names else ():
             word = _signed(statement.rest, names)
@@ -28,7 +29,7 @@ def found_in(project: Project, constants: Dict[str, Dict[str, int]]) -> Iterator
                 yield Finding(project.texts[path].path, number, word, HABIT, NOTE)
 
 
-class _Lists:
+class Lists:
     """The statements of a module, with those of the files that it includes, and which names it exports and imports."""
 
     def __init__(self, project: Project, module: str) -> None:

@@ -1,6 +1,6 @@
 """The state of a module while it is walked: its files, its symbols, and queries."""
 import os
-from typing import Dict, FrozenSet, List, Optional, Sequence, Tuple
+from typing import Dict, FrozenSet, List, Optional, Sequence, Set, Tuple
 
 from work65.frontend import words
 from work65.frontend.expression import value
@@ -43,6 +43,7 @@ class ModuleState:
         self.expanding = self.number = self.here = 0
         self.hard_key: Tuple[int, int, str, int] = (0, 0, "", 0)
         self.hard_names: FrozenSet[str] = frozenset()
+        self.imported: Set[str] = set()
         self.deferred: List[Tuple[str, str, int, Unportable]] = []
 
     @property

@@ -14,6 +14,10 @@ SHORT_IMPORTS = {".import": ".importzp", ".global": ".globalzp"}
 ZERO_PAGE = {".import": ".importzp", ".global": ".globalzp", ".export": ".exportzp"}
 
 
+# The most names of a written list.
+MOST = 8
+
+
 @dataclass
 class Names:
     """The result of a list: definitions, and names by directive."""
@@ -29,6 +33,11 @@ def listed(text: str, statement: Statement, context: Context, own: Sequence[str]
         if all(len(it) == 1 for it in parts_of(statement.rest)):
             return [text]
     return replaced(text, statement, names.definitions + _directives(names))
+
+
+def of_imports(text: str, statement: Statement, names: Sequence[str]) -> List[str]:
+    """Returns lists that import names, in place of a statement."""
+    return replaced(text, statement, [f".import {', '.join(names[at : at + MOST])}" for at in range(0, len(names), MOST)])
 
 
 def _directives(names: Names) -> List[str]:

@@ -28,21 +28,24 @@ ALL_TARGET_NAMES = frozenset().union(*map(words.defined_by, words.TARGETS))
 
 @dataclass
 class Spread:
-    """What has to be written out, since its lines take several forms: macros by their names, repeats by their lines. And how many
-    bytes cc65 has of lines whose size can't be told from their text."""
+    """What only cc65's objects show: macros (by name) and repeats (by line) that must be expanded, since their lines take several forms;
+    the sizes of lines that don't follow from their text; and the imports of modules with an .autoimport."""
 
     macros: Set[str] = field(default_factory=set)
     repeats: Set[Line] = field(default_factory=set)
     sizes: Dict[Line, int] = field(default_factory=dict)
+    imports: Dict[str, Sequence[str]] = field(default_factory=dict)
 
     def __le__(self, other: "Spread") -> bool:
-        return self.macros <= other.macros and self.repeats <= other.repeats and self.sizes.keys() <= other.sizes.keys()
+        is_known = self.sizes.keys() <= other.sizes.keys() and self.imports.keys() <= other.imports.keys()
+        return is_known and self.macros <= other.macros and self.repeats <= other.repeats
 
     def add(self, other: "Spread") -> None:
         """Takes up what another one has."""
         self.macros |= other.macros
         self.repeats |= other.repeats
         self.sizes.update(other.sizes)
+        self.imports.update(other.imports)
 
 
 @dataclass
@@ -180,8 +183,8 @@ class Project:
         """Whether the tree has a macro of this name, so that a package's isn't meant."""
         return any(not path.endswith("longbranch.mac") for path, _ in self.tree.macros.get(name, []))
 
-    def is_single(self, statement: Statement, path: str) -> bool:
-        """Whether a define may become a constant: nothing takes it back."""
+    def is_single(self, statement: Statement) -> bool:
+        """Returns whether a define may become a constant: nothing takes it back."""
         name = statement.rest[0].text if statement.rest else ""
         return name not in self.undefined_names
 

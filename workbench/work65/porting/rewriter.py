@@ -12,11 +12,13 @@ from work65.porting.characters import as_elements
 from work65.porting.context import OpenScope
 from work65.porting.expansion import Macro
 from work65.porting.facts import facts_of
+from work65.porting.imported import AUTOIMPORT, Lists
 from work65.porting.known import ModuleState
 from work65.porting.leaves import Line
 from work65.porting.line import Unportable, commented_out, replaced
 from work65.porting.renaming import Renaming, global_definition
 
+Handler = Callable[[int, str, Statement], List[str]]
 # Directives of bin65 before which no label stands.
 UNLABELLED = frozenset((".else", ".elseif", ".endif", ".local", ".exitmacro", ".exitmac", *words.MACRO_ENDS, *words.REPEAT_ENDS))
 
@@ -89,11 +91,11 @@ class Rewriter:
             return self.with_size(statements.as_data(text, statement, context, size), statement)
         return self.screen_codes(text, statement) if first.text == "scrcode" and self.state.screen else None
 
-    def all_handlers(self) -> Dict[str, Callable[[int, str, Statement], List[str]]]:
-        """What is done for a directive."""
+    def all_handlers(self) -> Dict[str, Handler]:
+        """Returns what is done for each directive."""
         context = self.context
-        found: Dict[str, Callable[[int, str, Statement], List[str]]] = {
-            ".define": lambda at, text, it: defines.defined(text, it, context, self.project.is_single(it, self.state.path)),
+        found: Dict[str, Handler] = {
+            ".define": lambda at, text, it: defines.defined(text, it, context, self.project.is_single(it)),
             ".undefine": lambda at, text, it: self.undefined(text, it), ".undef": lambda at, text, it: self.undefined(text, it),
             ".macpack": lambda at, text, it: self.package(text, it),
             ".elseif": lambda at, text, it: self.other_question(at, text, it),
@@ -101,7 +103,7 @@ class Rewriter:
             ".endproc": lambda at, text, it: self.end_of_scope(text, it), ".endscope": lambda at, text, it: self.end_of_scope(text, it),
             ".local": lambda at, text, it: self.names.local(text, it), "::": lambda at, text, it: self.global_constant(at, text, it),
             ".org": self.org, ".reloc": lambda at, text, it: registers.closed(text, context),
-            ".charmap": lambda at, text, it: self.charmap(text, it),
+            ".charmap": lambda at, text, it: self.charmap(text, it), ".autoimport": lambda at, text, it: self.autoimport(text, it),
             ".pushcharmap": lambda at, text, it: self.charmap(text, it), ".popcharmap": lambda at, text, it: self.charmap(text, it),
         }
         found.update({it: lambda at, text, one: structures.opened(text, one, context) for it in structures.OPENERS})
@@ -313,6 +315,17 @@ class Rewriter:
         outer.behind += found.behind
         context.hoisted.update({context.path + (it,): it for it in found.imported})
         return replaced(text, statement, found.inside)
+
+    def autoimport(self, text: str, statement: Statement) -> List[str]:
+        """Returns an .autoimport as an .import of the names that cc65's object imports and no list has."""
+        if statement.rest and statement.rest[0].lower in ("-", "off"):
+            return [commented_out(text)]
+        names = self.project.spread.imports.get(self.state.module)
+        if names is None or not self.context.is_plain:
+            raise Unportable(".autoimport", "autoimport", AUTOIMPORT if names is None else "")
+        new = [it for it in names if it not in Lists(self.project, self.state.module).imported | self.state.imported]
+        self.state.imported |= set(new)
+        return lists.of_imports(text, statement, new)
 
     def table_entry(self, at: int, text: str, statement: Statement) -> List[str]:
         """A .constructor or its like: the name is an export, which a table of a source of its own takes in."""

@@ -14,6 +14,7 @@ from work65.instrumenting.sources import Closure
 from work65.porting import alone, copying, unasserted
 from work65.porting.difference import Finder, LinkedModule
 from work65.porting.forms import prefixed
+from work65.porting.imported import AUTOIMPORT
 from work65.porting.leaves import Leaf, Line, of_debug_file, of_marks
 from work65.porting.measuring import Measure, Pair
 from work65.porting.port import Ported
@@ -171,7 +172,7 @@ class Verifier:
             differing = {it for it in pending if self.outcomes[it].debug and not self.outcomes[it].is_same}
             measure = self.measured(differing)
             count, spread = measure.settled()
-            spread.sizes = self.sizes()
+            spread.sizes, spread.imports = self.sizes(), self.imports()
             if not spread <= self.spread:
                 self.spread.add(spread)
                 self.ported = self.port(self.spread)
@@ -312,6 +313,12 @@ class Verifier:
                 if leaf.lines[-1] in wanted:
                     found.setdefault(leaf.lines[-1], set()).add(leaf.size)
         return {line: next(iter(sizes)) for line, sizes in found.items() if len(sizes) == 1}
+
+    def imports(self) -> Dict[str, Sequence[str]]:
+        """Returns the names that cc65's objects import, of modules with an .autoimport that was reported."""
+        paths = {self.ported.places[os.path.realpath(it.path)] for it in self.ported.findings if it.note == AUTOIMPORT}
+        made = {it: self.made.get(it) for it in self.outcomes if paths & self.ported.project.closure(it)} if paths else {}
+        return {module: alone.needs_of(it).imports for module, it in made.items() if isinstance(it, str)}
 
     def key(self, name: str) -> str:
         """The file of the tree that a path of a debug file names; nothing for another file."""

@@ -29,7 +29,7 @@ class ModuleState:
         self.project = project
         self.module = module
         self.sized_names = project.sized_names(module)
-        self.context = Context(of_target(project.target), set(project.features(module)))
+        self.context = Context(of_target(project.target), set(project.features), processor=project.processor)
         self.context.size_name = project.size_name
         self.folder = Folder(self.context, self.sized, self.is_defined, self.bank)
         self.sizes: Dict[Tuple[str, ...], str] = {}

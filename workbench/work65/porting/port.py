@@ -15,6 +15,7 @@ from work65.porting import condes, imported, packages, scripts
 from work65.porting.leaves import Line
 from work65.porting.project import OWN, Project, Spread
 from work65.porting.script_rows import Usage
+from work65.porting.statements import KEPT
 from work65.porting.tools import Options
 from work65.porting.walk import Walk
 from work65.progress import Progress
@@ -36,7 +37,8 @@ def read_project(paths: Sequence[str], options: Options) -> Project:
         progress.step()
     progress.end()
     names = frozenset(it.split("=")[0] for it in options.define)
-    return Project(base, texts, [os.path.abspath(it) for it in options.include], options.target, names, symbols=dict(options.symbols))
+    include, kept = [os.path.abspath(it) for it in options.include], KEPT.intersection(options.features)
+    return Project(base, texts, include, options.target, names, options.processor.lower(), kept, symbols=dict(options.symbols))
 
 
 @dataclass

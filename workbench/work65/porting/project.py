@@ -57,6 +57,8 @@ class Project:
     include_folders: Sequence[str]
     target: Optional[str]
     names: FrozenSet[str] = frozenset()
+    processor: str = "6502"
+    features: FrozenSet[str] = frozenset()
     tree: Survey = field(default_factory=Survey)
     outputs: Dict[str, List[RewrittenLine]] = field(default_factory=dict)
     findings: Dict[Tuple[str, int, str], Finding] = field(default_factory=dict)
@@ -170,10 +172,6 @@ class Project:
     def sized_names(self, module: str) -> FrozenSet[str]:
         """The names of whose sizes a module asks."""
         return frozenset().union(*(self.sized_in.get(it, frozenset()) for it in self.closure(module)))
-
-    def features(self, module: str) -> Set[str]:
-        """The features of a module that count for all its lines."""
-        return self.tree.features & {"string_escapes"}
 
     def is_macro(self, name: str) -> bool:
         """Whether a name is that of a macro or a define."""

@@ -97,19 +97,18 @@ class Rewriter:
         found: Dict[str, Handler] = {
             ".define": lambda at, text, it: defines.defined(text, it, context, self.project.is_single(it)),
             ".undefine": lambda at, text, it: self.undefined(text, it), ".undef": lambda at, text, it: self.undefined(text, it),
-            ".macpack": lambda at, text, it: self.package(text, it),
+            ".macpack": lambda at, text, it: self.package(text, it), ".autoimport": lambda at, text, it: self.autoimport(text, it),
             ".elseif": lambda at, text, it: self.other_question(at, text, it),
             ".endif": lambda at, text, it: conditions.closed(text, it, context), ".else": lambda at, text, it: self.other(text, it),
             ".endproc": lambda at, text, it: self.end_of_scope(text, it), ".endscope": lambda at, text, it: self.end_of_scope(text, it),
             ".local": lambda at, text, it: self.names.local(text, it), "::": lambda at, text, it: self.global_constant(at, text, it),
             ".org": self.org, ".reloc": lambda at, text, it: registers.closed(text, context),
-            ".charmap": lambda at, text, it: self.charmap(text, it), ".autoimport": lambda at, text, it: self.autoimport(text, it),
-            ".pushcharmap": lambda at, text, it: self.charmap(text, it), ".popcharmap": lambda at, text, it: self.charmap(text, it),
         }
         found.update({it: lambda at, text, one: structures.opened(text, one, context) for it in structures.OPENERS})
         found.update({it: lambda at, text, one: structures.closed(text, one, context) for it in structures.CLOSERS})
         found.update({it: lambda at, text, one: self.listed(text, one) for it in words.LISTS})
         found.update({it: lambda at, text, one: self.macro(text, one) for it in (*words.MACRO_BEGINS, *words.MACRO_ENDS)})
+        found.update({it: lambda at, text, one: self.charmap(text, one) for it in (".charmap", ".pushcharmap", ".popcharmap")})
         found.update({it: self.condition for it in words.CONDITIONS})
         found.update({it: self.table_entry for it in (*condes.DIRECTIVES, ".condes")})
         return found

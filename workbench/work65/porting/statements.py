@@ -22,7 +22,7 @@ FEATURES = frozenset(
     " leading_dot_in_identifiers line_continuations long_jsr_jmp_rts loose_char_term loose_string_term missing_char_term org_per_seg"
     " pc_assignment string_escapes ubiquitous_idents underline_in_numbers".split()
 )
-KEPT = frozenset(("bracket_as_indirect", "force_range"))
+KEPT = frozenset(("bracket_as_indirect", "force_range", "string_escapes"))
 
 
 def _gone(text: str, statement: Statement, context: Context) -> List[str]:

@@ -233,7 +233,7 @@ def _is_continued(line: LexedLine, text: str) -> bool:
 
 
 def found_in(texts: List[Text], tree: Survey, files: Optional[Files] = None, included: Sequence[Text] = ()) -> List[Finding]:
-    """What is found in the sources, and in files that lines of them include; in lines of a macro only where something calls it.
+    """Returns what is found in the sources, and in files that lines of them include; in lines of a macro only where something calls it.
 
     With `files` it also finds the files that lines name and that bin65 doesn't find."""
     found: List[Tuple[Optional[str], Finding]] = []

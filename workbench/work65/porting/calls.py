@@ -23,7 +23,7 @@ class Calls:
         self.state, self.context, self.project = state, state.context, state.project
 
     def is_written_out(self, statement: Statement) -> bool:
-        """Whether a statement is the call of a macro that is written out."""
+        """Returns whether a statement is the call of a macro that is expanded."""
         first = statement.body[0] if statement.body else None
         if first is None or first.kind is not Kind.NAME or first.text not in self.context.macros:
             return False
@@ -53,7 +53,7 @@ class Calls:
         return [macros[it] for it in reached([name], lambda it: macros[it].names & macros.keys())]
 
     def is_changed(self, macro: Macro) -> bool:
-        """Whether a macro's lines mean something else than where they were read: for a define that came
+        """Returns whether a macro's lines mean something else than where they were read: for a define that came
         later, a variable, or codes of characters."""
         context = self.context
         if not macro.names.isdisjoint(context.changing) or macro.has_text and macro.codes != context.charmap.codes:
@@ -61,7 +61,7 @@ class Calls:
         return any(not context.defines[name].is_constant for name in macro.names & context.defines.keys())
 
     def is_hidden_there(self, macros: List[Macro], rest: Sequence[Token]) -> bool:
-        """Whether a scope around a call has used a name of it."""
+        """Returns whether a scope around a call has used a name of it."""
         names = {it.text for it in rest} | {name for it in macros for name in it.names}
         if self.project.is_measured and not any(it.directives & ASKING for it in macros):
             return False
@@ -70,7 +70,7 @@ class Calls:
         return any(not names.isdisjoint(it.used) for it in scopes)
 
     def has_other_regions(self, macro: Macro) -> bool:
-        """Whether a macro with cheap names of its own would end the region of those around its call."""
+        """Returns whether a macro with cheap names of its own would end the region of those around its call."""
         own = {it for it in macro.locals if it[0] == "@"}
         return bool(own) and (bool(macro.cheap - own) or bool(self.state.expanding) or self.is_spanned())
 
@@ -81,7 +81,7 @@ class Calls:
         return bool(before | own) and bool(after | own) and bool(before | after)
 
     def cheap_names(self, places: range) -> Set[str]:
-        """The cheap names of lines up to one with a label."""
+        """Returns the cheap names of lines up to one with a label."""
         found: Set[str] = set()
         for at in places:
             tokens = line_of(self.state.lines[at].text, self.state.has_escapes).tokens
@@ -92,11 +92,11 @@ class Calls:
         return found
 
     def has_codes(self, it: Token) -> bool:
-        """Whether a string has other codes than its bytes."""
+        """Returns whether a string has other codes than its bytes."""
         return spelling.needs_codes(it, self.context)
 
     def takes_lists(self, name: str, rest: Sequence[Token]) -> bool:
-        """Whether a call's strings are elements of lists alone, so that numbers may stand for them."""
+        """Returns whether a call's strings are elements of lists alone, so that numbers may stand for them."""
         macro, parts = self.context.macros[name], parts_of(rest)
         given = [it for it, part in zip(macro.parameters, parts) if any(one.kind is Kind.STRING for one in part)]
         return all(self.is_element(name, it, 0) for it in given) and all(_is_list(it) for it in parts)
@@ -122,7 +122,7 @@ class Calls:
         return True
 
     def with_lists(self, text: str, statement: Statement) -> str:
-        """A call that stays, with the codes of its strings in place of them."""
+        """Returns a call that stays, with the codes of its strings in place of them."""
         edits, texts = [], []
         for part in parts_of(statement.rest):
             for it in part:
@@ -134,7 +134,7 @@ class Calls:
 
 
 def _is_list(part: Sequence[Token]) -> bool:
-    """Whether an argument is one token, or a list in braces whose strings are elements of their own."""
+    """Returns whether an argument is one token, or a list in braces whose strings are elements of their own."""
     if len(part) <= 1 or not any(it.kind is Kind.STRING for it in part):
         return True
     if part[0].text != "{" or part[-1].text != "}":

@@ -123,7 +123,7 @@ def _negated(text: str, tokens: Sequence[Token]) -> Optional[Question]:
 
 
 def _bare(tokens: Sequence[Token]) -> Sequence[Token]:
-    """Tokens without parentheses round the whole."""
+    """Returns tokens without parentheses round the whole."""
     while len(tokens) > 1 and tokens[0].text == "(" and _closing(tokens, 0) == len(tokens) - 1:
         tokens = tokens[1:-1]
     return tokens

@@ -127,16 +127,16 @@ class Context:
 
     @property
     def is_plain(self) -> bool:
-        """Whether no scope, macro or repeat is open."""
+        """Returns whether no scope, macro or repeat is open."""
         return not (self.scopes or self.macro or self.repeats)
 
     @property
     def is_dead(self) -> bool:
-        """Whether the lines here are left out for sure."""
+        """Returns whether the lines here are left out for sure."""
         return any(it.is_live is False for it in self.blocks)
 
     def certain(self, name: str) -> Optional[int]:
-        """The value of a constant that has this value in every assembly."""
+        """Returns the value of a constant that has this value in every assembly."""
         parts = tuple(it for it in name.split("::") if it)
         path = () if name.startswith("::") else self.path
         for depth in range(len(path), -1, -1):
@@ -146,7 +146,7 @@ class Context:
         return None
 
     def value(self, name: str) -> Optional[int]:
-        """The value of a constant by its name, from the innermost scope outward."""
+        """Returns the value of a constant by its name, from the innermost scope outward."""
         parts = tuple(name.split("::"))
         if parts[0] == "":
             return self.constants.get(parts[1:])

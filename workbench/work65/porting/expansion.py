@@ -11,7 +11,7 @@ from work65.porting.packages import BRANCHES
 
 # Functions of tokens, before which each `.define` is replaced.
 OF_TOKENS = frozenset((".match", ".xmatch", ".left", ".mid", ".right", ".tcount", ".string", ".ident"))
-# What has a macro written out where it is called.
+# Directives for which a macro is expanded where it is called.
 HARD = OF_TOKENS | frozenset(
     (".strlen", ".strat", ".concat", ".sprintf", ".set", ".charmap", ".min", ".max", ".define", ".undefine", ".undef", ".const",
      ".constructor", ".destructor", ".interruptor", ".condes", ".bank")
@@ -72,7 +72,7 @@ class Macro:
 
     @property
     def has_cheap_constant(self) -> bool:
-        """Whether a line gives a cheap name a value."""
+        """Returns whether a line gives a cheap name a value."""
         return any(_is_cheap_constant(it) for it in self.lines) if self.cheap else False
 
 
@@ -82,7 +82,7 @@ def _is_cheap_constant(text: str) -> bool:
 
 
 def hard_macros(macros: Dict[str, Macro], also: FrozenSet[str], spread: Optional[Set[str]]) -> FrozenSet[str]:
-    """The macros that have to be written out: for what is in their lines, or for a macro that they call. `spread` are those whose
+    """Returns the macros that have to be expanded: for what is in their lines, or for a macro that they call. `spread` are those whose
     lines take several forms, where forms are measured."""
     branches = BRANCHES.keys() - macros.keys()
     found = {name for name, it in macros.items() if _is_hard(it) or it.names & also}
@@ -98,7 +98,7 @@ def hard_macros(macros: Dict[str, Macro], also: FrozenSet[str], spread: Optional
 
 
 def _is_hard(macro: Macro) -> bool:
-    """Whether a macro's own lines have it written out. A scope that it opens and closes may stay."""
+    """Returns whether a macro's own lines have it expanded. A scope that it opens and closes may stay."""
     if macro.directives & HARD or macro.has_cheap_constant or macro.leaves_repeat:
         return True
     if not macro.directives & SCOPES:
@@ -107,7 +107,7 @@ def _is_hard(macro: Macro) -> bool:
 
 
 def _is_difference(text: str) -> bool:
-    """Whether a line takes the difference of two places as an address, or names it."""
+    """Returns whether a line takes the difference of two places as an address, or names it."""
     if "-" not in text:
         return False
     statement = statement_in(text)
@@ -120,6 +120,6 @@ def _is_difference(text: str) -> bool:
 
 
 def end_of_repeat(lines: Sequence[Logical], at: int) -> int:
-    """The line that ends a repeat whose lines begin here."""
+    """Returns the line that ends a repeat whose lines begin here."""
     length = block_length((statement_in(it.text).head for it in lines[at:]), words.REPEAT_BEGINS, words.REPEAT_ENDS)
     return len(lines) if length is None else at + length

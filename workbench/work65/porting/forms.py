@@ -106,12 +106,12 @@ def prefixed(text: str, prefix: str) -> str:
 
 
 def _is_scoped(rest: Sequence[Token], at: int) -> bool:
-    """Whether a name is a part of one with scopes."""
+    """Returns whether a name is a part of one with scopes."""
     return at > 0 and rest[at - 1].text == "::" or at + 1 < len(rest) and rest[at + 1].text == "::"
 
 
 def _is_used_outside(it: Token, context: Context) -> bool:
-    """Whether a scope around this one has used a name that it doesn't define: cc65 doesn't know it here."""
+    """Returns whether a scope around this one has used a name that it doesn't define: cc65 doesn't know it here."""
     path = context.path
     for depth, scope in enumerate(context.scopes[:-1], 1):
         if it.text in scope.used and path[:depth] + (it.text,) not in context.labels:
@@ -120,7 +120,7 @@ def _is_used_outside(it: Token, context: Context) -> bool:
 
 
 def is_difference(rest: Sequence[Token], context: Context) -> bool:
-    """Whether an operand is a difference of labels that don't lie in the zero page."""
+    """Returns whether an operand is a difference of labels that don't lie in the zero page."""
     if not any(it.text == "-" for it in rest):
         return False
     is_far = not context.is_short(context.segment)
@@ -134,7 +134,7 @@ def is_difference(rest: Sequence[Token], context: Context) -> bool:
 
 
 def segment_of(tokens: Sequence[Token], context: Context) -> str:
-    """The segment in which an expression is an address; nothing where it is none, or isn't known."""
+    """Returns the segment in which an expression is an address; nothing where it is none, or isn't known."""
     if is_difference(tokens, context):
         return ""
     found = {context.segment} if star_in(tokens) else set()
@@ -145,7 +145,7 @@ def segment_of(tokens: Sequence[Token], context: Context) -> str:
 
 
 def _is_far(name: str, context: Context) -> bool:
-    """Whether a name is a label outside of the zero page, or made of one."""
+    """Returns whether a name is a label outside of the zero page, or made of one."""
     path, parts = context.path, tuple(it for it in name.split("::") if it)
     for depth in range(0 if name.startswith("::") else len(path), -1, -1):
         key = path[:depth] + parts

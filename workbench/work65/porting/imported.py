@@ -17,7 +17,7 @@ NOTE = "an exported constant below 0 is one above 0 where cc65 imports it: expor
 
 
 def found_in(project: Project, constants: Dict[str, Dict[str, int]]) -> Iterator[Finding]:
-    """The lines in which an import's sign counts. `constants` are those below 0 of each module."""
+    """Yields the lines in which an import's sign counts. `constants` are those below 0 of each module."""
     exported = {it: Lists(project, it).exported for it, own in constants.items() if own}
     below = {name for it, names in exported.items() for name in constants[it] if name in names}
     for module in project.modules_walked if below else ():
@@ -39,13 +39,13 @@ class Lists:
         self.exported, self.imported = (self.listed(it) for it in (EXPORTS, IMPORTS))
 
     def listed(self, heads: "frozenset[str]") -> Set[str]:
-        """The names in lists of these directives."""
+        """Returns the names in lists of these directives."""
         rows = [it.rest for _, _, it in self.statements if it.head in heads]
         return {part[0].text for rest in rows for part in parts_of(rest) if part}
 
 
 def _signed(tokens: Sequence[Token], names: Set[str]) -> str:
-    """A name in an expression with an operator for which its sign counts; nothing where there is none."""
+    """Returns a name in an expression with an operator for which its sign counts; nothing where there is none."""
     for part in parts_of(tokens):
         name = next((it.text for it in part if it.text in names), "")
         if name and any(it.lower in SIGNED or it.text in INFIX and _is_operand(part[at - 1]) for at, it in enumerate(part) if at):

@@ -48,7 +48,7 @@ class ModuleState:
 
     @property
     def hard(self) -> FrozenSet[str]:
-        """The macros that have to be written out."""
+        """The macros that have to be expanded."""
         macros, texts, project = self.context.macros, self.context.defines, self.project
         key = (len(macros), sum(len(it.lines) for it in macros.values()), self.screen, len(texts))
         if key != self.hard_key:
@@ -64,7 +64,7 @@ class ModuleState:
         return "string_escapes" in self.context.features
 
     def cannot(self, number: int, why: Unportable) -> None:
-        """Notes a line that can't be brought over; that of a macro counts only where a call of it stays."""
+        """Notes a line that can't be converted; that of a macro counts only where a call of it stays."""
         if self.context.macro is None:
             self.project.cannot(self.path, number, why)
         else:
@@ -203,7 +203,7 @@ class ModuleState:
         self.project.segments_opened.add(segment)
 
     def keep_line(self, text: str) -> None:
-        """Keeps a line of a macro, for calls that are written out: with the defines that there are by now, as cc65 does."""
+        """Keeps a line of a macro, for calls that are expanded: with the defines that there are by now, as cc65 does."""
         context = self.context
         if context.macro is None or context.macro not in context.macros:
             return

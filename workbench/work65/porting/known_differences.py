@@ -1,4 +1,4 @@
-"""Differences between cc65 and bin65 that docs/MIGRATING.md has: which heading tells of one."""
+"""Differences between cc65 and bin65 that docs/MIGRATING.md documents, and their headings."""
 import re
 from typing import List
 
@@ -9,7 +9,7 @@ from work65.porting.tools import Linked
 
 UNUSED = "A row with `align`, `start` or `offset` whose segment nobody uses"
 UNWRITTEN = "A row that takes room and isn't written, before rows that are"
-# A difference's line of the original, by what stands in it.
+# Headings by the text of the original's line.
 BY_TEXT = (
     (re.compile(r">>"), "`>>` of a negative number"),
     (re.compile(r"^[^;]*\.(byte?|word|addr|dbyt|dword)[^;]*(,[^;]*\*|\*[^;]*,)", re.I), "`*` in a list"),
@@ -20,20 +20,20 @@ PLACE = re.compile(r", ([^,]+):(\d+)(?: in |$)")
 
 
 def files_of(script: Text) -> List[str]:
-    """The files that a script writes."""
+    """Returns the files that a script writes."""
     text = "\n".join(script.lines)
     return [*dict.fromkeys([OUTPUT, *with_files(text, OUTPUT)[1].values()])]
 
 
 def written_by(script: Text) -> List[str]:
-    """The files of the areas of a script, by their names as they stand there; nothing where no area has one."""
+    """Returns the files of the areas of a script, by their names as written there; nothing where no area has one."""
     values = [it.get("FILE") for it in entries_in("\n".join(script.lines), "MEMORY")]
     names = [it[0].text.strip('"') if it else OUTPUT for it in values]
     return [it for it in dict.fromkeys(names) if it]
 
 
 def heading(script: Text, bin65: Linked, difference: str) -> str:
-    """The heading of MIGRATING that tells of a difference; nothing where none is known."""
+    """Returns the heading of MIGRATING that tells of a difference; nothing where none is known."""
     rows = entries_in("\n".join(script.lines), "SEGMENTS")
     for at, row in enumerate(rows):
         is_used = bool(bin65.sizes.get(row.name.text, 0))
@@ -56,7 +56,7 @@ def _is_unwritten(row: Entry) -> bool:
 
 
 def _by_line(path: str, number: int) -> str:
-    """The heading that the text of a line asks for."""
+    """Returns the heading that the text of a line asks for."""
     try:
         with open(path, encoding="latin-1") as it:
             lines = it.read().split("\n")

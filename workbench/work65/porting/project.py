@@ -1,4 +1,4 @@
-"""The tree that is ported: its files, how they include each other, what they become, and what can't be brought over."""
+"""The tree that is ported: its files, how they include each other, what they become, and what can't be converted."""
 import os
 import re
 from dataclasses import dataclass, field
@@ -138,7 +138,7 @@ class Project:
                 self.undefined_names.add(statement.rest[0].text)
 
     def modules(self) -> List[str]:
-        """The files that no other includes, sources first."""
+        """Returns the files that no other includes, sources first."""
         inside = set().union(*self.included.values()) if self.included else set()
         own = [it for it in self.texts if not it.startswith(OWN + os.sep)]
         first = [it for it in own if it not in inside]
@@ -162,23 +162,23 @@ class Project:
         self._words = None
 
     def has_banks(self) -> bool:
-        """Whether a source asks for a bank."""
+        """Returns whether a source asks for a bank."""
         return any(BANK.search(line) for text in self.texts.values() for line in text.lines)
 
     def closure(self, path: str) -> Set[str]:
-        """A file, and all that it includes."""
+        """Returns a file, and all that it includes."""
         return reached([path], lambda it: self.included.get(it, ()))
 
     def sized_names(self, module: str) -> FrozenSet[str]:
-        """The names of whose sizes a module asks."""
+        """Returns the names of whose sizes a module asks."""
         return frozenset().union(*(self.sized_in.get(it, frozenset()) for it in self.closure(module)))
 
     def is_macro(self, name: str) -> bool:
-        """Whether a name is that of a macro or a define."""
+        """Returns whether a name is that of a macro or a define."""
         return self.tree.is_macro(name)
 
     def is_own_macro(self, name: str) -> bool:
-        """Whether the tree has a macro of this name, so that a package's isn't meant."""
+        """Returns whether the tree has a macro of this name, so that a package's isn't meant."""
         return any(not path.endswith("longbranch.mac") for path, _ in self.tree.macros.get(name, []))
 
     def is_single(self, statement: Statement) -> bool:
@@ -187,13 +187,13 @@ class Project:
         return name not in self.undefined_names
 
     def logical(self, path: str) -> List[Logical]:
-        """The lines of a file as ca65 reads them."""
+        """Returns the lines of a file as ca65 reads them."""
         if path not in self._logical:
             self._logical[path] = logical_lines(self.texts[path].lines, True, True)
         return self._logical[path]
 
     def global_names(self, module: str) -> List[str]:
-        """The names that a module's own source defines outside of scopes."""
+        """Returns the names that a module's own source defines outside of scopes."""
         if module not in self._globals:
             depth, found = 0, []
             for text in self.texts[module].lines:
@@ -209,7 +209,7 @@ class Project:
         return self._globals[module]
 
     def include(self, path: str, name: str) -> Tuple[Optional[str], str]:
-        """The file that an .include names, and the name by which bin65 finds it. A name in a source has a sign for each byte."""
+        """Returns the file that an .include names, and the name by which bin65 finds it. A name in a source has a sign for each byte."""
         wanted = path_of_bytes(name)
         if wanted is None:
             return None, name
@@ -217,7 +217,7 @@ class Project:
         return found, name if spelled == wanted else words_of_path(spelled)
 
     def _include(self, path: str, name: str) -> Tuple[Optional[str], str]:
-        """The same, of paths."""
+        """Returns the same, of paths."""
         beside = os.path.normpath(os.path.join(os.path.dirname(path), name))
         if beside in self.texts:
             return beside, name
@@ -235,7 +235,7 @@ class Project:
         return self._added(own, text, path, name)
 
     def _added(self, found: str, text: Optional[Text], path: str, name: str) -> Tuple[str, str]:
-        """A file that wasn't named and is included: it comes into the tree, one from outside of it into a folder of its own."""
+        """Returns a file that wasn't named and is included: it comes into the tree, one from outside of it into a folder of its own."""
         key = found
         if found.startswith(".."):
             key = os.path.join(OWN, os.path.basename(found))
@@ -251,7 +251,7 @@ class Project:
         return key, self.relative(key, path)
 
     def package(self, path: str, name: str) -> str:
-        """The file of a package, as a file names it."""
+        """Returns the file of a package, as a file names it."""
         self.packages.add(name)
         return os.path.relpath(os.path.join(OWN, f"{name}.mac"), os.path.dirname(path) or ".")
 
@@ -278,7 +278,7 @@ class Project:
         return True
 
     def _free_name(self, path: str, module: str) -> str:
-        """A name for another reading of a file."""
+        """Returns a name for another reading of a file."""
         stem, end = os.path.splitext(path)
         name = f"{stem}_{os.path.splitext(os.path.basename(module))[0]}"
         while f"{name}{end}" in self.texts:
@@ -286,15 +286,15 @@ class Project:
         return f"{name}{end}"
 
     def relative(self, file: str, path: str) -> str:
-        """A file as another one names it."""
+        """Returns a file as another one names it."""
         return os.path.relpath(file, os.path.dirname(path) or ".")
 
     def is_target_name(self, name: str) -> Optional[bool]:
-        """Whether a name that targets define is defined; None where no target is given, or it is another name."""
+        """Returns whether a name that targets define is defined; None where no target is given, or it is another name."""
         if self.target is None or name not in ALL_TARGET_NAMES or name in self.names:
             return None
         return name in words.defined_by(self.target)
 
     def cannot(self, path: str, number: int, why: Unportable) -> None:
-        """Notes a line that can't be brought over."""
+        """Notes a line that can't be converted."""
         self.findings.setdefault((path, number, why.habit), Finding(self.texts[path].path, number, why.word, BY_NAME[why.habit], why.note))

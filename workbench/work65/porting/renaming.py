@@ -69,7 +69,7 @@ class Renaming:
         return edited(text, edits) if edits else text
 
     def _renamed(self, tokens: Sequence[Token], at: int) -> Iterator[Edit]:
-        """What becomes of one token."""
+        """Yields what becomes of one token."""
         context, it = self.context, tokens[at]
         if it.kind is Kind.CHEAP:
             if it.text in context.cheap_constants:
@@ -199,7 +199,7 @@ class Renaming:
         return spelling.respelled(defines.expanded(text, self.context, self.state.has_escapes, is_whole=True), self.context)
 
     def decided(self, text: str) -> Optional[bool]:
-        """What a condition comes to, where it is known."""
+        """Returns what a condition evaluates to, None if unknown."""
         statement = self.parsed(self.prepared(text))
         return self.truth(statement.rest) if statement.head == ".elseif" else self.answer(statement)
 

@@ -85,7 +85,7 @@ def _spelled(it: Structure) -> str:
 
 
 def _grow(it: Structure, spelled: str, size: Optional[int]) -> None:
-    """A member of this size is put in."""
+    """Adds a member of this size."""
     if it.word == ".union":
         if size is None:
             raise Unportable(it.word, "union", "its size isn't known here: write the offsets out")

@@ -183,7 +183,7 @@ class Ours:
 
 
 def _in_decimal(define: str) -> str:
-    """What -D gives, with a number as C writes it (0x12, 012) in decimal: bin65 doesn't take those."""
+    """Returns what -D gives, with a number as C writes it (0x12, 012) in decimal: bin65 doesn't take those."""
     name, _, number = define.partition("=")
     found = C_NUMBER.fullmatch(number)
     return define if found is None else f"{name}={int(found[1], 16) if found[1] else int(number, 8)}"

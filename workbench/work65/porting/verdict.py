@@ -1,4 +1,4 @@
-"""What is said of a port: whether the program or each source alone is the same, what differs, and what wasn't compared."""
+"""The report of a comparison: whether the program or each source alone is the same, what differs, and what wasn't compared."""
 import os
 from dataclasses import dataclass, field, replace
 from typing import List
@@ -12,7 +12,7 @@ from work65.porting.tools import Linked, Options, Refused
 from work65.porting.verify import Outcome, Port, Verifier, Whole, is_same
 from work65.program import Program
 
-# So many sources that weren't compared are named.
+# The most sources that are named of those that weren't compared.
 SHOWN = 3
 
 
@@ -62,7 +62,7 @@ def compared(program: Program, options: Options, room: str, port: Port) -> Verdi
 
 
 class Judge:
-    """Says what came of a comparison."""
+    """Reports the result of a comparison."""
 
     def __init__(self, verifier: Verifier) -> None:
         self.verifier = verifier
@@ -133,7 +133,7 @@ class Judge:
     # Sources alone.
 
     def said_of_sources(self) -> "tuple[List[str], str]":
-        """What differs or is refused, and the last line."""
+        """Returns what differs or is refused, and the last line."""
         lines: List[str] = []
         same = 0
         others: List[str] = []
@@ -155,7 +155,7 @@ class Judge:
         return lines, "; ".join(parts)
 
     def said(self, module: str, it: Outcome) -> str:
-        """What is said of a source; nothing where it is the same, or its places were said already."""
+        """Returns what is said of a source; nothing where it is the same, or its places were said already."""
         ported = self.verifier.ported
         path = ported.project.texts[module].path
         if it.theirs:
@@ -171,7 +171,7 @@ class Judge:
         return f"{path}: {difference(cc65, bin65, Finder(ported, script, bin65, {'ours.o': LinkedModule(module, leaves)}))}"
 
     def refused(self, module: str, said: str) -> str:
-        """What bin65 says of a copy, by the line of the original; nothing where a place of the source was said."""
+        """Returns what bin65 says of a copy, by the line of the original; nothing where a place of the source was said."""
         ported = self.verifier.ported
         files = {ported.project.texts[it].path for it in ported.project.closure(module)}
         if any(it.path in files for it in ported.findings):
@@ -179,7 +179,7 @@ class Judge:
         return self.translated(said, ported.project.texts[module].path)
 
     def translated(self, said: str, path: str = "") -> str:
-        """What bin65 says of a file of the copy, by the line of the original."""
+        """Returns what bin65 says of a file of the copy, by the line of the original."""
         message = message_of(said)
         if message is None or message.line is None:
             return f"{path or 'the copy'}: bin65 refuses what it became: {said}"

@@ -98,7 +98,7 @@ class Walk:
                 self.project.cannot(path, number, why)
 
     def block(self, at: int, row: RewrittenLine) -> Optional[int]:
-        """Rewrites a repeat or a call that has to be written out; None where a line stands for itself."""
+        """Rewrites a repeat or a call that has to be expanded; None where a line stands for itself."""
         context, text = self.context, self.state.lines[at].text
         if context.macro is not None or context.structures:
             return None
@@ -135,13 +135,13 @@ class Walk:
         return end + 1
 
     def has_to_go(self, at: int, text: str) -> bool:
-        """Whether a line has its repeat written out."""
+        """Returns whether a line has its repeat expanded."""
         self.state.here = at
         tokens = line_of(text, self.state.has_escapes).tokens
         return any(it.lower in HARD or it.text in self.state.hard for it in tokens) or self.calls.is_written_out(self.names.parsed(text))
 
     def write_out(self, at: int, row: RewrittenLine, expander: Expander, label: str) -> None:
-        """Has a call or a repeat written out; the outermost one stays as a comment."""
+        """Has a call or a repeat expanded; the outermost one stays as a comment."""
         context, text = self.context, self.state.lines[at].text
         saved, depths = (self.state.lines, self.state.rows, self.state.others), (len(context.blocks), len(context.scopes))
         self.state.number, self.state.rows = self.state.lines[at].number, []
@@ -160,17 +160,17 @@ class Walk:
         row.lines = lines if self.state.expanding else [commented_out(text), *merged(lines)]
 
     def emit(self, text: str, following: Sequence[str]) -> None:
-        """Rewrites a line of a call that is written out."""
+        """Rewrites a line of a call that is expanded."""
         self.state.lines = [Logical(self.state.number, it) for it in (text, *following)]
         self.line(0)
 
     @property
     def is_in_macro(self) -> bool:
-        """Whether the lines of a macro are being read."""
+        """Returns whether the lines of a macro are being read."""
         return self.context.macro is not None
 
     def goes_on(self, text: str) -> bool:
-        """Whether a line ends the lines that are left out, or begins others."""
+        """Returns whether a line ends the lines that are left out, or begins others."""
         if "." not in text or any(it.is_live is False for it in self.context.blocks[:-1]):
             return False
         return statement_of(line_of(text).tokens, self.project.is_macro).head in (".else", ".elseif", ".endif")
@@ -194,7 +194,7 @@ class Walk:
             self.context.structures.pop()
 
     def rewritten(self, at: int, text: str) -> List[str]:
-        """The lines that stand in place of one."""
+        """Rewrites a line that isn't expanded."""
         context, has_escapes = self.context, self.state.has_escapes
         facts = facts_of(text, has_escapes)
         self.state.keep_line(text)
@@ -228,7 +228,7 @@ class Walk:
         return self.rewriter.finished(found, has_escapes, statement)
 
     def is_left(self, facts: Facts, has_escapes: bool) -> bool:
-        """Whether a line stays as it is."""
+        """Returns whether a line stays as it is."""
         context = self.context
         if not facts.is_plain or context.features & ALL_LINES or facts.has_star or has_escapes and facts.has_text:
             return False
@@ -246,7 +246,7 @@ class Walk:
         return context.defines.keys().isdisjoint(names) and not self.has_renamed(facts)
 
     def has_renamed(self, facts: Facts) -> bool:
-        """Whether a line has a name that is another one in the copy."""
+        """Returns whether a line has a name that is another one in the copy."""
         context, names = self.context, facts.names
         if context.locals & names or not context.changing.isdisjoint(names) or context.cheap_constants.keys() & names:
             return True
@@ -255,7 +255,7 @@ class Walk:
         return context.part > 0 and not context.cheap_before.isdisjoint(names)
 
     def label_splits(self, facts: Facts) -> bool:
-        """Whether a label stands before a directive of expansion that takes none."""
+        """Returns whether a label precedes a directive that allows none."""
         has_label = bool(facts.tokens) and facts.tokens[0].kind is not Kind.DIRECTIVE
         return has_label and not UNLABELLED.isdisjoint(facts.directives)
 
@@ -268,7 +268,7 @@ class Walk:
         self.state.note(statement)
 
     def include(self, text: str, statement: Statement) -> List[str]:
-        """A file that is included: it is walked here."""
+        """Rewrites an .include, and walks its file."""
         if not statement.rest or statement.rest[0].kind is not Kind.STRING:
             return [text]
         token = statement.rest[0]
@@ -282,7 +282,7 @@ class Walk:
 
     @property
     def has_escapes(self) -> bool:
-        """Whether a backslash in a string takes the next character with it."""
+        """Returns whether a backslash in a string takes the next character with it."""
         return self.state.has_escapes
 
     def prepared(self, text: str) -> str:

@@ -127,7 +127,7 @@ def ported(tries, name, target, text, has_cc65):
                 copy = it.read()
             tries.check(f"{name}, to the byte", copy == text, copy)
         left = tries.inside("check", "out", folder=folder)
-        # What a condition on the processor leaves out is known to port alone.
+        # What a condition on the processor leaves out only port knows.
         tries.check(f"{name}, nothing left", left.returncode == 0 or name == "apple-cpu", left.stdout)
 
 
@@ -248,7 +248,7 @@ def tree(tries):
             out = f"{folder}/out/{it[4:]}"
             ran = subprocess.run([tries.program, "ca65", "-o", f"{folder}/{os.path.basename(it)}.o", out], capture_output=True, text=True, check=False)
             tries.check(f"{it} needs no options", ran.returncode == 0, ran.stderr)
-        # An image that differs: .ifdef in a scope that has used the name, behind a macro that port doesn't look into.
+        # An image that differs: .ifdef in a scope that has used the name, after a macro that port doesn't look into.
         pages.put(f"{folder}/src/lib/wait.s", TREE["src/lib/wait.s"] + ".macro ask name\n.ifdef name\n nop\n.endif\n.endmacro\nn = 5\n.proc p\n lda n\n ask n\n.endproc\n")
         ran = tries.work65("port", "src", "-o", "out2", "--target", "nes", folder=folder)
         good = "src/lib/wait.s: the image differs from byte 10 of 10 and 11 on (cc65 and bin65: no byte and EA): "
@@ -309,7 +309,7 @@ def examples(tries):
 
 
 def bad_input(tries):
-    """What can't be read or written is said in one line, and nothing is left behind."""
+    """A file that can't be read or written is reported in one line, and no file is left."""
     with tempfile.TemporaryDirectory() as folder:
         pages.put(f"{folder}/a.s", " nop\n")
         pages.put(f"{folder}/file", "")
@@ -329,7 +329,7 @@ def bad_input(tries):
 
 
 def copies(tries):
-    """What was changed by hand in a copy stays; a copy is never made over its originals, nor of a copy."""
+    """Hand edits in a copy stay; a copy is never made over its originals, nor of a copy."""
     with tempfile.TemporaryDirectory() as folder:
         os.makedirs(f"{folder}/src")
         pages.put(f"{folder}/src/a.s", " nop\n")
@@ -383,7 +383,7 @@ def names(tries, has_cc65):
         tries.check("3,000 conditions deep", ran.returncode == 0 and time.monotonic() - begun < 10, ran)
 
 
-# What the rules know of forms where nothing is compared.
+# Operand sizes by rules, if nothing is compared.
 RULED = ("kept-register", "kept-low-byte", "kept-low-byte-in-scope", "kept-zero-page-of-its-own", "form-cheap-labels",
          "form-scoped-difference", "form-define", "form-inner-scope")
 
@@ -438,7 +438,7 @@ def other_names(tries):
 
 
 def ended(tries):
-    """A run that is ended leaves nothing behind."""
+    """A run that is ended leaves no file."""
     with tempfile.TemporaryDirectory() as folder:
         for name in ("tools", "temporary"):
             os.mkdir(f"{folder}/{name}")

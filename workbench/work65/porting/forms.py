@@ -55,7 +55,7 @@ def prefix_for(statement: Statement, context: Context) -> str:
         context.labels.setdefault((*context.path, label.text), context.segment)
     index = rest[-1].lower if len(rest) > 2 and rest[-2].text == "," else ""
     operand = rest[:-2] if index else rest
-    if value(operand, context.value) is None and (_is_truth(operand) or _is_short_sum(operand, context)):
+    if value(operand, context.value) is None and (is_truth(operand) or _is_short_sum(operand, context)):
         return "z:" if f"{statement.head} {index}".rstrip() in SHORT_FORMS else ""
     names = [(at, it) for at, it in enumerate(rest) if it.kind is Kind.NAME and it.lower not in words.REGISTERS]
     is_far = any(it.text in context.differences or not _is_scoped(rest, at) and _is_used_outside(it, context) for at, it in names)
@@ -64,7 +64,7 @@ def prefix_for(statement: Statement, context: Context) -> str:
     return "" if statement.head in ("stx", "sty") and index else "a:"
 
 
-def _is_truth(operand: Sequence[Token]) -> bool:
+def is_truth(operand: Sequence[Token]) -> bool:
     """Returns whether the value of an operand is 0 or 1, which cc65 takes for a zero page address."""
     depth = 0
     for at, it in enumerate(operand):
@@ -92,7 +92,7 @@ def _is_outer_sum(operand: Sequence[Token], context: Context) -> bool:
     """Returns whether an operand of several parts fits a byte, but a part doesn't, and cc65 doesn't know its value: in a scope it doesn't
     know that of a constant from outside."""
     found = value(operand, context.value)
-    if len(operand) < 2 or found is None or not 0 <= found < 256 or _is_truth(operand):
+    if len(operand) < 2 or found is None or not 0 <= found < 256 or is_truth(operand):
         return False
     outer = [at for at, it in enumerate(operand) if it.kind is Kind.NAME and (*context.path, it.text) not in context.constants]
     sizes = [context.value(operand[at].text) or 0 for at in outer if at == 0 or operand[at - 1].lower not in BYTES]

@@ -222,9 +222,13 @@ class Walk:
             if self.rewriter.has_lists:
                 text = self.calls.with_lists(text, statement)
                 statement = self.names.parsed(text)
-        if context.structures and statement.head not in structures.CLOSERS and statement.head not in structures.OPENERS:
+        if context.structures and structures.is_member(statement, context):
             return self.rewriter.finished(structures.member(text, statement, context), has_escapes, statement)
         found = self.rewriter.statement(at, text, statement)
+        if context.structures and statement.head in structures.ASKING and context.blocks and context.blocks[-1].is_live is None:
+            if statement.head in words.CONDITIONS:
+                context.blocks.pop()  # recover() opens it
+            raise Unportable(statement.head, context.structures[-1].word[1:], "whether it holds isn't known here: write the constants out")
         return self.rewriter.finished(found, has_escapes, statement)
 
     def is_left(self, facts: Facts, has_escapes: bool) -> bool:

@@ -37,8 +37,9 @@ def may_differ(tokens: Sequence[Token], names: AbstractSet[str], context: Contex
     if len(context.scopes) > 1 and any(not names.isdisjoint(it.used) for it in context.scopes[:-1]):
         return True
     signs = {it.lower for it in tokens if it.kind in (Kind.SIGN, Kind.DIRECTIVE)}
-    if not signs.isdisjoint(TRUTHS) or not signs.isdisjoint(SUMS) and (context.scopes or _has_large_number(tokens)):
-        return True
+    if not words.MNEMONICS.isdisjoint(it.lower for it in tokens[:3]):
+        if not signs.isdisjoint(TRUTHS) or not signs.isdisjoint(SUMS) and (context.scopes or _has_large_number(tokens)):
+            return True
     is_placed = len(names) > 1 or star_in(tokens) or any(it.kind is Kind.UNNAMED for it in tokens)
     if is_placed and "-" in signs:
         return True

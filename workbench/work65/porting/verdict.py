@@ -54,9 +54,8 @@ def compared(program: Program, options: Options, room: str, port: Port) -> Verdi
     lines, last = judge.said_of_sources()
     if judge.is_same_program():
         last = judge.said_of_program()
-    elif judge.is_linked and not lines:
-        lines = [it.where for it in judge.links if it.where]
-    if not judge.is_linked:
+    else:
+        lines = lines or [it.where for it in judge.links if it.where]
         verifier.ported.say(verifier.ported.imports)
     return Verdict(verifier.ported, lines, last)
 

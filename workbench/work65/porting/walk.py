@@ -210,6 +210,8 @@ class Walk:
         if not context.defines.keys().isdisjoint(facts.names):
             text = defines.expanded(text, context, has_escapes, is_whole=not facts.directives.isdisjoint(OF_TOKENS))
         text = spelling.respelled(text, context)
+        if not facts.directives.isdisjoint(conditions.CONSTANT):
+            text = conditions.as_function(text, self.names.parsed(text))
         if ".define" not in facts.directives:
             asked = BANK.findall(text) if ".bank" in facts.directives else ()
             text = self.names.settled(text, is_asked=bool(facts.directives & ASKED))

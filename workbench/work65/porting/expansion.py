@@ -37,6 +37,7 @@ class Macro:
     is_placed: bool = False
     is_ambiguous: bool = False
     leaves_repeat: bool = False
+    sizes_parameter: bool = False
     depth: int = 0
     repeats: int = 0
 
@@ -54,6 +55,8 @@ class Macro:
             elif it.kind is Kind.CHEAP:
                 self.cheap.add(it.text)
             self.has_shift = self.has_shift or it.lower in (">>", ".shr")
+        sized = zip(tokens, tokens[1:], tokens[2:])
+        self.sizes_parameter = self.sizes_parameter or any(it.lower == ".sizeof" and name.text in self.parameters for it, _, name in sized)
         self._note(tokens)
 
     def _note(self, tokens: Sequence[Token]) -> None:
@@ -99,7 +102,7 @@ def hard_macros(macros: Dict[str, Macro], also: FrozenSet[str], spread: Optional
 
 def _is_hard(macro: Macro) -> bool:
     """Returns whether a macro's own lines have it expanded. A scope that it opens and closes may stay."""
-    if macro.directives & HARD or macro.has_cheap_constant or macro.leaves_repeat:
+    if macro.directives & HARD or macro.has_cheap_constant or macro.leaves_repeat or macro.sizes_parameter:
         return True
     if not macro.directives & SCOPES:
         return False

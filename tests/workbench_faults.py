@@ -16,9 +16,10 @@ import time
 import pages
 
 sys.path.insert(0, f"{pages.ROOT}/workbench")
-from work65 import arguments  # noqa: E402
+
 from work65 import pages as own_pages  # noqa: E402
 from work65.commands import explain  # noqa: E402
+from work65.diagnosing import bad_arguments as arguments  # noqa: E402
 from work65.diagnosing.message import message_of  # noqa: E402
 
 WORK65 = f"{pages.ROOT}/workbench/work65.sh"

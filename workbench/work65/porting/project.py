@@ -10,7 +10,7 @@ from work65.frontend.includes import path_of_bytes
 from work65.frontend.reach import reached
 from work65.frontend.statements import Statement, statement_of
 from work65.frontend.survey import Survey, asminc_file, surveyed
-from work65.frontend.tokens import Kind, line_of
+from work65.frontend.tokens import Kind, Token, line_of
 from work65.habits.habit import Finding
 from work65.habits.table import BY_NAME
 from work65.output import words as words_of_path
@@ -65,7 +65,7 @@ class Project:
     sized_in: Dict[str, Set[str]] = field(default_factory=dict)
     size_name: str = "size"
     packages: Set[str] = field(default_factory=set)
-    defined_in: Dict[str, Dict[str, int]] = field(default_factory=dict)
+    sizing_macros: Set[str] = field(default_factory=set)
     guards: Set[str] = field(default_factory=set)
     undefined_names: Set[str] = field(default_factory=set)
     target_names: Dict[str, Set[str]] = field(default_factory=dict)
@@ -99,6 +99,10 @@ class Project:
         self.tree = surveyed(self.texts.values(), self.include_folders, self.names)
         for path in list(self.texts):
             self._look(path)
+        for path, text in self.texts.items() if self.sizing_macros else ():
+            for tokens in (line_of(it).tokens for it in text.lines):
+                if any(it.text in self.sizing_macros for it in tokens[:3]):
+                    self.sized_in.setdefault(path, set()).update(_names(tokens))
 
     def _look(self, path: str) -> None:
         """Looks at a file and at those that come into the tree by it, one after the other: they may nest deeply."""
@@ -114,8 +118,8 @@ class Project:
         """Notes what a file includes, which sizes it asks for, and what it defines."""
         guard = guard_of(self.texts[path].lines)
         self.guards |= {guard} - self.names if guard is not None else set()
-        counts = self.defined_in.setdefault(path, {})
         targets = words.defined_by(self.target)
+        macro, parameters = "", _names(())
         for text in self.texts[path].lines:
             if targets and "__" in text:
                 self.target_names.setdefault(path, set()).update(it.text for it in line_of(text).tokens if it.text in targets)
@@ -126,14 +130,18 @@ class Project:
                 self.size_name = f"{self.size_name}_of_all"
             for at, it in enumerate(tokens):
                 if it.lower == ".sizeof":
-                    self.sized_in.setdefault(path, set()).update(one.text for one in tokens[at:] if one.kind is Kind.NAME)
+                    names = _names(tokens[at:])
+                    self.sized_in.setdefault(path, set()).update(names)
+                    self.sizing_macros |= {macro} if names & parameters else set()
             statement = statement_of(tokens, lambda _: False)
             if statement.head == ".include" and statement.rest and statement.rest[0].kind is Kind.STRING:
                 found = self.include(path, statement.rest[0].text.strip('"'))[0]
                 if found is not None:
                     self.included.setdefault(path, set()).add(found)
-            elif statement.head == ".define" and statement.rest:
-                counts[statement.rest[0].text] = counts.get(statement.rest[0].text, 0) + 1
+            elif statement.head in words.MACRO_BEGINS and statement.rest:
+                macro, parameters = statement.rest[0].text, _names(statement.rest[1:])
+            elif statement.head in words.MACRO_ENDS:
+                macro, parameters = "", set()
             elif statement.head in (".undefine", ".undef") and statement.rest:
                 self.undefined_names.add(statement.rest[0].text)
 
@@ -298,3 +306,8 @@ class Project:
     def cannot(self, path: str, number: int, why: Unportable) -> None:
         """Notes a line that can't be converted."""
         self.findings.setdefault((path, number, why.habit), Finding(self.texts[path].path, number, why.word, BY_NAME[why.habit], why.note))
+
+
+def _names(tokens: Sequence[Token]) -> Set[str]:
+    """Returns the names among tokens."""
+    return {it.text for it in tokens if it.kind is Kind.NAME}

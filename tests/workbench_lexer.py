@@ -33,7 +33,7 @@ OWN_OF_CA65 = re.compile(r"f:|:[<>]+", re.I)
 # A source in which a token of a kind means something.
 FORMS = {
     Kind.NAME: "{0} = 5\n.byte {0}", Kind.CHEAP: "n:\n{0}: bne {0}", Kind.NUMBER: ".dword {0}", Kind.UNNAMED: ":\n:\n:\n:\nbne {0}\n:\n:\n:\n:",
-    Kind.PREFIX: "lda {0}5", Kind.SIGN: ".dword 5 {0} 2",
+    Kind.PREFIX: "lda {0}5", Kind.SIGN: ".dword 9 {0} 2",
 }
 OTHER_FORMS = {"::": ".scope s\nn = 6\n.endscope\n.byte s{0}n", ":=": "n {0} 5\n.byte n"}
 TOGETHER, SHOWN = 20000, 10

@@ -216,8 +216,10 @@ class Walk:
             asked = BANK.findall(text) if ".bank" in facts.directives else ()
             text = self.names.settled(text, is_asked=bool(facts.directives & ASKED))
             text = spelling.with_comment(text, asked) if asked and not BANK.search(text) else text
-        tokens = line_of(text, has_escapes).tokens
-        statement = statement_of(tokens, self.project.is_macro)
+        statement = self.names.parsed(text)
+        if facts.tokens[0].lower == ".ident" and self.names.parsed(text.lstrip()).label is not None:
+            text = text.lstrip()  # a label without a colon, which is in the first column for cc65
+            statement = self.names.parsed(text)
         self.rewriter.has_lists = False
         if statement.body and statement.body[0].text in context.macros and facts_of(text, has_escapes).has_text:
             self.rewriter.has_lists = self.calls.takes_lists(statement.body[0].text, statement.rest)

@@ -83,7 +83,7 @@ def listed():
 
 
 def crates_of_the_program():
-    """The names of the crates that bin65 stands on, and its own."""
+    """The names of the crates that bin65 depends on, and its own."""
     lines = [it.partition(":") for it in read(f"{ROOT}/crates.txt").decode().splitlines() if not it.startswith("#")]
     below = {name.strip(): words.split() for name, _, words in lines}
     found, left = set(), ["bin65"]

@@ -36,7 +36,7 @@ SCRIPTS = [
     "measured", "one_program", "cases", "disk", "sums", "version1",
     "migrating", "differences", "stock_scripts", "tutorial", "language", "messages", "editors", "trying", "makefile", "machines", "second", "labels",
     "workbench_list", "workbench_labels", "workbench_debug", "workbench_deps", "workbench_size", "workbench_bad", "workbench_check",
-    "workbench_faults", "packaging", "release", "bench",
+    "workbench_faults", "workbench_lexer", "packaging", "release", "bench",
 ]
 EXAMPLES = ["first", "programs", "library", "sizes"]
 

@@ -23,7 +23,7 @@ def lines_of(program, folder):
     pages.put(f"{folder}/slow", f'#!/bin/sh\nsleep 0.02\nexec "{program}" "$@"\n')
     os.chmod(f"{folder}/slow", 0o755)
     words = ["python3", f"{pages.ROOT}/bench/run.py", f"{folder}/slow", f"{folder}/out", "500"]
-    # (without what may be set for Python, as that nothing waits in a buffer)
+    # (without variables for Python, such as the one against buffers)
     how = {it: os.environ[it] for it in os.environ if not it.startswith("PYTHON")}
     with subprocess.Popen(words, env=how, stdout=subprocess.PIPE, text=True) as ran:
         found = [(time.monotonic(), line) for line in ran.stdout]

@@ -47,7 +47,7 @@ complete_words() {
     echo --
 }
 """
-# What a line of the crate adds to a command, by the function's name: how often an option may stand, or a word.
+# What a line of the crate adds to a command, by the function's name: how often an option or a word is allowed.
 ADDS = {"with_option": "[-{} X]", "with_required_option": "-{} X", "with_repeated_option": "[-{} X]..", "with_flag": "[-{}]",
         "with_word": "W", "with_words": "W..", "with_any_words": "[W].."}
 
@@ -59,7 +59,7 @@ def words_of(line):
 
 
 def bash(folder, texts, lines):
-    """What each line is completed to, by bash in a folder."""
+    """Returns the completions of each line, by bash in a folder."""
     asked = "".join(f"complete_words {shlex.join(words_of(it))}\n" for it in lines)
     how = {**os.environ, "LC_ALL": "C"}
     ran = subprocess.run(["bash", "--norc", "-c", "\n".join([*texts, ASK, asked])], cwd=folder, env=how, capture_output=True, text=True, check=False)

@@ -93,7 +93,7 @@ def buffers(tests):
         tests.check(f"a script of {size} bytes", (ran, tests.get("image")), (QUIET, b"\x05"))
     tests.put("s.cfg", ONE_ROW)
     for beside in range(-5, 6):
-        # The literal of B begins so many bytes behind the buffer's end.
+        # The literal of B begins this many bytes after the buffer's end.
         first = pattern(3 * 4096 + 4061 + beside)
         file = object_of((b"A", first), (b"B", b"\x11\x22\x33"))
         assert file.index(b"\x03\x03\0\x11\x22\x33") == BUFFER + beside
@@ -192,7 +192,7 @@ def unread(tests):
     tests.check("a source that can't be read", ran, refused(b"folder: Error: file error"))
 
 
-# What stands at a name, its message where a file is read, and where it is written; docs/MESSAGES.md has the table.
+# What is at a name, its message if the file is read, and if it is written; docs/MESSAGES.md has the table.
 FAULTS = (
     ("nothing", "none.s", b"file not found", None),
     ("a name without bytes", "", b"file not found", None),

@@ -230,7 +230,7 @@ class Proved:
 
 
 def beside():
-    """Checks that mutants of a crate wait until the crates below it are proved, and that none is lost."""
+    """Checks that mutants of a crate are held back until the crates below it are proved, and that none is lost."""
     low, high, never = Proved("low"), Proved("higher"), Proved("never")
     every = {Proved("one", low): ["a"], Proved("two", low, high): ["b", "c"], Proved("three", never): ["d"]}
     began, was = [], (mutants.chosen, mutants.not_refused, kit.lanes)

@@ -17,7 +17,7 @@ S1 = (
     "MEMORY { ROM: start = $8000, size = $10; } "
     "SEGMENTS { CODE: load = ROM, type = ro; DATA: load = ROM, type = ro, optional = yes; }"
 )
-# What a run may take; a list of 20,000 names takes more.
+# The limits of a run; a list of 20,000 names takes more.
 LITTLE, MUCH = 32 << 20, 256 << 20
 CHAIN = 20000
 

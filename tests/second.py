@@ -111,7 +111,7 @@ class Tries:
 
 
 def readme(tries):
-    """What the page shows; the project stays as it is."""
+    """The outputs that the page shows; the project stays as it is."""
     shutil.copytree(f"{pages.ROOT}/example", f"{tries.top}/example", ignore=shutil.ignore_patterns("out"))
     tools = pages.tools_of(tries.program, f"{tries.top}/tools")
     before = listed(f"{tries.top}/example/second/project")
@@ -259,7 +259,7 @@ def documented(tries):
     from work65.porting import imported, known_differences
     text = pages.read("docs/MIGRATING.md")
     fixed = (known_differences.UNUSED, known_differences.UNWRITTEN, imported.HABIT.heading)
-    for heading in (*fixed, *(it[1] for it in known_differences.BY_TEXT)):
+    for heading in (*fixed, *known_differences.OF_LINES):
         tries.check(f"MIGRATING has {heading}", f"\n### {heading}\n" in text)
 
 
@@ -275,7 +275,7 @@ def alone(tries):
 
 
 def workflow(tries):
-    """The steps of the workflow as they stand, but for the one that installs Debian's package."""
+    """The steps of the workflow as written, but for the one that installs Debian's package."""
     project, crates = f"{tries.top}/repository", f"{tries.top}/crates"
     shutil.copytree(f"{pages.ROOT}/example/second", project)
     sys.path.insert(0, f"{pages.ROOT}/gate")

@@ -16,7 +16,7 @@ HERE = f"{os.path.dirname(os.path.abspath(__file__))}/version1"
 OBJECTS = ("main.o", "two.o")
 MEMBERS = ("wait.o", "tick.o", "helper.o")
 VERSIONS = (1, 2)
-# What the linker warns of main.s, by the version of its object: of version 2 the message has the source.
+# The warnings of the linker for main.s, by the version of its object: of version 2 the message has the source.
 WARNED = {1: b"main.o:24: Warning: colour isn't 7\n", 2: b"main.o:main.s:24: Warning: colour isn't 7\n"}
 QUIET = (0, b"", b"")
 

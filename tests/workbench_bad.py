@@ -1,5 +1,5 @@
 #!/usr/bin/env python3
-"""work65's list, labels, debug, deps and size with what is wrong: one clear message, nothing left behind, no traceback. Also
+"""work65's list, labels, debug, deps and size with invalid input: one clear message, no file left, no traceback. Also
 sources whose lines were changed by chance, folders behind links, and how often bin65 is run.
 
 usage: workbench_bad.py BIN65 [SOURCES]    SOURCES changed sources (40). The last line is 'N passed, M failed'."""
@@ -114,7 +114,7 @@ def wrong_words(trial: Trial) -> None:
 
 
 def right(trial: Trial) -> None:
-    """What is taken though it looks wrong, and leaves nothing behind."""
+    """Input that is accepted though it looks wrong, and leaves no file."""
     results = trial.results
     before = trial.files()
     for command in COMMANDS:
@@ -147,7 +147,7 @@ def right(trial: Trial) -> None:
 
 
 def links(trial: Trial) -> None:
-    """The same listing from other folders, by other names and behind links."""
+    """The same listing from other folders, by other names and by links."""
     results = trial.results
     wanted = trial.run(["list", "-C", "a.cfg", "sub/b.s"]).stdout.splitlines()[1:]
     os.symlink(trial.folder, f"{trial.folder}/../link")
@@ -170,7 +170,7 @@ def script_for(trial: Trial, text: str) -> str:
 
 
 def on_terminal(trial: Trial, words: Sequence[str], **more: str) -> str:
-    """What is said on standard error, which is a terminal."""
+    """Returns the output on standard error, which is a terminal."""
     reads, writes = pty.openpty()
     how = builds.environment(trial.program, TMPDIR=trial.room, **more)
     line = [sys.executable, "-m", "work65", *words]
@@ -185,7 +185,7 @@ def on_terminal(trial: Trial, words: Sequence[str], **more: str) -> str:
 
 
 def pipes(trial: Trial) -> None:
-    """A pipe or a device in place of a file that is read: nothing waits for it."""
+    """A pipe or a device in place of a file that is read: no command blocks on it."""
     folder = f"{os.path.dirname(trial.folder)}/pipes"
     os.mkdir(folder)
     os.mkfifo(f"{folder}/pipe.s")

@@ -1,5 +1,5 @@
 #!/usr/bin/env python3
-"""Tries `work65 check`: each habit of its table is found where it stands, each text of docs/MIGRATING.md that has to change is
+"""Tries `work65 check`: each habit of its table is found at its line, each text of docs/MIGRATING.md that has to change is
 found and none that stands in its place, the page has its parts from the table, and over cc65's own files and other sources of the
 machine it finds the line that bin65 names, and nothing in files that bin65 takes.
 
@@ -133,7 +133,7 @@ def page_parts(tries):
 
 
 def pairs(tries, folder):
-    """What has to change on the page is found, and what stands in its place isn't."""
+    """Each text that the page changes is found, and its replacement isn't."""
     text = pages.read("docs/MIGRATING.md").split("## What is taken and gives other bytes")[0]
     for kind, is_found in (("cc65", True), ("asm", False)):
         for number, block in enumerate(re.findall(f"^```{kind}\n(.*?)^```$", text, re.M | re.S)):

@@ -171,7 +171,7 @@ def written(debug: Debug) -> List[str]:
 
 
 def differ(mine: Set[Tuple[object, ...]], other: Set[Tuple[object, ...]]) -> str:
-    """What one of two sets has alone."""
+    """Returns the elements that only one of two sets has."""
     return f"ours alone {sorted(map(str, mine - other))[:20]}\ncc65's alone {sorted(map(str, other - mine))[:20]}"
 
 

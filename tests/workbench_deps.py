@@ -78,7 +78,7 @@ CASES = [
 
 
 def names_of(rules: str) -> List[str]:
-    """The names behind the target of the first rule."""
+    """Returns the names after the target of the first rule."""
     return rules.split("\n")[0].partition(": ")[2].split(" ")
 
 

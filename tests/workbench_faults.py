@@ -16,13 +16,14 @@ import time
 import pages
 
 sys.path.insert(0, f"{pages.ROOT}/workbench")
-from work65 import arguments  # noqa: E402
+
 from work65 import pages as own_pages  # noqa: E402
 from work65.commands import explain  # noqa: E402
+from work65.diagnosing import bad_arguments as arguments  # noqa: E402
 from work65.diagnosing.message import message_of  # noqa: E402
 
 WORK65 = f"{pages.ROOT}/workbench/work65.sh"
-# Lines that are refused, each for itself; what belongs to one stands behind a |.
+# Lines that are rejected, each for itself; the expected message follows a |.
 REFUSED = """ldaa #1
 .define WIDE 40
 loop dex
@@ -62,7 +63,7 @@ ARGUMENTS = (
 )
 
 
-# What explain says of lines of a source, where the page's paragraph has a list after it, or the cause is told by the line.
+# What explain says of lines of a source, where the page's paragraph has a list after it, or the line shows the cause.
 TOLD = (
     (1, "bad character", "quote. - a cheap label whose name begins with a digit, as @1: write @loop; - a '"),
     (2, "statement not understood", "It is: a number or a name where a string is wanted."),
@@ -175,7 +176,7 @@ RIGHT = (" lda #5", " sta first", " .word first + 1", "q: jmp first", " bne :+\n
 
 
 def many(tries):
-    """A thousand faults in 20,000 lines within ten seconds, each as bin65 says it of its line; what stands in branches that aren't
+    """A thousand faults in 20,000 lines within ten seconds, each as bin65 says it of its line; what is in branches that aren't
     taken isn't said; that there are more is."""
     wanted, lines = set(), ["first: nop", "BIG = 300"]
     for number in range(1000):
@@ -203,7 +204,7 @@ def many(tries):
 
 
 def includes(tries):
-    """Faults of included files stand behind those of the source, by the names that bin65 says; a whole source has none."""
+    """Faults of included files come after those of the source, by the names that bin65 says; a whole source has none."""
     with tempfile.TemporaryDirectory() as folder:
         os.makedirs(f"{folder}/src/inc")
         pages.put(f"{folder}/src/a.s", ' .include "inc/b.inc"\n .include "../c.inc"\n oops 1\n .incbin "a.bin"\n')
@@ -270,7 +271,7 @@ def explained(tries):
 
 
 def causes(tries):
-    """Each refused source of the page's table is told the row's own cause."""
+    """Each refused source of the page's table gets the row's own cause."""
     for entry in own_pages.entries():
         for what, source in entry.rows:
             lines = source.split("\n")
@@ -282,7 +283,7 @@ def causes(tries):
 
 
 def commands(tries):
-    """explain keeps the status of the command behind --, passes its output, and reads standard input."""
+    """explain keeps the status of the command after --, passes its output, and reads standard input."""
     with tempfile.TemporaryDirectory() as folder:
         pages.tools_of(tries.program, f"{folder}/tools")
         pages.put(f"{folder}/a.s", " nop\nloop dex\n")

@@ -1,5 +1,5 @@
 #!/usr/bin/env python3
-"""Tries `work65 port` with one idiom of cc65's users at a time: the copy has the image that stands beside the idiom, which is
+"""Tries `work65 port` with one idiom of cc65's users at a time: the copy has the image recorded beside the idiom, which is
 cc65's own, or a place is said.
 
 usage: workbench_idioms.py BIN65. The last line is 'N passed, M failed'."""
@@ -31,7 +31,7 @@ def is_image(found, expected):
 
 
 def fault(program, row, has_cc65):
-    """What is wrong with an idiom; None where nothing is."""
+    """Returns what is wrong with an idiom, None if nothing is."""
     name, target, files, kind, expected = row
     with tempfile.TemporaryDirectory() as folder:
         porting.put_tree(f"{folder}/in", files)

@@ -82,7 +82,7 @@ def begins(made: builds.Made) -> Dict[Tuple[str, str], int]:
 
 
 class Segments:
-    """Follows the segment in which lines stand."""
+    """Follows the segment of lines."""
 
     def __init__(self) -> None:
         self.now = "CODE"

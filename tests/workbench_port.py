@@ -127,7 +127,7 @@ def ported(tries, name, target, text, has_cc65):
                 copy = it.read()
             tries.check(f"{name}, to the byte", copy == text, copy)
         left = tries.inside("check", "out", folder=folder)
-        # What a condition on the processor leaves out is known to port alone.
+        # What a condition on the processor leaves out only port knows.
         tries.check(f"{name}, nothing left", left.returncode == 0 or name == "apple-cpu", left.stdout)
 
 
@@ -248,7 +248,7 @@ def tree(tries):
             out = f"{folder}/out/{it[4:]}"
             ran = subprocess.run([tries.program, "ca65", "-o", f"{folder}/{os.path.basename(it)}.o", out], capture_output=True, text=True, check=False)
             tries.check(f"{it} needs no options", ran.returncode == 0, ran.stderr)
-        # An image that differs: .ifdef in a scope that has used the name, behind a macro that port doesn't look into.
+        # An image that differs: .ifdef in a scope that has used the name, after a macro that port doesn't look into.
         pages.put(f"{folder}/src/lib/wait.s", TREE["src/lib/wait.s"] + ".macro ask name\n.ifdef name\n nop\n.endif\n.endmacro\nn = 5\n.proc p\n lda n\n ask n\n.endproc\n")
         ran = tries.work65("port", "src", "-o", "out2", "--target", "nes", folder=folder)
         good = "src/lib/wait.s: the image differs from byte 10 of 10 and 11 on (cc65 and bin65: no byte and EA): "
@@ -309,7 +309,7 @@ def examples(tries):
 
 
 def bad_input(tries):
-    """What can't be read or written is said in one line, and nothing is left behind."""
+    """A file that can't be read or written is reported in one line, and no file is left."""
     with tempfile.TemporaryDirectory() as folder:
         pages.put(f"{folder}/a.s", " nop\n")
         pages.put(f"{folder}/file", "")
@@ -329,7 +329,7 @@ def bad_input(tries):
 
 
 def copies(tries):
-    """What was changed by hand in a copy stays; a copy is never made over its originals, nor of a copy."""
+    """Hand edits in a copy stay; a copy is never made over its originals, nor of a copy."""
     with tempfile.TemporaryDirectory() as folder:
         os.makedirs(f"{folder}/src")
         pages.put(f"{folder}/src/a.s", " nop\n")
@@ -383,9 +383,9 @@ def names(tries, has_cc65):
         tries.check("3,000 conditions deep", ran.returncode == 0 and time.monotonic() - begun < 10, ran)
 
 
-# What the rules know of forms where nothing is compared.
+# Operand sizes by rules, if nothing is compared.
 RULED = ("kept-register", "kept-low-byte", "kept-low-byte-in-scope", "kept-zero-page-of-its-own", "form-cheap-labels",
-         "form-scoped-difference", "form-define", "form-inner-scope")
+         "form-scoped-difference", "form-define", "form-inner-scope", "form-truth", "form-outer-constant", "form-sum")
 
 
 def rules(tries):
@@ -438,7 +438,7 @@ def other_names(tries):
 
 
 def ended(tries):
-    """A run that is ended leaves nothing behind."""
+    """A run that is ended leaves no file."""
     with tempfile.TemporaryDirectory() as folder:
         for name in ("tools", "temporary"):
             os.mkdir(f"{folder}/{name}")
@@ -456,6 +456,51 @@ def ended(tries):
             os.remove(f"{folder}/here")
             left = os.listdir(f"{folder}/temporary"), sorted(os.listdir(folder))
             tries.check(f"{words[0]} that is ended", (said, left) == (b"", ([], ["a.s", "l.cfg", "temporary", "tools"])), (said, left))
+
+
+def several_scripts(tries):
+    """A program is compared by each script with which cc65 links it; if it links by none, an import whose sign counts is reported."""
+    row = "MEMORY {{ M: start = ${}, size = $100; }}\nSEGMENTS {{ {}: load = M; }}\n"
+    good = {"k.s": " .export k\nk = 5\n", "l.s": " .import k\n .byte k < 0\n"}
+    below = {**good, "k.s": good["k.s"].replace("5", "-1")}
+    linked = {"one.cfg": row.format("1000", "CODE"), "two.cfg": row.format("2000", "CODE")}
+    others = {name: text.replace("CODE", "OTHER") for name, text in linked.items()}
+    same = "compared: the program by one.cfg: the same (the image, 1 bytes); {}\n"
+    sign = "an exported constant below 0 is one above 0 where cc65 imports it"
+    for name, files, status, said in (
+        ("two scripts", {**good, **linked}, 0, same.format("by two.cfg: the same (the image, 1 bytes)")),
+        ("one script of two", {**good, **linked, "two.cfg": others["two.cfg"]}, 0, same.format("not by two.cfg: ld65 doesn't link it as a whole: ")[:-1]),
+        ("two scripts, another image", {**below, **linked}, 1, "one.cfg: the image differs from byte 0 on"),
+        ("two scripts that don't link", {**below, **others}, 1, sign), ("no script", below, 1, sign),
+        ("two scripts that don't link, the last line", {**good, **others}, 0, "; the whole program wasn't compared: there are 2 scripts"),
+    ):
+        with tempfile.TemporaryDirectory() as folder:
+            os.makedirs(f"{folder}/src")
+            for file, text in files.items():
+                pages.put(f"{folder}/src/{file}", text)
+            ran = tries.inside("port", "src", "-o", "out", folder=folder)
+            tries.check(name, ran.returncode == status and said in ran.stdout, ran)
+
+
+# What a Makefile passes to ca65 besides, and sources that need it.
+OPTIONS = (
+    (("--cpu", "6502X"), " lax $20\n sax $1234\n"), (("--cpu", "6502"), ".ifp02\n .byte 1\n.endif\n"),
+    (("--feature", "string_escapes"), ' .byte "a\\n"\n'), (("--feature", "labels_without_colons", "--feature", "dollar_is_pc"), "one nop\n jmp $\n"),
+    (("--feature", "force_range"), " lda #-1\n"), ((), ".autoimport +\n .import print\n jsr print\n jsr music\n lda table,x\nown: jmp own\n"),
+)
+
+
+def options(tries):
+    """Options of ca65 count in the copy."""
+    for words, text in OPTIONS:
+        with tempfile.TemporaryDirectory() as folder:
+            for file, content in (("a.s", text), ("l.cfg", SCRIPT)):
+                pages.put(f"{folder}/{file}", content)
+            ran = tries.inside("port", "a.s", "-o", "out", *words, folder=folder)
+            shutil.copy(f"{folder}/l.cfg", f"{folder}/out/l.cfg")
+            ours = image([tries.program, "ca65"], [tries.program, "ld65"], "a.s", f"{folder}/out")
+            theirs = image(["ca65", *words], ["ld65"], "a.s", folder)
+            tries.check(f"{words} {text!r}", ran.returncode == 0 and isinstance(ours, bytes) and ours == theirs, (ran, ours, theirs))
 
 
 # Sources that would go on without an end.
@@ -514,6 +559,8 @@ def main():
         ended(tries)
         other_names(tries)
         rules(tries)
+        several_scripts(tries)
+        options(tries)
     examples(tries)
     copies(tries)
     names(tries, has_cc65)

@@ -19,7 +19,7 @@ COUNT, SEED = 40, 65
 
 
 def outcome(program, files):
-    """What becomes of a tree: the same image, a place that is said, a tree that cc65 refuses, or a difference that nobody says."""
+    """Returns the result for a tree: the same image, a reported construct, a tree that cc65 rejects, or an unreported difference."""
     with tempfile.TemporaryDirectory() as folder:
         porting.put_tree(f"{folder}/in", files)
         theirs = porting.image(["ca65"], ["ld65"], f"{folder}/in", f"{folder}/cc")

@@ -12,7 +12,7 @@ class Progress:
         self.is_shown = sys.stderr.isatty()
 
     def step(self) -> None:
-        """One more is done."""
+        """Counts a step."""
         self.done += 1
         now = time.monotonic()
         if self.is_shown and now - self.begun > 1 and now - self.said > 0.2:
@@ -20,6 +20,6 @@ class Progress:
             print(f"\r{self.done} of {self.whole} {self.what}", end="", file=sys.stderr, flush=True)
 
     def end(self) -> None:
-        """All is done: the line is cleared."""
+        """Clears the line."""
         if self.is_shown and self.said != self.begun:
             print("\r\x1b[K", end="", file=sys.stderr, flush=True)

@@ -9,6 +9,7 @@ from work65.frontend.files import walked
 from work65.frontend.tokens import value_of
 from work65.porting import copying, port, verdict
 from work65.porting.project import Spread
+from work65.porting.statements import FEATURES
 from work65.porting.tools import Options, missing
 from work65.problem import Problem
 from work65.program import Program
@@ -33,6 +34,9 @@ def add_options(parser: argparse.ArgumentParser) -> None:
     add("-I", dest="include", action="append", default=[], metavar="DIR", help="where included files are looked for")
     add("--bin-include-dir", dest="data", action="append", default=[], metavar="DIR", help="where files of .incbin are looked for")
     add("-D", dest="define", action="append", default=[], metavar="NAME[=NUMBER]", help="what -D gives to ca65")
+    add("--cpu", dest="processor", choices=("6502", "6502X"), default="6502", help="what --cpu gives to ca65 (6502)")
+    add("--feature", dest="features", choices=sorted(FEATURES), action="append", default=[], metavar="NAME", help="what --feature gives to ca65")
+    add("-g", action="store_true", help="accepted, as by ca65; without effect")
     add("--symbol", dest="symbols", action="append", default=[], metavar="NAME=NUMBER", help="what -D gives to ld65")
     add("-t", "--target", dest="target", choices=sorted(words.TARGETS), metavar="T", help="what -t gives to ca65")
 
@@ -40,7 +44,8 @@ def add_options(parser: argparse.ArgumentParser) -> None:
 def options_of(arguments: argparse.Namespace) -> Options:
     """Returns the options for ca65 of a command line."""
     symbols = dict(_symbol(it) for it in arguments.symbols)
-    return Options(arguments.target, arguments.include, arguments.data, arguments.define, symbols)
+    its = arguments
+    return Options(its.target, its.include, its.data, its.define, its.processor, its.features, symbols)
 
 
 def _symbol(text: str) -> "Tuple[str, int]":

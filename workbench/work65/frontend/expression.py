@@ -60,7 +60,10 @@ class _Reader:
         while LEVELS.get(self.now) == level:
             sign = self.now
             self.at += 1
-            found = _apply(SAME.get(sign, sign), found, self.level(level + 1))
+            value = combined(SAME.get(sign, sign), found, self.level(level + 1))
+            if value is None:
+                raise Unknown
+            found = value
         return found
 
     def term(self) -> int:
@@ -68,7 +71,7 @@ class _Reader:
         if self.now in PREFIXES:
             sign = SAME.get(self.now, self.now)
             self.at += 1
-            return _prefix(sign, self.term())
+            return prefixed(sign, self.term())
         if self.now == "(":
             self.at += 1
             found = self.whole()
@@ -112,34 +115,35 @@ def scoped_name(tokens: Sequence[Token], at: int) -> Tuple[str, int]:
     return "", begin
 
 
-def _wrapped(number: int) -> int:
-    number &= (1 << 64) - 1
-    return number - (1 << 64) if number >> 63 else number
+def wrapped(value: int) -> int:
+    """Wraps a value to 64 bits with a sign."""
+    return (value + (1 << 63)) % (1 << 64) - (1 << 63)
 
 
-def _prefix(sign: str, it: int) -> int:
-    if sign == "<":
-        return it & 255
-    if sign == ">":
-        return it >> 8 & 255
-    if sign == "^":
-        return it >> 16 & 255
-    return _wrapped({"+": it, "-": -it, "~": ~it}[sign])
+UNARY: Dict[str, Callable[[int], int]] = {
+    "<": lambda a: a & 255, ">": lambda a: a >> 8 & 255, "^": lambda a: a >> 16 & 255,
+    "+": lambda a: a, "-": lambda a: -a, "~": lambda a: ~a, "!": lambda a: int(not a),
+}
+BINARY: Dict[str, Callable[[int, int], int]] = {
+    "*": lambda a, b: a * b, "&": lambda a, b: a & b, "^": lambda a, b: a ^ b, "|": lambda a, b: a | b,
+    "+": lambda a, b: a + b, "-": lambda a, b: a - b, "=": lambda a, b: int(a == b), "<>": lambda a, b: int(a != b),
+    "<": lambda a, b: int(a < b), ">": lambda a, b: int(a > b), "<=": lambda a, b: int(a <= b), ">=": lambda a, b: int(a >= b),
+    "&&": lambda a, b: int(bool(a and b)), ".xor": lambda a, b: int(bool(a) != bool(b)), "||": lambda a, b: int(bool(a or b)),
+}
 
 
-def _apply(sign: str, one: int, other: int) -> int:
-    if sign in ("/", ".mod"):
-        if other == 0:
-            raise Unknown
-        quotient = abs(one) // abs(other) * (1 if (one < 0) == (other < 0) else -1)
-        return quotient if sign == "/" else one - quotient * other
+def prefixed(sign: str, operand: int) -> int:
+    """Returns the value of a prefix operator."""
+    return wrapped(UNARY[sign](operand))
+
+
+def combined(sign: str, a: int, b: int) -> Optional[int]:
+    """Returns the value of an operator between two operands, None if it has none."""
+    if sign in BINARY:
+        return wrapped(BINARY[sign](a, b))
     if sign in ("<<", ">>"):
-        if not 0 <= other < 64:
-            raise Unknown
-        return _wrapped(one << other if sign == "<<" else one >> other)
-    if sign in ("&&", "||", ".xor"):
-        return int({"&&": bool(one) and bool(other), "||": bool(one) or bool(other), ".xor": bool(one) != bool(other)}[sign])
-    if sign in ("=", "<>", "<", ">", "<=", ">="):
-        return int({"=": one == other, "<>": one != other, "<": one < other, ">": one > other, "<=": one <= other,
-                    ">=": one >= other}[sign])
-    return _wrapped({"+": one + other, "-": one - other, "*": one * other, "&": one & other, "|": one | other, "^": one ^ other}[sign])
+        return None if not 0 <= b < 64 else wrapped(a << b if sign == "<<" else a >> b)
+    if b == 0:
+        return None
+    quotient = abs(a) // abs(b) * (1 if (a < 0) == (b < 0) else -1)
+    return wrapped(quotient if sign == "/" else a - quotient * b)

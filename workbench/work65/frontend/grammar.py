@@ -16,12 +16,16 @@ FIXED = {
     ".segment": ('"',), ".out": ('"',), ".warning": ('"',), ".setcpu": ('"',), ".asciiz": ('"',), ".include": ('"',),
     ".error": ('"',), ".proc": ("n",),
 }
+NAMES = frozenset((Kind.NAME, Kind.CHEAP, Kind.DIRECTIVE))
+LONGEST_NAME = 200
 ALONE = words.BARE | words.MACRO_ENDS | words.REPEAT_ENDS | {".exitmacro", ".exitmac", ".else", ".endif", ".end"}
 
 
 def shape_of(token: Token) -> str:
     """Returns the shape of a token."""
     kind, lower = token.kind, token.lower
+    if kind in NAMES and len(lower.lstrip("@.")) > LONGEST_NAME:
+        return "bad"
     if kind is Kind.NAME:
         return lower if lower in words.MNEMONICS or lower in words.REGISTERS else "n"
     if kind is Kind.CHEAP:

@@ -43,7 +43,7 @@ NOT_WORDS = frozenset((".not",))
 
 DATA = frozenset((".byte", ".byt", ".word", ".addr", ".dbyt", ".dword"))
 STORAGE = DATA | {".asciiz", ".res", ".align", ".incbin"}
-# Directives behind which a label without a colon is told.
+# Directives after which a label without a colon is recognized.
 PLACING = STORAGE | {".tag", ".faraddr", ".lobytes", ".hibytes", ".bankbytes"}
 SEGMENT_WORDS = frozenset((".code", ".rodata", ".data", ".bss", ".zeropage"))
 BARE = SEGMENT_WORDS | {".pushseg", ".popseg", ".endscope", ".endproc", ".p02"}

@@ -7,13 +7,13 @@ from work65.frontend.conditions import Conditions
 from work65.frontend.files import Text, place_of
 from work65.frontend.includes import find_file, word_of
 from work65.frontend.reach import reached
+from work65.frontend.segments import HEADS as SEGMENT_HEADS, Segments, short_names
 from work65.frontend.statements import Statement, statement_in, statement_of
 from work65.frontend.survey import Survey
 from work65.frontend.tokens import Kind, LexedLine, line_of
 from work65.habits import cheap, marks
 from work65.habits.files import Files
 from work65.habits.habit import Finding, Habit
-from work65.habits.segments import HEADS as SEGMENT_HEADS, Segments, short_names
 from work65.habits.table import BY_NAME, BY_WORD
 
 TELLING = frozenset(BY_WORD)
@@ -233,7 +233,7 @@ def _is_continued(line: LexedLine, text: str) -> bool:
 
 
 def found_in(texts: List[Text], tree: Survey, files: Optional[Files] = None, included: Sequence[Text] = ()) -> List[Finding]:
-    """What is found in the sources, and in files that lines of them include; in lines of a macro only where something calls it.
+    """Returns what is found in the sources, and in files that lines of them include; in lines of a macro only where something calls it.
 
     With `files` it also finds the files that lines name and that bin65 doesn't find."""
     found: List[Tuple[Optional[str], Finding]] = []

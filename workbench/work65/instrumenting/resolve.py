@@ -1,51 +1,13 @@
 """Addresses, bytes and values of a module after the link."""
-from typing import Callable, Dict, List, Optional
+from typing import Dict, Optional
 
 from work65.formats.objects import Form, Import, Operation, Place
+from work65.frontend.expression import combined, prefixed, wrapped
 from work65.instrumenting.build import Build, Unit
 
-UNARY: Dict[int, Callable[[int], int]] = {
-    0x10: lambda a: -a,
-    0x11: lambda a: ~a,
-    0x12: lambda a: a & 255,
-    0x13: lambda a: a >> 8 & 255,
-    0x14: lambda a: a >> 16 & 255,
-    0x15: lambda a: int(not a),
-}
-BINARY: Dict[int, Callable[[int, int], int]] = {
-    0x20: lambda a, b: a * b,
-    0x23: lambda a, b: a & b,
-    0x24: lambda a, b: a ^ b,
-    0x27: lambda a, b: a + b,
-    0x28: lambda a, b: a - b,
-    0x29: lambda a, b: a | b,
-    0x2A: lambda a, b: int(a == b),
-    0x2B: lambda a, b: int(a != b),
-    0x2C: lambda a, b: int(a < b),
-    0x2D: lambda a, b: int(a > b),
-    0x2E: lambda a, b: int(a <= b),
-    0x2F: lambda a, b: int(a >= b),
-    0x30: lambda a, b: int(bool(a and b)),
-    0x31: lambda a, b: int(bool(a) != bool(b)),
-    0x32: lambda a, b: int(bool(a or b)),
-}
-
-
-def wrapped(value: int) -> int:
-    """Wraps a value to 64 bits with a sign."""
-    return (value + (1 << 63)) % (1 << 64) - (1 << 63)
-
-
-def divided(code: int, a: int, b: int) -> Optional[int]:
-    """Returns the value of a division, a remainder or a shift, None if it has none."""
-    if code in (0x21, 0x22):
-        if b == 0:
-            return None
-        quotient = abs(a) // abs(b) * (1 if (a < 0) == (b < 0) else -1)
-        return quotient if code == 0x21 else a - quotient * b
-    if not 0 <= b < 64:
-        return None
-    return a << b if code == 0x25 else a >> b
+# The operators of an object's forms, by their codes.
+UNARY = {0x10: "-", 0x11: "~", 0x12: "<", 0x13: ">", 0x14: "^", 0x15: "!"}
+BINARY = dict(enumerate("* / .mod & ^ << >> + - | = <> < > <= >= && .xor ||".split(), 0x20))
 
 
 class Resolver:
@@ -81,15 +43,8 @@ class Resolver:
             symbol = self.layout.map.symbols.get(form.name)
             return None if symbol is None else wrapped(symbol)
         if isinstance(form, Operation):
-            parts = [self.value(it) for it in form.parts]
-            return self.operation(form.code, [it for it in parts if it is not None], len(parts))
+            parts = [it for it in map(self.value, form.parts) if it is not None]
+            if len(parts) != len(form.parts):
+                return None
+            return prefixed(UNARY[form.code], *parts) if form.code in UNARY else combined(BINARY[form.code], *parts)
         return form
-
-    def operation(self, code: int, parts: List[int], wanted: int) -> Optional[int]:
-        """Returns the value of an operation, None if it has none."""
-        if len(parts) != wanted:
-            return None
-        if code in UNARY:
-            return wrapped(UNARY[code](parts[0]))
-        value = BINARY[code](*parts) if code in BINARY else divided(code, *parts)
-        return None if value is None else wrapped(value)

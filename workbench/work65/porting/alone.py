@@ -45,7 +45,7 @@ class Needs:
 
 
 def needs_of(object_file: str) -> Needs:
-    """What an object of cc65's needs of a script."""
+    """Returns what an object of cc65's needs of a script."""
     words = ["od65", "--dump-imports", "--dump-segments", "--dump-segsize", object_file]
     parts = subprocess.run(words, capture_output=True, text=True, encoding="latin-1", stdin=subprocess.DEVNULL).stdout
     segments, _, rest = parts.partition("  Imports:")
@@ -57,7 +57,7 @@ def needs_of(object_file: str) -> Needs:
 
 
 def _named(text: str) -> "tuple[List[str], frozenset[str]]":
-    """The names in a dump, and those whose addresses have one byte."""
+    """Returns the names in a dump, and those whose addresses have one byte."""
     names, short = [], set()
     for part in text.split(IMPORT)[1:]:
         name, size = NAME.search(part), SIZE.search(part)
@@ -69,7 +69,7 @@ def _named(text: str) -> "tuple[List[str], frozenset[str]]":
 
 
 def script_of(needs: Needs, at: Placement) -> str:
-    """A script that links an object alone."""
+    """Returns a script that links an object alone."""
     areas = "".join(
         f'  {name}: start = ${start:04X}, size = ${end - start:04X}, {file};\n'
         for name, start, end, file in (("Z", at.zero_page, 0x100, 'file = ""'), ("R", at.room, 0xFFF0, 'file = ""'), ("M", at.code, 0xFFF0, "file = %O"))

@@ -3,6 +3,7 @@ from typing import List, Sequence, Set
 
 from work65.frontend import words
 from work65.frontend.edits import edited
+from work65.frontend.reach import reached
 from work65.frontend.statements import Statement, parts_of, statement_of
 from work65.frontend.tokens import Kind, Token, line_of
 from work65.porting import ranges, shifts, spelling
@@ -22,7 +23,7 @@ class Calls:
         self.state, self.context, self.project = state, state.context, state.project
 
     def is_written_out(self, statement: Statement) -> bool:
-        """Whether a statement is the call of a macro that is written out."""
+        """Returns whether a statement is the call of a macro that is expanded."""
         first = statement.body[0] if statement.body else None
         if first is None or first.kind is not Kind.NAME or first.text not in self.context.macros:
             return False
@@ -31,49 +32,45 @@ class Calls:
     def has_to_be_written(self, name: str, statement: Statement) -> bool:
         """Returns whether a call must be expanded: for changes since the macro was read, for its arguments, or for its location."""
         context, rest = self.context, statement.rest
-        reached = self.reached(name)
-        if any(self.is_changed(it) for it in reached):
+        macros = self.called_by(name)
+        if any(self.is_changed(it) for it in macros):
             return True
-        if any(star_in(it) for it in parts_of(rest)) and any(it.directives & words.DATA for it in reached):
+        if any(star_in(it) for it in parts_of(rest)) and any(it.directives & words.DATA for it in macros):
             return True
-        if any(it.has_shift for it in reached) and shifts.may_turn_negative(rest, context):
+        if any(it.has_shift for it in macros) and shifts.may_turn_negative(rest, context):
             return True
-        if "force_range" in context.features and ranges.may_be_cut(rest, context) and any(it.directives & words.DATA for it in reached):
+        if "force_range" in context.features and ranges.may_be_cut(rest, context) and any(it.directives & words.DATA for it in macros):
             return True
         if any(self.has_codes(it) for it in rest if it.kind is Kind.STRING) and not self.takes_lists(name, rest):
             return True
-        if any(it.text in self.state.sized_names for it in rest) and any(it.directives & words.SCOPE_BEGINS for it in reached):
+        if any(it.text in self.state.sized_names for it in rest) and any(it.directives & words.SCOPE_BEGINS for it in macros):
             return True
-        return self.is_hidden_there(reached, rest) or any(self.has_other_regions(it) for it in reached)
+        return self.is_hidden_there(macros, rest) or any(self.has_other_regions(it) for it in macros)
 
-    def reached(self, name: str) -> List[Macro]:
-        """A macro, and those that it calls."""
-        macros, found, left = self.context.macros, {name}, [name]
-        while left:
-            more = (macros[left.pop()].names & macros.keys()) - found
-            found |= more
-            left += more
-        return [macros[it] for it in found]
+    def called_by(self, name: str) -> List[Macro]:
+        """Returns a macro, and those that it calls."""
+        macros = self.context.macros
+        return [macros[it] for it in reached([name], lambda it: macros[it].names & macros.keys())]
 
     def is_changed(self, macro: Macro) -> bool:
-        """Whether a macro's lines mean something else than where they were read: for a define that came
+        """Returns whether a macro's lines mean something else than where they were read: for a define that came
         later, a variable, or codes of characters."""
         context = self.context
         if not macro.names.isdisjoint(context.changing) or macro.has_text and macro.codes != context.charmap.codes:
             return True
         return any(not context.defines[name].is_constant for name in macro.names & context.defines.keys())
 
-    def is_hidden_there(self, reached: List[Macro], rest: Sequence[Token]) -> bool:
-        """Whether a scope around a call has used a name of it."""
-        names = {it.text for it in rest} | {name for it in reached for name in it.names}
-        if self.project.is_measured and not any(it.directives & ASKING for it in reached):
+    def is_hidden_there(self, macros: List[Macro], rest: Sequence[Token]) -> bool:
+        """Returns whether a scope around a call has used a name of it."""
+        names = {it.text for it in rest} | {name for it in macros for name in it.names}
+        if self.project.is_measured and not any(it.directives & ASKING for it in macros):
             return False
-        is_inner = any(it.directives & (ASKING | words.SCOPE_BEGINS) for it in reached)
+        is_inner = any(it.directives & (ASKING | words.SCOPE_BEGINS) for it in macros)
         scopes = self.context.scopes if is_inner else self.context.scopes[:-1]
         return any(not names.isdisjoint(it.used) for it in scopes)
 
     def has_other_regions(self, macro: Macro) -> bool:
-        """Whether a macro with cheap names of its own would end the region of those around its call."""
+        """Returns whether a macro with cheap names of its own would end the region of those around its call."""
         own = {it for it in macro.locals if it[0] == "@"}
         return bool(own) and (bool(macro.cheap - own) or bool(self.state.expanding) or self.is_spanned())
 
@@ -84,7 +81,7 @@ class Calls:
         return bool(before | own) and bool(after | own) and bool(before | after)
 
     def cheap_names(self, places: range) -> Set[str]:
-        """The cheap names of lines up to one with a label."""
+        """Returns the cheap names of lines up to one with a label."""
         found: Set[str] = set()
         for at in places:
             tokens = line_of(self.state.lines[at].text, self.state.has_escapes).tokens
@@ -95,11 +92,11 @@ class Calls:
         return found
 
     def has_codes(self, it: Token) -> bool:
-        """Whether a string has other codes than its bytes."""
+        """Returns whether a string has other codes than its bytes."""
         return spelling.needs_codes(it, self.context)
 
     def takes_lists(self, name: str, rest: Sequence[Token]) -> bool:
-        """Whether a call's strings are elements of lists alone, so that numbers may stand for them."""
+        """Returns whether a call's strings are elements of lists alone, so that numbers may stand for them."""
         macro, parts = self.context.macros[name], parts_of(rest)
         given = [it for it, part in zip(macro.parameters, parts) if any(one.kind is Kind.STRING for one in part)]
         return all(self.is_element(name, it, 0) for it in given) and all(_is_list(it) for it in parts)
@@ -125,7 +122,7 @@ class Calls:
         return True
 
     def with_lists(self, text: str, statement: Statement) -> str:
-        """A call that stays, with the codes of its strings in place of them."""
+        """Returns a call that stays, with the codes of its strings in place of them."""
         edits, texts = [], []
         for part in parts_of(statement.rest):
             for it in part:
@@ -137,7 +134,7 @@ class Calls:
 
 
 def _is_list(part: Sequence[Token]) -> bool:
-    """Whether an argument is one token, or a list in braces whose strings are elements of their own."""
+    """Returns whether an argument is one token, or a list in braces whose strings are elements of their own."""
     if len(part) <= 1 or not any(it.kind is Kind.STRING for it in part):
         return True
     if part[0].text != "{" or part[-1].text != "}":

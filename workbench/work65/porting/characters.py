@@ -73,7 +73,7 @@ def content(token: Token, has_escapes: bool) -> Optional[str]:
 
 
 def as_elements(codes: Sequence[int]) -> List[str]:
-    """Bytes as elements of a list: strings for what can be read, numbers for the rest."""
+    """Returns bytes as elements of a list: strings for what can be read, numbers for the rest."""
     found: List[str] = []
     run = ""
     for code in codes:

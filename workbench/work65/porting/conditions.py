@@ -14,6 +14,7 @@ from work65.porting.logical import Logical
 ANDS, ORS, NOTS = frozenset(("&&", ".and")), frozenset(("||", ".or")), frozenset(("!", ".not"))
 ASKING = {".defined": ".ifdef", ".def": ".ifdef", ".blank": ".ifblank"}
 OPPOSITE = {".ifdef": ".ifndef", ".ifndef": ".ifdef", ".ifblank": ".ifnblank", ".ifnblank": ".ifblank"}
+CONSTANT = {".ifconst": "", ".ifnconst": "!"}
 PROCESSORS = {".ifp02": 1, ".ifpc02": 0, ".ifpsc02": 0, ".ifp816": 0, ".ifp4510": 0}
 
 
@@ -45,6 +46,14 @@ def alternatives(lines: Sequence[Logical]) -> Dict[int, List[str]]:
         elif head in (".else", ".elseif") and opened:
             found[opened[-1]].append(head)
     return found
+
+
+def as_function(text: str, statement: Statement) -> str:
+    """Returns an .ifconst or .ifnconst as an .if of the function; any other line as it is."""
+    if statement.head not in CONSTANT or not statement.rest:
+        return text
+    first, last = statement.body[0], statement.body[-1]
+    return f"{text[: first.start]}.if {CONSTANT[statement.head]}.const({text_of_tokens(text, statement.rest)}){text[last.end :]}"
 
 
 def opened(text: str, statement: Statement, context: Context, others: Sequence[str], unique: str) -> List[str]:
@@ -123,7 +132,7 @@ def _negated(text: str, tokens: Sequence[Token]) -> Optional[Question]:
 
 
 def _bare(tokens: Sequence[Token]) -> Sequence[Token]:
-    """Tokens without parentheses round the whole."""
+    """Returns tokens without parentheses round the whole."""
     while len(tokens) > 1 and tokens[0].text == "(" and _closing(tokens, 0) == len(tokens) - 1:
         tokens = tokens[1:-1]
     return tokens

@@ -2,6 +2,7 @@
 from dataclasses import dataclass, field
 from typing import Dict, List, Optional, Set, Tuple
 
+from work65.frontend.segments import Segments
 from work65.frontend.tokens import Token
 from work65.porting.characters import Charmap
 from work65.porting.expansion import Macro
@@ -93,7 +94,7 @@ class Context:
     cheap_constants: Dict[str, str] = field(default_factory=dict)
     region: str = ""
     part: int = 0
-    short_segments: Set[str] = field(default_factory=lambda: {"ZEROPAGE"})
+    short_names: Set[str] = field(default_factory=set)
     hoisted: Dict[Tuple[str, ...], str] = field(default_factory=dict)
     differences: Set[str] = field(default_factory=set)
     uncertain: Set[Tuple[str, ...]] = field(default_factory=set)
@@ -106,9 +107,7 @@ class Context:
     parameters: List[str] = field(default_factory=list)
     locals: Set[str] = field(default_factory=set)
     repeats: List[str] = field(default_factory=list)
-    segment: str = "CODE"
-    zero_page: Set[str] = field(default_factory=lambda: {"ZEROPAGE", "EXTZP"})
-    saved_segments: List[str] = field(default_factory=list)
+    segments: Segments = field(default_factory=Segments)
     processor: str = "6502"
     place: Optional[int] = None
 
@@ -118,17 +117,26 @@ class Context:
         return tuple(it.name for it in self.scopes)
 
     @property
+    def segment(self) -> str:
+        """The open segment."""
+        return self.segments.current
+
+    def is_short(self, segment: Optional[str]) -> bool:
+        """Returns whether a segment is a zero page one, by its name or by a line that opened it."""
+        return segment == "EXTZP" or segment in self.segments.zero_page
+
+    @property
     def is_plain(self) -> bool:
-        """Whether no scope, macro or repeat is open."""
+        """Returns whether no scope, macro or repeat is open."""
         return not (self.scopes or self.macro or self.repeats)
 
     @property
     def is_dead(self) -> bool:
-        """Whether the lines here are left out for sure."""
+        """Returns whether the lines here are left out for sure."""
         return any(it.is_live is False for it in self.blocks)
 
     def certain(self, name: str) -> Optional[int]:
-        """The value of a constant that has this value in every assembly."""
+        """Returns the value of a constant that has this value in every assembly."""
         parts = tuple(it for it in name.split("::") if it)
         path = () if name.startswith("::") else self.path
         for depth in range(len(path), -1, -1):
@@ -138,7 +146,7 @@ class Context:
         return None
 
     def value(self, name: str) -> Optional[int]:
-        """The value of a constant by its name, from the innermost scope outward."""
+        """Returns the value of a constant by its name, from the innermost scope outward."""
         parts = tuple(name.split("::"))
         if parts[0] == "":
             return self.constants.get(parts[1:])

@@ -101,7 +101,7 @@ class Finder:
 
 
 def difference(cc65: Linked, bin65: Linked, finder: Finder) -> str:
-    """What differs first between two links."""
+    """Returns what differs first between two links."""
     found = first_file(cc65, bin65)
     if found is None:
         return _unwritten(cc65, bin65)

@@ -31,7 +31,7 @@ class Host(Protocol):
         """Returns a line with its defines replaced."""
 
     def is_written_out(self, statement: Statement) -> bool:
-        """Returns whether a statement is the call of a macro that is written out."""
+        """Returns whether a statement is the call of a macro that is expanded."""
 
     def decided(self, text: str) -> Optional[bool]:
         """Returns whether a condition holds, None if that is unknown."""
@@ -54,7 +54,7 @@ class ExpandedCondition:
 
 @dataclass
 class ExpansionFrame:
-    """The lines of a call or of a repeat that is written out, and how far they were read."""
+    """The lines of a call or of a repeat that is expanded, and how far they were read."""
 
     lines: Sequence[str]
     given: Dict[str, str]

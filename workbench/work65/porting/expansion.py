@@ -11,7 +11,7 @@ from work65.porting.packages import BRANCHES
 
 # Functions of tokens, before which each `.define` is replaced.
 OF_TOKENS = frozenset((".match", ".xmatch", ".left", ".mid", ".right", ".tcount", ".string", ".ident"))
-# What has a macro written out where it is called.
+# Directives for which a macro is expanded where it is called.
 HARD = OF_TOKENS | frozenset(
     (".strlen", ".strat", ".concat", ".sprintf", ".set", ".charmap", ".min", ".max", ".define", ".undefine", ".undef", ".const",
      ".constructor", ".destructor", ".interruptor", ".condes", ".bank")
@@ -37,6 +37,7 @@ class Macro:
     is_placed: bool = False
     is_ambiguous: bool = False
     leaves_repeat: bool = False
+    sizes_parameter: bool = False
     depth: int = 0
     repeats: int = 0
 
@@ -54,6 +55,8 @@ class Macro:
             elif it.kind is Kind.CHEAP:
                 self.cheap.add(it.text)
             self.has_shift = self.has_shift or it.lower in (">>", ".shr")
+        sized = zip(tokens, tokens[1:], tokens[2:])
+        self.sizes_parameter = self.sizes_parameter or any(it.lower == ".sizeof" and name.text in self.parameters for it, _, name in sized)
         self._note(tokens)
 
     def _note(self, tokens: Sequence[Token]) -> None:
@@ -72,7 +75,7 @@ class Macro:
 
     @property
     def has_cheap_constant(self) -> bool:
-        """Whether a line gives a cheap name a value."""
+        """Returns whether a line gives a cheap name a value."""
         return any(_is_cheap_constant(it) for it in self.lines) if self.cheap else False
 
 
@@ -82,7 +85,7 @@ def _is_cheap_constant(text: str) -> bool:
 
 
 def hard_macros(macros: Dict[str, Macro], also: FrozenSet[str], spread: Optional[Set[str]]) -> FrozenSet[str]:
-    """The macros that have to be written out: for what is in their lines, or for a macro that they call. `spread` are those whose
+    """Returns the macros that have to be expanded: for what is in their lines, or for a macro that they call. `spread` are those whose
     lines take several forms, where forms are measured."""
     branches = BRANCHES.keys() - macros.keys()
     found = {name for name, it in macros.items() if _is_hard(it) or it.names & also}
@@ -98,8 +101,8 @@ def hard_macros(macros: Dict[str, Macro], also: FrozenSet[str], spread: Optional
 
 
 def _is_hard(macro: Macro) -> bool:
-    """Whether a macro's own lines have it written out. A scope that it opens and closes may stay."""
-    if macro.directives & HARD or macro.has_cheap_constant or macro.leaves_repeat:
+    """Returns whether a macro's own lines have it expanded. A scope that it opens and closes may stay."""
+    if macro.directives & HARD or macro.has_cheap_constant or macro.leaves_repeat or macro.sizes_parameter:
         return True
     if not macro.directives & SCOPES:
         return False
@@ -107,7 +110,7 @@ def _is_hard(macro: Macro) -> bool:
 
 
 def _is_difference(text: str) -> bool:
-    """Whether a line takes the difference of two places as an address, or names it."""
+    """Returns whether a line takes the difference of two places as an address, or names it."""
     if "-" not in text:
         return False
     statement = statement_in(text)
@@ -120,6 +123,6 @@ def _is_difference(text: str) -> bool:
 
 
 def end_of_repeat(lines: Sequence[Logical], at: int) -> int:
-    """The line that ends a repeat whose lines begin here."""
+    """Returns the line that ends a repeat whose lines begin here."""
     length = block_length((statement_in(it.text).head for it in lines[at:]), words.REPEAT_BEGINS, words.REPEAT_ENDS)
     return len(lines) if length is None else at + length

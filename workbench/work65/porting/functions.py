@@ -51,7 +51,7 @@ class Folder:
         return text
 
     def constants(self, text: str) -> str:
-        """`.version` and `.cpu` as numbers."""
+        """Replaces `.version` and `.cpu` by numbers."""
         edits = []
         for it in line_of(text, self.has_escapes).tokens:
             if it.lower == ".version":
@@ -121,7 +121,7 @@ class Folder:
         return f"${self.context.charmap.of(found[at])[0]:02X}"
 
     def concat(self, text: str, parts: List[Part]) -> Optional[str]:
-        """Strings as one."""
+        """Returns strings as one."""
         found = [self.text(it) for it in parts]
         return None if None in found else _quoted("".join(it for it in found if it is not None))
 
@@ -207,7 +207,7 @@ class Folder:
         return any(it.text in self.context.parameters or it.lower in FUNCTIONS for part in parts for it in part)
 
     def some(self, text: str, parts: List[Part]) -> Optional[str]:
-        """Some tokens of a list. A comma among them ends the first list of .match in cc65, if no braces are around it: that stays."""
+        """Returns some tokens of a list. A comma among them ends the first list of .match in cc65, if no braces are around it: that stays."""
         if len(parts) < 2 or self.has_open(parts[-1:]):
             return None
         numbers = [self.number(it) for it in parts[:-1]]
@@ -257,7 +257,7 @@ FUNCTIONS = frozenset(
 
 
 def _kind_of(it: Token, is_exact: bool) -> Tuple[str, str]:
-    """What .match compares of a token, and .xmatch."""
+    """Returns what .match compares of a token, and .xmatch."""
     if it.kind is Kind.NAME:
         is_register = it.lower in words.REGISTERS
         return ("register", it.lower) if is_register else ("name", it.text if is_exact else "")

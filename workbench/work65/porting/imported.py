@@ -11,16 +11,17 @@ IMPORTS = frozenset((".import", ".importzp", ".forceimport", ".global", ".global
 # Operators that tell -1 from $FFFFFFFF; the first ones are those only between two operands.
 INFIX = frozenset(("<", ">"))
 SIGNED = frozenset(("=", "<>", "<=", ">=", "/", ".mod", ">>", ".shr"))
+AUTOIMPORT = "the names aren't known without cc65's object: each in an .import"
 HABIT = Habit("imported-negative", "", "Numbers of more than 32 bits", "")
 NOTE = "an exported constant below 0 is one above 0 where cc65 imports it: export it with `& $FFFF`, or include its definition"
 
 
 def found_in(project: Project, constants: Dict[str, Dict[str, int]]) -> Iterator[Finding]:
-    """The lines in which an import's sign counts. `constants` are those below 0 of each module."""
-    exported = {it: _Lists(project, it).exported for it, own in constants.items() if own}
+    """Yields the lines in which an import's sign counts. `constants` are those below 0 of each module."""
+    exported = {it: Lists(project, it).exported for it, own in constants.items() if own}
     below = {name for it, names in exported.items() for name in constants[it] if name in names}
     for module in project.modules_walked if below else ():
-        it = _Lists(project, module)
+        it = Lists(project, module)
         names = (it.imported & below) - constants.get(module, {}).keys()
         for path, number, statement in it.statements if names else ():
             word = _signed(statement.rest, names)
@@ -28,7 +29,7 @@ def found_in(project: Project, constants: Dict[str, Dict[str, int]]) -> Iterator
                 yield Finding(project.texts[path].path, number, word, HABIT, NOTE)
 
 
-class _Lists:
+class Lists:
     """The statements of a module, with those of the files that it includes, and which names it exports and imports."""
 
     def __init__(self, project: Project, module: str) -> None:
@@ -38,13 +39,13 @@ class _Lists:
         self.exported, self.imported = (self.listed(it) for it in (EXPORTS, IMPORTS))
 
     def listed(self, heads: "frozenset[str]") -> Set[str]:
-        """The names in lists of these directives."""
+        """Returns the names in lists of these directives."""
         rows = [it.rest for _, _, it in self.statements if it.head in heads]
         return {part[0].text for rest in rows for part in parts_of(rest) if part}
 
 
 def _signed(tokens: Sequence[Token], names: Set[str]) -> str:
-    """A name in an expression with an operator for which its sign counts; nothing where there is none."""
+    """Returns a name in an expression with an operator for which its sign counts; nothing where there is none."""
     for part in parts_of(tokens):
         name = next((it.text for it in part if it.text in names), "")
         if name and any(it.lower in SIGNED or it.text in INFIX and _is_operand(part[at - 1]) for at, it in enumerate(part) if at):

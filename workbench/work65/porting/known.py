@@ -1,6 +1,6 @@
 """The state of a module while it is walked: its files, its symbols, and queries."""
 import os
-from typing import Dict, FrozenSet, List, Optional, Sequence, Tuple
+from typing import Dict, FrozenSet, List, Optional, Sequence, Set, Tuple
 
 from work65.frontend import words
 from work65.frontend.expression import value
@@ -29,7 +29,7 @@ class ModuleState:
         self.project = project
         self.module = module
         self.sized_names = project.sized_names(module)
-        self.context = Context(of_target(project.target), set(project.features(module)))
+        self.context = Context(of_target(project.target), set(project.features), processor=project.processor)
         self.context.size_name = project.size_name
         self.folder = Folder(self.context, self.sized, self.is_defined, self.bank)
         self.sizes: Dict[Tuple[str, ...], str] = {}
@@ -43,11 +43,12 @@ class ModuleState:
         self.expanding = self.number = self.here = 0
         self.hard_key: Tuple[int, int, str, int] = (0, 0, "", 0)
         self.hard_names: FrozenSet[str] = frozenset()
+        self.imported: Set[str] = set()
         self.deferred: List[Tuple[str, str, int, Unportable]] = []
 
     @property
     def hard(self) -> FrozenSet[str]:
-        """The macros that have to be written out."""
+        """The macros that have to be expanded."""
         macros, texts, project = self.context.macros, self.context.defines, self.project
         key = (len(macros), sum(len(it.lines) for it in macros.values()), self.screen, len(texts))
         if key != self.hard_key:
@@ -63,7 +64,7 @@ class ModuleState:
         return "string_escapes" in self.context.features
 
     def cannot(self, number: int, why: Unportable) -> None:
-        """Notes a line that can't be brought over; that of a macro counts only where a call of it stays."""
+        """Notes a line that can't be converted; that of a macro counts only where a call of it stays."""
         if self.context.macro is None:
             self.project.cannot(self.path, number, why)
         else:
@@ -191,19 +192,9 @@ class ModuleState:
 
     def note_segment(self, statement: Statement) -> None:
         """Notes which segment follows."""
-        context, head = self.context, statement.head
-        if head in words.SEGMENT_WORDS:
-            context.segment = head[1:].upper()
-        elif head == ".segment" and statement.rest:
-            context.segment = statement.rest[0].text.strip('"')
-            self.note_opened(context.segment)
-            if statement.rest[-1].lower in ("zeropage", "zp", "direct"):
-                context.zero_page.add(context.segment)
-                context.short_segments.add(context.segment)
-        elif head == ".pushseg":
-            context.saved_segments.append(context.segment)
-        elif head == ".popseg" and context.saved_segments:
-            context.segment = context.saved_segments.pop()
+        self.context.segments.step(statement)
+        if statement.head == ".segment" and statement.rest:
+            self.note_opened(self.context.segment)
 
     def note_opened(self, segment: str) -> None:
         """Notes that an object has a segment, also where nothing follows in it."""
@@ -212,7 +203,7 @@ class ModuleState:
         self.project.segments_opened.add(segment)
 
     def keep_line(self, text: str) -> None:
-        """Keeps a line of a macro, for calls that are written out: with the defines that there are by now, as cc65 does."""
+        """Keeps a line of a macro, for calls that are expanded: with the defines that there are by now, as cc65 does."""
         context = self.context
         if context.macro is None or context.macro not in context.macros:
             return

@@ -1,39 +1,43 @@
-"""Differences between cc65 and bin65 that docs/MIGRATING.md has: which heading tells of one."""
+"""Differences between cc65 and bin65 that docs/MIGRATING.md documents, and their headings."""
 import re
-from typing import List
+from typing import List, Sequence
 
-from work65.frontend.files import Text
+from work65.frontend import words
+from work65.frontend.files import Text, text_of
 from work65.frontend.link_script import OUTPUT, with_files
 from work65.frontend.scripts import Entry, entries_in
+from work65.frontend.statements import parts_of, statement_in
+from work65.frontend.tokens import Kind, Token
+from work65.porting import forms
+from work65.porting.facts import star_in
 from work65.porting.tools import Linked
+from work65.problem import Problem
 
 UNUSED = "A row with `align`, `start` or `offset` whose segment nobody uses"
 UNWRITTEN = "A row that takes room and isn't written, before rows that are"
-# A difference's line of the original, by what stands in it.
-BY_TEXT = (
-    (re.compile(r">>"), "`>>` of a negative number"),
-    (re.compile(r"^[^;]*\.(byte?|word|addr|dbyt|dword)[^;]*(,[^;]*\*|\*[^;]*,)", re.I), "`*` in a list"),
-    (re.compile(r"^[^;]*\b(ad[cd]|and|asl|bit|cmp|cp[xy]|dec|eor|inc|ld[axy]|lsr|ora|ro[lr]|sbc|st[axy])\s+[^#(;][^;]*-", re.I),
-     "A difference of labels as an address"),
-)
+# The headings of single lines.
+SHIFT, STAR, TRUTH = "`>>` of a negative number", "`*` in a list", "`lda l > 3`: a comparison as an address"
+DIFFERENCE, SUM = "A difference of labels as an address", "`lda 260 - n`: a sum with a zero page name"
+OUTER, INNER = "`lda n & 255` in a scope, of a constant from outside", "`lda n` in a scope inside one that has used n"
+OF_LINES = (SHIFT, STAR, TRUTH, DIFFERENCE, SUM, OUTER, INNER)
 PLACE = re.compile(r", ([^,]+):(\d+)(?: in |$)")
 
 
 def files_of(script: Text) -> List[str]:
-    """The files that a script writes."""
+    """Returns the files that a script writes."""
     text = "\n".join(script.lines)
     return [*dict.fromkeys([OUTPUT, *with_files(text, OUTPUT)[1].values()])]
 
 
 def written_by(script: Text) -> List[str]:
-    """The files of the areas of a script, by their names as they stand there; nothing where no area has one."""
+    """Returns the files of the areas of a script, by their names as written there; nothing where no area has one."""
     values = [it.get("FILE") for it in entries_in("\n".join(script.lines), "MEMORY")]
     names = [it[0].text.strip('"') if it else OUTPUT for it in values]
     return [it for it in dict.fromkeys(names) if it]
 
 
 def heading(script: Text, bin65: Linked, difference: str) -> str:
-    """The heading of MIGRATING that tells of a difference; nothing where none is known."""
+    """Returns the heading of MIGRATING that tells of a difference; nothing where none is known."""
     rows = entries_in("\n".join(script.lines), "SEGMENTS")
     for at, row in enumerate(rows):
         is_used = bool(bin65.sizes.get(row.name.text, 0))
@@ -56,11 +60,29 @@ def _is_unwritten(row: Entry) -> bool:
 
 
 def _by_line(path: str, number: int) -> str:
-    """The heading that the text of a line asks for."""
+    """Returns the heading that the statement of a line asks for."""
     try:
-        with open(path, encoding="latin-1") as it:
-            lines = it.read().split("\n")
-    except OSError:
+        lines = text_of(path).lines
+    except Problem:
         return ""
-    text = lines[number - 1] if number <= len(lines) else ""
-    return next((heading for pattern, heading in BY_TEXT if pattern.search(text)), "")
+    statement = statement_in(lines[number - 1] if number <= len(lines) else "")
+    parts = parts_of(statement.rest)
+    if any(it.lower in forms.SHIFTS for it in statement.rest):
+        return SHIFT
+    if statement.head in words.DATA:
+        return STAR if len(parts) > 1 and any(map(star_in, parts)) else ""
+    is_address = statement.head in words.MNEMONICS - forms.OTHERS and parts and parts[0] and parts[0][0].lower not in forms.NEVER
+    return _of_operand(parts[0]) if is_address else ""
+
+
+def _of_operand(operand: Sequence[Token]) -> str:
+    """Returns the heading for the operand of an instruction that has another size."""
+    signs = {it.lower for it in operand}
+    if forms.is_truth(operand):
+        return TRUTH
+    names = sum(it.kind in (Kind.NAME, Kind.CHEAP, Kind.UNNAMED) or it.text == "*" for it in operand)
+    if "-" in signs and names > 1:
+        return DIFFERENCE
+    if names and signs & forms.SUMS:
+        return OUTER if signs & {"&", "|", "^"} else SUM
+    return INNER if names else ""

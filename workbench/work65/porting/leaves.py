@@ -117,7 +117,7 @@ def _cut(segment: str, begun: Sequence[Tuple[int, Tuple[Line, ...]]], end: int) 
 
 
 def grouped(leaves: Iterable[Leaf], anchor: Callable[[Leaf], Optional[Line]]) -> Dict[Tuple[str, Line], List[List[Leaf]]]:
-    """Leaves that follow each other and come of one line of a file, by the segment and that line."""
+    """Returns leaves that follow each other and come of one line of a file, by the segment and that line."""
     found: Dict[Tuple[str, Line], List[List[Leaf]]] = {}
     last: Optional[Tuple[str, Line]] = None
     for it in leaves:

@@ -14,6 +14,10 @@ SHORT_IMPORTS = {".import": ".importzp", ".global": ".globalzp"}
 ZERO_PAGE = {".import": ".importzp", ".global": ".globalzp", ".export": ".exportzp"}
 
 
+# The most names of a written list.
+MOST = 8
+
+
 @dataclass
 class Names:
     """The result of a list: definitions, and names by directive."""
@@ -31,15 +35,20 @@ def listed(text: str, statement: Statement, context: Context, own: Sequence[str]
     return replaced(text, statement, names.definitions + _directives(names))
 
 
+def of_imports(text: str, statement: Statement, names: Sequence[str]) -> List[str]:
+    """Returns lists that import names, in place of a statement."""
+    return replaced(text, statement, [f".import {', '.join(names[at : at + MOST])}" for at in range(0, len(names), MOST)])
+
+
 def _directives(names: Names) -> List[str]:
     return [f"{word} {', '.join(it)}" for word, it in names.by_word.items()]
 
 
 def read(text: str, statement: Statement, context: Context, own: Sequence[str]) -> Names:
-    """Returns the names of a list with what stands behind each. While a segment of the zero page is open, an import is short where nothing
+    """Returns the names of a list with the size or value after each. While a segment of the zero page is open, an import is short where nothing
     else is said; a name of the module's own isn't."""
     found = Names()
-    is_short = context.segment in context.short_segments and context.macro is None
+    is_short = context.segments.is_zero_page and context.macro is None
     for part in parts_of(statement.rest):
         if not part or part[0].kind is not Kind.NAME:
             raise Unportable(statement.body[0].text, "size-behind", "no name stands here")
@@ -49,6 +58,7 @@ def read(text: str, statement: Statement, context: Context, own: Sequence[str]) 
                 found.by_word.setdefault(".importzp", []).append(part[0].text)
             word = SHORT_IMPORTS.get(word, word)
         found.by_word.setdefault(word, []).append(part[0].text)
+    context.short_names |= {name for word in (".importzp", ".globalzp") for name in found.by_word.get(word, ())}
     return found
 
 

@@ -1,9 +1,8 @@
 """Forms as cc65 takes them: the sizes of lines are compared, and `a:` or `z:` stands where bin65 takes another one."""
-from typing import AbstractSet, Callable, Dict, Iterator, List, NamedTuple, Optional, Sequence, Set, Tuple
+from typing import AbstractSet, Callable, Dict, Iterator, List, NamedTuple, Sequence, Set, Tuple
 
 from work65.frontend import words
 from work65.frontend.edits import edited
-from work65.frontend.files import Text
 from work65.frontend.statements import Statement, statement_of
 from work65.frontend.tokens import Kind, line_of
 from work65.porting.leaves import Leaf, Line, grouped
@@ -41,14 +40,14 @@ class Measure:
                     self.pairs.setdefault(it.leaf.lines[-1], []).append(it)
 
     def begin(self, line: Line) -> Line:
-        """The line that begins a repeat, for the one that ends it: cc65 has all that a repeat puts there."""
+        """Returns the line that begins a repeat, for the one that ends it: cc65 has all that a repeat puts there."""
         if line.path not in self.begun:
             text = self.originals.get(line.path)
             self.begun[line.path] = {} if text is None else _begins(text.lines)
         return Line(line.path, self.begun[line.path].get(line.number, line.number))
 
     def paired(self, theirs: Sequence[Leaf], ours: Sequence[Leaf]) -> Iterator[Pair]:
-        """The leaves of one line of the original, side by side; data may be cut into other pieces."""
+        """Yields the leaves of one line of the original, side by side; data may be cut into other pieces."""
         left, at = [it.size for it in theirs], 0
         for it in ours:
             while at < len(left) and not left[at]:
@@ -67,24 +66,24 @@ class Measure:
                 at += not left[at]
 
     def is_form(self, sizes: AbstractSet[int], leaf: Leaf) -> bool:
-        """Whether two sizes are those of a short and of an absolute operand."""
+        """Returns whether two sizes are those of a short and of an absolute operand."""
         head = self.head(leaf.lines[-1])
         return sizes == FORMS and head not in words.STORAGE or sizes == ADDING and head in SUMS
 
     def statement(self, line: Line) -> Statement:
-        """The statement of a line of the copy."""
+        """Returns the statement of a line of the copy."""
         return statement_of(line_of(self.texts[line.path].lines[line.number - 1]).tokens, lambda _: False)
 
     def head(self, line: Line) -> str:
-        """The first word of a line's statement."""
+        """Returns the first word of a line's statement."""
         return self.statement(line).head
 
     def files(self) -> Set[str]:
-        """The files of the copy in which a line has another size than in cc65."""
+        """Returns the files of the copy in which a line has another size than in cc65."""
         return {line.path for line, pairs in self.pairs.items() if any(it.size != it.leaf.size for it in pairs)}
 
     def settled(self) -> "Tuple[int, Spread]":
-        """Puts the forms into the copy where one does for all: how many, and what has to be written out for the others."""
+        """Puts the forms into the copy where one does for all: how many, and what has to be expanded for the others."""
         count, spread = 0, Spread()
         for line, pairs in self.pairs.items():
             if all(it.size == it.leaf.size for it in pairs):
@@ -133,7 +132,7 @@ class Measure:
 
 
 def _begins(lines: Sequence[str]) -> Dict[int, int]:
-    """The lines that begin repeats, by those that end them."""
+    """Returns the lines that begin repeats, by those that end them."""
     found: Dict[int, int] = {}
     opened: List[int] = []
     for number, text in enumerate(lines, 1):
@@ -146,7 +145,7 @@ def _begins(lines: Sequence[str]) -> Dict[int, int]:
 
 
 def _joined(leaves: Sequence[Leaf], is_known: Callable[[Line], bool]) -> List[Leaf]:
-    """Leaves without the lines of macros that aren't the user's: what these put counts for the line of the call."""
+    """Returns leaves without the lines of macros that aren't the user's: what these put counts for the line of the call."""
     found: List[Leaf] = []
     for it in leaves:
         lines = it.lines

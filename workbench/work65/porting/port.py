@@ -1,4 +1,4 @@
-"""Ports a tree: reads it, walks its modules, writes the copy, and says what can't be brought over."""
+"""Ports a tree: reads it, walks its modules, writes the copy, and says what can't be converted."""
 import os
 import sys
 from dataclasses import dataclass
@@ -14,21 +14,20 @@ from work65.habits.habit import Finding, Habit
 from work65.porting import condes, imported, packages, scripts
 from work65.porting.leaves import Line
 from work65.porting.project import OWN, Project, Spread
-from work65.porting.script_rows import Said, Usage
+from work65.porting.script_rows import Usage
+from work65.porting.statements import KEPT
 from work65.porting.tools import Options
 from work65.porting.walk import Walk
 from work65.progress import Progress
 
-# What is said of rows that cc65 places otherwise. `work65 check` doesn't find it: it is seen in sources and script together.
+# The habit of rows that cc65 places otherwise. `work65 check` doesn't find it, since it shows in sources and script together.
 PLACE = Habit("script-place", "", "A row with `align`, `start` or `offset` whose segment nobody uses", "")
-
-
 # How many calls are open at once where files include each other as deep as they may.
 FRAMES = 8000
 
 
 def read_project(paths: Sequence[str], options: Options) -> Project:
-    """The project of these files, by their paths below the folder that they have in common."""
+    """Returns the project of these files, by their paths below the folder that they have in common."""
     base: str = os.path.commonpath([os.path.dirname(os.path.abspath(it)) for it in paths])
     texts: Dict[str, Text] = {}
     progress = Progress("files", len(paths))
@@ -38,37 +37,45 @@ def read_project(paths: Sequence[str], options: Options) -> Project:
         progress.step()
     progress.end()
     names = frozenset(it.split("=")[0] for it in options.define)
-    return Project(base, texts, [os.path.abspath(it) for it in options.include], options.target, names, symbols=dict(options.symbols))
+    include, kept = [os.path.abspath(it) for it in options.include], KEPT.intersection(options.features)
+    return Project(base, texts, include, options.target, names, options.processor.lower(), kept, symbols=dict(options.symbols))
 
 
 @dataclass
 class Ported:
-    """What each file becomes, which line each of its lines was, and what can't be brought over."""
+    """What each file becomes, which line each of its lines was, what can't be converted, and the imports whose sign counts, which only
+    a comparison of the whole program tests."""
 
     project: Project
     texts: Dict[str, Text]
     origins: Dict[str, List[int]]
     findings: List[Finding]
+    imports: List[Finding]
 
     def __post_init__(self) -> None:
         self.names = {name: path for path, names in self.project.variants.items() for name in names}
         self.places = {os.path.realpath(self.project.texts[path].path): path for path in self.project.variants}
 
+    def say(self, more: Sequence[Finding]) -> None:
+        """Adds findings at lines that have none."""
+        unique = {(it.path, it.line): it for it in [*more, *reversed(self.findings)]}
+        self.findings = sorted(unique.values(), key=lambda it: (it.path, it.line))
+
     def origin(self, line: Line) -> Optional[Line]:
-        """The line of the original that a line of the copy was; None where it was none."""
+        """Returns the line of the original that a line of the copy was; None where it was none."""
         path, numbers = self.names.get(line.path), self.origins.get(line.path, [])
         if path is None or not 0 < line.number <= len(numbers) or numbers[line.number - 1] == 0:
             return None
         return Line(path, numbers[line.number - 1])
 
     def place(self, path: str, number: int) -> str:
-        """A line of the copy as the user knows it."""
+        """Returns a line of the copy as the user knows it."""
         line = self.origin(Line(path, number))
         return f"{path}:{number}" if line is None else f"{self.project.texts[line.path].path}:{line.number}"
 
 
 def ported(project: Project, is_measured: bool = False, spread: Optional[Spread] = None, given: Sequence[Text] = ()) -> Ported:
-    """Brings all files over. Where forms are measured later, none is guessed; `spread` is what has to be written out by then, and
+    """Brings all files over. Where forms are measured later, none is guessed; `spread` is what has to be expanded by then, and
     `given` are scripts that aren't in the tree."""
     project.is_measured, project.spread = is_measured, spread or Spread()
     project.scripts = {path: it for path, it in project.texts.items() if it.is_script}
@@ -85,16 +92,15 @@ def ported(project: Project, is_measured: bool = False, spread: Optional[Spread]
     found, origins = _written(project)
     _add_tables(project, all_scripts, found, origins)
     findings = list(project.findings.values()) + list(_left(project, found, origins))
-    if not is_measured or len(all_scripts) > 1:
-        findings += imported.found_in(project, project.below_zero)
     for path, text in project.scripts.items():
         found[path] = _as_text(path, *script_lines(project, text, findings))
-    unique = {(it.path, it.line): it for it in reversed(findings)}
-    return Ported(project, found, origins, sorted(unique.values(), key=lambda it: (it.path, it.line)))
+    made = Ported(project, found, origins, [], list(imported.found_in(project, project.below_zero)))
+    made.say([*([] if is_measured else reversed(made.imports)), *reversed(findings)])
+    return made
 
 
 def script_lines(project: Project, text: Text, findings: List[Finding]) -> "Tuple[List[str], Text]":
-    """The lines of a script for bin65, for the sources of the tree; what can't be brought over is added to the findings."""
+    """Returns the lines of a script for bin65, for the sources of the tree; what can't be converted is added to the findings."""
     usage = Usage(project.segments, project.segments_there, project.segments_perhaps, project.segments_opened, project.words,
                   bool(project.modules_walked))
     lines, said = scripts.ported(text, usage, project.symbols)
@@ -122,7 +128,7 @@ def _walk(project: Project) -> Dict[str, Dict[Tuple[str, ...], str]]:
 
 
 def _add_tables(project: Project, all_scripts: Sequence[Text], found: Dict[str, Text], origins: Dict[str, List[int]]) -> None:
-    """The tables of .constructor and its like, as a source of their own."""
+    """Adds the tables of .constructor and its like, as a source of their own."""
     tables = [it for text in all_scripts for it in condes.tables_of(text)]
     lines = condes.source(tables, project.entries, project.texts.values())
     if not lines:
@@ -140,7 +146,7 @@ def _as_text(path: str, lines: List[str], like: Text) -> Text:
 
 
 def _written(project: Project) -> "Tuple[Dict[str, Text], Dict[str, List[int]]]":
-    """The lines of each file as they are written, and which line each was; 0 of those that are left out."""
+    """Returns the lines of each file as they are written, and which line each was; 0 of those that are left out."""
     found: Dict[str, Text] = {}
     origins: Dict[str, List[int]] = {}
     for path, rows in project.outputs.items():
@@ -160,7 +166,7 @@ def _written(project: Project) -> "Tuple[Dict[str, Text], Dict[str, List[int]]]"
 
 
 def _target_lines(project: Project, path: str) -> Iterator[Tuple[int, str]]:
-    """The names that -t defines, where a source or what it includes asks for them."""
+    """Yields the names that -t defines, where a source or what it includes asks for them."""
     if path not in project.modules_walked:
         return
     asked = set().union(*(project.target_names.get(it, set()) for it in project.closure(path)))
@@ -169,7 +175,7 @@ def _target_lines(project: Project, path: str) -> Iterator[Tuple[int, str]]:
 
 
 def _left(project: Project, found: Dict[str, Text], origins: Dict[str, List[int]]) -> Iterator[Finding]:
-    """What bin65 still refuses, at the lines where it stood."""
+    """Yields what bin65 still refuses, at the lines where it was."""
     names = words.defined_by(project.target) | project.names
     tree = surveyed(found.values(), (), names)
     tree.features.discard("string_escapes")
@@ -182,7 +188,7 @@ def _left(project: Project, found: Dict[str, Text], origins: Dict[str, List[int]
 
 
 def _without_dead_calls(text: Text, numbers: List[int], tree: Survey) -> Text:
-    """A file without the calls that no assembly reaches, so that the lines of their macros don't count for them."""
+    """Returns a file without the calls that no assembly reaches, so that the lines of their macros don't count for them."""
     lines = list(text.lines)
     for at, number in enumerate(numbers):
         if number == 0 and any(it.text in tree.macros for it in line_of(lines[at]).tokens[:3]):

@@ -1,20 +1,19 @@
-"""A program of cc65's, built by its own tools as it stands and by bin65 from a copy within the profile; the images are compared."""
+"""A program of cc65's, built by its own tools as it is and by bin65 from a copy within the profile; the images are compared."""
 import os
 from dataclasses import dataclass, field, replace
 from typing import Dict, List, Optional, Sequence, Union
 
 from work65.commands.check import said
-from work65.frontend.files import Text, text_of
-from work65.frontend.files import read_bytes
+from work65.frontend.files import read_bytes, text_of
 from work65.frontend.link_script import OUTPUT
 from work65.habits.habit import Finding
-from work65.porting import filling, imported, known_differences
+from work65.porting import filling, known_differences
 from work65.porting.difference import difference, first_file
 from work65.porting.measuring import FORMS, Measure, Pair
 from work65.porting.port import Ported, ported, read_project, script_lines
 from work65.porting.project import Spread
 from work65.porting.tools import Linked, Options, Refused
-from work65.porting.verdict import Judge
+from work65.porting.verdict import Judge, whole_text
 from work65.porting.verify import Library, Verifier, Whole, is_same
 from work65.program import Program
 
@@ -36,15 +35,10 @@ class SecondOptions:
 
 @dataclass
 class Answer:
-    """What is said, and the status."""
+    """The printed lines, and the status."""
 
     lines: List[str] = field(default_factory=list)
     status: int = SAME
-
-
-def with_lines(text: Text, lines: List[str]) -> str:
-    """A script's text."""
-    return "\n".join(lines) + "\n"
 
 
 class Comparison:
@@ -66,12 +60,12 @@ class Comparison:
 
         self.left: List[Finding] = []
         lines, _ = script_lines(self.verifier.ported.project, self.script, self.left)
-        theirs, ours = (with_lines(self.script, it) for it in (self.script.lines, lines))
+        theirs, ours = whole_text(self.script.lines), whole_text(lines)
         libraries = [Library(it.name, keys(it.members)) for it in line.libraries]
         self.whole = Whole(theirs, ours, keys(line.sources), libraries)
 
     def answer(self) -> Answer:
-        """What is said of the program."""
+        """Returns what is said of the program."""
         try:
             cc65 = self.theirs()
         except Refused as why:
@@ -94,14 +88,13 @@ class Comparison:
         if self.is_same(cc65, bin65):
             return self.same(cc65, notes)
         differs = difference(cc65, bin65, self.verifier.finder(self.whole, bin65))
-        project = self.verifier.ported.project
-        imports = list(imported.found_in(project, project.below_zero))
+        imports = self.verifier.ported.imports
         heading = "" if imports else known_differences.heading(self.script, bin65, differs)
         causes = [f"MIGRATING: {heading}"] if heading else []
         return Answer([differs, *causes, *(said(it) for it in [*self.verifier.ported.findings, *self.left, *imports])], OTHER)
 
     def same(self, cc65: Linked, notes: List[str]) -> Answer:
-        """What is said of files that are the same; where the script writes none, no image was compared."""
+        """Returns what is said of files that are the same; where the script writes none, no image was compared."""
         written = known_differences.written_by(self.script)
         if not written:
             return Answer([f"{self.line.script}: no area is written to a file: there is no image to compare"], OTHER)
@@ -109,7 +102,7 @@ class Comparison:
         return Answer([f"the same image: {self.named(name)}, {len(data)} bytes" for name, data in files.items()] + notes)
 
     def filled(self, cc65: Linked, bin65: Linked, notes: List[str]) -> Linked:
-        """The link with areas filled up to rows that nobody uses, where that makes the images the same; each row is noted."""
+        """Returns the link with areas filled up to rows that nobody uses, where that makes the images the same; each row is noted."""
         found = filling.filled(self.whole.ours, cc65, bin65)
         if found is None:
             return bin65
@@ -122,7 +115,7 @@ class Comparison:
         return bin65
 
     def is_mended(self, cc65: Linked, bin65: Linked) -> bool:
-        """Whether an instruction took the other form at the first byte that differs, and has it now."""
+        """Returns whether an instruction took the other form at the first byte that differs, and has it now."""
         found = first_file(cc65, bin65)
         spot = None if found is None else self.verifier.finder(self.whole, bin65).leaf(*found)
         if found is None or spot is None or spot[1] != 0 or spot[0].size not in FORMS:
@@ -135,11 +128,11 @@ class Comparison:
         return measure.put(spot[0].lines[-1], Pair(spot[0].size ^ 1, spot[0]))
 
     def theirs(self) -> Linked:
-        """What cc65's tools make, or what is there in its place."""
+        """Returns what cc65's tools make, or what is there in its place."""
         return self.verifier.linked_by_cc65(self.whole) if self.line.image is None else self.given(self.line.image)
 
     def given(self, image: str) -> Linked:
-        """The image that was named, and beside it the files that the script names."""
+        """Returns the image that was named, and beside it the files that the script names."""
         files: Dict[str, bytes] = {}
         for name in known_differences.files_of(self.script):
             place = image if name == OUTPUT else os.path.join(os.path.dirname(image), name)
@@ -147,22 +140,22 @@ class Comparison:
         return Linked({name: it for name, it in files.items() if it})
 
     def ours(self) -> Union[Linked, Refused]:
-        """What bin65 makes of the copy, or what it says."""
+        """Returns what bin65 makes of the copy, or what it says."""
         try:
             return self.verifier.linked_by_bin65(self.whole)
         except Refused as why:
             return why
 
     def is_same(self, cc65: Linked, bin65: Linked) -> bool:
-        """Whether both have the same files; beside cc65's own link also segments and exports."""
+        """Returns whether both have the same files; beside cc65's own link also segments and exports."""
         return cc65.files == bin65.files if self.line.image is not None else is_same(cc65, bin65)
 
     def named(self, file: str) -> str:
-        """A file's name: the linker's output in it is called as the image is, or as ld65 calls it."""
+        """Returns a file's name: the linker's output in it is called as the image is, or as ld65 calls it."""
         return file.replace(OUTPUT, self.line.image or "a.out")
 
     def refused(self, why: Refused) -> List[str]:
-        """The places that can't be brought over; where none was seen, what bin65 says of the copy."""
+        """Returns the places that can't be converted; where none was seen, what bin65 says of the copy."""
         copy = self.verifier.ported
         found = [said(it) for it in [*copy.findings, *self.left]]
         if found:

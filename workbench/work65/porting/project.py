@@ -1,4 +1,4 @@
-"""The tree that is ported: its files, how they include each other, what they become, and what can't be brought over."""
+"""The tree that is ported: its files, how they include each other, what they become, and what can't be converted."""
 import os
 import re
 from dataclasses import dataclass, field
@@ -7,9 +7,10 @@ from typing import Dict, FrozenSet, List, Optional, Sequence, Set, Tuple
 from work65.frontend import words
 from work65.frontend.files import Text, text_of
 from work65.frontend.includes import path_of_bytes
+from work65.frontend.reach import reached
 from work65.frontend.statements import Statement, statement_of
 from work65.frontend.survey import Survey, asminc_file, surveyed
-from work65.frontend.tokens import Kind, line_of
+from work65.frontend.tokens import Kind, Token, line_of
 from work65.habits.habit import Finding
 from work65.habits.table import BY_NAME
 from work65.output import words as words_of_path
@@ -27,21 +28,24 @@ ALL_TARGET_NAMES = frozenset().union(*map(words.defined_by, words.TARGETS))
 
 @dataclass
 class Spread:
-    """What has to be written out, since its lines take several forms: macros by their names, repeats by their lines. And how many
-    bytes cc65 has of lines whose size can't be told from their text."""
+    """What only cc65's objects show: macros (by name) and repeats (by line) that must be expanded, since their lines take several forms;
+    the sizes of lines that don't follow from their text; and the imports of modules with an .autoimport."""
 
     macros: Set[str] = field(default_factory=set)
     repeats: Set[Line] = field(default_factory=set)
     sizes: Dict[Line, int] = field(default_factory=dict)
+    imports: Dict[str, Sequence[str]] = field(default_factory=dict)
 
     def __le__(self, other: "Spread") -> bool:
-        return self.macros <= other.macros and self.repeats <= other.repeats and self.sizes.keys() <= other.sizes.keys()
+        is_known = self.sizes.keys() <= other.sizes.keys() and self.imports.keys() <= other.imports.keys()
+        return is_known and self.macros <= other.macros and self.repeats <= other.repeats
 
     def add(self, other: "Spread") -> None:
         """Takes up what another one has."""
         self.macros |= other.macros
         self.repeats |= other.repeats
         self.sizes.update(other.sizes)
+        self.imports.update(other.imports)
 
 
 @dataclass
@@ -53,13 +57,15 @@ class Project:
     include_folders: Sequence[str]
     target: Optional[str]
     names: FrozenSet[str] = frozenset()
+    processor: str = "6502"
+    features: FrozenSet[str] = frozenset()
     tree: Survey = field(default_factory=Survey)
     outputs: Dict[str, List[RewrittenLine]] = field(default_factory=dict)
     findings: Dict[Tuple[str, int, str], Finding] = field(default_factory=dict)
     sized_in: Dict[str, Set[str]] = field(default_factory=dict)
     size_name: str = "size"
     packages: Set[str] = field(default_factory=set)
-    defined_in: Dict[str, Dict[str, int]] = field(default_factory=dict)
+    sizing_macros: Set[str] = field(default_factory=set)
     guards: Set[str] = field(default_factory=set)
     undefined_names: Set[str] = field(default_factory=set)
     target_names: Dict[str, Set[str]] = field(default_factory=dict)
@@ -81,7 +87,7 @@ class Project:
     below_zero: Dict[str, Dict[str, int]] = field(default_factory=dict)
     doubtful: List[Tuple[str, int, Unportable]] = field(default_factory=list)
     own_sources: List[str] = field(default_factory=list)
-    guessed: Set[Line] = field(default_factory=set)
+    guessed: Dict[Line, str] = field(default_factory=dict)
     _waiting: List[str] = field(default_factory=list)
     _is_looking: bool = False
     _words: Optional[Set[str]] = None
@@ -93,6 +99,10 @@ class Project:
         self.tree = surveyed(self.texts.values(), self.include_folders, self.names)
         for path in list(self.texts):
             self._look(path)
+        for path, text in self.texts.items() if self.sizing_macros else ():
+            for tokens in (line_of(it).tokens for it in text.lines):
+                if any(it.text in self.sizing_macros for it in tokens[:3]):
+                    self.sized_in.setdefault(path, set()).update(_names(tokens))
 
     def _look(self, path: str) -> None:
         """Looks at a file and at those that come into the tree by it, one after the other: they may nest deeply."""
@@ -108,8 +118,8 @@ class Project:
         """Notes what a file includes, which sizes it asks for, and what it defines."""
         guard = guard_of(self.texts[path].lines)
         self.guards |= {guard} - self.names if guard is not None else set()
-        counts = self.defined_in.setdefault(path, {})
         targets = words.defined_by(self.target)
+        macro, parameters = "", _names(())
         for text in self.texts[path].lines:
             if targets and "__" in text:
                 self.target_names.setdefault(path, set()).update(it.text for it in line_of(text).tokens if it.text in targets)
@@ -120,19 +130,23 @@ class Project:
                 self.size_name = f"{self.size_name}_of_all"
             for at, it in enumerate(tokens):
                 if it.lower == ".sizeof":
-                    self.sized_in.setdefault(path, set()).update(one.text for one in tokens[at:] if one.kind is Kind.NAME)
+                    names = _names(tokens[at:])
+                    self.sized_in.setdefault(path, set()).update(names)
+                    self.sizing_macros |= {macro} if names & parameters else set()
             statement = statement_of(tokens, lambda _: False)
             if statement.head == ".include" and statement.rest and statement.rest[0].kind is Kind.STRING:
                 found = self.include(path, statement.rest[0].text.strip('"'))[0]
                 if found is not None:
                     self.included.setdefault(path, set()).add(found)
-            elif statement.head == ".define" and statement.rest:
-                counts[statement.rest[0].text] = counts.get(statement.rest[0].text, 0) + 1
+            elif statement.head in words.MACRO_BEGINS and statement.rest:
+                macro, parameters = statement.rest[0].text, _names(statement.rest[1:])
+            elif statement.head in words.MACRO_ENDS:
+                macro, parameters = "", set()
             elif statement.head in (".undefine", ".undef") and statement.rest:
                 self.undefined_names.add(statement.rest[0].text)
 
     def modules(self) -> List[str]:
-        """The files that no other includes, sources first."""
+        """Returns the files that no other includes, sources first."""
         inside = set().union(*self.included.values()) if self.included else set()
         own = [it for it in self.texts if not it.startswith(OWN + os.sep)]
         first = [it for it in own if it not in inside]
@@ -156,48 +170,38 @@ class Project:
         self._words = None
 
     def has_banks(self) -> bool:
-        """Whether a source asks for a bank."""
+        """Returns whether a source asks for a bank."""
         return any(BANK.search(line) for text in self.texts.values() for line in text.lines)
 
     def closure(self, path: str) -> Set[str]:
-        """A file, and all that it includes."""
-        found, left = set(), [path]
-        while left:
-            it = left.pop()
-            if it not in found:
-                found.add(it)
-                left += self.included.get(it, ())
-        return found
+        """Returns a file, and all that it includes."""
+        return reached([path], lambda it: self.included.get(it, ()))
 
     def sized_names(self, module: str) -> FrozenSet[str]:
-        """The names of whose sizes a module asks."""
+        """Returns the names of whose sizes a module asks."""
         return frozenset().union(*(self.sized_in.get(it, frozenset()) for it in self.closure(module)))
 
-    def features(self, module: str) -> Set[str]:
-        """The features of a module that count for all its lines."""
-        return self.tree.features & {"string_escapes"}
-
     def is_macro(self, name: str) -> bool:
-        """Whether a name is that of a macro or a define."""
+        """Returns whether a name is that of a macro or a define."""
         return self.tree.is_macro(name)
 
     def is_own_macro(self, name: str) -> bool:
-        """Whether the tree has a macro of this name, so that a package's isn't meant."""
+        """Returns whether the tree has a macro of this name, so that a package's isn't meant."""
         return any(not path.endswith("longbranch.mac") for path, _ in self.tree.macros.get(name, []))
 
-    def is_single(self, statement: Statement, path: str) -> bool:
-        """Whether a define may become a constant: nothing takes it back."""
+    def is_single(self, statement: Statement) -> bool:
+        """Returns whether a define may become a constant: nothing takes it back."""
         name = statement.rest[0].text if statement.rest else ""
         return name not in self.undefined_names
 
     def logical(self, path: str) -> List[Logical]:
-        """The lines of a file as ca65 reads them."""
+        """Returns the lines of a file as ca65 reads them."""
         if path not in self._logical:
             self._logical[path] = logical_lines(self.texts[path].lines, True, True)
         return self._logical[path]
 
     def global_names(self, module: str) -> List[str]:
-        """The names that a module's own source defines outside of scopes."""
+        """Returns the names that a module's own source defines outside of scopes."""
         if module not in self._globals:
             depth, found = 0, []
             for text in self.texts[module].lines:
@@ -213,7 +217,7 @@ class Project:
         return self._globals[module]
 
     def include(self, path: str, name: str) -> Tuple[Optional[str], str]:
-        """The file that an .include names, and the name by which bin65 finds it. A name in a source has a sign for each byte."""
+        """Returns the file that an .include names, and the name by which bin65 finds it. A name in a source has a sign for each byte."""
         wanted = path_of_bytes(name)
         if wanted is None:
             return None, name
@@ -221,7 +225,7 @@ class Project:
         return found, name if spelled == wanted else words_of_path(spelled)
 
     def _include(self, path: str, name: str) -> Tuple[Optional[str], str]:
-        """The same, of paths."""
+        """Returns the same, of paths."""
         beside = os.path.normpath(os.path.join(os.path.dirname(path), name))
         if beside in self.texts:
             return beside, name
@@ -239,7 +243,7 @@ class Project:
         return self._added(own, text, path, name)
 
     def _added(self, found: str, text: Optional[Text], path: str, name: str) -> Tuple[str, str]:
-        """A file that wasn't named and is included: it comes into the tree, one from outside of it into a folder of its own."""
+        """Returns a file that wasn't named and is included: it comes into the tree, one from outside of it into a folder of its own."""
         key = found
         if found.startswith(".."):
             key = os.path.join(OWN, os.path.basename(found))
@@ -255,7 +259,7 @@ class Project:
         return key, self.relative(key, path)
 
     def package(self, path: str, name: str) -> str:
-        """The file of a package, as a file names it."""
+        """Returns the file of a package, as a file names it."""
         self.packages.add(name)
         return os.path.relpath(os.path.join(OWN, f"{name}.mac"), os.path.dirname(path) or ".")
 
@@ -282,7 +286,7 @@ class Project:
         return True
 
     def _free_name(self, path: str, module: str) -> str:
-        """A name for another reading of a file."""
+        """Returns a name for another reading of a file."""
         stem, end = os.path.splitext(path)
         name = f"{stem}_{os.path.splitext(os.path.basename(module))[0]}"
         while f"{name}{end}" in self.texts:
@@ -290,15 +294,20 @@ class Project:
         return f"{name}{end}"
 
     def relative(self, file: str, path: str) -> str:
-        """A file as another one names it."""
+        """Returns a file as another one names it."""
         return os.path.relpath(file, os.path.dirname(path) or ".")
 
     def is_target_name(self, name: str) -> Optional[bool]:
-        """Whether a name that targets define is defined; None where no target is given, or it is another name."""
+        """Returns whether a name that targets define is defined; None where no target is given, or it is another name."""
         if self.target is None or name not in ALL_TARGET_NAMES or name in self.names:
             return None
         return name in words.defined_by(self.target)
 
     def cannot(self, path: str, number: int, why: Unportable) -> None:
-        """Notes a line that can't be brought over."""
+        """Notes a line that can't be converted."""
         self.findings.setdefault((path, number, why.habit), Finding(self.texts[path].path, number, why.word, BY_NAME[why.habit], why.note))
+
+
+def _names(tokens: Sequence[Token]) -> Set[str]:
+    """Returns the names among tokens."""
+    return {it.text for it in tokens if it.kind is Kind.NAME}

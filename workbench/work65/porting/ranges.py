@@ -38,7 +38,7 @@ def may_be_cut(arguments: Sequence[Token], context: Context) -> bool:
 
 
 def _cut(text: str, part: Sequence[Token], bits: int, context: Context) -> List[Edit]:
-    """What makes one expression fit."""
+    """Returns what makes one expression fit."""
     known = value(part, context.certain)
     if not part or known is not None and 0 <= known < 1 << bits or _is_cut(part, bits):
         return []

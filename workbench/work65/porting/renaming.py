@@ -13,6 +13,8 @@ from work65.porting.line import Unportable
 Edit = Tuple[int, int, str]
 ASKED = frozenset((".ifdef", ".ifndef"))
 MOST_ROUNDS = 20
+# The bits of a condition that cc65 takes.
+WIDTH = 0xFFFFFFFF
 
 
 class Renaming:
@@ -41,6 +43,8 @@ class Renaming:
     def truth(self, tokens: Sequence[Token]) -> Optional[bool]:
         """Returns whether an expression is true, where it is the same in every assembly."""
         found = self.number_of(tokens)
+        if found and not found & WIDTH:
+            raise Unportable(tokens[0].text, "form", "cc65 takes the lowest 32 bits of a condition, and they are 0: write what is meant")
         return None if found is None else found != 0
 
     def answer(self, statement: Statement) -> Optional[bool]:
@@ -69,7 +73,7 @@ class Renaming:
         return edited(text, edits) if edits else text
 
     def _renamed(self, tokens: Sequence[Token], at: int) -> Iterator[Edit]:
-        """What becomes of one token."""
+        """Yields what becomes of one token."""
         context, it = self.context, tokens[at]
         if it.kind is Kind.CHEAP:
             if it.text in context.cheap_constants:
@@ -199,7 +203,7 @@ class Renaming:
         return spelling.respelled(defines.expanded(text, self.context, self.state.has_escapes, is_whole=True), self.context)
 
     def decided(self, text: str) -> Optional[bool]:
-        """What a condition comes to, where it is known."""
+        """Returns what a condition evaluates to, None if unknown."""
         statement = self.parsed(self.prepared(text))
         return self.truth(statement.rest) if statement.head == ".elseif" else self.answer(statement)
 

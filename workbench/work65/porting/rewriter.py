@@ -12,14 +12,15 @@ from work65.porting.characters import as_elements
 from work65.porting.context import OpenScope
 from work65.porting.expansion import Macro
 from work65.porting.facts import facts_of
+from work65.porting.imported import AUTOIMPORT, Lists
 from work65.porting.known import ModuleState
 from work65.porting.leaves import Line
 from work65.porting.line import Unportable, commented_out, replaced
 from work65.porting.renaming import Renaming, global_definition
 
-# Directives of bin65 before which no label stands.
-UNLABELLED = frozenset((".else", ".elseif", ".endif", ".local", ".exitmacro", ".exitmac", *words.MACRO_ENDS, *words.REPEAT_ENDS))
 Handler = Callable[[int, str, Statement], List[str]]
+# Directives of bin65 before which no label is allowed.
+UNLABELLED = frozenset((".else", ".elseif", ".endif", ".local", ".exitmacro", ".exitmac", *words.MACRO_ENDS, *words.REPEAT_ENDS))
 
 
 class Rewriter:
@@ -34,7 +35,7 @@ class Rewriter:
         self.other_macro: Optional[Macro] = None
 
     def statement(self, at: int, text: str, statement: Statement) -> List[str]:
-        """The lines in place of a statement."""
+        """Rewrites a statement. Returns its lines in the copy."""
         context, head = self.context, statement.head
         if context.place is not None and head not in registers.ENDS:
             return self.registered(text, statement)
@@ -57,9 +58,9 @@ class Rewriter:
             if named is not None:
                 return named
         if head in words.MNEMONICS and self.project.is_measured:
-            self.guess(at, text, statement)
+            self.guess(at, statement)
         elif head in words.MNEMONICS:
-            text = forms.absolute(text, statement, context)
+            text = forms.prefixed(text, forms.prefix_for(statement, context))
         shifts.refuse(statement.body, context)
         if "force_range" in context.features:
             text = ranges.cut(text, statement, context)
@@ -72,13 +73,14 @@ class Rewriter:
         self.state.note(statement)
         return self.with_size([text], statement)
 
-    def guess(self, at: int, text: str, statement: Statement) -> None:
-        """Notes a line that takes the absolute form by the rules: they count where the line isn't assembled, so isn't measured."""
-        if self.state.lines is self.project.logical(self.state.path) and forms.absolute(text, statement, self.context) != text:
-            self.project.guessed.add(Line(self.state.path, self.state.lines[at].number))
+    def guess(self, at: int, statement: Statement) -> None:
+        """Notes the size prefix that a line needs by the rules, which count if the line isn't assembled, so isn't measured."""
+        prefix = forms.prefix_for(statement, self.context)
+        if prefix and self.state.lines is self.project.logical(self.state.path):
+            self.project.guessed[Line(self.state.path, self.state.lines[at].number)] = prefix
 
     def named(self, at: int, text: str, statement: Statement) -> Optional[List[str]]:
-        """The lines in place of a long branch, an undocumented instruction or a call of scrcode; None for anything else."""
+        """Returns the lines in place of a long branch, an undocumented instruction or a call of scrcode; None for anything else."""
         head, first, context = statement.head, statement.body[0], self.context
         if head in packages.BRANCHES and statement.rest:
             return self.long_branch(text, statement)
@@ -89,31 +91,30 @@ class Rewriter:
             return self.with_size(statements.as_data(text, statement, context, size), statement)
         return self.screen_codes(text, statement) if first.text == "scrcode" and self.state.screen else None
 
-    def all_handlers(self) -> Dict[str, Callable[[int, str, Statement], List[str]]]:
-        """What is done for a directive."""
+    def all_handlers(self) -> Dict[str, Handler]:
+        """Returns what is done for each directive."""
         context = self.context
-        found: Dict[str, Callable[[int, str, Statement], List[str]]] = {
-            ".define": lambda at, text, it: defines.defined(text, it, context, self.project.is_single(it, self.state.path)),
+        found: Dict[str, Handler] = {
+            ".define": lambda at, text, it: defines.defined(text, it, context, self.project.is_single(it)),
             ".undefine": lambda at, text, it: self.undefined(text, it), ".undef": lambda at, text, it: self.undefined(text, it),
-            ".macpack": lambda at, text, it: self.package(text, it),
+            ".macpack": lambda at, text, it: self.package(text, it), ".autoimport": lambda at, text, it: self.autoimport(text, it),
             ".elseif": lambda at, text, it: self.other_question(at, text, it),
             ".endif": lambda at, text, it: conditions.closed(text, it, context), ".else": lambda at, text, it: self.other(text, it),
             ".endproc": lambda at, text, it: self.end_of_scope(text, it), ".endscope": lambda at, text, it: self.end_of_scope(text, it),
             ".local": lambda at, text, it: self.names.local(text, it), "::": lambda at, text, it: self.global_constant(at, text, it),
             ".org": self.org, ".reloc": lambda at, text, it: registers.closed(text, context),
-            ".charmap": lambda at, text, it: self.charmap(text, it),
-            ".pushcharmap": lambda at, text, it: self.charmap(text, it), ".popcharmap": lambda at, text, it: self.charmap(text, it),
         }
         found.update({it: lambda at, text, one: structures.opened(text, one, context) for it in structures.OPENERS})
         found.update({it: lambda at, text, one: structures.closed(text, one, context) for it in structures.CLOSERS})
         found.update({it: lambda at, text, one: self.listed(text, one) for it in words.LISTS})
         found.update({it: lambda at, text, one: self.macro(text, one) for it in (*words.MACRO_BEGINS, *words.MACRO_ENDS)})
+        found.update({it: lambda at, text, one: self.charmap(text, one) for it in (".charmap", ".pushcharmap", ".popcharmap")})
         found.update({it: self.condition for it in words.CONDITIONS})
         found.update({it: self.table_entry for it in (*condes.DIRECTIVES, ".condes")})
         return found
 
     def finished(self, lines: List[str], has_escapes: bool, statement: Statement) -> List[str]:
-        """Lines with their colons and the codes of their characters."""
+        """Returns lines with their colons and the codes of their characters."""
         found: List[str] = []
         for it in lines:
             if it.lstrip().startswith(";"):
@@ -136,7 +137,7 @@ class Rewriter:
         return found
 
     def condition(self, at: int, text: str, statement: Statement) -> List[str]:
-        """The line of a condition."""
+        """Rewrites a condition."""
         if self.state.others is None or self.state.others[0] is not self.state.lines:
             self.state.others = self.state.lines, conditions.alternatives(self.state.lines)
         others = self.state.others[1].get(at, [])
@@ -163,7 +164,7 @@ class Rewriter:
                 raise Unportable(it.text, "defined", "cc65 takes it for not defined in a scope that has used it: write what is meant")
 
     def is_hidden(self, name: str) -> bool:
-        """Whether a scope has used a name that it doesn't define."""
+        """Returns whether a scope has used a name that it doesn't define."""
         context, path = self.context, self.context.path
         for depth in range(len(path), 0, -1):
             if path[:depth] + (name,) in context.labels:
@@ -173,14 +174,14 @@ class Rewriter:
         return False
 
     def other(self, text: str, statement: Statement) -> List[str]:
-        """The line of an .else."""
+        """Rewrites an .else."""
         if self.context.blocks:
             block = self.context.blocks[-1]
             block.is_live = block.is_else_live
         return [text]
 
     def other_question(self, at: int, text: str, statement: Statement) -> List[str]:
-        """The line of an .elseif."""
+        """Rewrites an .elseif."""
         self.refuse_hidden(statement)
         found = conditions.otherwise(text, statement, self.context, self.state.unique(at))
         if self.context.blocks:
@@ -194,13 +195,13 @@ class Rewriter:
         return found
 
     def undefined(self, text: str, statement: Statement) -> List[str]:
-        """The line of an .undefine."""
+        """Rewrites an .undefine."""
         if statement.rest:
             self.context.defines.pop(statement.rest[0].text, None)
         return [commented_out(text)]
 
     def macro(self, text: str, statement: Statement) -> List[str]:
-        """The first or last line of a macro."""
+        """Rewrites the first or last line of a macro."""
         context = self.context
         if statement.head in words.MACRO_BEGINS and statement.rest:
             context.macro = name = statement.rest[0].text
@@ -222,20 +223,20 @@ class Rewriter:
         context.macro, context.parameters, context.locals = None, [], set()
 
     def registered(self, text: str, statement: Statement) -> List[str]:
-        """A line behind an .org that labels and room alone follow."""
+        """Rewrites a line after an .org that only labels and space follow."""
         found = registers.line(text, statement, self.context)
         for it in found:
             self.state.note(statement_of(line_of(it).tokens, self.project.is_macro))
         return found
 
     def org(self, at: int, text: str, statement: Statement) -> List[str]:
-        """The line of an .org."""
+        """Rewrites an .org."""
         if "string_escapes" in self.context.features:
             raise Unportable(".org", "org")
         return registers.opened(text, statement, self.context, self.state.lines[at + 1 :], self.state.depth == 1 and not self.state.expanding)
 
     def global_constant(self, at: int, text: str, statement: Statement) -> List[str]:
-        """A definition of a global name: without its `::`, and before all scopes."""
+        """Rewrites a definition of a global name: without its `::`, and before all scopes."""
         context = self.context
         if len(statement.body) > 2 and statement.body[2].lower == ".set":
             return self.names.set(text, statement)
@@ -256,7 +257,7 @@ class Rewriter:
         return [commented_out(text)]
 
     def with_size(self, lines: List[str], statement: Statement) -> List[str]:
-        """What a line of data became, with its size behind it where something asks for that. Of a label alone, or before a call,
+        """Adds the size of a line of data after it if something asks for that. Of a label alone, or before a call,
         it is 0."""
         label = statement.label
         if label is None or label.text not in self.state.sized_names or self.context.macro is not None:
@@ -271,7 +272,7 @@ class Rewriter:
         return [*lines, f"{name} = * - {label.text}"]
 
     def scope(self, lines: List[str], statement: Statement) -> List[str]:
-        """The line that opens a scope."""
+        """Rewrites the line that opens a scope."""
         context = self.context
         if context.macro is not None:
             return lines
@@ -290,7 +291,7 @@ class Rewriter:
         return lines
 
     def end_of_scope(self, text: str, statement: Statement) -> List[str]:
-        """The line that closes a scope, and what stands behind it."""
+        """Rewrites the line that closes a scope, and adds lines after it."""
         context = self.context
         if context.macro is not None or not context.scopes:
             return [text]
@@ -301,7 +302,7 @@ class Rewriter:
         return [text, *scope.behind]
 
     def listed(self, text: str, statement: Statement) -> List[str]:
-        """A list of imports or exports."""
+        """Rewrites a list of imports or exports."""
         context = self.context
         if not context.scopes or context.macro is not None:
             return lists.listed(text, statement, context, self.project.global_names(self.state.module))
@@ -314,8 +315,19 @@ class Rewriter:
         context.hoisted.update({context.path + (it,): it for it in found.imported})
         return replaced(text, statement, found.inside)
 
+    def autoimport(self, text: str, statement: Statement) -> List[str]:
+        """Returns an .autoimport as an .import of the names that cc65's object imports and no list has."""
+        if statement.rest and statement.rest[0].lower in ("-", "off"):
+            return [commented_out(text)]
+        names = self.project.spread.imports.get(self.state.module)
+        if names is None or not self.context.is_plain:
+            raise Unportable(".autoimport", "autoimport", AUTOIMPORT if names is None else "")
+        new = [it for it in names if it not in Lists(self.project, self.state.module).imported | self.state.imported]
+        self.state.imported |= set(new)
+        return lists.of_imports(text, statement, new)
+
     def table_entry(self, at: int, text: str, statement: Statement) -> List[str]:
-        """A .constructor or its like: the name is an export, which a table of a source of its own takes in."""
+        """Rewrites a .constructor or its like: the name is an export, which a table of a source of its own takes in."""
         context = self.context
         if context.macro is not None:
             return [text]
@@ -330,7 +342,7 @@ class Rewriter:
         return self.listed(text, statement_of(line_of(text, self.state.has_escapes).tokens, self.project.is_macro))
 
     def package(self, text: str, statement: Statement) -> List[str]:
-        """A .macpack: a file of macros, or nothing where they are written out."""
+        """Rewrites a .macpack: includes a file of macros, or nothing if they are expanded."""
         name = statement.rest[0].lower if statement.rest else ""
         if name in packages.SCREEN:
             self.state.screen = name
@@ -342,7 +354,7 @@ class Rewriter:
         return replaced(text, statement, [f'.include "{self.project.package(self.state.path, name)}"'])
 
     def long_branch(self, text: str, statement: Statement) -> List[str]:
-        """A long branch: to a label of the same scope further up it may be short."""
+        """Rewrites a long branch: to an earlier label of the same scope it may be short."""
         context, target = self.context, statement.rest
         self.state.note(statement)
         if self.project.is_own_macro(statement.body[0].text):
@@ -358,7 +370,7 @@ class Rewriter:
         return [near if self.is_near(target) else text]
 
     def is_near(self, target: Sequence[Token]) -> bool:
-        """Whether a target is a label of this segment that stands further up: one of the same scope, or one that scopes lead to."""
+        """Returns whether a target is an earlier label of this segment: one of the same scope, or one with scopes."""
         context = self.context
         name, at = scoped_name(target, 0)
         if not name or at != len(target):
@@ -372,7 +384,7 @@ class Rewriter:
         return False
 
     def screen_codes(self, text: str, statement: Statement) -> List[str]:
-        """A call of scrcode as data."""
+        """Rewrites a call of scrcode as data."""
         self.state.note(statement)
         codes = [packages.screen_code(self.state.screen, it) for it in spelling.codes_of(text, statement, self.context)]
         elements = [f"${it:02X}" for it in codes] if self.context.charmap.codes else as_elements(codes)
@@ -380,7 +392,7 @@ class Rewriter:
         return [spelling.with_comment(found[0], [it.text for it in statement.rest if it.kind is Kind.STRING]), *found[1:]]
 
     def charmap(self, text: str, statement: Statement) -> List[str]:
-        """A line that changes the codes of characters."""
+        """Rewrites a line that changes the codes of characters."""
         context = self.context
         if context.macro is not None or context.repeats or any(it.is_live is not True for it in context.blocks):
             raise Unportable(statement.head, "charmap", "within a macro, repeat or condition it can't be followed")

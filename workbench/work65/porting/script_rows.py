@@ -26,13 +26,13 @@ class Usage:
     is_known: bool = False
 
     def is_used(self, name: str) -> Optional[bool]:
-        """Whether a source has a segment."""
+        """Returns whether a source has a segment."""
         if not self.is_known or name in self.perhaps and name not in self.there:
             return None
         return name in self.there
 
     def is_placed(self, name: str) -> bool:
-        """Whether cc65 places the row of a segment even if it has no bytes: an object has it."""
+        """Returns whether cc65 places the row of a segment even if it has no bytes: an object has it."""
         return name in ALWAYS or name in self.opened
 
 
@@ -76,7 +76,7 @@ class Rows:
         return self
 
     def has_other_fill(self, area: Entry, row: Row) -> bool:
-        """Whether the room of a row that isn't written in an area has another fill there in cc65."""
+        """Returns whether the room of a row that isn't written in an area has another fill there in cc65."""
         load = _text(row.entry, "LOAD")
         if row.is_written or not row.is_run or self.usage.is_used(row.name) is False:
             return False
@@ -84,7 +84,7 @@ class Rows:
         return _byte(row.entry, from_area) != _byte(area)
 
     def rows_of(self, area: str) -> Iterator[Row]:
-        """The rows that load or run in an area, in their order."""
+        """Yields the rows that load or run in an area, in their order."""
         for it in self.entries:
             load = _text(it, "LOAD")
             run = _text(it, "RUN") or load
@@ -93,7 +93,7 @@ class Rows:
                 yield Row(it, is_written, run == area)
 
     def move_placing(self, area: Entry, rows: List[Row]) -> None:
-        """The `align`, `start` or `offset` of a row that nobody uses counts in cc65: the next row that is used takes it over."""
+        """Moves the `align`, `start` or `offset` of unused rows, which count in cc65, to the next used row."""
         waiting: Dict[str, int] = {}
         is_moved = False
         for at, row in enumerate(rows):
@@ -113,12 +113,12 @@ class Rows:
         self.look_at_end(area, rows)
 
     def moves_any(self, area: Entry, rows: List[Row]) -> bool:
-        """Whether a row without bytes before these rows is seen: in a file always, else by a row that has some, or by the area's end."""
+        """Returns whether a row without bytes before these rows is seen: in a file always, else by a row that has some, or by the area's end."""
         is_used = any(self.usage.is_used(it.name) is not False for it in rows)
         return is_used or _text(area, "FILE") != '""' or self.is_asked(area, "LAST")
 
     def look_at_end(self, area: Entry, rows: List[Row]) -> None:
-        """Behind the last row with bytes, one without any moves the file's end in cc65 alone."""
+        """Reports a row without bytes after the last row with bytes: it moves the file's end in cc65 alone."""
         is_cut = _text(area, "FILL").upper() in NO | {""} and _text(area, "FILE") != '""'
         late = self.ends_late(rows) if is_cut else None
         if late is not None:
@@ -130,11 +130,11 @@ class Rows:
             self.said += [(it.entry.name, note) for it in unused if rows.index(it) > last]
 
     def is_asked(self, area: Entry, what: str) -> bool:
-        """Whether anything names a symbol of an area."""
+        """Returns whether anything names a symbol of an area."""
         return f"__{area.name.text}_{what}__" in self.usage.words | self.script_words
 
     def ends_late(self, rows: List[Row]) -> Optional[Row]:
-        """A row that is placed behind all bytes of these rows and has none itself."""
+        """Returns a row that is placed after all bytes of these rows and has none itself."""
         for row in reversed(rows):
             if row.name in self.usage.sure and row.is_written:
                 return None
@@ -143,7 +143,7 @@ class Rows:
         return None
 
     def take_over(self, row: Row, waiting: Dict[str, int]) -> None:
-        """A row takes over where rows before it would have begun."""
+        """Gives a row the place that unused rows before it asked for."""
         own = _placing(row)
         if "START" in own or "OFFSET" in own:
             return
@@ -162,7 +162,7 @@ class Rows:
             self.edits.append((row.entry.last.start, row.entry.last.start, f", {name.lower()} = ${number:04X}"))
 
     def part(self, area: Entry, rows: List[Row]) -> None:
-        """Rows that are written behind ones that aren't: they go to an area of their own that begins where the first ends."""
+        """Rows that are written after ones that aren't: they go to an area of their own that begins where the first ends."""
         number, is_open, name, begin = 1, False, area.name.text, 0
         parts: List[str] = []
         for at, row in enumerate(rows):
@@ -188,7 +188,7 @@ class Rows:
             self.edits.append((area.last.end, area.last.end, "".join(parts)))
 
     def moved(self, area: Entry, row: Row) -> bool:
-        """A row's offset as a start, since its area becomes another one; False where that isn't known."""
+        """Returns a row's offset as a start, since its area becomes another one; False where that isn't known."""
         it = next((it for it in row.entry.attributes if it.name.upper == "OFFSET"), None)
         if it is None:
             return True
@@ -200,13 +200,13 @@ class Rows:
         return True
 
     def may_be_parted(self, area: Entry) -> bool:
-        """Whether nothing asks for an area's size or end, and its size is a sum of numbers."""
+        """Returns whether nothing asks for an area's size or end, and its size is a sum of numbers."""
         sums = [*area.get("START"), *area.get("SIZE")]
         is_plain = bool(sums) and all(it.kind == "number" and it.text[0] != "%" or it.text == "+" for it in sums)
         return is_plain and not self.is_asked(area, "SIZE") and not self.is_asked(area, "LAST")
 
     def next_part(self, area: Entry, before: str, number: int) -> str:
-        """An area that begins where another one ends, in the same file."""
+        """Returns an area that begins where another one ends, in the same file."""
         start, size = (self.shown(area.get(it)) for it in ("START", "SIZE"))
         kept = [it for it in area.attributes if it.name.upper in ("FILE", "TYPE", "FILLVAL") and it.value]
         others = "".join(f", {it.name.text} = {self.shown(it.value)}" for it in kept)
@@ -214,11 +214,11 @@ class Rows:
                 f"\n    {area.name.text}_{number}: start = __{before}_LAST__, size = {start} + {size} - __{before}_LAST__{others};")
 
     def shown(self, value: List[Word]) -> str:
-        """A value as it stands."""
+        """Returns the text of a value."""
         return self.whole[value[0].start : value[-1].end] if value else ""
 
     def offsets(self, numbers: Dict[str, Optional[int]]) -> Iterator[Tuple[str, Optional[int], Word]]:
-        """The places of areas in their files that sources ask for; None where one isn't known."""
+        """Yields the places of areas in their files that sources ask for; None where one isn't known."""
         reached: Dict[str, Optional[int]] = {}
         for it in self.areas:
             file = _text(it, "FILE") or "%O"
@@ -237,13 +237,13 @@ def _text(entry: Entry, name: str) -> str:
 
 
 def _joined(one: int, other: int) -> Dict[str, int]:
-    """What is aligned to one number and then to another."""
+    """Returns what is aligned to one number and then to another."""
     align = max(one, other) if max(one, other) % min(one, other) == 0 else one * other
     return {"ALIGN": align} if align > 1 else {}
 
 
 def _placing(row: Row) -> Dict[str, int]:
-    """What says where a row begins, as numbers."""
+    """Returns what says where a row begins, as numbers."""
     found: Dict[str, int] = {}
     names = ("ALIGN", "START", "OFFSET") if row.is_run else ("ALIGN_LOAD",)
     for it in row.entry.attributes:
@@ -254,7 +254,7 @@ def _placing(row: Row) -> Dict[str, int]:
 
 
 def _byte(entry: Entry, otherwise: int = 0) -> int:
-    """The fill that an entry gives."""
+    """Returns the fill that an entry gives."""
     it = next((it for it in entry.attributes if it.name.upper == "FILLVAL"), None)
     number = _number(it) if it is not None else None
     return otherwise if number is None else number

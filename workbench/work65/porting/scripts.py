@@ -13,7 +13,7 @@ SWITCHES = {"TRUE": "yes", "1": "yes", "FALSE": "no", "0": "no"}
 
 
 def ported(text: Text, usage: Usage, symbols: Dict[str, int]) -> Tuple[List[str], List[Said]]:
-    """The lines of a script for bin65, with symbols more, and what is said of its rows; what can't be brought over stays as it is."""
+    """Returns the lines of a script for bin65, with symbols more, and what is said of its rows; what can't be converted stays as it is."""
     whole = "\n".join(text.lines)
     blocks = blocks_of(words_of(whole))
     rows = Rows(whole, blocks, usage).all()
@@ -28,7 +28,7 @@ def ported(text: Text, usage: Usage, symbols: Dict[str, int]) -> Tuple[List[str]
 
 
 def _given(blocks: List[Block], more: Dict[str, int]) -> List[Edit]:
-    """The symbols of a script whose values ld65's -D gives: they have those, and are no more."""
+    """Returns the symbols of a script whose values ld65's -D gives: they have those, and are no more."""
     found = []
     for entry in entries_of(blocks, "SYMBOLS"):
         value = entry.get("VALUE")
@@ -38,7 +38,7 @@ def _given(blocks: List[Block], more: Dict[str, int]) -> List[Edit]:
 
 
 def banks_of(text: Text) -> Dict[str, int]:
-    """The banks of segments, by the areas in which they run."""
+    """Returns the banks of segments, by the areas in which they run."""
     blocks = blocks_of(words_of("\n".join(text.lines)))
     numbers, areas = _numbers(blocks), {}
     for entry in entries_of(blocks, "MEMORY"):
@@ -54,14 +54,14 @@ def banks_of(text: Text) -> Dict[str, int]:
 
 
 def _sizes(blocks: List[Block]) -> Dict[str, Optional[int]]:
-    """The sizes of areas that are numbers."""
+    """Returns the sizes of areas that are numbers."""
     numbers = _numbers(blocks)
     areas = entries_of(blocks, "MEMORY")
     return {it.name.text: value_of(it.get("SIZE"), numbers) if it.get("SIZE") else None for it in areas}
 
 
 def _symbols(symbols: Dict[str, int]) -> List[str]:
-    """A block of symbols."""
+    """Returns a block of symbols."""
     rows = [f"    {name}: type = export, value = ${number:04X};" for name, number in symbols.items()]
     return ["SYMBOLS {", *rows, "}"] if rows else []
 
@@ -92,7 +92,7 @@ def _edits(whole: str, blocks: List[Block]) -> Iterator[Edit]:
 
 
 def _start_address(blocks: List[Block]) -> str:
-    """The start address that FEATURES gives; cc65's own where it gives none."""
+    """Returns the start address that FEATURES gives; cc65's own where it gives none."""
     for entry in entries_of(blocks, "FEATURES"):
         if entry.name.upper == "STARTADDRESS" and entry.get("DEFAULT"):
             return accepted_number(entry.get("DEFAULT")[0].text)
@@ -100,26 +100,26 @@ def _start_address(blocks: List[Block]) -> str:
 
 
 def _is_binary(blocks: List[Block]) -> bool:
-    """Whether all formats are plain bytes, so that FILES and FORMATS may go."""
+    """Returns whether all formats are plain bytes, so that FILES and FORMATS may go."""
     forms = [it.get("FORMAT") for word in ("FILES", "FORMATS") for it in entries_of(blocks, word)]
     return all(it[0].upper in ("BIN", "BINARY") for it in forms if it)
 
 
 def _names_in_sums(blocks: List[Block]) -> Set[str]:
-    """The names that sums of areas have."""
+    """Returns the names that sums of areas have."""
     areas = entries_of(blocks, "MEMORY")
     return {it.text for area in areas for name in ("START", "SIZE") for it in area.get(name) if it.kind == "word"}
 
 
 def _exported(entry: Entry) -> Iterator[Edit]:
-    """A weak symbol that an area needs is an export."""
+    """Yields a weak symbol that an area needs is an export."""
     kind = entry.get("TYPE")
     if kind and kind[0].text.lower() == "weak":
         yield kind[0].start, kind[0].end, "export"
 
 
 def _numbers(blocks: List[Block]) -> Dict[str, Optional[int]]:
-    """The values of symbols that are numbers."""
+    """Returns the values of symbols that are numbers."""
     symbols = symbols_of(blocks)
     found: Dict[str, Optional[int]] = {}
     for _ in symbols:
@@ -133,7 +133,7 @@ def _numbers(blocks: List[Block]) -> Dict[str, Optional[int]]:
 
 
 def _attribute(whole: str, kind: str, it: Attribute, start: str, numbers: Dict[str, Optional[int]]) -> Iterator[Edit]:
-    """What becomes of an attribute."""
+    """Yields what becomes of an attribute."""
     name, value = it.name.upper, it.value
     if name == "BANK" and value:
         end = value[-1].end
@@ -151,7 +151,7 @@ def _attribute(whole: str, kind: str, it: Attribute, start: str, numbers: Dict[s
 
 
 def _sum(kind: str, name: str, value: List[Word], numbers: Dict[str, Optional[int]]) -> Iterator[Edit]:
-    """A sum that bin65 doesn't take, as its number where that is known."""
+    """Yields a sum that bin65 doesn't take, as its number where that is known."""
     is_area = kind == "MEMORY" and name in ("START", "SIZE")
     plain = not any(it.text in "*/()" for it in value) and value and value[0].text not in "+-"
     if not value or (is_area and plain) or (len(value) == 1 and value[0].kind != "word") or any(it.text == "%S" for it in value):

@@ -1,15 +1,13 @@
 """Statements that become others: data, imports of sizes, assertions, instructions that aren't documented."""
 from typing import Callable, Dict, List, Optional, Sequence
 
-from work65.frontend import words
 from work65.frontend.edits import edited, text_of_tokens
 from work65.frontend.expression import scoped_name, value
 from work65.frontend.statements import Statement, parts_of
-from work65.frontend.tokens import Kind, Token, line_of
+from work65.frontend.tokens import Kind, Token
 from work65.porting.context import Context
 from work65.porting.facts import star_in
 from work65.porting.line import Unportable, commented_out, in_parentheses, replaced
-from work65.porting.structures import size_named
 from work65.porting.undocumented import OPCODES
 
 Rewrite = Callable[[str, Statement, Context], List[str]]
@@ -18,13 +16,13 @@ SIZES = {2: "zp", 3: "abs"}
 GOES = frozenset(
     (".fopt", ".smart", ".fileopt", ".dbg", ".list", ".listbytes", ".pagelength", ".pagelen", ".debuginfo", ".linecont", ".localchar")
 )
-# What features allow is written anew, or is said where it stands.
+# Features whose spellings are rewritten, or reported where they occur.
 FEATURES = frozenset(
     "addrsize at_in_identifiers bracket_as_indirect c_comments dollar_in_identifiers dollar_is_pc force_range labels_without_colons"
     " leading_dot_in_identifiers line_continuations long_jsr_jmp_rts loose_char_term loose_string_term missing_char_term org_per_seg"
     " pc_assignment string_escapes ubiquitous_idents underline_in_numbers".split()
 )
-KEPT = frozenset(("bracket_as_indirect", "force_range"))
+KEPT = frozenset(("bracket_as_indirect", "force_range", "string_escapes"))
 
 
 def _gone(text: str, statement: Statement, context: Context) -> List[str]:
@@ -49,7 +47,7 @@ def _feature(text: str, statement: Statement, context: Context) -> List[str]:
 
 
 def _bytes_of(sign: str) -> Rewrite:
-    """`.lobytes` and its like."""
+    """Returns the rewriting of `.lobytes` or the like."""
 
     def rewrite(text: str, statement: Statement, context: Context) -> List[str]:
         parts = [it for it in parts_of(statement.rest) if it]
@@ -143,7 +141,7 @@ STATEMENTS: Dict[str, Rewrite] = {
 
 
 def split_stars(text: str, statement: Statement, context: Context) -> List[str]:
-    """A list with `*` in a later element, an element a line."""
+    """Returns a list with `*` in a later element, an element a line."""
     parts = parts_of(statement.rest)
     if not any(star_in(it) for it in parts[1:]):
         return [text]
@@ -151,7 +149,7 @@ def split_stars(text: str, statement: Statement, context: Context) -> List[str]:
 
 
 def as_data(text: str, statement: Statement, context: Context, size: Optional[int] = None) -> List[str]:
-    """An instruction that isn't documented, as its opcode and its operand. `size` is that of the line, where it is known."""
+    """Returns an instruction that isn't documented, as its opcode and its operand. `size` is that of the line, where it is known."""
     forms = OPCODES.get(statement.head)
     if forms is None:
         raise Unportable(statement.body[0].text, "undocumented")
@@ -170,14 +168,14 @@ def as_data(text: str, statement: Statement, context: Context, size: Optional[in
 
 
 def _only(form: str, forms: Dict[str, int]) -> str:
-    """A form in place of one that isn't there, or whose size isn't known: the absolute one, or the only one."""
+    """Returns a form in place of one that isn't there, or whose size isn't known: the absolute one, or the only one."""
     size, comma, index = form.partition(",")
     found = [it for it in (f"zp{comma}{index}", f"abs{comma}{index}") if it in forms]
     return found[0] if len(found) == 1 and (size == "?" or found[0].startswith("abs")) else form
 
 
 def _form(rest: Sequence[Token], context: Context) -> "tuple[str, Sequence[Token]]":
-    """The form of an operand, and its expression."""
+    """Returns the form of an operand, and its expression."""
     if not rest:
         return "", ()
     if rest[0].text == "#":
@@ -202,7 +200,7 @@ def _form(rest: Sequence[Token], context: Context) -> "tuple[str, Sequence[Token
 
 
 def with_colon(text: str, statement: Statement) -> str:
-    """A line whose label has its colon."""
+    """Returns a line whose label has its colon."""
     label = statement.label
     if label is None or statement.has_colon:
         return text

@@ -13,6 +13,8 @@ from work65.porting.line import Unportable, commented_out
 UNITS = {".byte": 1, ".byt": 1, ".char": 1, ".word": 2, ".addr": 2, ".dbyt": 2, ".faraddr": 3, ".dword": 4}
 OPENERS = (".struct", ".union", ".enum")
 CLOSERS = {".endstruct": ".struct", ".endunion": ".union", ".endenum": ".enum"}
+ASKING = words.CONDITIONS | {".else", ".elseif"}
+CONDITIONS = ASKING | {".endif"}
 
 
 def opened(text: str, statement: Statement, context: Context) -> List[str]:
@@ -85,7 +87,7 @@ def _spelled(it: Structure) -> str:
 
 
 def _grow(it: Structure, spelled: str, size: Optional[int]) -> None:
-    """A member of this size is put in."""
+    """Adds a member of this size."""
     if it.word == ".union":
         if size is None:
             raise Unportable(it.word, "union", "its size isn't known here: write the offsets out")
@@ -100,13 +102,19 @@ def _grow(it: Structure, spelled: str, size: Optional[int]) -> None:
         it.offset = spelled if it.offset == "0" else f"{it.offset} + {spelled}"
 
 
+def is_member(statement: Statement, context: Context) -> bool:
+    """Returns whether a line within a structure is treated as a member: not one that opens or closes another, nor a condition."""
+    is_condition = statement.head in CONDITIONS and context.structures[-1].word != ".enum"
+    return not is_condition and statement.head not in CLOSERS and statement.head not in OPENERS
+
+
 def member(text: str, statement: Statement, context: Context) -> List[str]:
     """Returns a line within a structure or an enum."""
     it = context.structures[-1]
     tokens = line_of(text).tokens
     if not tokens:
         return [text]
-    if tokens[0].lower in words.CONDITIONS or tokens[0].lower in (".else", ".elseif", ".endif", ".repeat", ".include"):
+    if tokens[0].lower in CONDITIONS or tokens[0].lower in (".repeat", ".include"):
         raise Unportable(tokens[0].text, it.word[1:], "a condition within: write the constants out")
     if it.word == ".enum":
         return [_enumerated(text, tokens, it, context)]

@@ -37,6 +37,8 @@ class Options:
     include: Sequence[str] = ()
     data: Sequence[str] = ()
     define: Sequence[str] = ()
+    processor: str = "6502"
+    features: Sequence[str] = ()
     symbols: Dict[str, int] = field(default_factory=dict)
 
 
@@ -117,6 +119,7 @@ class Theirs:
     def __init__(self, options: Options) -> None:
         self.words = [f"-D{it}" for it in options.define] + [f"-I{it}" for it in options.include]
         self.words += [w for it in options.data for w in ("--bin-include-dir", it)]
+        self.words += ["--cpu", options.processor, *(w for it in options.features for w in ("--feature", it))]
         self.words += ["-t", options.target] if options.target and options.target != "none" else []
 
     def assemble(self, source: str, made: str, tree: Optional[LinkedTree] = None) -> None:
@@ -180,7 +183,7 @@ class Ours:
 
 
 def _in_decimal(define: str) -> str:
-    """What -D gives, with a number as C writes it (0x12, 012) in decimal: bin65 doesn't take those."""
+    """Returns what -D gives, with a number as C writes it (0x12, 012) in decimal: bin65 doesn't take those."""
     name, _, number = define.partition("=")
     found = C_NUMBER.fullmatch(number)
     return define if found is None else f"{name}={int(found[1], 16) if found[1] else int(number, 8)}"

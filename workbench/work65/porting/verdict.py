@@ -1,7 +1,7 @@
-"""What is said of a port: whether the program or each source alone is the same, what differs, and what wasn't compared."""
+"""The report of a comparison: whether the program or each source alone is the same, what differs, and what wasn't compared."""
 import os
 from dataclasses import dataclass, field, replace
-from typing import List, Optional
+from typing import List
 
 from work65.diagnosing.message import message_of
 from work65.frontend.link_script import OUTPUT
@@ -12,8 +12,7 @@ from work65.porting.tools import Linked, Options, Refused
 from work65.porting.verify import Outcome, Port, Verifier, Whole, is_same
 from work65.program import Program
 
-
-# So many sources that weren't compared are named.
+# The most sources that are named of those that weren't compared.
 SHOWN = 3
 
 
@@ -26,93 +25,114 @@ class Verdict:
     last: str = ""
 
 
+@dataclass
+class ScriptLink:
+    """A link of all sources by one script: the files that are the same, or where they differ, or why ld65 rejects it."""
+
+    script: str
+    files: str = ""
+    where: str = ""
+    refusal: str = ""
+    debug: str = ""
+
+    @property
+    def said(self) -> str:
+        """Returns what was compared, or why nothing was."""
+        return f"by {self.script}: the same ({self.files})" if self.files else f"not by {self.script}: {self.refusal}"
+
+
 def compared(program: Program, options: Options, room: str, port: Port) -> Verdict:
-    """Compares: the program where the tree has one script and cc65 links it, else each source alone."""
+    """Compares: the program by each script of the tree with which cc65 links it, and if there is none, each source alone."""
     verifier = Verifier(program, options, room, port)
     verifier.put()
     judge = Judge(verifier)
     if judge.is_same_program():
-        verifier.guess([judge.debug])
+        verifier.guess(it.debug for it in judge.links)
         return Verdict(verifier.ported, [], judge.said_of_program())
     verifier.settle(verifier.modules)
     verifier.guess(it.debug for it in verifier.outcomes.values())
     lines, last = judge.said_of_sources()
-    if judge.can_link and judge.is_same_program():
+    if judge.is_same_program():
         last = judge.said_of_program()
-    elif judge.can_link and judge.where and not lines:
-        lines = [judge.where]
+    else:
+        lines = lines or [it.where for it in judge.links if it.where]
+        verifier.ported.say(verifier.ported.imports)
     return Verdict(verifier.ported, lines, last)
 
 
 class Judge:
-    """Says what came of a comparison."""
+    """Reports the result of a comparison."""
 
     def __init__(self, verifier: Verifier) -> None:
         self.verifier = verifier
-        scripts = verifier.ported.project.scripts
-        self.script: Optional[str] = next(iter(scripts)) if len(scripts) == 1 else None
-        self.can_link = self.script is not None
-        self.refusal = ""
-        self.files = self.debug = ""
-        self.where = ""
+        self.links = [ScriptLink(it) for it in verifier.ported.project.scripts]
+
+    @property
+    def is_linked(self) -> bool:
+        """Returns whether cc65 links the program by one of the scripts."""
+        return any(not it.refusal for it in self.links)
 
     # The program.
 
     def whole(self, script: str) -> Whole:
-        """The program of all sources of the tree, by its one script."""
+        """Returns the program of all sources of the tree, by one of its scripts."""
         ported = self.verifier.ported
-        texts = [_whole_text(ported.project.scripts[script].lines), _whole_text(ported.texts[script].lines)]
+        texts = [whole_text(ported.project.scripts[script].lines), whole_text(ported.texts[script].lines)]
         return Whole(texts[0], texts[1], self.verifier.modules)
 
     def is_same_program(self) -> bool:
-        """Whether the program is the same by both tools; not where one of them doesn't link it."""
-        if self.script is None or not self.can_link:
-            return False
-        written = known_differences.written_by(self.verifier.ported.project.scripts[self.script])
+        """Links by each script with which cc65 does. Returns whether it does with one, and all that it makes is the same."""
+        self.links = [it if it.refusal else self.linked(it.script) for it in self.links]
+        return self.is_linked and all(it.refusal or it.files for it in self.links)
+
+    def linked(self, script: str) -> ScriptLink:
+        """Links the program by a script with both tools."""
+        found = ScriptLink(script)
+        written = known_differences.written_by(self.verifier.ported.project.scripts[script])
         if not written:
-            self.can_link, self.refusal = False, f"no area of {self.script} is written to a file: the whole program wasn't compared"
-            return False
-        whole = self.whole(self.script)
+            found.refusal = f"no area of {script} is written to a file: the whole program wasn't compared"
+            return found
+        whole = self.whole(script)
         try:
             cc65 = self.verifier.linked_by_cc65(whole)
         except Refused as said:
-            self.can_link, self.refusal = False, f"ld65 doesn't link it as a whole: {said}"
-            return False
+            found.refusal = f"ld65 doesn't link it as a whole: {said}"
+            return found
         try:
             bin65 = self.verifier.linked_by_bin65(whole)
         except Refused as said:
-            path = self.verifier.ported.project.scripts[self.script].path
+            path = self.verifier.ported.project.scripts[script].path
             is_said = any(it.path == path for it in self.verifier.ported.findings)
-            self.where = "" if is_said else f"{self.script}: bin65 refuses the program: {said}"
-            return False
-        self.debug = cc65.debug
+            found.where = "" if is_said else f"{script}: bin65 refuses the program: {said}"
+            return found
+        found.debug = cc65.debug
         files = cc65.files or {name: b"" for name in written}
-        self.files = ", ".join(f"{'the image' if name == OUTPUT else name}, {len(data)} bytes" for name, data in files.items())
-        if is_same(cc65, bin65) or self.is_same_filled(whole, cc65, bin65):
-            return True
-        self.where = f"{self.script}: {difference(cc65, bin65, self.verifier.finder(whole, bin65))}"
-        return False
+        shown = ", ".join(f"{'the image' if name == OUTPUT else name}, {len(data)} bytes" for name, data in files.items())
+        if is_same(cc65, bin65):
+            found.files = shown
+        elif filled_up := self.filled_up(whole, cc65, bin65):
+            found.files = f"{shown}; without the fill up to {', '.join(filled_up)}"
+        else:
+            found.where = f"{script}: {difference(cc65, bin65, self.verifier.finder(whole, bin65))}"
+        return found
 
-    def is_same_filled(self, whole: Whole, cc65: Linked, bin65: Linked) -> bool:
-        """Whether the files differ by nothing but the fill up to rows that nobody uses, which are said."""
+    def filled_up(self, whole: Whole, cc65: Linked, bin65: Linked) -> List[str]:
+        """Returns the rows that nobody uses up to which cc65 alone fills its files, if these differ by nothing else."""
         found = filling.filled(whole.ours, cc65, bin65)
         try:
             again = None if found is None else self.verifier.linked_by_bin65(replace(whole, ours=found[0]))
         except Refused:
-            return False
-        if found is None or again is None or not is_same(cc65, again):
-            return False
-        self.files += f"; without the fill up to {', '.join(found[1])}"
-        return True
+            return []
+        return [] if found is None or again is None or not is_same(cc65, again) else found[1]
 
     def said_of_program(self) -> str:
-        """The last line, where the program is the same."""
-        return f"compared: the program by {self.script}: the same ({self.files})"
+        """Returns the last line, if the program is the same."""
+        return f"compared: the program {'; '.join(it.said for it in self.links)}"
 
     # Sources alone.
 
     def said_of_sources(self) -> "tuple[List[str], str]":
-        """What differs or is refused, and the last line."""
+        """Returns what differs or is refused, and the last line."""
         lines: List[str] = []
         same = 0
         others: List[str] = []
@@ -127,12 +147,14 @@ class Judge:
         parts = [f"compared: each source alone at two placements: the same {same} of {len(self.verifier.modules)}"]
         more = f" and {len(others) - SHOWN} more" if len(others) > SHOWN else ""
         parts += [f"not compared: {', '.join(others[:SHOWN])}{more}"] if others else []
-        count = len(self.verifier.ported.project.scripts)
-        parts += [self.refusal] if self.refusal else [f"the whole program wasn't compared: there are {count} scripts"] if count > 1 else []
+        if len(self.links) == 1:
+            parts += [self.links[0].refusal] if self.links[0].refusal else []
+        elif self.links and not self.is_linked:
+            parts.append(f"the whole program wasn't compared: there are {len(self.links)} scripts, and ld65 links it by none of them")
         return lines, "; ".join(parts)
 
     def said(self, module: str, it: Outcome) -> str:
-        """What is said of a source; nothing where it is the same, or its places were said already."""
+        """Returns what is said of a source; nothing where it is the same, or its places were said already."""
         ported = self.verifier.ported
         path = ported.project.texts[module].path
         if it.theirs:
@@ -148,7 +170,7 @@ class Judge:
         return f"{path}: {difference(cc65, bin65, Finder(ported, script, bin65, {'ours.o': LinkedModule(module, leaves)}))}"
 
     def refused(self, module: str, said: str) -> str:
-        """What bin65 says of a copy, by the line of the original; nothing where a place of the source was said."""
+        """Returns what bin65 says of a copy, by the line of the original; nothing where a place of the source was said."""
         ported = self.verifier.ported
         files = {ported.project.texts[it].path for it in ported.project.closure(module)}
         if any(it.path in files for it in ported.findings):
@@ -156,7 +178,7 @@ class Judge:
         return self.translated(said, ported.project.texts[module].path)
 
     def translated(self, said: str, path: str = "") -> str:
-        """What bin65 says of a file of the copy, by the line of the original."""
+        """Returns what bin65 says of a file of the copy, by the line of the original."""
         message = message_of(said)
         if message is None or message.line is None:
             return f"{path or 'the copy'}: bin65 refuses what it became: {said}"
@@ -164,5 +186,6 @@ class Judge:
         return f"{place}: bin65 refuses what this became: {message.text}"
 
 
-def _whole_text(lines: List[str]) -> str:
+def whole_text(lines: List[str]) -> str:
+    """Returns the text of a script."""
     return "\n".join(lines) + "\n"

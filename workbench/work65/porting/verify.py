@@ -14,6 +14,7 @@ from work65.instrumenting.sources import Closure
 from work65.porting import alone, copying, unasserted
 from work65.porting.difference import Finder, LinkedModule
 from work65.porting.forms import prefixed
+from work65.porting.imported import AUTOIMPORT
 from work65.porting.leaves import Leaf, Line, of_debug_file, of_marks
 from work65.porting.measuring import Measure, Pair
 from work65.porting.port import Ported
@@ -62,7 +63,7 @@ class Whole:
     libraries: List[Library] = field(default_factory=list)
 
     def modules(self) -> List[str]:
-        """All sources."""
+        """Returns all sources."""
         return [*self.sources, *(it for library in self.libraries for it in library.members)]
 
 
@@ -94,7 +95,7 @@ class Verifier:
         return [it for it in project.modules_walked if it not in inside and not it.lower().endswith(PARTS)]
 
     def ours(self) -> Ours:
-        """bin65 in the copy."""
+        """Returns bin65, run in the copy."""
         project = self.ported.project
         include = [os.path.relpath(it, project.base) for it in project.include_folders]
         return Ours(self.program, self.copy, [it for it in include if not it.startswith("..")], self.options.define)
@@ -105,7 +106,7 @@ class Verifier:
         copying.put(copying.files_of(self.ported, self.options.data), self.copy)
 
     def their_object(self, module: str) -> str:
-        """The object that ca65 makes of a source, made once."""
+        """Returns the object that ca65 makes of a source, made once."""
         if module not in self.made:
             path = os.path.join(self.room, f"theirs{len(self.made)}.o")
             try:
@@ -119,7 +120,7 @@ class Verifier:
         return found
 
     def our_object(self, module: str, name: str = "ours.o") -> str:
-        """The object that bin65 makes of a source's copy."""
+        """Returns the object that bin65 makes of a source's copy."""
         path = os.path.join(self.room, name)
         self.ours().assemble(module, path)
         return path
@@ -127,7 +128,7 @@ class Verifier:
     # The program.
 
     def linked_by_cc65(self, whole: Whole) -> Linked:
-        """The program as cc65's tools link the original, with the exports that its objects use."""
+        """Returns the program as cc65's tools link the original, with the exports that its objects use."""
         inputs = [self.their_object(it) for it in whole.sources]
         for library in whole.libraries:
             made = os.path.join(self.room, f"theirs-{os.path.basename(library.name)}")
@@ -137,7 +138,7 @@ class Verifier:
         return replace(found, exports={it: value for it, value in found.exports.items() if it in found.used})
 
     def linked_by_bin65(self, whole: Whole) -> Linked:
-        """The program as bin65 links the copy. Objects bear the numbers of their sources."""
+        """Returns the program as bin65 links the copy. Objects bear the numbers of their sources."""
         numbers = {it: number for number, it in enumerate(whole.modules())}
         made = {it: self.our_object(it, f"{number}.o") for it, number in numbers.items()}
         inputs = [made[it] for it in whole.sources]
@@ -149,7 +150,7 @@ class Verifier:
         return self.ours().link(whole.ours, inputs, os.path.join(self.room, "link"))
 
     def finder(self, whole: Whole, bin65: Linked) -> Finder:
-        """What finds the lines of bytes of the program."""
+        """Returns what finds the lines of bytes of the program."""
         modules: Dict[str, LinkedModule] = {}
         for number, it in enumerate(whole.modules()):
             modules[f"{number}.o"] = LinkedModule(it, self.leaves(it) or [])
@@ -171,7 +172,7 @@ class Verifier:
             differing = {it for it in pending if self.outcomes[it].debug and not self.outcomes[it].is_same}
             measure = self.measured(differing)
             count, spread = measure.settled()
-            spread.sizes = self.sizes()
+            spread.sizes, spread.imports = self.sizes(), self.imports()
             if not spread <= self.spread:
                 self.spread.add(spread)
                 self.ported = self.port(self.spread)
@@ -206,7 +207,7 @@ class Verifier:
         return found
 
     def unasserted(self, module: str) -> Tuple[str, str]:
-        """The two objects of a source without its assertions."""
+        """Returns the two objects of a source without its assertions."""
         folder = tempfile.mkdtemp(dir=self.room)
         theirs, ours = os.path.join(folder, "theirs.o"), os.path.join(self.room, "ours.o")
         unasserted.their_object(self.ported, self.theirs, module, os.path.join(folder, "root"), theirs)
@@ -247,7 +248,7 @@ class Verifier:
     # Forms.
 
     def is_lengthened(self, module: str) -> bool:
-        """Whether bin65 refuses an instruction whose operand is too large for the short form, and has `a:` before it now: a scope
+        """Returns whether bin65 refuses an instruction whose operand is too large for the short form, and has `a:` before it now: a scope
         around it defines the name once more further down."""
         message = message_of(self.outcomes[module].ours)
         if message is None or message.line is None or message.text != "out of range":
@@ -261,17 +262,17 @@ class Verifier:
         return sizes == {3} and measure.put(line, Pair(3, Leaf("", 0, 2, (line,))))
 
     def guess(self, debugs: Iterable[str]) -> None:
-        """Puts `a:` by the rules before operands of lines that weren't assembled, as those of another -D."""
+        """Puts size prefixes by the rules before operands of lines that weren't assembled, such as those for another -D."""
         guessed = self.ported.project.guessed
         met = {line for debug in debugs for it in of_debug_file(debug, self.key) for line in it.lines} if guessed else set()
-        for path, text in self.ported.texts.items() if guessed - met else ():
+        for path, text in self.ported.texts.items() if guessed.keys() - met else ():
             for number, line in enumerate(text.lines, 1):
                 origin = self.ported.origin(Line(path, number))
-                if origin in guessed and origin not in met:
-                    text.lines[number - 1] = prefixed(line)
+                if origin is not None and origin not in met:
+                    text.lines[number - 1] = prefixed(line, guessed.get(origin, ""))
 
     def measured(self, modules: Set[str]) -> Measure:
-        """The sizes of the lines of these sources, and of those that share a file with them in which a line differs."""
+        """Returns the sizes of the lines of these sources, and of those that share a file with them in which a line differs."""
         measure, done = Measure(self.ported), set()
         waiting = set(modules)
         while waiting:
@@ -285,13 +286,13 @@ class Verifier:
         return measure
 
     def script(self, module: str, theirs: str, placement: alone.Placement) -> str:
-        """A script that links a source alone."""
+        """Returns a script that links a source alone."""
         if module not in self.needs:
             self.needs[module] = alone.needs_of(theirs)
         return alone.script_of(self.needs[module], placement)
 
     def debug(self, module: str, theirs: str) -> str:
-        """The debug file of a source that cc65 alone takes; nothing where it can't be linked alone."""
+        """Returns the debug file of a source that cc65 alone takes; nothing where it can't be linked alone."""
         for placement in alone.PLACEMENTS:
             try:
                 return self.theirs.link(self.script(module, theirs, placement), [theirs], os.path.join(self.room, "link")).debug
@@ -300,11 +301,11 @@ class Verifier:
         return ""
 
     def unsized(self) -> Set[Line]:
-        """The lines that were said since their size isn't known."""
+        """Returns the lines that were said since their size isn't known."""
         return {Line(self.ported.places[os.path.realpath(it.path)], it.line) for it in self.ported.findings if it.note == SIZE_UNKNOWN}
 
     def sizes(self) -> Dict[Line, int]:
-        """How many bytes cc65 has of the lines whose size wasn't known, where each time they are the same."""
+        """Returns how many bytes cc65 has of the lines whose size wasn't known, where each time they are the same."""
         wanted = self.unsized()
         found: Dict[Line, Set[int]] = {}
         for outcome in self.outcomes.values() if wanted else ():
@@ -313,15 +314,21 @@ class Verifier:
                     found.setdefault(leaf.lines[-1], set()).add(leaf.size)
         return {line: next(iter(sizes)) for line, sizes in found.items() if len(sizes) == 1}
 
+    def imports(self) -> Dict[str, Sequence[str]]:
+        """Returns the names that cc65's objects import, of modules with an .autoimport that was reported."""
+        paths = {self.ported.places[os.path.realpath(it.path)] for it in self.ported.findings if it.note == AUTOIMPORT}
+        made = {it: self.made.get(it) for it in self.outcomes if paths & self.ported.project.closure(it)} if paths else {}
+        return {module: alone.needs_of(it).imports for module, it in made.items() if isinstance(it, str)}
+
     def key(self, name: str) -> str:
-        """The file of the tree that a path of a debug file names; nothing for another file."""
+        """Returns the file of the tree that a path of a debug file names; nothing for another file."""
         path = os.fsdecode(name.encode("latin-1"))
         root = next((it for it in self.linked_trees if path.startswith(it + "/")), "")
         place = os.path.realpath(path[len(root) :])
         return self.ported.places.get(place, "")
 
     def leaves(self, module: str) -> Optional[List[Leaf]]:
-        """Which lines of the copy put which bytes, where bin65 takes it."""
+        """Returns which lines of the copy put which bytes, where bin65 takes it."""
         ours, folder = self.ours(), tempfile.mkdtemp(dir=self.room)
         source = os.path.join(self.copy, module)
         wanted = BuildOptions("", [source], [os.path.join(self.copy, it) for it in ours.include], ours.define, [], "")
@@ -338,5 +345,5 @@ class Verifier:
 
 
 def is_same(cc65: Linked, bin65: Linked) -> bool:
-    """Whether two links have the same files, segments of the same sizes, and exports of the same values."""
+    """Returns whether two links have the same files, segments of the same sizes, and exports of the same values."""
     return cc65.files == bin65.files and cc65.sizes == bin65.sizes and not other_exports(cc65, bin65)

@@ -98,7 +98,7 @@ class Walk:
                 self.project.cannot(path, number, why)
 
     def block(self, at: int, row: RewrittenLine) -> Optional[int]:
-        """Rewrites a repeat or a call that has to be written out; None where a line stands for itself."""
+        """Rewrites a repeat or a call that has to be expanded; None where a line stands for itself."""
         context, text = self.context, self.state.lines[at].text
         if context.macro is not None or context.structures:
             return None
@@ -135,13 +135,13 @@ class Walk:
         return end + 1
 
     def has_to_go(self, at: int, text: str) -> bool:
-        """Whether a line has its repeat written out."""
+        """Returns whether a line has its repeat expanded."""
         self.state.here = at
         tokens = line_of(text, self.state.has_escapes).tokens
         return any(it.lower in HARD or it.text in self.state.hard for it in tokens) or self.calls.is_written_out(self.names.parsed(text))
 
     def write_out(self, at: int, row: RewrittenLine, expander: Expander, label: str) -> None:
-        """Has a call or a repeat written out; the outermost one stays as a comment."""
+        """Has a call or a repeat expanded; the outermost one stays as a comment."""
         context, text = self.context, self.state.lines[at].text
         saved, depths = (self.state.lines, self.state.rows, self.state.others), (len(context.blocks), len(context.scopes))
         self.state.number, self.state.rows = self.state.lines[at].number, []
@@ -160,17 +160,17 @@ class Walk:
         row.lines = lines if self.state.expanding else [commented_out(text), *merged(lines)]
 
     def emit(self, text: str, following: Sequence[str]) -> None:
-        """Rewrites a line of a call that is written out."""
+        """Rewrites a line of a call that is expanded."""
         self.state.lines = [Logical(self.state.number, it) for it in (text, *following)]
         self.line(0)
 
     @property
     def is_in_macro(self) -> bool:
-        """Whether the lines of a macro are being read."""
+        """Returns whether the lines of a macro are being read."""
         return self.context.macro is not None
 
     def goes_on(self, text: str) -> bool:
-        """Whether a line ends the lines that are left out, or begins others."""
+        """Returns whether a line ends the lines that are left out, or begins others."""
         if "." not in text or any(it.is_live is False for it in self.context.blocks[:-1]):
             return False
         return statement_of(line_of(text).tokens, self.project.is_macro).head in (".else", ".elseif", ".endif")
@@ -194,7 +194,7 @@ class Walk:
             self.context.structures.pop()
 
     def rewritten(self, at: int, text: str) -> List[str]:
-        """The lines that stand in place of one."""
+        """Rewrites a line that isn't expanded."""
         context, has_escapes = self.context, self.state.has_escapes
         facts = facts_of(text, has_escapes)
         self.state.keep_line(text)
@@ -202,7 +202,7 @@ class Walk:
             if self.project.is_measured and forms.may_differ(facts.tokens, facts.names, context, False):
                 plain = statement_of(facts.tokens, self.project.is_macro)
                 if plain.head in words.MNEMONICS:
-                    self.rewriter.guess(at, text, plain)
+                    self.rewriter.guess(at, plain)
             self.note_plain(facts)
             return [text]
         if not facts.tokens:
@@ -210,25 +210,33 @@ class Walk:
         if not context.defines.keys().isdisjoint(facts.names):
             text = defines.expanded(text, context, has_escapes, is_whole=not facts.directives.isdisjoint(OF_TOKENS))
         text = spelling.respelled(text, context)
+        if not facts.directives.isdisjoint(conditions.CONSTANT):
+            text = conditions.as_function(text, self.names.parsed(text))
         if ".define" not in facts.directives:
             asked = BANK.findall(text) if ".bank" in facts.directives else ()
             text = self.names.settled(text, is_asked=bool(facts.directives & ASKED))
             text = spelling.with_comment(text, asked) if asked and not BANK.search(text) else text
-        tokens = line_of(text, has_escapes).tokens
-        statement = statement_of(tokens, self.project.is_macro)
+        statement = self.names.parsed(text)
+        if facts.tokens[0].lower == ".ident" and self.names.parsed(text.lstrip()).label is not None:
+            text = text.lstrip()  # a label without a colon, which is in the first column for cc65
+            statement = self.names.parsed(text)
         self.rewriter.has_lists = False
         if statement.body and statement.body[0].text in context.macros and facts_of(text, has_escapes).has_text:
             self.rewriter.has_lists = self.calls.takes_lists(statement.body[0].text, statement.rest)
             if self.rewriter.has_lists:
                 text = self.calls.with_lists(text, statement)
                 statement = self.names.parsed(text)
-        if context.structures and statement.head not in structures.CLOSERS and statement.head not in structures.OPENERS:
+        if context.structures and structures.is_member(statement, context):
             return self.rewriter.finished(structures.member(text, statement, context), has_escapes, statement)
         found = self.rewriter.statement(at, text, statement)
+        if context.structures and statement.head in structures.ASKING and context.blocks and context.blocks[-1].is_live is None:
+            if statement.head in words.CONDITIONS:
+                context.blocks.pop()  # recover() opens it
+            raise Unportable(statement.head, context.structures[-1].word[1:], "whether it holds isn't known here: write the constants out")
         return self.rewriter.finished(found, has_escapes, statement)
 
     def is_left(self, facts: Facts, has_escapes: bool) -> bool:
-        """Whether a line stays as it is."""
+        """Returns whether a line stays as it is."""
         context = self.context
         if not facts.is_plain or context.features & ALL_LINES or facts.has_star or has_escapes and facts.has_text:
             return False
@@ -246,7 +254,7 @@ class Walk:
         return context.defines.keys().isdisjoint(names) and not self.has_renamed(facts)
 
     def has_renamed(self, facts: Facts) -> bool:
-        """Whether a line has a name that is another one in the copy."""
+        """Returns whether a line has a name that is another one in the copy."""
         context, names = self.context, facts.names
         if context.locals & names or not context.changing.isdisjoint(names) or context.cheap_constants.keys() & names:
             return True
@@ -255,7 +263,7 @@ class Walk:
         return context.part > 0 and not context.cheap_before.isdisjoint(names)
 
     def label_splits(self, facts: Facts) -> bool:
-        """Whether a label stands before a directive of expansion that takes none."""
+        """Returns whether a label precedes a directive that allows none."""
         has_label = bool(facts.tokens) and facts.tokens[0].kind is not Kind.DIRECTIVE
         return has_label and not UNLABELLED.isdisjoint(facts.directives)
 
@@ -268,7 +276,7 @@ class Walk:
         self.state.note(statement)
 
     def include(self, text: str, statement: Statement) -> List[str]:
-        """A file that is included: it is walked here."""
+        """Rewrites an .include, and walks its file."""
         if not statement.rest or statement.rest[0].kind is not Kind.STRING:
             return [text]
         token = statement.rest[0]
@@ -282,7 +290,7 @@ class Walk:
 
     @property
     def has_escapes(self) -> bool:
-        """Whether a backslash in a string takes the next character with it."""
+        """Returns whether a backslash in a string takes the next character with it."""
         return self.state.has_escapes
 
     def prepared(self, text: str) -> str:

@@ -25,11 +25,11 @@ is_system_error e = is_memory e || is_failure e
 abbrev pub file_name_at : List (List ℕ) → ℕ → List ℕ
 file_name_at files k = get_or files k []
 
--- the cause behind the name of what it concerns
+-- the cause, after the name that it concerns
 abbrev pub cause_message : Archiving → ArchiveFault → List ℕ
 cause_message a (Library f) = file_message a.library (fault_text f)
 cause_message a (File k f) = file_message (file_name_at a.files k) (fault_text f)
 
--- the message of a refusal, by the names in the line; want of memory is said behind the library's name
+-- the message of an error, with the names of the command line; *out of memory* comes after the library's name
 abbrev pub error_message : Archiving → ArchiveFault → List ℕ
 error_message a e = if is_memory e then memory_line a.library else cause_message a e

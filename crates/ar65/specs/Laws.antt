@@ -1,4 +1,4 @@
--- What holds of the librarian, whatever the files.
+-- Laws of the librarian, whatever the files.
 use Rattle.std.specs.Prelude.{◌≡◌, ℕ, List, [], ◌∷◌, codes, map, Some, IfSome, Ok}
 use Rattle.std.specs.FinMap.{get}
 use Rattle.std.specs.List.{AllByRecursion}
@@ -27,22 +27,22 @@ files_read _ files = []
 abbrev pub HaveBytes : Files → List (List ℕ) → Type 0
 HaveBytes m names = AllByRecursion (λ name. IfSome (get m name) IsBytes) names
 
--- what a line reads are bytes: its library, and the FILEs that it puts in
+-- the files that a command line reads hold bytes: its library, and the FILEs that it adds
 abbrev pub ReadsBytes : Files → Archiving → Type 0
 ReadsBytes m a = HaveBytes m (a.library ∷ files_read a.operation a.files)
 
--- what a line comes to of any files is no fault from outside
+-- the result of a command line for any files is no system error
 abbrev pub ArchiveExists : Type 0
 ArchiveExists = (m : Files) (a : Archiving) → IsNoSystemError is_system_error (archived_of m a)
 
--- what `r` and `d` write is a library
+-- a library that `r` or `d` writes can be read
 abbrev pub EditsPreserveLibrary : Type 0
 EditsPreserveLibrary =
     (m : Files) (a : Archiving) (bytes : List ℕ) → ReadsBytes m a
     → archived_of m a ≡ Ok (archived.Library bytes)
     → (ms : List Member) × IsLibrary bytes ms
 
--- each of these files stands under its name
+-- each of these files is there under its name
 abbrev pub AreWritten : Files → List MemberFile → Type 0
 AreWritten m files = AllByRecursion (λ f. get m f.name ≡ Some f.bytes) files
 

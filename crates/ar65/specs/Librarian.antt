@@ -1,4 +1,4 @@
--- What the librarian makes of a library and files.
+-- The operations of the librarian on a library and files.
 use Rattle.std.specs.Prelude.{◌≡◌, ℕ, ◌+◌, List, [], ◌∷◌, ◌++◌, map, Option, Some, None, Result, Ok, Err, true}
 use Rattle.std.specs.FinMap.{get}
 use Rattle.std.specs.List.{flat_map, AllByRecursion}
@@ -35,7 +35,7 @@ abbrev pub last_part : List ℕ → Option (List ℕ × List ℕ) → List ℕ
 last_part file None = file
 last_part file (Some parts) = parts.1
 
--- what stands behind the last `/` of a file's name, or all of it where there is none
+-- the part of a file's name after its last `/`, or all of it if there is none
 abbrev pub member_name : List ℕ → List ℕ
 member_name file = last_part file (rsplit_once slash file)
 
@@ -128,6 +128,6 @@ done operation.Delete m a = deleted_by m a
 done operation.List m a = listed_by m a
 done operation.Extract m a = extracted_by m a
 
--- what a line comes to, or its first fault: first the library is read, then the FILEs are taken in order
+-- the result of a command line, or its first error: first the library is read, then the FILEs in order
 abbrev pub archived_of : Files → Archiving → Result Archived ArchiveFault
 archived_of m a = done a.operation m a

@@ -1,5 +1,5 @@
--- What a refusal names where the store failed: the library, or a FILE that is put in; and it is what the failed call
--- asked for, where the store tells that.
+-- The name in the message if the store failed: the library, or a FILE that is added; and that the failed call
+-- requested it, if the store tells that.
 use Rattle.std.specs.Prelude.{◌≡◌, ℕ, ◌⊎◌, List, slice_get, Some, true}
 use Rattle.base65.specs.Store.{FailedOn, LastFailure}
 use Rattle.library65.specs.declared.fault.LibraryFault.TheVariants.{FileError}

@@ -1,4 +1,4 @@
-//! What a line of the librarian comes to.
+//! The result of a command line of the librarian.
 
 ghost use Rattle.std.specs.Prelude.{◌≡◌, IfErr, IfSome, OnOk};
 ghost use Rattle.std.specs.FinMap as map;
@@ -19,7 +19,7 @@ use cli65::{ArchiveArgs, Operation};
 use library65::Library;
 use std::alloc::Global;
 
-/// What a line of the librarian comes to.
+/// The result of a command line of the librarian.
 #[derive(Drop)]
 pub enum Archived {
     /// The library's new bytes.
@@ -30,9 +30,9 @@ pub enum Archived {
     Members(ListVec<MemberFile>),
 }
 
-/// What a line comes to: the library anew, the names of its members, or members as files. No file
-/// is written. First the library is read, then the line's files are taken in order; the first fault
-/// in this order is the refusal.
+/// Returns the result of a command line: the new library, the names of its members, or members as
+/// files. Writes no file. First the library is read, then the line's files in order; the first
+/// error in this order is returned.
 #[tactic(auto, unfolding(crate::specs::Librarian::replaced_by, crate::specs::Librarian::deleted_by, crate::specs::Librarian::listed_by, crate::specs::Librarian::extracted_by))]
 pub fn archive<S: Store>(
     alloc: Global,

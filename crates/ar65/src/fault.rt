@@ -38,7 +38,7 @@ impl From<LibraryFault> for ArchiveFault {
 }
 
 impl ArchiveFault {
-    /// Whether memory ran out.
+    /// Returns whether memory ran out.
     pub fn is_memory(&self) -> bool
         ensures { result ≡ is_memory self.now }
     {

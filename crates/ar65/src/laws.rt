@@ -1,18 +1,18 @@
-//! What holds of the librarian, whatever the files. Each function's contract is a law.
+//! Laws of the librarian, whatever the files. Each function's contract is a law.
 
 ghost use Rattle.ar65.specs.Laws.{EditsPreserveLibrary, ArchiveNamingIsUnique, ExtractThenAddIsIdentity, ArchiveExists};
 
-/// Whatever the files, a line comes to something, or to a first fault that the files have.
+/// Whatever the files, a command line has a result or a first error of the files.
 pub fn archive_exists()
     ensures { ArchiveExists }
 {}
 
-/// What `r` and `d` write is a library.
+/// A library that `r` or `d` writes can be read.
 pub fn edits_preserve_library()
     ensures { EditsPreserveLibrary }
 {}
 
-/// What `x` takes apart, `r` puts together again: the same library, byte for byte.
+/// The files that `x` writes are put together by `r` to the same library, byte for byte.
 pub fn extract_then_add_is_identity()
     ensures { ExtractThenAddIsIdentity }
 {}

@@ -1,4 +1,4 @@
-//! The command ar65: what a line of it comes to.
+//! The command ar65: from its command line to its files and text.
 #![tactic(auto)]
 
 mod archiving;

@@ -20,7 +20,7 @@ use library65::{Library, LibraryFault};
 use object65::format::FILE_LIMIT;
 use std::alloc::{AllocError, Global};
 
-/// What stands behind the last `/` of a file's name, or all of it where there is none.
+/// Returns the part of a file's name after its last `/`, or all of it if there is none.
 fn member_name(file: &str) -> &str
     ensures { result.now ≡ member_name file.now }
 {

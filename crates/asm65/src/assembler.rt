@@ -38,10 +38,10 @@ impl Knows for Knowledge<'_> {
 #[derive(Drop)]
 pub struct Assembler {
     pub symbols: Symbols,
-    /// The forms of constants that were found by the symbol table as it stands.
+    /// The forms of constants found so far by the symbol table.
     pub known: NormCache,
     pub cursor: Cursor,
-    /// What statements put into sections, and what of them waits for the last line.
+    /// Section contents, declarations and pending fixups.
     pub sections: Sections,
     pub texts: ConsoleOutput,
 }

@@ -44,9 +44,9 @@ pub struct Define<'a> {
 pub struct AsmJob<'a> {
     /// The source's file.
     pub source: &'a str,
-    /// The folders in which included files are looked for, behind that of the file that includes them.
+    /// The folders in which included files are looked for, after that of the including file.
     pub include: &'a [PathString],
-    /// Constants of the global scope, which stand before the first line.
+    /// Constants of the global scope, defined before the first line.
     pub defines: &'a [Define<'a>],
 }
 
@@ -80,7 +80,7 @@ fn define_one(
     assembler.assemble_statement(alloc, at, Statement::Constant { name, value })
 }
 
-/// Takes the constants of a job, which stand before the first line.
+/// Defines the constants of a job, before the first line.
 pub fn define_all(
     alloc: Global,
     assembler: &mut Assembler,
@@ -119,7 +119,8 @@ fn refused_outside(alloc: Global, fault: AsmFault) -> Assembly
     }
 }
 
-/// The store failed behind some statements: what they say was said, and the place that was reached.
+/// Ends an assembly whose store failed after some statements, with their output and the location
+/// that was reached.
 fn stopped(expander: Expander, assembler: Assembler, fault: AsmFault) -> Assembly
     ensures none { IfOk result.result (λ _. ⊥) }
     ensures stopped { IfErr result.result (λ e. placed_of e ≡
@@ -143,7 +144,7 @@ fn stopped(expander: Expander, assembler: Assembler, fault: AsmFault) -> Assembl
     }
 }
 
-/// A fault at a place, behind what was said.
+/// Ends an assembly with an error at a location, after the output so far.
 fn refused(alloc: Global, assembler: Assembler, at: LocationRef<'_>, fault: AsmFault) -> Assembly
     ensures refused { is_system_error fault ≡ false → (t : State) → SaysAs t assembler →
         RefinesOutcome (outcome_of_state t (Some (record {
@@ -163,7 +164,8 @@ fn refused(alloc: Global, assembler: Assembler, at: LocationRef<'_>, fault: AsmF
     fail_at_line(alloc, assembler, at, fault)
 }
 
-/// A fault behind some statements, at the place that was reached, behind what was said.
+/// Ends an assembly with an error after some statements, at the location that was reached, after
+/// their output.
 fn refused_after(
     alloc: Global,
     expander: Expander,
@@ -207,7 +209,7 @@ fn opened<S: Store>(alloc: Global, store: &mut S, job: &AsmJob<'_>) -> Result<Ex
     Expander::open(alloc, store, job.source, &Options { include })
 }
 
-/// What the statements of an opened source come to.
+/// Assembles the statements of an opened source.
 fn finished<S: Store>(alloc: Global, store: &mut S, run: Run) -> Assembly
     requires { IsRunning run }
     ensures assembled { IfSome (S.files store.old) (λ m. (job : Job) (t : State) →
@@ -234,7 +236,7 @@ fn finished<S: Store>(alloc: Global, store: &mut S, run: Run) -> Assembly
     }
 }
 
-/// What a job comes to, behind an assembler that has taken nothing.
+/// Assembles a job with an assembler that has taken nothing.
 fn assembled<S: Store>(
     alloc: Global,
     store: &mut S,

@@ -27,7 +27,7 @@ use semantics65::{GLOBAL_SCOPE, LocationRef};
 use std::alloc::Global;
 use syntax65::{LineTokens, Token, TokenKind};
 
-/// How many tokens most lines have at most. For so many nothing is allocated.
+/// The number of tokens up to which nothing is allocated. Most lines have no more.
 const FEW_TOKENS: usize = 8;
 
 /// The refusal of a statement that objects can't hold. (What a statement holds is let go here, not
@@ -61,7 +61,7 @@ fn take_sound(
     }
 }
 
-/// Takes what stands behind a label.
+/// Takes the rest of a line after its label.
 pub fn assemble_rest<S: Store>(
     alloc: Global,
     store: &mut S,
@@ -126,14 +126,14 @@ fn take_label<S: Store>(
     assemble_rest(alloc, store, assembler, at, rest)
 }
 
-/// A line of a file: its label, if it has one, and what stands behind it.
+/// A line of a file: its label, if it has one, and the rest.
 #[derive(Clone, Copy)]
 pub struct Parts<'a, 'b> {
     pub label: &'b [Token<'a>],
     pub rest: &'b [Token<'a>],
 }
 
-/// Takes what stands behind a label, if anything does.
+/// Takes the rest of a line after its label, unless it is empty.
 #[inline(always)]
 fn take_after<S: Store>(
     alloc: Global,
@@ -259,7 +259,7 @@ fn next<S: Store>(run: &mut Run, store: &mut S) -> Result<Option<Given>, ExpandF
     run.expander.next(store, &knowledge)
 }
 
-/// Takes a statement where it stands.
+/// Takes a statement at its location.
 fn take_next<S: Store>(
     alloc: Global,
     store: &mut S,
@@ -277,7 +277,8 @@ fn take_next<S: Store>(
     take_given(alloc, store, &mut run.assembler, at, statement)
 }
 
-/// Takes the statements of the next line where it is one of a file, at hand, and given as it stands; whether it was.
+/// Takes the statements of the next line if it is a file's and is given unchanged. Returns whether
+/// it was.
 #[inline(always)]
 fn take_at_hand<S: Store>(alloc: Global, store: &mut S, run: &mut Run) -> Result<bool, AsmFault>
     requires { IsRunning run.old }
@@ -316,7 +317,7 @@ fn check_closed(run: &Run) -> Result<(), AsmFault>
     }
 }
 
-/// Takes the statements that are left, behind which no scope may be open.
+/// Takes the remaining statements, after which no scope may be open.
 pub fn assemble_all<S: Store>(alloc: Global, store: &mut S, run: &mut Run) -> Result<(), AsmFault>
     requires { IsRunning run.old }
     ensures ran { IfSome (S.files store.old) (λ m. (job : Job) (t : State) →

@@ -1,11 +1,11 @@
-//! What statements put into sections and what waits.
+//! Emits the pieces of statements into sections, or defers them.
 
 pub mod statements;
 pub mod values;
 
 use semantics65::{Context, LocationRef};
 
-/// Where a piece of a statement stands.
+/// The context of a piece of a statement.
 #[derive(Clone, Copy)]
 pub struct PieceContext<'a> {
     pub at: LocationRef<'a>,

@@ -25,8 +25,8 @@ use std::mem::replace;
 use symbols65::{LineState, check_unread};
 use syntax65::MAX_FILE;
 
-/// The bytes of a file that is looked for beside another one, if it is there. Of one with too many
-/// bytes one byte behind the limit is read.
+/// Reads a file in the folder of another one, if it is there. Of a file over the size limit one
+/// byte more than the limit is read.
 #[inline(never)]
 fn bytes_beside<S: Store>(
     alloc: Global,

@@ -1,4 +1,4 @@
-//! What stands behind the last line comes to an object, or to the first fault.
+//! Resolves the entries after the last line to an object, or to the first error.
 
 ghost use Rattle.std.specs.Prelude.{◌≡◌, ◌++◌, ◌∷◌, [], List, ℕ, IfOk, IfErr, None, Ok, OnOk, Some, length, map, nat_lt, string_bytes, true, false};
 ghost use Rattle.object65.specs.Objects.{is_well_formed_object, ObjectFits};
@@ -29,7 +29,7 @@ use std::alloc::{AllocError, Global};
 use std::mem;
 use symbols65::{NormCache, Symbols};
 
-/// What was found on the way through what waits.
+/// The results of resolving fixups so far.
 #[derive(Drop)]
 pub struct ResolveState {
     /// The forms of constants.
@@ -39,17 +39,17 @@ pub struct ResolveState {
     pub err: ListVec<u8>,
 }
 
-/// What is known behind the last line.
+/// The facts that are known after the last line.
 #[derive(Clone, Copy)]
 pub struct FinalTables<'a> {
     /// The symbol table of all statements.
     pub symbols: &'a Symbols,
-    /// The names of the files in which entries stand.
+    /// The names of the files that entries refer to.
     pub files: &'a [String],
 }
 
-/// What waited in a statement that stands here, as an entry, and its warning is said. Where it puts and says nothing, it is
-/// room of no byte.
+/// Returns the entry of a resolved fixup, and prints its warning. A fixup that emits and declares
+/// nothing becomes room of no byte.
 fn apply_resolved(
     err: &mut ListVec<u8>,
     spot: FixupLocation<'_>,
@@ -73,7 +73,7 @@ fn apply_resolved(
     }
 }
 
-/// What waits comes to its content, or to its fault.
+/// Resolves a fixup to its content, or to its error.
 fn settle_fixup(
     alloc: Global,
     whole: FinalTables<'_>,
@@ -114,7 +114,7 @@ fn settle_fixup(
     }
 }
 
-/// An entry that waits comes to its content where it stands, or to its fault.
+/// Resolves an entry in place if it is pending, or returns its error.
 fn settle(
     alloc: Global,
     whole: FinalTables<'_>,
@@ -143,7 +143,7 @@ fn settle(
     Ok(())
 }
 
-/// All entries come to their contents, in the order of the source, or to the first fault.
+/// Resolves all entries, in source order, up to the first error.
 fn settle_all(
     alloc: Global,
     whole: FinalTables<'_>,
@@ -163,7 +163,8 @@ fn settle_all(
     Ok(())
 }
 
-/// The object of sections, behind the last statement, or the first fault of what waits.
+/// Makes the object of the sections after the last statement, or returns the first error of a
+/// fixup.
 fn object_of(
     alloc: Global,
     symbols: &Symbols,
@@ -202,7 +203,7 @@ fn object_of(
     }
 }
 
-/// Whether memory ran out, or the store failed.
+/// Returns whether memory ran out, or the store failed.
 fn is_from_outside(answer: &Result<Object, Diagnostic>) -> bool
     ensures { result ≡ is_from_outside answer.now }
 {
@@ -234,7 +235,7 @@ fn answered(alloc: Global, answer: Result<Object, Diagnostic>, texts: ConsoleOut
     }
 }
 
-/// What is answered behind the last line: the object, or the first fault of what waits.
+/// Returns the result after the last line: the object, or the first error of a fixup.
 pub fn finish_assembly(alloc: Global, assembler: Assembler) -> Assembly
     requires { IsTable (table_of assembler.symbols) assembler.known.states.items }
     ensures concluded { (count : ℕ) (t : State) → Represents count t assembler →

@@ -39,7 +39,7 @@ pub enum NameUse {
     Exported { must: bool },
 }
 
-/// What waits of a name that is mentioned.
+/// Returns the pending piece of a name that is mentioned.
 fn piece_of(alloc: Global, mention: NameUse, name: &[u8]) -> Result<FixupKind, AllocError>
     ensures { IfOk result (λ p. piece_of p ≡ name_use_piece mention name.now) }
 {
@@ -124,7 +124,7 @@ impl Assembler {
         self.symbols.import(alloc, names, is_zero_page)
     }
 
-    /// Names that are mentioned wait, one behind the other.
+    /// Defers names that are mentioned, in order.
     #[inline(never)]
     pub fn mention(
         &mut self,
@@ -145,7 +145,7 @@ impl Assembler {
         Ok(())
     }
 
-    /// A constant waits whose form isn't final: its expression may have a fault.
+    /// Defers a constant whose form isn't final: its expression may have an error.
     fn enter_constant(
         &mut self,
         alloc: Global,
@@ -208,7 +208,7 @@ fn is_for_zero_page(size: AddressSize) -> bool
     matches!(size, AddressSize::ZeroPage)
 }
 
-/// What a label stands for: the address at which it stands.
+/// Returns the definition of a label: its address.
 fn label(context: Context, size: AddressSize) -> Definition
     ensures seen { (k : DefinedKey) → definition_seen k result ≡ label_at k context size }
     ensures form { result.form ≡ None }
@@ -222,7 +222,7 @@ fn label(context: Context, size: AddressSize) -> Definition
 }
 
 impl Assembler {
-    /// A label is defined where it stands.
+    /// Defines a label at the current address.
     #[inline(never)]
     pub fn define_label(
         &mut self,
@@ -325,7 +325,7 @@ impl Assembler {
         self.import(alloc, names, false)
     }
 
-    /// What a statement names becomes known, and what mentions names waits, where it puts nothing into a section.
+    /// Defines the names of a statement that emits nothing, and defers the names that it mentions.
     #[inline(always)]
     pub fn enter_names(
         &mut self,

@@ -1,4 +1,4 @@
-//! What waits comes to its content, by the symbol table of all statements.
+//! Resolves pending pieces by the symbol table of all statements.
 
 ghost use Rattle.std.specs.Prelude.{◌≡◌, ◌∷◌, ◌++◌, [], None, Some, Bool, Option, OnOk, IfOk, not, if◌then◌else◌};
 ghost use Rattle.std.specs.List.{list_any};
@@ -30,16 +30,16 @@ use symbols65::{Key, NormCache, Symbols, defined_norm, norm, operand_form};
 /// The names that were exported.
 pub type ExportedNames = IndexSet<Vec<u8>, Seed>;
 
-/// What a piece comes to.
+/// The result of a piece.
 #[derive(Drop)]
 pub struct ResolvedPiece {
-    /// What is put or said, if something is.
+    /// The content or declaration, if there is one.
     pub entry: Option<SectionEntry>,
     /// The text of an assertion that failed, where that is a warning.
     pub warning: Option<ListVec<u8>>,
 }
 
-/// Where a piece that waits stands: its place, in one of these files.
+/// The location of a pending piece, in one of these files.
 #[derive(Clone, Copy)]
 pub struct FixupLocation<'a> {
     pub files: &'a [String],
@@ -112,7 +112,7 @@ fn written(
     Ok(told(alloc, spot, said)?)
 }
 
-/// What a value of a list comes to: its bytes where it is a literal.
+/// Resolves a value of a list: to its bytes if it is a literal.
 fn use_datum(
     alloc: Global,
     width: Width,
@@ -147,7 +147,7 @@ fn use_datum(
     }
 }
 
-/// What an assertion comes to.
+/// Resolves an assertion.
 fn use_assertion(
     alloc: Global,
     action: Action,
@@ -195,7 +195,8 @@ fn enter_export(
     Ok(exported.insert(Vec::from_slice(alloc, name)?)?)
 }
 
-/// What an export of a name comes to that is defined at this place: its form, or nothing where it was exported before.
+/// Resolves an export of a name that is defined at this index: to its form, or to nothing if it was
+/// exported before.
 fn resolve_export(
     alloc: Global,
     symbols: &Symbols,
@@ -224,7 +225,7 @@ fn resolve_export(
     written(alloc, spot, Declaration::Exported { name, form })
 }
 
-/// What a piece that waits comes to, or its fault.
+/// Resolves a pending piece, or returns its error.
 pub fn resolve(
     alloc: Global,
     symbols: &Symbols,

@@ -58,7 +58,7 @@ fn are_names(names: &[ListVec<u8>]) -> bool
     names.iter().all(|name| is_name(name.as_slice()))
 }
 
-/// Whether objects can hold what a statement hands to them.
+/// Returns whether objects can hold what a statement hands to them.
 pub fn is_sound(statement: &Statement) -> bool
     ensures sound { result ≡ true → IsWellFormedStatement statement.now }
     ensures all { IsWellFormedStatement statement.now → result ≡ true }
@@ -74,7 +74,7 @@ pub fn is_sound(statement: &Statement) -> bool
     }
 }
 
-/// Where a statement stands, and what it places.
+/// The context of a statement, and its length.
 #[derive(Clone, Copy)]
 struct LaidOut {
     context: Context,
@@ -222,8 +222,8 @@ impl Assembler {
         }
     }
 
-    /// Finds what a statement places and where it stands, or its first fault; asks for its section,
-    /// says what it prints, and goes on behind it.
+    /// Computes the length and the context of a statement, or its first error; requests its
+    /// section, prints its output, and moves on.
     #[inline(always)]
     fn lay_out(
         &mut self,
@@ -259,8 +259,8 @@ impl Assembler {
         Ok(LaidOut { context, measured })
     }
 
-    /// Finds what an instruction places and where it stands, or its first fault; asks for its section,
-    /// and goes on behind it.
+    /// Computes the length and the context of an instruction, or its first error; requests its
+    /// section, and moves on.
     #[inline(always)]
     fn place_instruction(
         &mut self,
@@ -290,7 +290,7 @@ impl Assembler {
         Ok(LaidOut { context, measured })
     }
 
-    /// Takes an instruction behind other statements, as `take` does.
+    /// Takes an instruction, as `take` does.
     pub fn assemble_instruction(
         &mut self,
         alloc: Global,
@@ -316,7 +316,7 @@ impl Assembler {
         }
     }
 
-    /// Takes one statement behind the others. A fault of the statement leaves what is said as it was.
+    /// Takes one statement. An error of the statement leaves the output unchanged.
     pub fn assemble_statement(
         &mut self,
         alloc: Global,

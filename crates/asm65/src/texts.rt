@@ -1,4 +1,4 @@
-//! What is said while a source is assembled, and why it has no object.
+//! The output of an assembly, and the reason why it has no object.
 
 ghost use Rattle.std.specs.Prelude.{◌≡◌, [], false, true, unwrap_or, ◌++◌, codes, OnOk};
 ghost use Rattle.ast65.specs.Faults.{is_failure, is_system_error};
@@ -13,7 +13,7 @@ use itoa::Buffer;
 use semantics65::LocationRef;
 use std::alloc::{AllocError, Global};
 
-/// Whether the store failed.
+/// Returns whether the store failed.
 pub fn is_failure(fault: &AsmFault) -> bool
     ensures { result ≡ is_failure fault.now }
 {
@@ -23,7 +23,7 @@ pub fn is_failure(fault: &AsmFault) -> bool
     )
 }
 
-/// Whether memory ran out, or the store failed.
+/// Returns whether memory ran out, or the store failed.
 pub fn is_system_error(fault: &AsmFault) -> bool
     ensures { result ≡ is_system_error fault.now }
 {
@@ -80,7 +80,7 @@ impl Diagnostic {
         }
     }
 
-    /// Whether memory ran out, or the store failed.
+    /// Returns whether memory ran out, or the store failed.
     pub fn is_system_error(&self) -> bool
         ensures { result ≡ is_diagnostic_system_error self.now }
     {

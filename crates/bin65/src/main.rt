@@ -27,7 +27,7 @@ fn run_words(rt: &HostRuntime) -> io::Result<Status> {
     ))
 }
 
-/// What is said where no command could be run.
+/// Returns the message if no command could be run.
 fn text_of(error: &io::Error) -> &'static [u8] {
     match error.kind() {
         ErrorKind::OutOfMemory => b"bin65: Error: out of memory\n",

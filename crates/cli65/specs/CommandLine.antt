@@ -6,7 +6,7 @@ use Rattle.clap.specs.declared.builder.action.ArgAction.TheVariants.{Append, Set
 use Rattle.clap.specs.declared.builder.command.Command.{Command}
 use Rattle.clap.specs.declared.builder.command.Command.TheViews.{out-Command}
 
--- an option with one value, which may stand once
+-- an option with one value, which may occur once
 abbrev pub option_rule : Text → ℕ → Rule
 option_rule id short = record (new_rule id) { short = Some short }
 

@@ -1,4 +1,4 @@
--- What holds of words, whatever they are.
+-- Laws of command lines, whatever their words.
 use Rattle.std.specs.Prelude.{List}
 use Rattle.clap.specs.Words.{Text}
 use Rattle.base65.specs.SystemErrors.{IsNoSystemError}

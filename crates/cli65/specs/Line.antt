@@ -24,14 +24,14 @@ unless_kinds (k ∷ ks) x = Err BadArguments
 unfoldable pub clap_matches : List Text → Result (Option (Text × List Row)) LineFault
 clap_matches words = unless_kinds (fault_of bin65 words) (subcommand_of bin65 words)
 
--- what an ld65 line says
+-- the arguments of ld65
 pub record Linking : Type 0 where
   pub script : Text
   pub output : Option Text
   pub map : Option Text
   pub inputs : List Text
 
--- what a ca65 line says
+-- the arguments of ca65
 pub record Assembling : Type 0 where
   pub output : Option Text
   -- the folders in which includes are looked for, in order
@@ -40,13 +40,13 @@ pub record Assembling : Type 0 where
   pub defines : List Defining
   pub source : Text
 
--- what an ar65 line says
+-- the arguments of ar65
 pub record Archiving : Type 0 where
   pub operation : Operation
   pub library : Text
   pub files : List Text
 
--- what a line says
+-- the arguments of a command
 pub data CommandView : Type 0 where
   assemble : Assembling → CommandView
   link : Linking → CommandView
@@ -123,7 +123,7 @@ command_of_matches (Some p) = said_by p.0 p.1
 unfoldable pub line_of : List Text → Result CommandView LineFault
 line_of words = clap_matches words >>= command_of_matches
 
--- what a line says, without where its texts lie
+-- the arguments of ld65, as values without references
 abbrev pub linking : LinkArgs → Linking
 linking l = record { script = l.script.now; output = option_map (λ s. s.now) l.output; map = option_map (λ s. s.now) l.map; inputs = map (λ s. s.now) l.inputs }
 

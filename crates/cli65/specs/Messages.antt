@@ -4,7 +4,7 @@ use Rattle.std.specs.List.{flat_map}
 use Rattle.cli65.specs.declared.fault.LineFault.{LineFault}
 use Rattle.cli65.specs.declared.fault.LineFault.TheVariants as line
 
--- texts one behind the other
+-- the concatenation of texts
 abbrev pub concat_texts : List (List ℕ) → List ℕ
 concat_texts parts = flat_map (λ p. p) parts
 
@@ -12,7 +12,7 @@ concat_texts parts = flat_map (λ p. p) parts
 abbrev pub file_message : List ℕ → List ℕ → List ℕ
 file_message name words = concat_texts (name ∷ codes ": Error: " ∷ words ∷ codes "\n" ∷ [])
 
--- what is said of want of memory: `name: Error: out of memory`
+-- the message *out of memory*: `name: Error: out of memory`
 abbrev pub memory_line : List ℕ → List ℕ
 memory_line name = concat_texts (name ∷ codes ": Error: out of memory\n" ∷ [])
 

@@ -51,7 +51,7 @@ fn define<'a>(text: &'a str) -> Result<Define<'a>, LineFault>
     }
 }
 
-/// Where the first `=` stands.
+/// Returns the index of the first `=`.
 fn place_of_equal(bytes: &[u8]) -> Option<usize>
     ensures place { result ≡ position (λ b. b == 61) bytes.now }
     ensures inside { IfSome result (λ i. i < length bytes.now) }
@@ -69,7 +69,7 @@ fn check_name(name: &[u8]) -> Result<(), LineFault>
     Ok(())
 }
 
-/// Whether the bytes are an identifier that isn't reserved.
+/// Returns whether the bytes are an identifier that isn't reserved.
 #[tactic(auto, unfolding(crate::specs::Defining::is_constant_name))]
 fn is_constant_name(name: &[u8]) -> bool
     ensures { result ≡ is_constant_name name.now }
@@ -77,7 +77,7 @@ fn is_constant_name(name: &[u8]) -> bool
     begins_name(name) && are_word(name) && name.len() <= MAX_NAME && !is_reserved(name)
 }
 
-/// Whether the first byte is a letter or `_`.
+/// Returns whether the first byte is a letter or `_`.
 fn begins_name(name: &[u8]) -> bool
     ensures { result ≡ begins_name name.now }
 {
@@ -93,7 +93,7 @@ fn are_word(name: &[u8]) -> bool
     name.iter().all(|b| is_word(*b))
 }
 
-/// Whether the byte is a letter, a digit or `_`.
+/// Returns whether the byte is a letter, a digit or `_`.
 fn is_word(b: u8) -> bool
     ensures { result ≡ is_word b }
 {

@@ -1,4 +1,4 @@
-//! What holds of words, whatever they are. Each function's contract is a law.
+//! Laws of command lines, whatever their words. Each function's contract is a law.
 
 ghost use Rattle.cli65.specs.Laws.{LineExists};
 

@@ -35,7 +35,7 @@ pub struct AssembleArgs<'a> {
     pub source: &'a str,
 }
 
-/// What is done with a library.
+/// The operation on a library.
 #[derive(Clone, Copy)]
 pub enum Operation {
     /// `r`: objects are put in, each in the place of the member of its name, or else last.

@@ -8,7 +8,7 @@ use base65::ListVec;
 use itoa::Buffer;
 use std::alloc::{AllocError, Global};
 
-/// Texts one behind the other.
+/// Concatenates texts.
 pub fn join(alloc: Global, parts: &[&[u8]]) -> Result<ListVec<u8>, AllocError>
     ensures { IfOk result (λ text. text ≡ concat_texts (map (λ p. p.now) parts.now)) }
 {

@@ -1,4 +1,4 @@
--- What sections are fed with, and what stands in them.
+-- Slots and entries: what statements emit, and how sections represent it.
 use Rattle.std.specs.Prelude.{◌≡◌, ℕ, nat_lt, Bool, true, List, [], ◌∷◌, ◌++◌, map, nat_eq, length, string_bytes, IfSome, Result, Ok, Err}
 use Rattle.std.specs.List.{flat_map, list_all, list_any}
 use Rattle.std.specs.Global.{Vec}
@@ -32,8 +32,9 @@ names_of s = map (λ k. k.items) s.keys
 
 -- ---- Alike contents: they come to the same object.
 
--- Lists of contents that bring the same imports in the same order, put the same bytes, room and values into each
--- segment, whatever stands before and behind them, with the same files in the same order, and say the same.
+-- Two lists of contents are alike: they bring the same imports in the same order, put the same bytes, room
+-- and values into each segment, whatever comes before and after them, use the same files in the same order,
+-- and make the same declarations.
 pub record AreAlike (cs ds : List Content) : Type 0 where
   pub imports : (names : List (List ℕ)) →
       flat_map (content_imports names) cs ≡ flat_map (content_imports names) ds
@@ -45,7 +46,7 @@ pub record AreAlike (cs ds : List Content) : Type 0 where
 
 -- ---- Alike slots: they come to alike contents, or to the same fault.
 
--- what a slot holds, nothing so far where it waits
+-- the content of a slot; a pending one has none so far
 abbrev pub so_far : Slot → Content
 so_far (resolved c) = c
 so_far (deferred w) = declaration_content []
@@ -64,18 +65,18 @@ pub record ComeAlike (a b : Resolution) : Type 0 where
   pub found : AreFoundAlike a.found b.found
   pub warned : a.warned ≡ b.warned
 
--- What they hold is alike, and so is what they come to, by any symbol table and behind exports of any names.
+-- Their contents are alike, and so are their results, by any symbol table and after exports of any names.
 pub record AreSlotsAlike (xs ys : List Slot) : Type 0 where
   pub held : AreAlike (contents_so_far xs) (contents_so_far ys)
   pub come : (y : Symbols) (names : List (List ℕ)) → ComeAlike (resolution_of y names xs) (resolution_of y names ys)
 
 -- ---- Entries, of which some wait.
 
--- where something stands, in one of these files
+-- a location, with the file of this index
 abbrev pub place_by : List (List ℕ) → SourcePos → SourceLocation
 place_by files o = place_in (name_of files o.file) o.line
 
--- a piece that waits, as the definitions have it
+-- a pending piece, as the definitions have it
 abbrev pub piece_of : FixupKind → piece.Piece
 piece_of (Datum width e) = piece.valued (piece.datum width) e
 piece_of (Operand width e) = piece.valued (piece.operand width) e
@@ -85,7 +86,7 @@ piece_of (Import n) = piece.imported n
 piece_of (ForcedImport n) = piece.demanded n
 piece_of (Export must n) = piece.exported must n
 
--- a slot for it, of a statement that stands here
+-- a slot for a pending piece of a statement at this location
 abbrev pub waiting : SourceLocation → Context → FixupKind → Slot
 waiting place s p = deferred (record { place = place; context = s; piece = piece_of p })
 
@@ -97,7 +98,7 @@ fixup_of files w = record {
   piece = piece_of w.piece;
 }
 
--- an entry as a content, with these files; one that waits has nothing so far
+-- an entry as a content, with these files; a pending one has no content so far
 abbrev pub content_of : List (List ℕ) → SectionEntry → Content
 content_of files (Bytes g bytes) = section_part g (Known bytes)
 content_of files (Reserve g n) = section_part g (Filled n)
@@ -110,7 +111,7 @@ abbrev pub slot_of : List (List ℕ) → SectionEntry → Slot
 slot_of files (FixupEntry w) = deferred (fixup_of files w.value)
 slot_of files e = resolved (content_of files e)
 
--- the file in which an entry stands is one of so many, where the object may need it
+-- the file index of an entry is below this, if the object may need it
 abbrev pub stands_in : ℕ → SectionEntry → Bool
 stands_in count (Value width g o f) = nat_lt o.file count
 stands_in count (DeclarationEntry t) = nat_lt t.value.pos.file count
@@ -123,13 +124,13 @@ stands_in count _ = true
 abbrev pub names_in : Files → List (List ℕ)
 names_in t = map string_bytes t.table.keys
 
--- names with others behind them
+-- one list of names is a prefix of another
 abbrev pub IsPrefix : (names more : List (List ℕ)) → Type 0
 IsPrefix names more = (later : List (List ℕ)) × (more ≡ names ++ later)
 
 -- ---- Entries in the making, and sections.
 
--- what may still grow: bytes and room behind them
+-- the part that may still grow: bytes and room after them
 abbrev pub growing : Entries → List Content
 growing t = section_part t.segment (Known t.bytes) ∷ section_part t.segment (Filled t.room) ∷ []
 
@@ -137,7 +138,7 @@ growing t = section_part t.segment (Known t.bytes) ∷ section_part t.segment (F
 abbrev pub slots_in : List (List ℕ) → Entries → List Slot
 slots_in files t = map (slot_of files) t.done.items ++ map resolved (growing t)
 
--- the files in which entries stand are among so many
+-- the file indices of all entries are below this
 abbrev pub StandIn : ℕ → List SectionEntry → Type 0
 StandIn count es = list_all (stands_in count) es ≡ true
 

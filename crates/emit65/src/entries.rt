@@ -1,4 +1,4 @@
-//! What was fed, in the order of the source: parts of sections, what is said, and what waits.
+//! Section contents, declarations and pending fixups, in source order.
 
 ghost use Rattle.std.specs.Prelude.{◌≡◌, ◌+◌, ℕ, List, [], ◌∷◌, length, map, true, OnOk, IfOk};
 ghost use Rattle.semantics65.specs.Contents.{Filled, Known, section_part};
@@ -12,23 +12,24 @@ use semantics65::Declaration;
 use std::alloc::{AllocError, Global};
 use std::mem;
 
-/// Where something stands that may be written: the file's place among those in which something stands, and the line.
+/// The source location of a part that may be written to an object: the index of its file, and the
+/// line.
 #[derive(Clone, Copy)]
 pub struct SourcePos {
     pub file: u32,
     pub line: u32,
 }
 
-/// One thing that a statement says, and where that stands.
+/// One declaration of a statement, with its location.
 #[derive(Drop)]
 pub struct LocatedDeclaration {
     pub pos: SourcePos,
     pub said: Declaration,
 }
 
-/// A part of a section, what is said, or what waits. Of a large source most of what is kept are these, so they are small:
-/// fields lie in memory in the order in which they stand here, and the width of a value fits in beside what tells the
-/// variants apart.
+/// A part of a section, a declaration, or a pending fixup. A large source has very many entries, so
+/// they are small: fields lie in memory in this order, and the width of a value is stored beside
+/// the variant's tag.
 #[derive(Drop)]
 pub enum SectionEntry {
     /// Bytes of the section of a segment.
@@ -36,7 +37,7 @@ pub enum SectionEntry {
         segment: u32,
         bytes: ListVec<u8>,
     },
-    /// So many bytes there of the linker's fill value.
+    /// This many bytes of the linker's fill value.
     Reserve {
         segment: u32,
         count: u32,
@@ -48,13 +49,14 @@ pub enum SectionEntry {
         pos: SourcePos,
         form: Norm,
     },
-    /// What is said. It is large, and few entries say something.
+    /// A declaration. It is large and rare.
     DeclarationEntry(Box<LocatedDeclaration>),
-    /// What waits. It is large, and few entries wait.
+    /// A pending fixup. It is large and rare.
     FixupEntry(Box<Fixup>),
 }
 
-/// Entries in the order of the source. Those put last, bytes and room behind them in one section, may still grow.
+/// Entries in source order. The last ones, bytes and room after them in one section, may still
+/// grow.
 #[derive(Drop)]
 pub struct Entries {
     pub alloc: Global,
@@ -153,7 +155,7 @@ impl Entries {
         Ok(())
     }
 
-    /// Adds room of so many bytes to the section of a segment.
+    /// Reserves `count` bytes in the section of a segment.
     pub fn add_room(&mut self, segment: u32, count: u32) -> Result<(), AllocError>
         ensures { OnOk result (AppendsSlots self.old self.new (resolved (section_part segment (Filled count)) ∷ [])) }
     {

@@ -1,4 +1,4 @@
-//! The names of files in which something stands or waits.
+//! The names of source files that entries refer to.
 
 ghost use Rattle.std.specs.Prelude.{◌≡◌, IfOk, IfSome, Some, length, map, slice_get, string_bytes};
 ghost use Rattle.std.specs.List.{IsDistinct};
@@ -28,7 +28,7 @@ impl Files {
         }
     }
 
-    /// The names, none of which stands twice.
+    /// Returns the names, each once.
     pub fn names(&self) -> &[String]
         ensures names { map string_bytes result.now ≡ names_in self.now }
         ensures distinct { IsDistinct bytes_eq (names_in self.now) }

@@ -1,4 +1,4 @@
-//! What waits for the names of all statements.
+//! Fixups, which are resolved once all names are known.
 
 use crate::entries::SourcePos;
 use base65::ListVec;
@@ -6,7 +6,7 @@ use object65::{Action, Width};
 use semantics65::Context;
 use syntax65::Expr;
 
-/// What waits of a statement.
+/// The piece of a statement that is pending.
 #[derive(Drop)]
 pub enum FixupKind {
     /// A value of a list.
@@ -37,7 +37,7 @@ pub enum FixupKind {
     },
 }
 
-/// A piece of a statement that waits, and where the statement stands.
+/// A pending piece of a statement, with the statement's location.
 #[derive(Drop)]
 pub struct Fixup {
     pub pos: SourcePos,

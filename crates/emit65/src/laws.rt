@@ -1,4 +1,4 @@
-//! What callers may rely on about what was fed.
+//! Laws of slots and entries that callers may use.
 
 ghost use Rattle.std.specs.Prelude.{◌≡◌, List};
 ghost use Rattle.semantics65.specs.Module.{Slot};

@@ -1,4 +1,4 @@
-//! Sections in the making, and the object that they come to.
+//! The contents of sections as they are assembled, and the object made of them.
 #![tactic(auto)]
 
 mod entries;

@@ -120,7 +120,7 @@ fn import_names(
     Ok(found)
 }
 
-/// What was fed, by section, and the numbers of what it names.
+/// The contents by section, and the numbers of the names in them.
 #[derive(Drop)]
 pub struct Numbered {
     pub numbers: Numbers,

@@ -19,7 +19,7 @@ use semantics65::{Context, LocationRef, Segment};
 use std::alloc::{AllocError, Global};
 
 impl Files {
-    /// Where something stands, by its file's place.
+    /// Returns a location with the index of its file.
     fn pos_of(&mut self, alloc: Global, at: LocationRef<'_>) -> Result<SourcePos, AllocError>
         ensures more { IsPrefix (names_in self.old) (names_in self.new) }
         ensures listed { IfOk result (λ o. o.file < length (names_in self.new)) }
@@ -42,7 +42,7 @@ pub struct Sections {
     asked: IndexSet<u32>,
     /// One of these, which was asked for last.
     latest: Option<u32>,
-    /// The files in which values, what is said and what waits stand.
+    /// The files of values, declarations and fixups.
     files: Files,
     entries: Entries,
 }
@@ -82,7 +82,7 @@ impl Sections {
         Ok(())
     }
 
-    /// Puts so many bytes of one value into the section of a segment.
+    /// Adds `count` bytes of one value to the section of a segment.
     pub fn fill(&mut self, segment: u32, count: u32, byte: u8) -> Result<(), AllocError>
         ensures { OnOk result (AppendsSlot self.old self.new
             (resolved (section_part segment (Known (replicate count byte))))) }
@@ -93,7 +93,7 @@ impl Sections {
         Ok(())
     }
 
-    /// Puts room of so many bytes into the section of a segment, which the linker fills.
+    /// Reserves `count` bytes, which the linker fills, in the section of a segment.
     pub fn reserve_bytes(&mut self, segment: u32, count: u32) -> Result<(), AllocError>
         ensures { OnOk result (AppendsSlot self.old self.new (resolved (section_part segment (Filled count)))) }
     {
@@ -101,7 +101,8 @@ impl Sections {
         Ok(())
     }
 
-    /// Puts a value that the linker computes into the section of a segment. Its statement stands at this place.
+    /// Adds a value that the linker computes to the section of a segment, with its statement's
+    /// location.
     pub fn value(
         &mut self,
         segment: u32,
@@ -122,7 +123,8 @@ impl Sections {
         Ok(())
     }
 
-    /// Leaves room for what a piece of a statement comes to, which waits here. The statement stands at this place.
+    /// Records a fixup for a piece of a statement, to be resolved after the last line, with the
+    /// statement's location.
     pub fn defer(
         &mut self,
         at: LocationRef<'_>,
@@ -143,7 +145,7 @@ impl Sections {
         Ok(())
     }
 
-    /// What was fed, behind the last statement.
+    /// Closes the sections after the last statement.
     pub fn close(self) -> Result<ClosedSections, AllocError>
         ensures { IfOk result (λ t. (xs : List Slot) → RepresentsSlots xs self → HasSlots xs t) }
     {
@@ -162,19 +164,19 @@ impl Sections {
     }
 }
 
-/// What was fed, behind the last statement, where entries no longer grow.
+/// The sections after the last statement; entries no longer grow.
 #[derive(Drop)]
 pub struct ClosedSections {
     /// The segments of which a section was asked for.
     pub asked: IndexSet<u32>,
-    /// The files in which entries stand.
+    /// The files that entries refer to.
     pub files: Files,
     pub entries: Vec<SectionEntry>,
 }
 
 impl ClosedSections {
-    /// The object of a module: of its segments, the names of its imports in the order of their keys, and what was fed, of
-    /// which nothing waits any more.
+    /// Makes the object of a module, from its segments, the names of its imports in the order of
+    /// their keys, and the entries, none of which is pending.
     pub fn finish(
         self,
         alloc: Global,

@@ -39,12 +39,13 @@ is_failure _ = false
 abbrev pub is_system_error : LinkCommandFault → Bool
 is_system_error e = is_memory e || is_failure e
 
--- what a fault is that is met at the object at a place of the line: one of the object's own is named by the place
+-- the error of the command for an error at the object at an index of the command line: one of the object's
+-- own is named by the index
 abbrev pub refusal_at : ℕ → LinkFault → LinkCommandFault
 refusal_at k (link.Malformed f) = Object k f
 refusal_at k f = Link f
 
--- what a fault is that is met at a library's member: one of its own is named by its module
+-- the error of the command for an error at a library's member: one of its own is named by its module
 abbrev pub refusal_in : List ℕ → LinkFault → LinkCommandFault
 refusal_in name (link.Malformed f) = Member name f
 refusal_in name link.IndexDisagrees = Disagrees name

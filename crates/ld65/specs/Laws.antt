@@ -1,4 +1,4 @@
--- What holds of links by lines, whatever the files.
+-- Laws of the linker's command lines, whatever the files.
 use Rattle.std.specs.Prelude.{◌≡◌, ◌≢◌, ◌+◌, ◌-◌, List, length, Some, Result, Ok, IfSome}
 use Rattle.std.specs.FinMap.{get}
 use Rattle.std.specs.List.{AllByRecursion}
@@ -13,13 +13,13 @@ use Rattle.ld65.specs.Naming.{IsOfLine}
 use Rattle.ld65.specs.Faults.{is_system_error, error_message}
 use Rattle.ld65.specs.declared.fault.LinkCommandFault.{LinkCommandFault}
 
--- by any script, what a line asks for of any files comes to something, and to no fault from outside
+-- by any script a command line has a result for any files, and that is no system error
 abbrev pub ScriptedLinkExists : Type 0
 ScriptedLinkExists =
     (m : Files) (l : Linking) (s : Script) →
     (r : Result Linked LinkCommandFault) × IsLinkedBy m l s r × IsNoSystemError is_system_error r
 
--- so does what it asks for by the script that it names
+-- the same of a command line, by the script that it names
 abbrev pub CommandLinkExists : Type 0
 CommandLinkExists =
     (m : Files) (l : Linking) →
@@ -32,7 +32,7 @@ TellsPart m c =
     (es : List Entry) → index_in m c.name ≡ Ok es →
     AllByRecursion (λ e. c.at ≢ Some (e.place + e.size)) es × IfSome (get m c.name) (λ bytes. c.at ≢ Some (length bytes - 1))
 
--- so a call that failed has one message at most
+-- a call that failed has at most one message
 abbrev pub LinkNamingIsUnique : Type 0
 LinkNamingIsUnique =
     (m : Files) (l : Linking) (c : FailedCall) (e f : LinkCommandFault) → TellsPart m c →

@@ -1,4 +1,4 @@
--- What the command makes of a script, objects and libraries.
+-- The result of the command for a script, objects and libraries.
 use Rattle.std.specs.Prelude.{◌≡◌, ℕ, ◌+◌, ◌-◌, ◌^◌, List, [], ◌∷◌, ◌++◌, take, slice_get, Bool, true, false, Option, Some, None, unwrap_or, Result, Ok, Err, codes}
 use Rattle.std.specs.FinMap.{get}
 use Rattle.std.specs.List.{flat_map}
@@ -53,8 +53,8 @@ output_of l = unwrap_or l.output (codes "a.out")
 
 -- ---- One object more behind other modules.
 
--- An object that is linked: where it stands, the name of its module, and its entry in a library's index, if it is a
--- library's member.
+-- An object to link: its offset in a file, the name of its module, and its entry in a library's index, if it
+-- is a member of one.
 pub record Input : Type 0 where
   pub file : List ℕ
   pub begin : ℕ
@@ -81,8 +81,8 @@ member_input library e =
 abbrev pub object_in : Files → Input → Result Object ObjectFault
 object_in m i = in_file (get m i.file) (object_at i.begin i.end)
 
--- The object behind other modules: first its own faults count, then an entry that disagrees with it, then a name that
--- is given again.
+-- The object added to other modules. Its own errors come first, then an index entry that disagrees with it,
+-- then a name that is defined twice.
 abbrev pub added_in : Script → List Module → Files → Input → Result Object LinkFault
 added_in s before m i = as_link (object_in m i) >>= agreeing_object i.entry >>= joined_to s before i.name
 
@@ -111,9 +111,9 @@ chosen_at es place = option_map_or (λ e. e ∷ []) (slice_get es place) []
 abbrev pub selected_entries : List Entry → List ℕ → List Entry
 selected_entries es places = flat_map (chosen_at es) places
 
--- The members of an index that the modules before the library need, in the order in which they stand: the first exporters
--- of the least set of names that has what these leave open, and with each name what its first exporter imports and
--- they don't define.
+-- The members of an index that the modules before the library need, in file order: the first exporters of the
+-- names in a least set. The set has the names that these modules leave undefined; and with each name those
+-- that its first exporter imports and that they don't define.
 abbrev pub AreNeeded : Script → Files → List ℕ → List Module → List Entry → Result (List Module) LinkCommandFault → Type 0
 AreNeeded s m library before es r =
     (places : List ℕ) × IsSelection es (open_names s (program_of before)) (given_names s (program_of before)) places
@@ -122,7 +122,7 @@ AreNeeded s m library before es r =
 abbrev pub index_in : Files → List ℕ → Result (List Entry) LibraryFault
 index_in m library = in_library (get m library) index_at
 
--- the needed members of a library at a place of the line, behind other modules
+-- the needed members of a library at an index of the command line, added to other modules
 abbrev pub IsLibraryInput : Script → Files → ℕ → List Module → List ℕ → Result (List Module) LinkCommandFault → Type 0
 IsLibraryInput s m k before library r = AndThen (as_library k (index_in m library)) (AreNeeded s m library before) r
 
@@ -140,13 +140,13 @@ abbrev pub ByKind : Bool → Type 0 → Type 0 → Type 0
 ByKind true Library Object = Library
 ByKind false Library Object = Object
 
--- the modules behind an input at a place of the line
+-- the modules after an input at an index of the command line
 abbrev pub IsInput : Script → Files → ℕ → List Module → List ℕ → Result (List Module) LinkCommandFault → Type 0
 IsInput s m k before name r =
     ByKind (is_library_in m name) (IsLibraryInput s m k before name r) (r ≡ with_file s m k before name)
 
--- The modules of inputs behind others, the first of them at a place of the line; or the first fault of the first input
--- that has one.
+-- The modules after inputs, of which the first has this index in the command line; or the first error of the
+-- first input that has one.
 abbrev pub AreInputs : Script → Files → ℕ → List Module → List (List ℕ) → Result (List Module) LinkCommandFault → Type 0
 AreInputs s m k before [] r = r ≡ Ok before
 AreInputs s m k before (name ∷ names) r =
@@ -154,11 +154,11 @@ AreInputs s m k before (name ∷ names) r =
 
 -- ---- The link.
 
--- what modules come to
+-- the result of linking modules
 abbrev pub LinksTo : Linking → Script → List Module → Result Linked LinkCommandFault → Type 0
 LinksTo l s ms r = (q : Result Linked LinkFault) × LinkOf (output_of l) s ms q × (r ≡ as_refusal q)
 
--- the modules of a line's inputs, and what they come to
+-- the modules of a command line's inputs, and the result of linking them
 abbrev pub IsInputLink : Files → Linking → Script → Result Linked LinkCommandFault → Type 0
 IsInputLink m l s r = (q : Result (List Module) LinkCommandFault) × AreInputs s m 0 [] l.inputs q × AndThen q (LinksTo l s) r
 
@@ -166,7 +166,7 @@ IsInputLink m l s r = (q : Result (List Module) LinkCommandFault) × AreInputs s
 abbrev pub IsLinkedBy : Files → Linking → Script → Result Linked LinkCommandFault → Type 0
 IsLinkedBy m l s r = AndThen (as_refusal (names_once s (program_of []))) (λ u. IsInputLink m l s) r
 
--- What a line asks for, or why it isn't linked: first the script, then the inputs, then what they are linked to.
+-- The result of a command line, or its first error: of the script, then of the inputs, then of the link.
 abbrev pub IsLinked : Files → Linking → Result Linked LinkCommandFault → Type 0
 IsLinked m l r =
     AndThen (text_of (get m l.script)) (λ text u. (q : Result Script ScriptFault) × IsScript text q × AndThen (as_script q) (IsLinkedBy m l) u) r

@@ -1,5 +1,6 @@
--- What a refusal names where the store failed, and that it is what the failed call asked for, where the store tells that.
--- Where the store tells its files, it is that at whose turn the failure came: all before it was read, and is as it should be.
+-- The name in the message if the store failed, and that the failed call requested that file, if the store
+-- tells it. If the store tells its files, it is the file being read: all before it were read, without an
+-- error.
 use Rattle.std.specs.Prelude.{◌≡◌, ℕ, ◌+◌, ◌⊎◌, List, [], slice_get, take, Option, Some, true, false, Ok, IfSome}
 use Rattle.std.specs.FinMap.{get}
 use Rattle.base65.specs.Store.{Files, FailedOn, FailedWithin, LastFailure}
@@ -21,7 +22,7 @@ use Rattle.ld65.specs.Faults.{is_failure}
 
 -- ---- One input, behind the modules of those before it.
 
--- the front of the input that stands here in the line, by which it is a library or an object
+-- the front of the input at this index of the command line, by which it is a library or an object
 abbrev pub IsOfFront : LastFailure → ℕ → List ℕ → LinkCommandFault → Type 0
 IsOfFront last_failure place name e = (e ≡ Object place object.FileError) × FailedWithin last_failure name 0 4
 

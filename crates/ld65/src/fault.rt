@@ -68,7 +68,7 @@ impl From<LinkFault> for LinkCommandFault {
 }
 
 impl LinkCommandFault {
-    /// Whether memory ran out.
+    /// Returns whether memory ran out.
     pub fn is_memory(&self) -> bool
         ensures { result ≡ is_memory self.now }
     {

@@ -1,13 +1,15 @@
-//! What holds of links by lines, whatever the files. Each function's contract is a law.
+//! Laws of the linker's command lines, whatever the files. Each function's contract is a law.
 
 ghost use Rattle.ld65.specs.Laws.{LinkNamingIsUnique, CommandLinkExists, ScriptedLinkExists};
 
-/// By any script a line comes to files, warnings and a map, or to a first fault of the files.
+/// By any script a command line has a result: files, warnings and a map, or a first error of the
+/// files.
 pub fn scripted_link_exists()
     ensures { ScriptedLinkExists }
 {}
 
-/// Any line comes to files, warnings and a map, or to a first fault of its script or of the files.
+/// Any command line has a result: files, warnings and a map, or a first error of its script or of
+/// the files.
 pub fn command_link_exists()
     ensures { CommandLinkExists }
 {}

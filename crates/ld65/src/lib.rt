@@ -1,4 +1,4 @@
-//! The command ld65: what a line of it comes to.
+//! The command ld65: from its command line to the linked files.
 #![tactic(auto)]
 
 mod fault;

@@ -30,8 +30,8 @@ use object65::{ObjectFault, RecordReader, check_end, read_head};
 use script65::{Script, read_script};
 use std::alloc::Global;
 
-/// An object that is fed: where it stands in a file, the name of its module, and its entry in a library's index, if it
-/// is a member of one.
+/// An object to feed: its offset in a file, the name of its module, and its entry in a library's
+/// index, if it is a member of one.
 #[derive(Clone, Copy)]
 pub struct ObjectInput<'a> {
     pub file: &'a str,
@@ -42,8 +42,8 @@ pub struct ObjectInput<'a> {
     pub entry: Option<&'a Entry>,
 }
 
-/// Feeds the records of the module that was opened, which stand in its file behind its head, up to its END, and
-/// answers where the END ends. The head says the version and where the records begin.
+/// Feeds the records of the open module, after its head up to its END. Returns the offset after the
+/// END. The head has the version and the offset of the first record.
 fn feed_records<S: Store>(
     store: &mut S,
     linker: &mut Linker,
@@ -109,7 +109,7 @@ pub fn feed_object<S: Store>(
 /// With these bytes a library begins.
 const LIBRARY: [u8; 4] = [0x52, 0x36, 0x35, 0x6c];
 
-/// Whether a file begins as a library.
+/// Returns whether a file begins as a library.
 fn is_library<S: Store>(store: &mut S, name: &str) -> Result<bool, ObjectFault>
     ensures read { IfSome (S.files store.old) (λ m. Refines is_object_system_error (λ b. b) result (in_file (get m name.now) (λ bytes. Ok (is_library bytes)))) }
     ensures frame { StoreFrame S.files S.failures S.last_failure FileError name.now store.old store.new result }
@@ -189,10 +189,10 @@ fn feed_inputs<S: Store>(
     Ok(())
 }
 
-/// A script has at most so many bytes.
+/// The largest size of a script, in bytes.
 const SCRIPT_LIMIT: usize = 1_048_576;
 
-/// What the inputs of a line come to by a script.
+/// Links the inputs of a command line by a script.
 fn link_inputs<S: Store>(
     alloc: Global,
     store: &mut S,
@@ -224,9 +224,10 @@ fn read_text<S: Store>(
     Ok(ListVec::from_vec(read_front(alloc, store, name, SCRIPT_LIMIT + 1)?))
 }
 
-/// What the script and the inputs of a line are linked to: the files of areas, what is warned of, and the map. No
-/// file is written. First the script is read, then the inputs in order, and then they are linked; the first fault
-/// in this order is the refusal. Of a library only the members are linked that are needed where it stands.
+/// Links the script and the inputs of a command line. Returns the files of areas, the warnings and
+/// the map; writes no file. First the script is read, then the inputs in order, and then they are
+/// linked; the first error in this order is returned. Of a library only the members are linked that
+/// are needed at its position.
 pub fn link_files<S: Store>(
     alloc: Global,
     store: &mut S,

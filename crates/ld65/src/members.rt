@@ -45,7 +45,7 @@ fn index_of<S: Store>(
     }
 }
 
-/// Where the members stand in an index that the script and the modules fed so far need.
+/// Returns the indices of the members that the script and the modules fed so far need.
 fn places_of(alloc: Global, linker: &Linker, index: &Index) -> Result<Vec<usize>, LinkCommandFault>
     ensures chosen { IfOk result (λ places. AreChosen index.now.entries places.items linker.now) }
     ensures memory { (modules : List Module) → IsFed linker.now modules → IfErr result (λ e. is_memory e ≡ true) }

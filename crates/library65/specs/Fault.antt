@@ -13,7 +13,7 @@ of_store store.OutOfMemory = OutOfMemory
 of_store store.FileNotFound = FileNotFound
 of_store store.FileError = FileError
 
--- what an object's fault is of a member
+-- the error of a member, for an error of its object
 abbrev pub of_object : ObjectFault → LibraryFault
 of_object object.OutOfMemory = OutOfMemory
 of_object _ = NotAnObject

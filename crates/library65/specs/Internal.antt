@@ -1,3 +1,3 @@
--- What only the contracts within the crate cite: definitions in the terms of its code.
+-- Definitions in terms of the code, for contracts within the crate alone.
 pub mod Contents
 pub mod Searching

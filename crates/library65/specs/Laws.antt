@@ -1,4 +1,4 @@
--- What holds of indexes and libraries, whatever made them.
+-- Laws of indexes and libraries, whatever made them.
 use Rattle.std.specs.Prelude.{◌≡◌, ℕ, List, [], Ok}
 use Rattle.base65.specs.SystemErrors.{IsNoSystemError}
 use Rattle.object65.specs.Record.{IsBytes}
@@ -26,23 +26,23 @@ pub record EditExists : Type 0 where
   pub deleted : (ms : List Member) (name : List ℕ) → IsNoSystemError is_system_error (deleted_of ms name)
   pub written : (before : List ℕ) (ms : List Member) → IsNoSystemError is_system_error (written_after before ms)
 
--- what is read as an index is spelled so
+-- bytes that are read as an index are its encoding
 abbrev pub IndexReadLaw : Type 0
 IndexReadLaw = (bytes : List ℕ) (es : List Entry) → IsBytes bytes → index_at bytes ≡ Ok es → IsIndex bytes es
 
--- what is spelled as an index is read as that index
+-- the encoding of an index is read as that index
 abbrev pub IndexSpellingLaw : Type 0
 IndexSpellingLaw = (bytes : List ℕ) (es : List Entry) → IsIndex bytes es → index_at bytes ≡ Ok es
 
--- what is spelled as a library is loaded as that library
+-- the encoding of a library is loaded as that library
 abbrev pub LibrarySpellingLaw : Type 0
 LibrarySpellingLaw = (bytes : List ℕ) (ms : List Member) → IsLibrary bytes ms → library_at bytes ≡ Ok ms
 
--- what is written of members that make a library is a library of them
+-- the bytes that are written of a library's members are a library of them
 abbrev pub WrittenLaw : Type 0
 WrittenLaw = (ms : List Member) (bytes : List ℕ) → IsMemberList ms → bytes_within_limit ms ≡ Ok bytes → IsLibrary bytes ms
 
--- what is loaded as a library is spelled so
+-- bytes that are loaded as a library are its encoding
 abbrev pub LibraryReadLaw : Type 0
 LibraryReadLaw = (bytes : List ℕ) (ms : List Member) → IsBytes bytes → library_at bytes ≡ Ok ms → IsLibrary bytes ms
 

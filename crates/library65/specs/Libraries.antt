@@ -28,7 +28,7 @@ abbrev pub with_member : List Member → List ℕ → List ℕ → List Member
 with_member [] name bytes = (name, bytes) ∷ []
 with_member (m ∷ ms) name bytes = if bytes_eq name m.0 then (m.0, bytes) ∷ ms else m ∷ with_member ms name bytes
 
--- the others behind the member of a name
+-- the members without that of a name
 abbrev pub without_member : List Member → List ℕ → List Member
 without_member [] name = []
 without_member (m ∷ ms) name = if bytes_eq name m.0 then ms else m ∷ without_member ms name
@@ -51,7 +51,7 @@ object_in bytes = as_member (object_at 0 (length bytes) bytes)
 abbrev pub contents_from : Object → Contents
 contents_from o = record { exports = map (λ e. e.name) o.exports; imports = o.imports }
 
--- what the object that the bytes are exports and imports
+-- the exports and imports of the object in the bytes
 unfoldable pub contents_in : List ℕ → Result Contents LibraryFault
 contents_in bytes = object_in bytes >>= (λ o. Ok (contents_from o))
 
@@ -82,7 +82,7 @@ has_index_names e c = are_same e.exports c.exports && are_same e.imports c.impor
 abbrev pub piece_at : ℕ → ℕ → List ℕ → Result (List ℕ) LibraryFault
 piece_at size place bytes = if nat_lt (length (take size (drop place bytes))) size then Err CutShort else Ok (take size (drop place bytes))
 
--- what the object of an entry's member exports and imports: the names that the entry has
+-- the exports and imports of the object of an entry's member: the names that the entry has
 unfoldable pub indexed_contents : Entry → List ℕ → Result Contents LibraryFault
 indexed_contents e found = do
   contents ← member_contents e.name found
@@ -110,7 +110,7 @@ abbrev pub or_none : Result Contents LibraryFault → Contents
 or_none (Ok c) = c
 or_none (Err e) = record { exports = []; imports = [] }
 
--- what the index says of a member
+-- a member in the index
 abbrev pub member_listing : Member → List ℕ
 member_listing m = let c = or_none (contents_in m.1) in listing_bytes m.0 (length m.1) c.exports c.imports
 
@@ -133,11 +133,11 @@ member_of e = (e.0.items, e.1.bytes.items)
 abbrev pub members_of : {S : Type 0} → IndexMap (Vec ℕ) Stored S → List Member
 members_of m = map member_of m.entries
 
--- what is kept of a member is so
+-- a member is stored correctly
 abbrev pub IsStored : Vec ℕ × Stored → Type 0
 IsStored e = (member_contents e.0.items e.1.bytes.items ≡ Ok e.1.contents) × AreSymbols e.1.contents
 
--- what a library keeps to
+-- the invariant of a library
 pub record IsWellFormedMember {S : Type 0} (m : IndexMap (Vec ℕ) Stored S) : Type 0 where
   pub names : are_member_names (member_names (members_of m)) ≡ true
   pub stored : AllByRecursion IsStored m.entries

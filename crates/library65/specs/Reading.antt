@@ -10,7 +10,7 @@ use Rattle.library65.specs.declared.fault.LibraryFault.{LibraryFault}
 use Rattle.library65.specs.declared.fault.LibraryFault.TheVariants.{NotALibrary, CutShort, BadIndex, FileNotFound}
 use Rattle.library65.specs.Spelling.{is_among, is_member_name, is_name, library_head}
 
--- what is read of a file's bytes, or that there is no such file
+-- the result of reading a file's bytes, or that there is no such file
 abbrev pub in_file : {A : Type 0} → Option (List ℕ) → (List ℕ → Result A LibraryFault) → Result A LibraryFault
 in_file None read = Err FileNotFound
 in_file (Some bytes) read = read bytes
@@ -22,7 +22,8 @@ head_of head = if nat_lt (length head) 5 || not (bytes_eq head library_head) the
 abbrev pub head_at : List ℕ → Result (Unit {0}) LibraryFault
 head_at bytes = head_of (take 5 bytes)
 
--- Of so many bytes from a place on these are there. One past the limit of a file stands before the end.
+-- The bytes from an offset on, of which this many are requested. A position past the size limit is reported
+-- before the end of the file.
 abbrev pub piece_or_cut_short : ℕ → ℕ → List ℕ → Result (List ℕ) LibraryFault
 piece_or_cut_short n at found = if nat_lt file_limit (at + length found) then Err BadIndex else if nat_lt (length found) n then Err CutShort else Ok found
 
@@ -34,7 +35,7 @@ number_at at bytes = do
   field ← field_at 4 at bytes
   Ok (little_number 4 field)
 
--- a name behind its length, and where it ends
+-- a length and a name, and the offset after it
 unfoldable pub name_at : ℕ → List ℕ → Result (List ℕ × ℕ) LibraryFault
 name_at at bytes = do
   len ← field_at 1 at bytes
@@ -47,12 +48,12 @@ symbol_at at bytes = do
   name ← name_at at bytes
   if is_name name.0 then Ok name else Err BadIndex
 
--- so many more names behind those before
+-- this many more names, after those read before
 abbrev pub symbols_at : ℕ → List (List ℕ) → ℕ → List ℕ → Result (List (List ℕ) × ℕ) LibraryFault
 symbols_at zero before at bytes = Ok (before, at)
 symbols_at (suc n) before at bytes = symbol_at at bytes >>= (λ s. symbols_at n (before ++ s.0 ∷ []) s.1 bytes)
 
--- names behind their number
+-- a number and that many names
 unfoldable pub counted_at : ℕ → List ℕ → Result (List (List ℕ) × ℕ) LibraryFault
 counted_at at bytes = do
   count ← number_at at bytes
@@ -75,7 +76,7 @@ listing_at names at bytes = do
   imports ← counted_at exports.1 bytes
   Ok (listing name.0 size exports.0 imports.0, imports.1)
 
--- what is said of so many more members behind those before
+-- this many more entries, after those read before
 abbrev pub listings_at : ℕ → List UnplacedEntry → ℕ → List ℕ → Result (List UnplacedEntry × ℕ) LibraryFault
 listings_at zero before at bytes = Ok (before, at)
 listings_at (suc n) before at bytes = listing_at (map (λ m. m.name) before) at bytes >>= (λ m. listings_at n (before ++ m.0 ∷ []) m.1 bytes)
@@ -83,7 +84,8 @@ listings_at (suc n) before at bytes = listing_at (map (λ m. m.name) before) at 
 abbrev pub entry_at : ℕ → UnplacedEntry → Entry
 entry_at at m = record { name = m.name; place = at; size = m.size; exports = m.exports; imports = m.imports }
 
--- the members one behind the other, and where the last one ends; none ends past the limit of a file
+-- the members in order with their offsets, and the offset after the last one; none ends past the size limit
+-- of a file
 abbrev pub members_with_offsets : List Entry → ℕ → List UnplacedEntry → Result (List Entry × ℕ) LibraryFault
 members_with_offsets before at [] = Ok (before, at)
 members_with_offsets before at (m ∷ ms) = if nat_lt file_limit (at + m.size) then Err BadIndex else members_with_offsets (before ++ entry_at at m ∷ []) (at + m.size) ms
@@ -92,11 +94,11 @@ members_with_offsets before at (m ∷ ms) = if nat_lt file_limit (at + m.size) t
 abbrev pub end_at : ℕ → List ℕ → Result (Unit {0}) LibraryFault
 end_at end bytes = if nat_lt (length bytes) end then Err CutShort else if nat_lt end (length bytes) then Err BadIndex else Ok tt
 
--- the number of members, behind the head
+-- the number of members, after the head
 abbrev pub count_at : List ℕ → Result ℕ LibraryFault
 count_at bytes = head_at bytes >>= (λ u. number_at 5 bytes)
 
--- what is said of all members, and where that ends
+-- the entries of all members, and the offset after them
 unfoldable pub list_at : List ℕ → Result (List UnplacedEntry × ℕ) LibraryFault
 list_at bytes = do
   count ← count_at bytes

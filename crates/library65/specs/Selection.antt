@@ -11,7 +11,7 @@ use Rattle.object65.specs.Objects.{is_among}
 abbrev pub first_exporter : List Entry → List ℕ → Option ℕ
 first_exporter es name = position_from (λ e. is_among e.exports name) 0 es
 
--- what the member at a place imports
+-- the imports of the member at an index
 abbrev pub imports_at : List Entry → ℕ → List (List ℕ)
 imports_at es place = option_map_or (λ e. e.imports) (slice_get es place) []
 
@@ -24,7 +24,7 @@ pub record IsClosed (es : List Entry) (wanted defined : List (List ℕ)) (has : 
   pub begins : (name : List ℕ) → is_among wanted name ≡ true → is_among defined name ≡ false → has name ≡ true
   pub goes_on : (name other : List ℕ) (place : ℕ) → has name ≡ true → first_exporter es name ≡ Some place → is_among (imports_at es place) other ≡ true → is_among defined other ≡ false → has other ≡ true
 
--- each place is below those behind it
+-- the list is strictly increasing
 abbrev pub IsRising : List ℕ → Type 0
 IsRising [] = ⊤
 IsRising (i ∷ is) = AllByRecursion (λ j. i < j) is × IsRising is
@@ -40,7 +40,7 @@ pub record IsSelection (es : List Entry) (wanted defined : List (List ℕ)) (pla
 
 -- ---- What holds of selections, whatever made them.
 
--- what is wanted has one selection at most
+-- a list of wanted names has at most one selection
 abbrev pub SelectionIsUnique : Type 0
 SelectionIsUnique = (es : List Entry) (wanted defined : List (List ℕ)) (a b : List ℕ) → IsSelection es wanted defined a → IsSelection es wanted defined b → a ≡ b
 

@@ -38,7 +38,8 @@ pub record AreSymbols (c : Contents) : Type 0 where
   pub exports : list_all is_name c.exports ≡ true
   pub imports : list_all is_name c.imports ≡ true
 
--- a part is put behind what was there, or refused: for want of memory, or since so many bytes would pass the limit
+-- A part is appended; or it is rejected, since memory ran out or the limit of this many bytes would be
+-- exceeded.
 abbrev pub AppendsBytes : List ℕ → ℕ → List ℕ → List ℕ → Result (Unit {0}) LibraryFault → Type 0
 AppendsBytes part total old new (Ok u) = new ≡ old ++ part
 AppendsBytes part total old new (Err OutOfMemory) = ⊤
@@ -51,15 +52,15 @@ AppendsBytes part total old new (Err _) = ⊥
 abbrev pub library_head : List ℕ
 library_head = 0x52 ∷ 0x36 ∷ 0x35 ∷ 0x6c ∷ 0x01 ∷ []
 
--- a name behind its length
+-- the length of a name, and the name
 abbrev pub name_bytes : List ℕ → List ℕ
 name_bytes name = length name ∷ name
 
--- names behind their number
+-- the number of names and, for each, its length and its bytes
 abbrev pub names_bytes : List (List ℕ) → List ℕ
 names_bytes names = little_bytes 4 (length names) ++ flat_map name_bytes names
 
--- what is said of a member: its name, its size, what it exports and what it imports
+-- a member in the index: its name, its size, its exports and its imports
 abbrev pub listing_bytes : List ℕ → ℕ → List (List ℕ) → List (List ℕ) → List ℕ
 listing_bytes name size exports imports = name_bytes name ++ (little_bytes 4 size ++ (names_bytes exports ++ names_bytes imports))
 
@@ -70,7 +71,7 @@ entry_bytes e = listing_bytes e.name e.size e.exports e.imports
 abbrev pub index_bytes : List Entry → List ℕ
 index_bytes es = library_head ++ (little_bytes 4 (length es) ++ flat_map entry_bytes es)
 
--- members stand one behind the other from a place on
+-- members follow each other from an offset on
 abbrev pub StandFrom : ℕ → List Entry → Type 0
 StandFrom at [] = ⊤
 StandFrom at (e ∷ es) = (e.place ≡ at) × StandFrom (at + e.size) es

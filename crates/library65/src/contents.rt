@@ -1,4 +1,4 @@
-//! What the object in a member's bytes exports and imports.
+//! The exports and imports of the object in a member's bytes.
 
 ghost use Rattle.std.specs.Prelude.{◌≡◌, Ok, IfOk, map, true, ◌≤◌, length, IfErr, OnOk};
 ghost use Rattle.base65.specs.Outcome.{Refines};
@@ -18,14 +18,15 @@ use base65::{ListVec, Seed};
 use object65::{Export, Item, Object, ObjectFault, Record, Scan, decode_head, decode_record};
 use std::alloc::Global;
 
-/// What an object exports and imports, in its order.
+/// The exports and imports of an object, in its order.
 #[derive(Drop)]
 pub struct Contents {
     pub exports: ListVec<ListVec<u8>>,
     pub imports: ListVec<ListVec<u8>>,
 }
 
-/// What a member of this name and these bytes exports and imports. The space takes the object's records in turn.
+/// Returns the exports and imports of a member with this name and these bytes. The buffer holds one
+/// record at a time.
 #[tactic(auto, unfolding(crate::specs::Libraries::member_contents, crate::specs::Libraries::contents_in, object65::specs::Reading::object_at))]
 pub fn check_member(
     alloc: Global,
@@ -47,7 +48,7 @@ pub fn check_member(
     Ok(contents)
 }
 
-/// Whether these are the same names in the same order.
+/// Returns whether these are the same names in the same order.
 pub fn are_same(names: &[ListVec<u8>], others: &[ListVec<u8>]) -> bool
     ensures { result ≡ are_same names.now others.now }
 {
@@ -62,7 +63,7 @@ pub fn are_same(names: &[ListVec<u8>], others: &[ListVec<u8>]) -> bool
     true
 }
 
-/// Whether an entry has the names that the object exports and imports.
+/// Returns whether an entry has the names that the object exports and imports.
 pub fn agrees(entry: &Entry, contents: &Contents) -> bool
     ensures { result ≡ has_index_names entry.now contents.now }
 {
@@ -70,12 +71,12 @@ pub fn agrees(entry: &Entry, contents: &Contents) -> bool
         && are_same(entry.imports.as_slice(), contents.imports.as_slice())
 }
 
-/// What the members of a library are read with, one after the other.
+/// The buffers for reading members, one after the other.
 #[derive(Drop)]
 pub struct ReadBuffers {
     /// Their records take it in turn.
     pub record: Record,
-    /// What tables of names begin with.
+    /// The seed of the hash tables of names.
     pub seed: Seed,
 }
 

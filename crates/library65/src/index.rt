@@ -1,4 +1,4 @@
-//! What a library's index says, and which names may stand in it.
+//! The index of a library, and the names that may occur in it.
 
 ghost use Rattle.std.specs.Prelude.{◌≡◌, map, ◌++◌, ◌∷◌, [], Ok, false};
 ghost use Rattle.object65.specs.Objects.{is_among, is_printed};
@@ -15,20 +15,20 @@ use std::alloc::Global;
 /// Names, each once.
 pub type Names = IndexSet<Vec<u8>>;
 
-/// Whether a name is there.
+/// Returns whether a name is there.
 pub fn has_name(names: &IndexSet<Vec<u8>>, name: &[u8]) -> bool
     ensures { result ≡ is_among (map (λ n. n.items) names.now.keys) name.now }
 {
     names.contains(name)
 }
 
-/// What an index says of a member.
+/// A member in an index.
 #[derive(Drop)]
 pub struct Entry {
     pub name: ListVec<u8>,
     /// Where the member's bytes begin in the library's file.
     pub place: u64,
-    /// How many bytes it has.
+    /// Its size in bytes.
     pub size: u32,
     /// The names that it exports, in its order.
     pub exports: ListVec<ListVec<u8>>,
@@ -36,13 +36,13 @@ pub struct Entry {
     pub imports: ListVec<ListVec<u8>>,
 }
 
-/// The index of a library: its members in the order in which they stand.
+/// The index of a library: its members in file order.
 #[derive(Drop)]
 pub struct Index {
     pub entries: ListVec<Entry>,
 }
 
-/// What an index says of a member whose place isn't known yet.
+/// A member in an index, before its offset is known.
 #[derive(Drop)]
 pub struct UnplacedEntry {
     pub name: ListVec<u8>,
@@ -57,7 +57,7 @@ fn is_printed_name(name: &[u8]) -> bool
     name.iter().all(|b| 0x20 < *b && *b < 0x7f)
 }
 
-/// Whether an export or an import may have the name.
+/// Returns whether an export or an import may have the name.
 pub fn is_symbol_name(name: &[u8]) -> bool
     ensures { result ≡ is_name name.now }
 {
@@ -71,7 +71,7 @@ fn is_plain_name(name: &[u8]) -> bool
         .all(|b| !(*b < 0x20) && !(*b == 0x7f) && !(*b == b'/'))
 }
 
-/// Whether a member may have the name.
+/// Returns whether a member may have the name.
 pub fn is_file_name(name: &[u8]) -> bool
     ensures { result ≡ is_member_name name.now }
 {

@@ -1,4 +1,4 @@
-//! The index of a library, read from its file, and where its members stand.
+//! Reads the index of a library from its file, and computes the offsets of the members.
 
 ghost use Rattle.std.specs.Prelude.{◌≡◌, ◌≤◌, ◌<◌, ◌+◌, ◌-◌, length, IfOk, OnOk, IfSome, IsErrOf, ◌++◌, ◌∷◌, [], ℕ, List, map, Ok, false};
 ghost use Rattle.std.specs.FinMap as map;
@@ -61,7 +61,7 @@ fn read_number<S: Store>(store: &mut S, file: &str, at: u64) -> Result<u32, Libr
     Ok(LittleEndian::read_u32(&bytes))
 }
 
-/// Reads a name behind its length, and answers where it ends.
+/// Reads a length and a name. Returns the offset after it.
 #[tactic(auto, unfolding(crate::specs::Reading::name_at))]
 fn read_name<S: Store>(
     alloc: Global,
@@ -85,7 +85,7 @@ fn read_name<S: Store>(
     Ok((name, at + 1 + len as u64))
 }
 
-/// Reads names of exports or imports behind their number, and answers where they end.
+/// Reads a number and that many names of exports or imports. Returns the offset after them.
 fn read_symbols<S: Store>(
     alloc: Global,
     store: &mut S,
@@ -147,7 +147,7 @@ fn read_listing<S: Store>(
     ))
 }
 
-/// Reads the number of members behind the head; a file that doesn't begin as a library is refused.
+/// Reads the number of members after the head. Rejects a file without the head of a library.
 fn read_count<S: Store>(store: &mut S, file: &str) -> Result<u32, LibraryFault>
     ensures read { IfSome (S.files store.old) (λ m. Refines is_system_error (λ n. n) result (in_file (map.get m file.now) count_at)) }
     ensures bytes { IfSome (S.files store.old) (λ m. HoldsBytes (map.get m file.now) result) }
@@ -190,7 +190,7 @@ fn read_list<S: Store>(
     Ok((members, end))
 }
 
-/// The members one behind the other, and where the last one ends.
+/// Returns the members in order with their offsets, and the offset after the last one.
 fn place_members(
     alloc: Global,
     members: Vec<UnplacedEntry>,

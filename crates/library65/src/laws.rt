@@ -1,4 +1,4 @@
-//! What holds of libraries and selections, whatever made them. Each function's contract is a law.
+//! Laws of libraries and selections, whatever made them. Each function's contract is a law.
 
 ghost use Rattle.library65.specs.Laws.{IndexReadLaw, IndexSpellingLaw, LibraryReadLaw, LibrarySpellingLaw, LibrarySpellingIsUnique, EditExists, IndexExists, LibraryExists, StockLaw, WrittenLaw};
 ghost use Rattle.library65.specs.Selection.{GrowingSelectionLaw, SelectionIsUnique, SelectionExists};
@@ -23,27 +23,28 @@ pub fn edit_exists()
     ensures { EditExists }
 {}
 
-/// What is spelled as an index is read as that index.
+/// The encoding of an index is read as that index.
 pub fn index_is_read()
     ensures { IndexSpellingLaw }
 {}
 
-/// What is spelled as a library is loaded as that library.
+/// The encoding of a library is loaded as that library.
 pub fn library_is_loaded()
     ensures { LibrarySpellingLaw }
 {}
 
-/// What is written of members that make a library is a library of them, and so they are loaded again.
+/// The bytes that are written of a library's members are a library of them, which can be loaded
+/// again.
 pub fn written_is_a_library()
     ensures { WrittenLaw }
 {}
 
-/// What is read as an index is spelled so.
+/// Bytes that are read as an index are its encoding.
 pub fn read_index_is_spelled()
     ensures { IndexReadLaw }
 {}
 
-/// What is loaded as a library is spelled so.
+/// Bytes that are loaded as a library are its encoding.
 pub fn loaded_is_spelled()
     ensures { LibraryReadLaw }
 {}
@@ -53,12 +54,12 @@ pub fn edits_leave_a_library()
     ensures { StockLaw }
 {}
 
-/// What is wanted has one selection at most.
+/// A list of wanted names has at most one selection.
 pub fn selection_is_unique()
     ensures { SelectionIsUnique }
 {}
 
-/// What is wanted has a selection.
+/// A list of wanted names has a selection.
 pub fn selection_exists()
     ensures { SelectionExists }
 {}

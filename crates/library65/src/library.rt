@@ -24,11 +24,11 @@ use object65::format::FILE_LIMIT;
 use std::alloc::{AllocError, Global};
 use std::marker::Model;
 
-/// What is kept of a member.
+/// A member in memory.
 #[derive(Drop)]
 pub struct Stored {
     pub bytes: Vec<u8>,
-    /// What the object that the bytes are exports and imports.
+    /// The exports and imports of the object in the bytes.
     pub contents: Contents,
 }
 

@@ -110,7 +110,7 @@ fn join_member<S: Store>(
     Ok(())
 }
 
-/// Reads all members of a library, one by one in the order in which they stand.
+/// Reads all members of a library, in file order.
 pub fn read_members<S: Store>(
     alloc: Global,
     store: &mut S,

@@ -58,7 +58,7 @@ impl<'a> Exporters<'a> {
         self.by_name.get(name).copied()
     }
 
-    /// What the member at a place imports.
+    /// Returns the imports of the member at an index.
     pub fn imports(&self, place: usize) -> &'a [ListVec<u8>]
         ensures { result.now ≡ imports_at self.now.entries.now place }
     {
@@ -171,9 +171,9 @@ pub fn marked_places(alloc: Global, marks: &[bool]) -> Result<Vec<usize>, AllocE
     Ok(places)
 }
 
-/// The members that a link needs: those that export first the names of the least set that has what is wanted and
-/// isn't defined, and with each name what its first exporter imports and isn't defined. Their places rise.
-/// Only want of memory is answered instead.
+/// Returns the members that a link needs: the first exporters of the names in a least set. The set
+/// has the wanted names that aren't defined; and with each name those that its first exporter
+/// imports and that aren't defined. The indices rise. The only error is *out of memory*.
 pub fn select(
     alloc: Global,
     index: &Index,

@@ -35,7 +35,7 @@ fn put_number(out: &mut Vec<u8>, number: u32) -> Result<(), AllocError>
     Ok(())
 }
 
-/// Adds a name behind its length.
+/// Appends the length of a name, and the name.
 fn put_name(out: &mut Vec<u8>, name: &[u8]) -> Result<(), AllocError>
     requires { length name.now < 256 }
     ensures { OnOk result (out.new.items ≡ out.old.items ++ name_bytes name.now) }
@@ -45,7 +45,7 @@ fn put_name(out: &mut Vec<u8>, name: &[u8]) -> Result<(), AllocError>
     Ok(())
 }
 
-/// Adds names behind their number, each behind its length.
+/// Appends the number of names and, for each, its length and its bytes.
 fn put_names(out: &mut Vec<u8>, names: &[ListVec<u8>]) -> Result<(), LibraryFault>
     requires { list_all is_name names.now ≡ true }
     ensures { AppendsBytes (names_bytes names.now) (length (names_bytes names.now)) out.old.items out.new.items result }

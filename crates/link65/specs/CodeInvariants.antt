@@ -1,4 +1,4 @@
--- What the code keeps of a program while its modules come.
+-- The code's representation of a program while its modules are fed.
 use Rattle.std.specs.Prelude.{List, map, replicate, [], ◌∷◌, ◌≡◌, ◌≤◌, ℕ, ◌++◌, position, Option, Some, if◌then◌else◌, ⊤}
 use Rattle.std.specs.List.{flat_map}
 use Rattle.link65.specs.declared.parts.SegmentContent.{SegmentContent}
@@ -23,7 +23,7 @@ piece_cells (Waits w) = waits w ∷ []
 abbrev pub cells_of : List SegmentPiece → List Cell
 cells_of pieces = flat_map piece_cells pieces
 
--- the values that wait in a piece
+-- the values of a piece that need addresses
 abbrev pub piece_fixups : SegmentPiece → List ValueFixup
 piece_fixups p = flat_map fixups_in (piece_cells p)
 
@@ -35,7 +35,7 @@ segments_from cs = map segment_from cs
 
 -- ---- What the code keeps of a program while its modules come.
 
--- a segment with so many bytes of the fill value behind, that don't count yet
+-- a segment followed by bytes of the fill value that don't count yet
 abbrev pub with_gap : ℕ → Segment → Segment
 with_gap gap g = record { name = g.name; size = g.size; align = g.align; cells = g.cells ++ replicate gap filled }
 

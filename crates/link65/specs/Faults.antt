@@ -15,7 +15,8 @@ abbrev pub is_memory : LinkFault → Bool
 is_memory OutOfMemory = true
 is_memory _ = false
 
--- the fault of a module that is no object, or of placement, as one of the link: want of memory is the link's own
+-- an error of a module that is no object, or of placement, as an error of the link; *out of memory* is the
+-- link's own
 abbrev pub of_object : ObjectFault → LinkFault
 of_object f = if is_object_memory f then OutOfMemory else Malformed f
 
@@ -55,14 +56,14 @@ display_text (OutOfRange s) = codes "out of range"
 display_text (NoValue s) = codes "zero divisor or bad shift count"
 display_text IndexDisagrees = codes "index disagrees with member"
 
--- what stands between names and one behind them
+-- the separator between names and a further one
 abbrev pub separator_after : List (List ℕ) → List ℕ
 separator_after [] = []
 separator_after (name ∷ names) = codes ", "
 
 -- ---- Which faults a call of a linker answers at all, where none before it was refused.
 
--- a refusal is want of memory or one of the call's own
+-- an error is *out of memory* or one of the call's own
 abbrev pub RefusesBy : {A : Type 0} → (LinkFault → Bool) → Result A LinkFault → Type 0
 RefusesBy is_own r = IfErr r (λ e. (is_memory e || is_own e) ≡ true)
 
@@ -78,7 +79,7 @@ is_of_end fault.IndexDisagrees = true
 is_of_end (fault.DuplicateExport name) = true
 is_of_end _ = false
 
--- names that nobody gives, segments that aren't placed, and what a value or an assertion comes to
+-- undefined names, segments that aren't placed, and errors of values and assertions
 abbrev pub is_of_finish : LinkFault → Bool
 is_of_finish (fault.Unresolved names) = true
 is_of_finish (fault.Place f) = true

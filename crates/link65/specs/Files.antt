@@ -13,7 +13,7 @@ use Rattle.script65.specs.declared.placement.RowPlacement.{RowPlacement}
 
 -- ---- What lies in an area's file.
 
--- bytes, and how far behind the file's first byte they begin
+-- bytes, and their offset in the file
 pub record RowPiece : Type 0 where
   pub offset : ℕ
   pub bytes : List ℕ
@@ -33,7 +33,7 @@ loaded_in k (r ∷ rs) (p ∷ ps) = if is_loaded k r then record { row = r; plac
 loaded_in k [] ps = []
 loaded_in k (r ∷ rs) [] = []
 
--- how far behind an area's start a row is loaded
+-- the offset from an area's start at which a row is loaded
 abbrev pub offset_of : ℕ → PlacedRow → ℕ
 offset_of start p = p.place.load - start
 
@@ -49,7 +49,7 @@ abbrev pub area_pieces : ℕ → RowBytes → List PlacedRow → List RowPiece
 area_pieces start bytes [] = []
 area_pieces start bytes (p ∷ ps) = record { offset = offset_of start p; bytes = bytes p.row } ∷ area_pieces start bytes ps
 
--- behind the last row of a size above 0, or as before where there is none
+-- the end of the last row of a size above 0; unchanged if there is none
 abbrev pub end_after : ℕ → ℕ → List PlacedRow → ℕ
 end_after start before [] = before
 end_after start before (p ∷ ps) = end_after start (if p.place.size == 0 then before else offset_of start p + p.place.size) ps
@@ -70,13 +70,13 @@ abbrev pub byte_over : List RowPiece → ℕ → ℕ → ℕ
 byte_over [] i before = before
 byte_over (p ∷ ps) i before = byte_over ps i (laid_over i p.offset p.bytes before)
 
--- so many bytes: those of the pieces, and the fill in gaps
+-- a file of this length: the bytes of the pieces, and the fill value in gaps
 pub record IsImage (len fill : ℕ) (pieces : List RowPiece) (image : List ℕ) : Type 0 where
   pub size : length image ≡ len
   pub bytes : (i : ℕ) → i < len → get_or image i 0 ≡ byte_over pieces i fill
 
--- The file of an area that is placed so, by the rows that are loaded there: byte i is that at the address i behind the
--- area's start.
+-- The file of a placed area, from the rows that are loaded there: its byte i is that at the address i after
+-- the area's start.
 abbrev pub IsFileBy : RowBytes → MemoryArea → AreaPlacement → List PlacedRow → List ℕ → Type 0
 IsFileBy bytes a place ps image = IsImage (file_len a place ps) a.fill_value (area_pieces place.start bytes ps) image
 
@@ -98,18 +98,18 @@ abbrev pub file_name : List ℕ → AreaOutput → List ℕ
 file_name output file.Output = output
 file_name output (file.Named name) = if is_utf8 name then name else []
 
--- bytes behind those of the file of a name, or as a new file behind the others
+-- bytes appended to the file of a name, or as a new file after the others
 abbrev pub with_bytes : List ℕ → List ℕ → List OutputFile → List OutputFile
 with_bytes name bytes [] = record { name = name; bytes = bytes } ∷ []
 with_bytes name bytes (f ∷ fs) =
     if bytes_eq name f.name then record { name = f.name; bytes = f.bytes ++ bytes } ∷ fs else f ∷ with_bytes name bytes fs
 
--- the files behind an area, whose file may have no name: then nothing is written
+-- the files after an area is added; if its file has no name, nothing is written
 abbrev pub AddsArea : Bool → List ℕ → (List ℕ → Type 0) → List OutputFile → List OutputFile → Type 0
 AddsArea true name IsFile before after = after ≡ before
 AddsArea false name IsFile before after = (image : List ℕ) × IsFile image × (after ≡ with_bytes name image before)
 
--- the files behind areas, of which the first stands at a place of the script
+-- the files after areas are added, of which the first has this index in the script
 abbrev pub AddsAreas : List ℕ → (ℕ → MemoryArea → List ℕ → Type 0) → ℕ → List MemoryArea → List OutputFile → List OutputFile → Type 0
 AddsAreas output IsFile k [] before after = after ≡ before
 AddsAreas output IsFile k (a ∷ rest) before after =

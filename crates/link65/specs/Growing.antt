@@ -25,7 +25,7 @@ pub record PartialProgram : Type 0 where
 abbrev pub sections_in : State → List Section
 sections_in s = map section_from s.drafts
 
--- a program with so much of a module behind it
+-- a program followed by the part of a module that has been read
 abbrev pub growth_of : Program → State → PartialProgram
 growth_of p s = record {
   program = record {
@@ -39,7 +39,7 @@ growth_of p s = record {
   files = s.files;
 }
 
--- a program that no module is open behind
+-- a program without an open module
 abbrev pub at_rest : Program → PartialProgram
 at_rest p = record { program = p; sections = []; imports = []; files = [] }
 
@@ -57,11 +57,11 @@ module_from name s = record { name = name; object = object_from s }
 abbrev pub bare_section : List ℕ → ℕ → Section
 bare_section name align = record { name = name; align = align; fragments = [] }
 
--- a segment with so many bytes more
+-- a segment with this many more bytes
 abbrev pub with_cells : ℕ → List Cell → Segment → Segment
 with_cells len cells g = record { name = g.name; size = g.size + len; align = g.align; cells = g.cells ++ cells }
 
--- segments with so many bytes more in the one of this name
+-- segments with this many more bytes in the one of this name
 abbrev pub with_more : List ℕ → ℕ → List Cell → List Segment → List Segment
 with_more name len cells [] = []
 with_more name len cells (g ∷ gs) = if bytes_eq g.name name then with_cells len cells g ∷ gs else g ∷ with_more name len cells gs
@@ -90,7 +90,7 @@ with_bare g s = record {
   files = g.files;
 }
 
--- with an item of the open module behind
+-- after one more item of the open module
 abbrev pub grown_by : PartialProgram → Item → PartialProgram
 grown_by g (item.File name) = record g { files = g.files ++ name ∷ [] }
 grown_by g (item.Import name) = record g { imports = g.imports ++ name ∷ [] }
@@ -104,7 +104,8 @@ grown_by g item.End = g
 
 -- ---- The law.
 
--- what a scan hands out grows a program as the module grows; when all has come the module stands behind the others
+-- adding the items that a scan returns grows a program as adding the module does; after the last item the
+-- module follows the others
 abbrev pub GrowthLaw : Type 0
 GrowthLaw =
     ((p : Program) (s : State) (e : RawRecord) (x : Outline × Item) → IsReached s → scan_step (outline_of s) e ≡ Ok x → growth_of p (with_item s x.1) ≡ grown_by (growth_of p s) x.1)

@@ -1,4 +1,4 @@
--- What holds of links, whatever the modules and the script are.
+-- Laws of links, whatever the modules and the script are.
 use Rattle.std.specs.Prelude.{◌≡◌, ℕ, ℤ, Bool, false, List, [], Result}
 use Rattle.base65.specs.SystemErrors.{IsNoSystemError}
 use Rattle.object65.specs.Form.{Form}
@@ -17,7 +17,7 @@ use Rattle.link65.specs.Programs.{Module, program_of}
 use Rattle.link65.specs.Values.{ComesTo, Linkage}
 use Rattle.link65.specs.Names.{SameImages, is_used, with_weak}
 
--- want of memory, also where segments are placed
+-- *out of memory*, also while segments are placed
 abbrev pub is_system_error : LinkFault → Bool
 is_system_error (fault.Place f) = is_place_system_error f
 is_system_error e = is_memory e
@@ -26,13 +26,13 @@ is_system_error e = is_memory e
 abbrev pub LinkOutcomeIsUnique : Type 0
 LinkOutcomeIsUnique = (output : List ℕ) (s : Script) (modules : List Module) (r q : Result Linked LinkFault) → LinkOf output s modules r → LinkOf output s modules q → r ≡ q
 
--- and some outcome, which isn't want of memory
+-- and there is an outcome that isn't *out of memory*
 abbrev pub LinkOutcomeExists : Type 0
 LinkOutcomeExists =
     (output : List ℕ) (s : Script) (modules : List Module) →
     (r : Result Linked LinkFault) × LinkOf output s modules r × IsNoSystemError is_system_error r
 
--- a form comes to one answer
+-- a form has at most one result
 abbrev pub LinkValueIsUnique : Type 0
 LinkValueIsUnique = (l : Linkage) (owner : ℕ) (f : Form) (r q : Result ℤ ValueFault) → ComesTo l owner f r → ComesTo l owner f q → r ≡ q
 

@@ -1,4 +1,4 @@
--- What a link gives: its checks in turn, and the whole.
+-- The result of a link: its checks in order, and the whole.
 use Rattle.std.specs.Prelude.{ℕ, ℤ, pos, List, [], ◌∷◌, ◌++◌, slice_get, Option, Some, None, Result, Ok, Err, if◌then◌else◌, ◌≡◌}
 use Rattle.std.specs.List.{flat_map}
 use Rattle.std.specs.Option.{option_map_or}
@@ -68,14 +68,14 @@ abbrev pub fixups_of : Option Segment → List ValueFixup
 fixups_of None = []
 fixups_of (Some g) = flat_map fixups_in g.cells
 
--- the values that wait, by row, module and fragment
+-- the values that need addresses, by row, module and fragment
 abbrev pub fixups_by_row : List SegmentRow → List Segment → List ValueFixup
 fixups_by_row rows segments = flat_map (λ r. fixups_of (segment_of segments r.name)) rows
 
 abbrev pub fitting : ModuleLocation → ValueFixup → ℤ → Result (Unit {0}) LinkFault
 fitting s w v = if fits_width w.width v then Ok tt else Err (fault.OutOfRange s)
 
--- a value that waits has a value, which fits
+-- a value that needs addresses has one, and it fits
 abbrev pub check_fixup : Linkage → List LinkedModule → Exports → ValueFixup → Result (Unit {0}) LinkFault
 check_fixup l members exports w =
     value_at (site members w.owner w.origin) (value_by l exports w.owner w.form) >>= fitting (site members w.owner w.origin) w
@@ -88,7 +88,7 @@ check_export l members exports e =
 
 -- ---- Assertions.
 
--- what is warned of an assertion that comes to a value, or that it fails
+-- the warning of an assertion that has a value, or its failure
 abbrev pub assertion_result : ModuleLocation → Action → List ℕ → ℤ → Result (List ℕ) LinkFault
 assertion_result s action.Warning text v = if int_eq v (pos 0) then Ok (assertion_warning s text) else Ok []
 assertion_result s action.Error text v = if int_eq v (pos 0) then Err (fault.Assertion s text) else Ok []
@@ -97,7 +97,7 @@ abbrev pub check_assert : Linkage → List LinkedModule → Exports → Asserted
 check_assert l members exports a =
     value_at (site members a.owner a.origin) (value_by l exports a.owner a.form) >>= assertion_result (site members a.owner a.origin) a.action a.text
 
--- what is warned of assertions, in order, or the first fault
+-- the warnings of assertions, in order, or the first error
 abbrev pub check_asserts : Linkage → List LinkedModule → Exports → List Asserted → Result (List ℕ) LinkFault
 check_asserts l members exports [] = Ok []
 check_asserts l members exports (a ∷ rest) =
@@ -143,13 +143,13 @@ abbrev pub AreFiles : List ℕ → Script → Program → Placement → Linkage 
 AreFiles output s p placement l exports files =
     AddsAreas output (IsAreaFile s.rows placement (row_bytes l exports p.segments)) 0 s.areas [] files
 
--- what a placed program is linked to, where all is found to pass with these warnings of assertions
+-- the result of a placed program that passes all checks, with these warnings of assertions
 abbrev pub IsImaged : List ℕ → Script → Program → Placement → Linkage → Exports → List ℕ → Result Linked LinkFault → Type 0
 IsImaged output s p placement l exports warnings r =
     (files : List OutputFile) × AreFiles output s p placement l exports files
     × (r ≡ Ok (record { files = files; warnings = warnings_of_rows s.rows p.segments ++ warnings; map = map_text s p placement l exports }))
 
--- what a placed program comes to, by what its exports come to
+-- the results of a placed program, given the values of its exports
 abbrev pub IsFinished : List ℕ → Script → Program → Placement → Linkage → Exports → Result Linked LinkFault → Type 0
 IsFinished output s p placement l exports r = AndThen (check_result s p l exports) (IsImaged output s p placement l exports) r
 
@@ -157,11 +157,11 @@ abbrev pub IsPlacedLink : List ℕ → Script → Program → Placement → Resu
 IsPlacedLink output s p placement r =
     (table : List (Result ℤ ValueFault)) × AreExports (linkage_of s p placement) table × IsFinished output s p placement (linkage_of s p placement) (in_table table) r
 
--- what a program comes to, none of whose names is given twice
+-- the result of a program none of whose names is defined twice
 abbrev pub IsProgramLink : List ℕ → Script → Program → Result Linked LinkFault → Type 0
 IsProgramLink output s p r = AndThen (placement_result s p) (IsPlacedLink output s p) r
 
--- What modules come to by a script: the linked files, or the first fault.
+-- The result of linking modules by a script: the linked files, or the first error.
 abbrev pub LinkOf : List ℕ → Script → List Module → Result Linked LinkFault → Type 0
 LinkOf output s modules r =
     AndThen (names_once s (program_of modules)) (λ u. IsProgramLink output s (program_of modules)) r

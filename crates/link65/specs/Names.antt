@@ -27,13 +27,13 @@ use Rattle.link65.specs.declared.linking.Linked.{Linked}
 abbrev pub attribute_symbol : List ℕ → List ℕ → ℕ → ScriptSymbol
 attribute_symbol name word n = record { name = attribute_name name word; value = cast_signed w64 n }
 
--- what an area with `define` defines: its start, its size and the first address behind what is placed in it
+-- the definitions of an area with `define`: its start, its size and the first address after its last row
 abbrev pub area_definitions : MemoryArea → AreaPlacement → List ScriptSymbol
 area_definitions a p =
     if a.define then attribute_symbol a.name (codes "START") p.start ∷ attribute_symbol a.name (codes "SIZE") p.size ∷ attribute_symbol a.name (codes "LAST") p.last ∷ []
     else []
 
--- what a row with `define` defines: where its segment is loaded, where it runs, and its size
+-- the definitions of a row with `define`: its load address, its run address, and its size
 abbrev pub row_definitions : SegmentRow → RowPlacement → List ScriptSymbol
 row_definitions r p =
     if r.define then attribute_symbol r.name (codes "LOAD") p.load ∷ attribute_symbol r.name (codes "RUN") p.run ∷ attribute_symbol r.name (codes "SIZE") p.size ∷ []
@@ -72,7 +72,7 @@ weak_symbols symbols = flat_map (λ s. weak_definition s.kind s.name) symbols
 abbrev pub symbol_imports : List Symbol → List (List ℕ)
 symbol_imports symbols = flat_map (λ s. import_name s.kind s.name) symbols
 
--- what a script defines by itself, in the map's order: of areas, of rows, and the symbols that it exports
+-- the definitions of a script, in the map's order: of areas, of rows, and the symbols that it exports
 abbrev pub script_definitions : Script → Placement → List ScriptSymbol
 script_definitions s p = areas_definitions s.areas p.areas ++ rows_definitions s.rows p.rows ++ symbol_exports s.symbols
 
@@ -113,19 +113,21 @@ given_names s p = script_names s ++ export_names p
 abbrev pub is_given : Script → Program → List ℕ → Bool
 is_given s p name = is_among (given_names s p) name || is_among (map (λ d. d.name) (weak_symbols s.symbols)) name
 
--- each name once, where it first stands
+-- each name once, at its first occurrence
 abbrev pub each_once : List (List ℕ) → List (List ℕ) → List (List ℕ)
 each_once before [] = before
 each_once before (name ∷ names) = each_once (if is_among before name then before else before ++ name ∷ []) names
 
--- what has to be given, in order of first reference: the script's imports, then those of the modules
+-- the names that have to be defined, in order of first reference: the script's imports, then those of the
+-- modules
 abbrev pub references : Script → Program → List (List ℕ)
 references s p = each_once [] (symbol_imports s.symbols ++ flat_map (λ m. m.imports) p.members)
 
 abbrev pub unresolved_names : Script → Program → List (List ℕ)
 unresolved_names s p = filter (λ name. not (is_given s p name)) (references s p)
 
--- what is needed and neither the script nor a module gives so far, weak names left aside: what libraries are searched for
+-- the names that are needed and that neither the script nor a module defines so far, weak names left aside:
+-- libraries are searched for them
 abbrev pub open_names : Script → Program → List (List ℕ)
 open_names s p = filter (λ name. not (is_among (given_names s p) name)) (references s p)
 
@@ -154,7 +156,7 @@ provider_of own exports weak name =
 
 -- ---- A script with one more weak name, and links that come to the same images.
 
--- a script with a weak name of a value behind its other symbols
+-- a script with a weak name and its value added to its other symbols
 abbrev pub with_weak : Script → List ℕ → ℕ → Script
 with_weak s name value = record {
   areas = s.areas;

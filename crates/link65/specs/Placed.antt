@@ -1,4 +1,4 @@
--- A placed program as the code holds it, how its exports are found, and what it comes to but for its files.
+-- A placed program as the code represents it, the search for its exports, and its results except its files.
 use Rattle.std.specs.Prelude.{◌≡◌, ◌≢◌, ◌<◌, ℕ, ℤ, List, length, map, slice_get, Option, Some, None, Result, Ok, Err, ◌++◌, ◌∷◌, [], codes, option_map, unwrap_or, is_some, ◌||◌, ◌+◌, ◌%◌, ◌^◌}
 use Rattle.object65.specs.Form.{Form}
 use Rattle.object65.specs.FormValue.{value_in}
@@ -44,7 +44,7 @@ use Rattle.link65.specs.Texts.{definition_line, map_text, member_lines, row_line
 
 -- ---- What is known of exports while they are evaluated.
 
--- what was found, or why not
+-- the value that was found, or why there is none
 abbrev pub as_found : Result ℤ ValueFault → Result ℤ EvalBlocked
 as_found (Ok v) = Ok v
 as_found (Err e) = Err (Fault e)
@@ -65,7 +65,7 @@ import_tried marks Nobody = Err (Fault Unresolved)
 abbrev pub form_attempt : Option Resolved → List ExportState → Form → Result ℤ EvalBlocked
 form_attempt m marks f = value_in (Fault NoValue) (base_of m) (λ j. import_tried marks (provider_at m j)) f
 
--- what was found of exports is what they come to
+-- the values found so far are those of the exports
 abbrev pub AreTrue : Linkage → List ExportState → Type 0
 AreTrue l marks = (x : ℕ) (r : Result ℤ ValueFault) → slice_get marks x ≡ Some (Found r) → ExportComesTo l x r
 
@@ -106,11 +106,11 @@ outcome_of Untouched = Err Unresolved
 outcome_of BeingEvaluated = Err Circular
 outcome_of (Found r) = r
 
--- what exports come to, in order
+-- the values of the exports, in order
 abbrev pub table_of : List ExportState → List (Result ℤ ValueFault)
 table_of marks = map outcome_of marks
 
--- what an attempt answered where nothing is needed any more
+-- the result of an attempt that needs nothing else
 abbrev pub as_outcome : Result ℤ EvalBlocked → Result ℤ ValueFault
 as_outcome (Ok v) = Ok v
 as_outcome (Err (Fault e)) = Err e
@@ -118,11 +118,11 @@ as_outcome (Err (Needs x)) = Err Circular
 
 -- ---- Names, as the code holds them.
 
--- what is found of a name
+-- the definition found of a name
 abbrev pub provider_found : {A S : Type 0} → IndexMap (Bor (List ℕ)) A S → List ℕ → Option A
 provider_found table name = get_by (λ k. bytes_eq name k.now) table
 
--- what is known of names: of those that have a place what the place gives, of others what was known
+-- names added to a table: those that have an index get what is at that index, others keep what they had
 abbrev pub ExtendsTable : {A S : Type 0} → (ℕ → A) → (List ℕ → Option ℕ) → IndexMap (Bor (List ℕ)) A S → IndexMap (Bor (List ℕ)) A S → Type 0
 ExtendsTable given at old new = (name : List ℕ) → provider_found new name ≡ option_or (option_map given (at name)) (provider_found old name)
 
@@ -170,7 +170,7 @@ segments_in p = segments_from p.contents.now
 abbrev pub program_in : PlacedProgram → Program
 program_in p = record { members = p.members.now; segments = segments_in p; exports = p.exports.now; asserts = p.asserts.now }
 
--- the check of a value that waits
+-- the check of a value that needs addresses
 abbrev pub check_in : PlacedProgram → ValueFixup → Result (Unit {0}) LinkFault
 check_in p = check_fixup (linkage_in p) p.members.now (exports_in p)
 
@@ -218,7 +218,7 @@ pub record AreOf (s : Script) (placement : Placement) (n : DefinedSymbols) (p : 
   pub weak : n.weak.now ≡ weak_symbols s.symbols
   pub exports : n.exports.now ≡ p.exports.now
 
--- what a placed program comes to that passes, where this is warned of assertions
+-- the results of a placed program that passes all checks, with these warnings of assertions
 abbrev pub ChecksSucceed : Script → Program → Placement → Linkage → Exports → List ℕ → Result CheckedLink LinkFault → Type 0
 ChecksSucceed s p placement l exports warnings (Ok x) =
     (x.rows.items ≡ map (written_row_bytes (row_bytes l exports p.segments)) s.rows)

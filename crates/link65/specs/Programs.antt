@@ -1,4 +1,4 @@
--- Programs: modules one behind the other, and what they put into segments.
+-- Programs: modules in order, and their contributions to segments.
 use Rattle.std.specs.Prelude.{ℕ, List, [], ◌∷◌, ◌++◌, Option, ◌+◌, ◌-◌, ◌^◌, max, map, replicate, find, if◌then◌else◌, length}
 use Rattle.std.specs.List.{position_from, flat_map}
 use Rattle.std.specs.Str.{bytes_eq}
@@ -19,7 +19,7 @@ use Rattle.link65.specs.declared.parts.LinkedModule.{LinkedModule}
 
 -- ---- Lists beside each other, and places by name.
 
--- what comes of the items of two lists that stand at one place, in order
+-- the concatenated results for the items of two lists at equal indices
 abbrev pub flat_zip : {A B C : Type 0} → (A → B → List C) → List A → List B → List C
 flat_zip f (x ∷ xs) (y ∷ ys) = f x y ++ flat_zip f xs ys
 flat_zip f [] ys = []
@@ -38,7 +38,7 @@ pub record Module : Type 0 where
 
 -- ---- What segments hold: each module's section behind those of the modules before it.
 
--- what lies in a segment: a byte that is known, a byte of the fill value, or the bytes of a value that waits
+-- a byte of a segment: one that is known, one of the fill value, or one of a value that needs addresses
 pub data Cell : Type 0 where
   known : ℕ → Cell
   filled : Cell
@@ -54,7 +54,7 @@ pub record Segment : Type 0 where
 abbrev pub empty_segment : List ℕ → Segment
 empty_segment name = record { name = name; size = 0; align = 1; cells = [] }
 
--- what a fragment of the module at a place puts into its segment
+-- the bytes that a fragment of the module at an index puts into its segment
 abbrev pub fragment_cells : ℕ → Fragment → List Cell
 fragment_cells owner (Literal bytes) = map known bytes
 fragment_cells owner (Fill n) = replicate n filled
@@ -67,7 +67,7 @@ align_of s = 2 ^ s.align
 abbrev pub begin_after : ℕ → Section → ℕ
 begin_after end s = rounded_up end (align_of s)
 
--- a segment with a section behind what it has
+-- a segment with one more section
 abbrev pub segment_with_section : ℕ → Segment → Section → Segment
 segment_with_section owner g s = record {
   name = g.name;
@@ -76,7 +76,7 @@ segment_with_section owner g s = record {
   cells = g.cells ++ replicate (begin_after g.size s - g.size) filled ++ flat_map (fragment_cells owner) s.fragments;
 }
 
--- segments with a section in the one of its name, which is begun behind the others where there is none
+-- segments with one more section in the one of its name, which is added at the end if it is missing
 abbrev pub with_section : ℕ → List Segment → Section → List Segment
 with_section owner [] s = segment_with_section owner (empty_segment s.name) s ∷ []
 with_section owner (g ∷ gs) s = if bytes_eq g.name s.name then segment_with_section owner g s ∷ gs else g ∷ with_section owner gs s
@@ -92,7 +92,7 @@ segment_of gs name = find (λ g. bytes_eq g.name name) gs
 abbrev pub end_of : List Segment → List ℕ → ℕ
 end_of gs name = option_map_or (λ g. g.size) (segment_of gs name) 0
 
--- where a section lies in its segment, behind what the segments hold before it
+-- the position of a section in its segment, after the earlier sections
 abbrev pub section_place : List Segment → Section → SectionPlace
 section_place gs s = record { segment = s.name; offset = begin_after (end_of gs s.name) s; size = section_len s }
 
@@ -127,7 +127,7 @@ member p m = record {
   files = m.object.files;
 }
 
--- a program with a module behind those that it has
+-- a program with one more module
 abbrev pub with_module : Program → Module → Program
 with_module p m = record {
   members = p.members ++ member p m ∷ [];

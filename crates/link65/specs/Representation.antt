@@ -1,4 +1,4 @@
--- What a linker stands for, and where its calls lead.
+-- The model of a linker, and the effect of its calls.
 use Rattle.std.specs.Prelude.{ℕ, List, [], ◌∷◌, ◌++◌, map, Result, Ok, Err, if◌then◌else◌, ◌≡◌, ◌⊎◌, length, Option, Some, None, is_some, Bool, true, false, OnOk, ◌==◌}
 use Rattle.base65.specs.Outcome.{◌>>=◌, RefinesProp, Refines, RefinesErr}
 use Rattle.link65.specs.declared.fault.LinkFault.{LinkFault}
@@ -27,7 +27,7 @@ use Rattle.link65.specs.declared.feeding.OpenEntry.{OpenEntry}
 abbrev pub names_in : DefinedNames → List (List ℕ)
 names_in g = map (λ n. n.items) g.names.keys
 
--- names behind others, none of which equals one before it, or else the first that does
+-- names added to others if none equals an earlier one, or else the first that does
 abbrev pub all_once : List (List ℕ) → List (List ℕ) → Result (List (List ℕ)) LinkFault
 all_once before names = no_name_again (first_again before names) >>= (λ u. Ok (before ++ names))
 
@@ -50,7 +50,7 @@ pub record OpenModuleView : Type 0 where
   -- the names that a library's index has of it, if it is a member of one
   pub listed : Option OpenEntry
 
--- What a linker is seen as.
+-- The model of a linker.
 pub record LinkerView : Type 0 where
   pub script : Script
   -- the name of the file that is linked
@@ -72,7 +72,7 @@ is_open f = is_some f.opened
 abbrev pub listed_of : Listing → OpenEntry
 listed_of e = record { exports = e.exports; imports = e.imports }
 
--- a module behind a program, of which this has come
+-- a program and an open module, of which this part has been read
 abbrev pub opening : Program → List ℕ → Option Listing → State → OpenModuleView
 opening p name entry s = record { name = name; scan = outline_of s; first_export = length p.exports; listed = option_map listed_of entry }
 
@@ -92,7 +92,7 @@ pub record IsFeeding (f : LinkerView) (modules : List Module) (name : List ℕ) 
   pub reached : IsReached s
   pub failed : f.failed ≡ false
 
--- these modules were fed and have ended, whether one is open behind them or none
+-- these modules were fed and have ended, whether or not another one is open
 abbrev pub HaveEnded : LinkerView → List Module → Type 0
 HaveEnded f modules =
     IsFed f modules
@@ -134,7 +134,7 @@ pub record ConfigFrame (old new : LinkerView) : Type 0 where
 abbrev pub BeginsModule : List ℕ → ℕ → Option Listing → LinkerView → LinkerView → Result (Unit {0}) LinkFault → Type 0
 BeginsModule name version entry old new r = (modules : List Module) → IsFed old modules → OnOk r (IsFeeding new modules name entry (start version))
 
--- a record comes behind those of the open module
+-- a record is added to those of the open module
 abbrev pub AddsRecord : RawRecord → LinkerView → LinkerView → Result (Unit {0}) LinkFault → Type 0
 AddsRecord e old new r =
     (modules : List Module) (name : List ℕ) (entry : Option Listing) (s : State) → IsFeeding old modules name entry s
@@ -148,7 +148,7 @@ agrees_with (Some e) object = has_index_names e (contents_from object)
 abbrev pub agreeing_object : Option Listing → Object → Result Object LinkFault
 agreeing_object entry object = if agrees_with entry object then Ok object else Err fault.IndexDisagrees
 
--- the object behind other modules, where no name is given twice
+-- the object added to other modules, if no name is defined twice
 abbrev pub module_without_duplicates : Script → List Module → List ℕ → Object → Result Object LinkFault
 module_without_duplicates script modules name object = names_once script (program_of (modules ++ module_of name object ∷ [])) >>= (λ u. Ok object)
 
@@ -157,13 +157,13 @@ module_without_duplicates script modules name object = names_once script (progra
 abbrev pub closed_module : Script → List Module → List ℕ → Option Listing → State → Result Object LinkFault
 closed_module script modules name entry s = as_link (object_of_state s) >>= agreeing_object entry >>= module_without_duplicates script modules name
 
--- the open module comes behind the others
+-- the open module is added to the others
 abbrev pub EndsModule : LinkerView → LinkerView → Result (Unit {0}) LinkFault → Type 0
 EndsModule old new r =
     (modules : List Module) (name : List ℕ) (entry : Option Listing) (s : State) → IsFeeding old modules name entry s
     → RefinesThen (λ object. IsFed new (modules ++ module_of name object ∷ [])) r (closed_module old.script modules name entry s)
 
--- what the modules come to by the script
+-- the result of linking the modules by the script
 abbrev pub LinksModules : LinkerView → Result Linked LinkFault → Type 0
 LinksModules f r = (modules : List Module) → IsFed f modules → RefinesProp is_memory (LinkOf f.output f.script modules) r
 

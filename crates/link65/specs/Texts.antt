@@ -1,4 +1,4 @@
--- What is printed beside faults: warnings, and the map.
+-- The texts beside error messages: warnings, and the map.
 use Rattle.std.specs.Prelude.{ℕ, ◌%◌, ◌==◌, ◌&&◌, Bool, true, false, not, if◌then◌else◌, List, [], ◌∷◌, ◌++◌, Option, Some, None, codes, decimal, zero, suc, ◌/◌, ◌^◌, ◌||◌, is_some, nat_lt, get_or}
 use Rattle.std.specs.List.{flat_map, list_any}
 use Rattle.script65.specs.Placing.{is_written}
@@ -18,7 +18,7 @@ use Rattle.link65.specs.Names.{defined_at, exported_at, script_definitions, weak
 
 -- ---- What the linker warns of.
 
--- texts one behind the other
+-- the concatenation of texts
 abbrev pub concat_texts : List (List ℕ) → List ℕ
 concat_texts parts = flat_map (λ p. p) parts
 
@@ -37,7 +37,7 @@ align_words align = concat_texts (codes " needs alignment " ∷ decimal align �
 abbrev pub alignment_warning : SegmentRow → Segment → List ℕ
 alignment_warning r g = if r.align % g.align == 0 then [] else segment_warning r.name (align_words g.align)
 
--- what is more than room for the fill value
+-- a byte that isn't the fill value's
 abbrev pub is_data : Cell → Bool
 is_data (known b) = true
 is_data filled = false
@@ -73,7 +73,7 @@ assertion_warning s text = concat_texts (location_name s ∷ codes ":" ∷ decim
 abbrev pub hex_digit : ℕ → ℕ
 hex_digit n = get_or (codes "0123456789ABCDEF") n 0
 
--- the last so many hex digits of a number
+-- the last digits of a number in base 16, this many
 abbrev pub hex_digits : ℕ → ℕ → List ℕ
 hex_digits zero n = []
 hex_digits (suc count) n = hex_digits count (n / 16) ++ hex_digit (n % 16) ∷ []

@@ -1,4 +1,4 @@
--- What forms come to: addresses of sections, values of exports, the bytes of rows.
+-- The values of forms: addresses of sections, values of exports, the bytes of rows.
 use Rattle.std.specs.Prelude.{◌≡◌, ℕ, zero, suc, ◌<◌, ℤ, pos, List, length, get_or, slice_get, Option, Some, None, Result, Ok, Err, ◌+◌, ◌%◌, ◌^◌, map, if◌then◌else◌, [], ◌∷◌}
 use Rattle.object65.specs.Form.{Form}
 use Rattle.object65.specs.FormValue.{value_in}
@@ -32,7 +32,7 @@ pub record Linkage : Type 0 where
   pub modules : List Resolved
   pub exports : List Exported
 
--- what exports come to, by their places
+-- the results of exports, by index
 abbrev pub Exports : Type 0
 Exports = ℕ → Result ℤ ValueFault
 
@@ -49,7 +49,7 @@ import_value exports (ByModule x) = exports x
 import_value exports (ByScript v) = Ok v
 import_value exports Nobody = Err Unresolved
 
--- the value of a form of the module at a place, where exports come to this
+-- the value of a form of the module at an index, given the results of exports
 abbrev pub value_by : Linkage → Exports → ℕ → Form → Result ℤ ValueFault
 value_by l exports owner f =
     value_in NoValue (base_of (slice_get l.modules owner)) (λ j. import_value exports (provider_at (slice_get l.modules owner) j)) f
@@ -58,25 +58,25 @@ abbrev pub export_value : Linkage → Exports → Option Exported → Result ℤ
 export_value l exports None = Err Unresolved
 export_value l exports (Some e) = value_by l exports e.owner e.form
 
--- what exports come to through fewer than so many exports one inside the other
+-- the results of exports that need fewer than this many exports, nested
 abbrev pub exports_through : Linkage → ℕ → Exports
 exports_through l zero x = Err Circular
 exports_through l (suc n) x = export_value l (exports_through l n) (slice_get l.exports x)
 
--- what stays circular at every number of exports is circular; any other answer is found at some number
+-- A result that is circular at every number of exports is circular; any other result is found at some number.
 abbrev pub ConvergesTo : (ℕ → Result ℤ ValueFault) → Result ℤ ValueFault → Type 0
 ConvergesTo at (Err Circular) = (n : ℕ) → at n ≡ Err Circular
 ConvergesTo at r = (n : ℕ) × (at n ≡ r)
 
--- what the export at a place comes to
+-- the result of the export at an index
 abbrev pub ExportComesTo : Linkage → ℕ → Result ℤ ValueFault → Type 0
 ExportComesTo l x r = ConvergesTo (λ n. exports_through l n x) r
 
--- what a form of the module at a place comes to
+-- the result of a form of the module at an index
 abbrev pub ComesTo : Linkage → ℕ → Form → Result ℤ ValueFault → Type 0
 ComesTo l owner f r = ConvergesTo (λ n. value_by l (exports_through l n) owner f) r
 
--- what each export comes to, in order
+-- the result of each export, in order
 pub record AreExports (l : Linkage) (table : List (Result ℤ ValueFault)) : Type 0 where
   pub long : length table ≡ length l.exports
   pub each : (x : ℕ) → x < length l.exports → ExportComesTo l x (get_or table x (Err Unresolved))
@@ -89,7 +89,7 @@ linkage modules exports = record { modules = modules; exports = exports }
 
 -- ---- Where sections lie by a placement, and who gives each import.
 
--- what a segment needs of its row
+-- the need of a segment
 abbrev pub need_of : Segment → SegmentNeed
 need_of g = record { name = g.name; size = g.size; align = g.align }
 
@@ -129,7 +129,7 @@ or_zero (Err e) = pos 0
 abbrev pub checked_value_bytes : Width → ℤ → List ℕ
 checked_value_bytes width v = if fits_width width v then value_bytes width v else []
 
--- the bytes of a cell, by the row's fill value and what exports come to
+-- the bytes of a cell, given the row's fill value and the results of exports
 abbrev pub cell_bytes : Linkage → Exports → ℕ → Cell → List ℕ
 cell_bytes l exports fill (known b) = b ∷ []
 cell_bytes l exports fill filled = fill ∷ []

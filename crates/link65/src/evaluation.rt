@@ -13,7 +13,7 @@ use base65::{apply1, apply2};
 use object65::{Node, Norm};
 use std::alloc::{AllocError, Global};
 
-/// What is known of an export.
+/// The state of an export.
 #[derive(Clone, Copy)]
 pub enum ExportState {
     Untouched,
@@ -30,10 +30,10 @@ pub enum EvalBlocked {
     Needs(usize),
 }
 
-/// What an attempt at an export gives.
+/// The result of an attempt to evaluate an export.
 #[derive(Clone, Copy)]
 pub enum Attempt {
-    /// What it comes to.
+    /// Its value, or the error.
     Settled(Result<i64, ValueFault>),
     /// It needs the export at this place first.
     Needs(usize),
@@ -111,7 +111,8 @@ pub fn try_form(
     }
 }
 
-/// What the export at a place comes to as far as exports are known, or what it needs first.
+/// Evaluates the export at an index with the exports known so far, or returns one that it needs
+/// first.
 fn try_export(
     modules: &[Resolved],
     exports: &[Exported],
@@ -129,7 +130,7 @@ fn try_export(
     }
 }
 
-/// Finds what the export at a place comes to, and all that it needs.
+/// Evaluates the export at an index and all that it needs.
 fn settle(
     alloc: Global,
     modules: &[Resolved],
@@ -164,7 +165,7 @@ fn settle(
     }
 }
 
-/// Finds what all exports come to, used or not.
+/// Evaluates all exports, used or not.
 pub fn settle_all(
     alloc: Global,
     modules: &[Resolved],

@@ -11,8 +11,8 @@ use std::alloc::{AllocError, AllocFailed};
 use std::error::Error;
 use std::fmt;
 
-/// The module of a datum, an export or an assertion, the file in which it stands where the object names one, and the
-/// line.
+/// The module of a datum, an export or an assertion, its source file if the object names one, and
+/// the line.
 #[derive(Debug, Drop)]
 pub struct ModuleLocation {
     pub module_name: ListVec<u8>,

@@ -65,7 +65,7 @@ fn same_exports(names: &[ListVec<u8>], exports: &[Exported]) -> bool
     true
 }
 
-/// Whether these are the names listed, if any are.
+/// Returns whether these are the names listed, if any are.
 fn are_listed(listed: &Option<OpenEntry>, exports: &[Exported], imports: &[ListVec<u8>]) -> bool
     ensures { result ≡ are_listed listed.now (map (λ e. e.name) exports.now) imports.now }
 {

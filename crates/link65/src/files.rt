@@ -30,7 +30,7 @@ pub struct AreaImage<'b, 'a> {
     pub loads: ListVec<RowImage<'a>>,
 }
 
-/// What stands at a place, which is taken out.
+/// Takes out the list at an index.
 fn take_at<T: Drop>(alloc: Global, all: &mut Vec<ListVec<T>>, i: usize) -> ListVec<T>
     ensures taken { (x : List T) → slice_get all.old.items i ≡ Some x → result ≡ x }
     ensures others { (j : ℕ) → i < j → slice_get all.new.items j ≡ slice_get all.old.items j }
@@ -131,7 +131,7 @@ fn file_len(filled: &AreaImage<'_, '_>) -> u128
     }
 }
 
-/// Whether the bytes of the first row are all of a file of so many.
+/// Returns whether the first row's bytes are the whole file of this length.
 fn is_whole(len: usize, start: u64, loads: &[RowImage<'_>]) -> bool
     ensures { result ≡ true → IsWhole len (map (piece_at start) (map view loads.now)) }
 {
@@ -181,7 +181,7 @@ pub struct OutputFiles<'a> {
 }
 
 impl<'a> OutputFiles<'a> {
-    /// Adds bytes to the file of a name, or begins it behind the others.
+    /// Appends bytes to the file of a name, or adds that file after the others.
     fn add(&mut self, alloc: Global, name: &'a str, bytes: ListVec<u8>) -> Result<(), AllocError>
         requires { AreFileNames self.old }
         ensures files { OnOk result (self.new.outputs.items ≡ with_bytes name.entry.now bytes self.old.outputs.items) }

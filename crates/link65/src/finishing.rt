@@ -1,4 +1,4 @@
-//! What a placed program comes to but for its files: the bytes of its rows, what is warned of, the map.
+//! The results of a placed program except its files: the bytes of its rows, warnings, and the map.
 
 ghost use Rattle.std.specs.Prelude.{◌≡◌, ◌++◌, IfOk, OnOk, Some, map};
 ghost use Rattle.std.specs.List.{flat_map};
@@ -106,25 +106,25 @@ fn rows_of(
     Ok(all)
 }
 
-/// What a placed program comes to but for its files.
+/// The results of a placed program except its files.
 #[derive(Drop)]
 pub struct CheckedLink {
     /// The bytes of each row that is written.
     pub rows: Vec<ListVec<u8>>,
-    /// What is warned of.
+    /// The warnings.
     pub warnings: ListVec<u8>,
     /// The map's text.
     pub map: ListVec<u8>,
 }
 
-/// What is found while data, exports and assertions are checked, in this order.
+/// The results of checking data, exports and assertions, in this order.
 #[derive(Drop)]
 pub struct Checked {
     /// The bytes of each row that is written.
     pub rows: Vec<ListVec<u8>>,
     /// The values of exports.
     pub values: Vec<i64>,
-    /// What is warned of assertions.
+    /// The warnings of assertions.
     pub assertions: ListVec<u8>,
 }
 
@@ -149,7 +149,7 @@ fn check_all(
     })
 }
 
-/// What a placed program comes to but for its files, or the first fault.
+/// Computes the results of a placed program except its files, or the first error.
 pub fn check_and_emit(
     alloc: Global,
     script: &Script,

@@ -86,7 +86,7 @@ pub fn copy_of(given: &DefinedNames) -> Result<Names, AllocError>
     given.names.clone()
 }
 
-/// Whether a name is there.
+/// Returns whether a name is there.
 fn has(names: &Names, name: &[u8]) -> bool
     ensures { result ≡ is_among (map (λ n. n.items) names.now.keys) name.now }
 {
@@ -133,7 +133,8 @@ fn add_imports(
     Ok(())
 }
 
-/// What a script's symbols and modules import and is not given, in order of first reference.
+/// Returns the names that the script's symbols and the modules import and nobody defines, in order
+/// of first reference.
 pub fn missing_names(
     given: &DefinedNames,
     symbols: &[Symbol],

@@ -53,7 +53,7 @@ fn sum(a: u64, b: u64) -> Result<u64, AllocError>
     }
 }
 
-/// Begins a section in a segment, and answers how far behind the segment's start.
+/// Begins a section in a segment. Returns its offset from the segment's start.
 fn open_section(content: &mut SegmentContent, align: u32) -> Result<u64, AllocError>
     requires { 0 < align }
     ensures begin { IfOk result (λ n. n ≡ rounded_up content.old.size align) }
@@ -73,7 +73,7 @@ fn open_section(content: &mut SegmentContent, align: u32) -> Result<u64, AllocEr
     Ok(begin)
 }
 
-/// How many bytes a fragment has.
+/// Returns the size of a fragment, in bytes.
 fn fragment_size(fragment: &Fragment) -> u64
     ensures { result ≡ fragment_len fragment.now }
 {
@@ -160,7 +160,7 @@ fn segment_at(growing: &mut ProgramBuilder, name: &[u8]) -> Result<usize, AllocE
     Ok(place)
 }
 
-/// Begins a section of the open module, behind what its segment has.
+/// Begins a section of the open module, after the earlier sections of its segment.
 fn begin_section(
     growing: &mut ProgramBuilder,
     name: ListVec<u8>,

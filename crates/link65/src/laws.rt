@@ -1,20 +1,20 @@
-//! What holds of links, whatever the modules and the script are. Each function's contract is a law.
+//! Laws of links, whatever the modules and the script are. Each function's contract is a law.
 
 ghost use Rattle.link65.specs.Growing.{GrowthLaw};
 ghost use Rattle.link65.specs.Laws.{LinkOutcomeIsUnique, LinkValueIsUnique, FilesExist, LinkOutcomeExists, LinkValueExists, UnusedWeakLaw, UnusedWeakLinks};
 
-/// A form comes to one answer.
+/// A form has at most one result.
 pub fn link_value_is_unique()
     ensures { LinkValueIsUnique }
 {}
 
-/// Any form comes to an answer: its value, its fault, or that it is circular.
+/// Any form has a result: its value, an error, or that it is circular.
 pub fn link_value_exists()
     ensures { LinkValueExists }
 {}
 
-/// What a scan hands out of a module, item by item, grows a program as the module does; when all has come, the
-/// module stands behind the others.
+/// Adding the items of a module one by one, as a scan returns them, grows a program as adding the
+/// module does. After the last item the module follows the others.
 pub fn items_grow_a_program()
     ensures { GrowthLaw }
 {}

@@ -32,7 +32,7 @@ pub struct Linker {
     growing: ProgramBuilder,
     given: DefinedNames,
     opened: Option<OpenModule>,
-    /// How many values were taken.
+    /// The number of values taken.
     pending: usize,
     failed: bool,
 }
@@ -92,14 +92,14 @@ impl Linker {
         })
     }
 
-    /// Whether a module is open.
+    /// Returns whether a module is open.
     pub fn is_open(&self) -> bool
         ensures { result ≡ is_open self.now }
     {
         self.opened.is_some()
     }
 
-    /// How many values were taken.
+    /// Returns the number of values taken.
     pub fn pending(&self) -> usize
         ensures { result ≡ self.now.pending }
     {
@@ -227,8 +227,8 @@ impl Linker {
         }
     }
 
-    /// What the modules that were fed come to by the script, where none is open: the files, the warnings and the map,
-    /// or the first fault.
+    /// Links the modules that were fed by the script. Returns the files, the warnings and the map,
+    /// or the first error. No module may be open.
     pub fn finish(self) -> Result<Linked, LinkFault>
         requires { is_open self ≡ false }
         ensures linked { LinksModules self result }

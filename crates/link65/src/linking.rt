@@ -24,18 +24,18 @@ use base65::{ListVec, OutputFile};
 use script65::{Placement, Script, SegmentNeed, place};
 use std::alloc::{AllocError, Global};
 
-/// What linking gives.
+/// The result of linking.
 #[derive(Drop)]
 pub struct Linked {
     /// The files of areas, in the order in which they are written.
     pub files: ListVec<OutputFile>,
-    /// What is warned of, a line each.
+    /// The warnings, a line each.
     pub warnings: ListVec<u8>,
     /// The map's text.
     pub map: ListVec<u8>,
 }
 
-/// What each segment needs of its row, in order.
+/// Returns the needs of the segments, in order.
 fn needs_of(alloc: Global, contents: &[SegmentContent]) -> Result<ListVec<SegmentNeed>, AllocError>
     ensures { IfOk result (λ needs. needs ≡ map need_of (segments_from contents.now)) }
 {
@@ -50,7 +50,8 @@ fn needs_of(alloc: Global, contents: &[SegmentContent]) -> Result<ListVec<Segmen
     Ok(needs)
 }
 
-/// What a program comes to where it is placed, but for its files, or the first fault. The program goes.
+/// Computes the results of a placed program except its files, or the first error. Consumes the
+/// program.
 fn pass_placed(
     script: &Script,
     placement: &Placement,
@@ -96,8 +97,8 @@ fn placement_of(
     Ok(place(program.alloc, script, needs.as_slice())?)
 }
 
-/// What a program comes to by a script, where these names are given, none of them twice: the files, the warnings and
-/// the map, or the first fault.
+/// Links a program by a script, whose names are these, none of them defined twice. Returns the
+/// files, the warnings and the map, or the first error.
 pub fn link(
     output: &str,
     script: &Script,

@@ -22,7 +22,7 @@ fn hex_digit(number: u64) -> u8
     DIGITS[(number % 16) as usize]
 }
 
-/// The last so many hex digits of a number.
+/// Returns the last `count` hex digits of a number.
 fn hex_digits(count: u32, number: u64) -> ArrayVec<u8, 16>
     requires { count ≤ 16 }
     ensures { result.items ≡ hex_digits count number }

@@ -115,7 +115,7 @@ pub fn weak_symbols(alloc: Global, symbols: &[Symbol]) -> Result<ListVec<ScriptS
     Ok(definitions)
 }
 
-/// What a script defines by itself, in the map's order.
+/// Returns the definitions of a script, in the map's order.
 pub fn definitions_of(
     alloc: Global,
     script: &Script,

@@ -1,4 +1,4 @@
-//! What a link keeps of its modules.
+//! The parts of modules that a link keeps.
 
 use base65::ListVec;
 use object65::{Action, Norm, Origin, Width};
@@ -13,7 +13,7 @@ pub struct LinkedModule {
     pub files: ListVec<ListVec<u8>>,
 }
 
-/// Where a section lies: how far behind the start of its segment, and how many bytes it has.
+/// The position of a section: its offset from the start of its segment, and its size.
 #[derive(Drop)]
 pub struct SectionPlace {
     pub segment: ListVec<u8>,
@@ -21,12 +21,12 @@ pub struct SectionPlace {
     pub size: u64,
 }
 
-/// A value of a module that waits for addresses: it is computed once all is placed.
+/// A value of a module that is computed once all is placed.
 #[derive(Drop)]
 pub struct ValueFixup {
     pub owner: usize,
     pub width: Width,
-    /// Where its statement stands.
+    /// The location of its statement.
     pub origin: Origin,
     pub form: Norm,
 }
@@ -40,13 +40,13 @@ pub struct Exported {
     pub form: Norm,
 }
 
-/// What a module asks the linker to check.
+/// An assertion of a module that the linker checks.
 #[derive(Drop)]
 pub struct Asserted {
     pub owner: usize,
     pub action: Action,
     pub origin: Origin,
-    /// What is printed where the form is 0.
+    /// The text that is printed if the form is 0.
     pub text: ListVec<u8>,
     pub form: Norm,
 }
@@ -91,13 +91,14 @@ pub struct ScriptSymbol {
 pub enum SegmentPiece {
     /// Bytes that are known.
     Known(ListVec<u8>),
-    /// So many bytes of the fill value.
+    /// This many bytes of the fill value.
     Filled(u32),
-    /// The bytes of a value that waits for addresses.
+    /// The bytes of a value that needs addresses.
     Waits(ValueFixup),
 }
 
-/// What a segment holds: its size in bytes, the largest alignment of its sections, and its pieces in order.
+/// The contents of a segment: its size in bytes, the largest alignment of its sections, and its
+/// pieces in order.
 #[derive(Drop)]
 pub struct SegmentContent {
     pub name: ListVec<u8>,

@@ -16,13 +16,13 @@ pub type Providers<'a> = IndexMap<&'a [u8], Provider, Seed>;
 /// The addresses at which rows run, by their names.
 pub type Runs<'a> = IndexMap<&'a [u8], u64, Seed>;
 
-/// What the script and the modules define, and who gives a name.
+/// The definitions of the script and the modules, and who defines each name.
 #[derive(Drop)]
 pub struct DefinedSymbols<'a> {
-    /// What the script defines by itself.
+    /// The definitions of the script.
     pub own: &'a [ScriptSymbol],
     pub exports: &'a [Exported],
-    /// What the script defines where nothing else does.
+    /// The script's definitions of names that nothing else defines.
     pub weak: &'a [ScriptSymbol],
     /// Who gives a name: the script by itself, or else a module.
     pub defined: Providers<'a>,
@@ -120,7 +120,7 @@ pub fn runs_of<'a>(
     Ok(runs)
 }
 
-/// The address at which a section runs: behind that of its row.
+/// Returns the run address of a section: its offset after the address of its row.
 fn address_of(runs: &Runs<'_>, place: &SectionPlace) -> i64
     ensures { result ≡ address_in runs.now place.now }
 {

@@ -1,4 +1,4 @@
-//! What the linker says: faults in words, and warnings of rows.
+//! The messages of the linker: texts of errors, and warnings of rows.
 
 ghost use Rattle.std.specs.Prelude.{◌≡◌, ◌++◌, IfOk, OnOk, map};
 ghost use Rattle.link65.specs.Texts.{concat_texts, location_name, absence_warning, align_words, alignment_warning, data_warning, is_data, row_warnings, segment_warning, warnings_of_rows};
@@ -16,7 +16,7 @@ use itoa::Buffer;
 use script65::SegmentRow;
 use std::alloc::{AllocError, Global};
 
-/// Adds texts, one behind the other.
+/// Appends texts in order.
 pub fn add_all(text: &mut ListVec<u8>, parts: &[&[u8]]) -> Result<(), AllocError>
     ensures { OnOk result (text.new ≡ text.old ++ concat_texts (map (λ p. p.now) parts.now)) }
 {
@@ -26,7 +26,7 @@ pub fn add_all(text: &mut ListVec<u8>, parts: &[&[u8]]) -> Result<(), AllocError
     Ok(())
 }
 
-/// Texts one behind the other.
+/// Concatenates texts.
 pub fn join(alloc: Global, parts: &[&[u8]]) -> Result<ListVec<u8>, AllocError>
     ensures { IfOk result (λ text. text ≡ concat_texts (map (λ p. p.now) parts.now)) }
 {
@@ -60,7 +60,7 @@ pub fn location_name(alloc: Global, site: &ModuleLocation) -> Result<ListVec<u8>
     }
 }
 
-/// A fault in words, as the bytes that are printed: names and texts are as they stand in the files.
+/// Returns the text of an error as it is printed, with names and texts as in the files.
 pub fn fault_text(alloc: Global, fault: &LinkFault) -> Result<ListVec<u8>, AllocError>
     ensures { IfOk result (λ text. text ≡ fault_text fault.now) }
 {
@@ -118,7 +118,7 @@ fn alignment_warning(
     )
 }
 
-/// Whether a piece is more than room for the fill value.
+/// Returns whether a piece is more than room for the fill value.
 fn is_data(piece: &SegmentPiece) -> bool
     ensures { result ≡ list_any is_data (piece_cells piece.now) }
 {
@@ -129,7 +129,7 @@ fn is_data(piece: &SegmentPiece) -> bool
     }
 }
 
-/// Whether a segment has more than room for the fill value.
+/// Returns whether a segment has more than room for the fill value.
 fn has_data(content: &SegmentContent) -> bool
     ensures { result ≡ list_any is_data (segment_from content.now).cells }
 {
@@ -159,7 +159,7 @@ fn data_warning(
     )
 }
 
-/// What is warned of a row of a placed program.
+/// Returns the warning of a row of a placed program.
 fn warnings_of_row(
     alloc: Global,
     program: &PlacedProgram<'_>,
@@ -178,7 +178,7 @@ fn warnings_of_row(
     }
 }
 
-/// What is warned of rows, in order.
+/// Returns the warnings of rows, in order.
 pub fn warnings_of(
     alloc: Global,
     program: &PlacedProgram<'_>,

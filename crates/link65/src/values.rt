@@ -1,4 +1,4 @@
-//! A placed program, and what its forms, exports and assertions come to.
+//! A placed program, and the values of its forms, exports and assertions.
 
 ghost use Rattle.std.specs.Prelude.{◌≡◌, map, option_copied, IfOk, Ok, true};
 ghost use Rattle.std.specs.Option.{option_map};
@@ -35,7 +35,7 @@ pub struct PlacedProgram<'a> {
     pub asserts: &'a [Asserted],
     /// Where each module's sections lie, and who gives its imports.
     pub modules: &'a [Resolved],
-    /// What each export comes to.
+    /// The value of each export.
     pub marks: &'a [ExportState],
 }
 
@@ -91,7 +91,8 @@ fn site_of(
     }
 }
 
-/// The value of a form of the module at a place, or why it has none, with where its statement stands.
+/// Returns the value of a form of the module at an index; or why it has none, with the location of
+/// its statement.
 fn value_at(
     alloc: Global,
     program: &PlacedProgram<'_>,
@@ -175,7 +176,7 @@ fn assertion_warning(
     )
 }
 
-/// What is warned of an assertion, or its fault.
+/// Returns the warning of an assertion, or its error.
 fn check_assertion(
     alloc: Global,
     program: &PlacedProgram<'_>,
@@ -196,7 +197,7 @@ fn check_assertion(
     }
 }
 
-/// What is warned of assertions, in order, or the first fault.
+/// Returns the warnings of assertions, in order, or the first error.
 pub fn check_assertions(
     alloc: Global,
     program: &PlacedProgram<'_>,

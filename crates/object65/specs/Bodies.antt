@@ -18,7 +18,7 @@ use Rattle.object65.specs.Operators.{op1_of, op2_of}
 use Rattle.object65.specs.Form.{Form, lit, sec, imp, prefix, binary}
 use Rattle.object65.specs.Objects.{section_limit}
 
--- a number of so many bytes at the front, and what follows
+-- a number of this many bytes at the front, and the rest
 abbrev pub number_at : ℕ → List ℕ → Result (ℕ × List ℕ) ObjectFault
 number_at len bytes = if nat_lt (length bytes) len then Err BadSize else Ok (little_number len bytes, drop len bytes)
 
@@ -26,11 +26,11 @@ number_at len bytes = if nat_lt (length bytes) len then Err BadSize else Ok (lit
 abbrev pub signed_at : List ℕ → Result (ℤ × List ℕ) ObjectFault
 signed_at bytes = number_at 8 bytes >>= (λ x. Ok (cast_signed w64 x.0, x.1))
 
--- so many bytes at the front, and what follows
+-- this many bytes at the front, and the rest
 abbrev pub text_at : ℕ → List ℕ → Result (List ℕ × List ℕ) ObjectFault
 text_at len bytes = if nat_lt (length bytes) len then Err BadSize else Ok (take len bytes, drop len bytes)
 
--- a byte with the length, and so many bytes
+-- a byte with the length, and that many bytes
 unfoldable pub counted_at : List ℕ → Result (List ℕ × List ℕ) ObjectFault
 counted_at bytes = do
   len ← number_at 1 bytes
@@ -83,7 +83,7 @@ form_of_code part code rest =
     else if code == 0x02 then imp_at rest
     else operation_at part (op1_at code) (op2_at code) rest
 
--- a form of at most so many nodes one within the other, and what follows
+-- a form nested at most this deep, and the rest
 abbrev pub form_at : ℕ → List ℕ → Result (Form × List ℕ) ObjectFault
 form_at zero bytes = Err BadSize
 form_at (suc depth) [] = Err BadSize
@@ -103,7 +103,7 @@ width_of code =
 abbrev pub action_of : ℕ → Result Action ObjectFault
 action_of code = if code == 0 then Ok action.Warning else if code == 1 then Ok action.Error else Err BadSize
 
--- what the body of a SECTION says, without its fragments
+-- the body of a SECTION, without its fragments
 pub record Heading : Type 0 where
   pub size : ℕ
   pub align : ℕ

@@ -1,4 +1,4 @@
--- What the form of an operation on forms is, and when a form can't be folded any more.
+-- The form of an operation on forms, and when a form can't be folded further.
 use Rattle.std.specs.Prelude.{◌==◌, ℕ, ◌+◌, ℤ, ◌+ℤ◌, ◌-ℤ◌, Bool, true, false, not, ◌&&◌, ◌||◌, Option, Some, None, Result, Ok, Err, nat_le, if◌then◌else◌}
 use Rattle.base65.specs.declared.values.Op1.{Op1}
 use Rattle.base65.specs.declared.values.Op1.TheVariants.{Plus}
@@ -84,7 +84,7 @@ is_normal (prefix op f) = is_normal f && not (folds1 op f)
 is_normal (binary op f g) = is_normal f && is_normal g && not (folds2 op f g)
 is_normal _ = true
 
--- its sections and imports are there, of so many
+-- all its section and import numbers are below these
 abbrev pub is_within : ℕ → ℕ → Form → Bool
 is_within sections imports (lit v) = true
 is_within sections imports (sec k a) = nat_le (k + 1) sections

@@ -38,7 +38,7 @@ is_none xs = length xs == 0
 abbrev pub closing : List ℕ → List Fragment
 closing bytes = if is_none bytes then [] else Literal bytes ∷ []
 
--- the fragments, with the literal behind them
+-- the fragments, followed by the unfinished literal
 abbrev pub closed_fragments : Draft → List Fragment
 closed_fragments d = d.fragments ++ closing d.literal
 
@@ -66,7 +66,7 @@ empty_draft name size align = record { name = name; align = align; size = size; 
 
 -- ---- One item, and many.
 
--- the object in the making with an item behind what was taken
+-- the unfinished object after one more item
 abbrev pub with_item : State → Item → State
 with_item s (File name) = record s { files = s.files ++ name ∷ [] }
 with_item s (Import name) = record s { imports = s.imports ++ name ∷ [] }
@@ -76,7 +76,7 @@ with_item s (Export name origin form) = record s { exports = s.exports ++ (recor
 with_item s (Assert action origin text form) = record s { asserts = s.asserts ++ (record { action = action; origin = origin; text = text; form = form }) ∷ [] }
 with_item s End = record s { ended = true }
 
--- the object in the making with these items one behind the other
+-- the unfinished object after these items
 abbrev pub with_items : State → List Item → State
 with_items s [] = s
 with_items s (i ∷ is) = with_items (with_item s i) is

@@ -1,4 +1,4 @@
--- What holds of objects and their bytes, and of forms.
+-- Laws of objects and their bytes, and of forms.
 use Rattle.std.specs.Prelude.{◌≡◌, ℕ, ◌+◌, ◌≤◌, ℤ, List, [], ◌++◌, length, true, false, Result, Ok}
 use Rattle.byteorder.specs.Endian.{little_number}
 use Rattle.base65.specs.SystemErrors.{IsNoSystemError}
@@ -16,11 +16,11 @@ use Rattle.object65.specs.Items.{with_items}
 use Rattle.object65.specs.Scanning.{Outline, items_of, outline_of, State, after, after_all, object_of_state as finished_of, scan_end as scan_end_of, scan_step as scanned_of}
 use Rattle.object65.specs.Versions.{in_version_one}
 
--- what is read as an object is spelled so
+-- bytes that are read as an object are its encoding
 abbrev pub ReadLaw : Type 0
 ReadLaw = (bytes : List ℕ) (at limit : ℕ) (o : Object) → IsBytes (bytes_before bytes at limit) → object_at at limit bytes ≡ Ok o → IsObject (bytes_before bytes at limit) o
 
--- what is spelled so is read, within the largest file
+-- the encoding of an object is read as that object, within the largest file
 abbrev pub SpellingLaw : Type 0
 SpellingLaw = (bytes : List ℕ) (at limit : ℕ) (o : Object) → at + length (bytes_before bytes at limit) ≤ file_limit → IsObject (bytes_before bytes at limit) o → object_at at limit bytes ≡ Ok o
 
@@ -28,7 +28,7 @@ SpellingLaw = (bytes : List ℕ) (at limit : ℕ) (o : Object) → at + length (
 abbrev pub ObjectExists : Type 0
 ObjectExists = (bytes : List ℕ) (at limit : ℕ) → IsNoSystemError is_system_error (object_at at limit bytes)
 
--- so are its parts; and whatever was taken of an object, any record is taken or refused
+-- the same of its parts; and after any records any record is taken or has an error
 pub record PartExists : Type 0 where
   pub head : (bytes : List ℕ) (at limit : ℕ) → IsNoSystemError is_system_error (head_at at limit bytes)
   pub part : (bytes : List ℕ) (v at limit : ℕ) → IsNoSystemError is_system_error (record_at v at limit bytes)
@@ -38,7 +38,7 @@ pub record PartExists : Type 0 where
   pub taken : (s : State) (e : RawRecord) → IsNoSystemError is_system_error (after s e)
   pub finished : (s : State) → IsNoSystemError is_system_error (finished_of s)
 
--- any operation on forms has a form, or a fault that isn't want of memory
+-- any operation on forms has a form, or an error that isn't *out of memory*
 abbrev pub FoldExists : Type 0
 FoldExists =
     ((op : Op1) (f : Form) → IsNoSystemError lacks_memory (fold1 op f))
@@ -60,7 +60,8 @@ NumberIsUnique = (n : ℕ) (a b : List ℕ) → IsBytes a → IsBytes b → leng
 abbrev pub ItemsLaw : Type 0
 ItemsLaw = (s : State) (es : List RawRecord) → (items_of (outline_of s) es >>= (λ is. Ok (with_items s is))) ≡ after_all s es
 
--- what an object says in version 1 has a spelling where the object has one, and numbers and texts of their types likewise
+-- an object's contents have a spelling in version 1 if the object has one, and numbers and texts that fit
+-- their types likewise
 abbrev pub VersionLaw : Type 0
 VersionLaw = (o : Object) → (is_well_formed_object o ≡ true → is_well_formed_object (in_version_one o) ≡ true) × (ObjectFits o → ObjectFits (in_version_one o))
 
@@ -76,11 +77,11 @@ BinaryFoldLaw E = (none : E) (bases : ℕ → ℤ) (imports : ℕ → Result ℤ
 abbrev pub IsFolded : Form → Type 0
 IsFolded f = (is_normal f ≡ true) × (nodes f ≤ node_limit)
 
--- what folding gives can't be folded any more, and is within the limit
+-- a folded form can't be folded further, and is within the limit
 abbrev pub NormalLaw : Type 0
 NormalLaw = ((op : Op1) (f h : Form) → IsFolded f → fold1 op f ≡ Ok h → IsFolded h) × ((op : Op2) (f g h : Form) → IsFolded f → IsFolded g → fold2 op f g ≡ Ok h → IsFolded h)
 
--- within the limit, folding leaves an operation as it stands exactly where it is said not to fold
+-- within the limit, folding leaves an operation unchanged exactly if `stays` holds of it
 abbrev pub StaysLaw : Type 0
 StaysLaw =
     ((op : Op1) (f : Form) → nodes (prefix op f) ≤ node_limit → (folds1 op f ≡ false → fold1 op f ≡ Ok (prefix op f)) × (fold1 op f ≡ Ok (prefix op f) → folds1 op f ≡ false))

@@ -53,7 +53,7 @@ fragment_len (Value width origin form) = width_len width
 abbrev pub section_len : Section → ℕ
 section_len s = sum_by fragment_len s.fragments
 
--- a section has at most so many bytes
+-- the largest size of a section, in bytes
 abbrev pub section_limit : ℕ
 section_limit = 16777216
 
@@ -80,7 +80,7 @@ are_names names = are_distinct is_name names
 
 -- ---- Files and origins.
 
--- the name of a file has at most so many bytes
+-- the longest name of a source file, in bytes
 abbrev pub file_name_limit : ℕ
 file_name_limit = 4096
 
@@ -92,7 +92,7 @@ is_file_name name = nat_le (length name) file_name_limit
 abbrev pub are_files_of : ℕ → List (List ℕ) → Bool
 are_files_of version files = if version == 1 then length files == 0 else are_distinct is_file_name files
 
--- the file of an origin is there, of so many, where it has one
+-- the file number of an origin, if it has one, is below this
 abbrev pub has_file : ℕ → Option ℕ → Bool
 has_file files None = true
 has_file files (Some k) = nat_lt k files
@@ -102,7 +102,7 @@ abbrev pub has_file_by : ℕ → Option ℕ → Bool
 has_file_by version None = version == 1
 has_file_by version (Some k) = not (version == 1)
 
--- an origin in an object of this version with so many files
+-- an origin in an object of this version with this many files
 abbrev pub is_well_formed_origin : ℕ → ℕ → Origin → Bool
 is_well_formed_origin version files origin = has_file_by version origin.file && has_file files origin.file
 
@@ -114,7 +114,7 @@ has_good_origin version files (Value width origin form) = is_well_formed_origin 
 
 -- ---- Forms.
 
--- a form of an object with so many sections and imports
+-- a form of an object with this many sections and imports
 abbrev pub is_well_formed_form : ℕ → ℕ → Form → Bool
 is_well_formed_form sections imports f = is_within sections imports f && is_normal f && nat_le (nodes f) node_limit
 
@@ -128,7 +128,7 @@ FitsBits (binary op f g) = FitsBits f × FitsBits g
 
 -- ---- Objects of the grammar.
 
--- in a section of an object with so many sections and imports
+-- in a section of an object with this many sections and imports
 abbrev pub is_well_formed_fragment : ℕ → ℕ → Fragment → Bool
 is_well_formed_fragment sections imports (Literal bytes) = nat_lt 0 (length bytes)
 is_well_formed_fragment sections imports (Fill n) = nat_lt 0 n
@@ -151,7 +151,7 @@ is_well_formed_section sections imports s = nat_le s.align 15 && nat_le (section
 abbrev pub is_well_formed_assert : ℕ → ℕ → Assert → Bool
 is_well_formed_assert sections imports a = nat_lt (length a.text) 256 && is_well_formed_form sections imports a.form && not (is_literal a.form)
 
--- what is the same in both versions
+-- the conditions that are the same in both versions
 abbrev pub has_good_parts : Object → Bool
 has_good_parts o =
     let sections = length o.sections in
@@ -168,7 +168,7 @@ has_good_origins o =
     && list_all (λ e. is_good e.origin) o.exports
     && list_all (λ a. is_good a.origin) o.asserts
 
--- what has a spelling
+-- an object that has an encoding
 abbrev pub is_well_formed_object : Object → Bool
 is_well_formed_object o = is_version o.version && are_files_of o.version o.files && has_good_origins o && has_good_parts o
 

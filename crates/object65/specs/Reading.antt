@@ -1,4 +1,4 @@
--- How an object stands in a file.
+-- How an object is read from a file.
 use Rattle.std.specs.Prelude.{◌≡◌, IsErrOf, ℕ, ◌+◌, ◌-◌, List, length, take, drop, get_or, Option, Some, None, Result, Ok, Err, nat_lt, ◌||◌, not, if◌then◌else◌, ⊤, [], Bool, nat_le, ◌&&◌, zero, suc}
 use Rattle.std.specs.Str.{bytes_eq}
 use Rattle.byteorder.specs.Endian.{little_number}
@@ -14,18 +14,18 @@ use Rattle.base65.specs.Store.{Files, FailedOn, PropagatesIoError, LastFailure}
 
 -- ---- Reading an object from left to right, with the first fault that is met.
 
--- what a file has from a place on, up to the end of a member's room
+-- the bytes of a file from an offset on, up to the end of a member's room
 abbrev pub bytes_before : List ℕ → ℕ → ℕ → List ℕ
 bytes_before bytes at limit = take (limit - at) (drop at bytes)
 
--- What a call that reads a file leaves of a store: its files as before; its count of failures, a failure passed on as
--- this error; and that the call that failed asked for this name.
+-- The effect of a call that reads a file on the store: the files are unchanged; a failure is passed on as
+-- this error, and counted; and the failed call requested this name.
 pub record StoreFrame {X T E : Type 0} (files_of : X → Option Files) (failures_of : X → ℕ) (last_failure_of : X → LastFailure) (error : E) (name : List ℕ) (old new : X) (result : Result T E) : Type 0 where
   pub files : files_of new ≡ files_of old
   pub count : PropagatesIoError error (failures_of old) (failures_of new) result
   pub last_failure : IsErrOf result error → FailedOn (last_failure_of new) name
 
--- what is read of a file's bytes, or that there is no such file
+-- the result of reading a file's bytes, or that there is no such file
 abbrev pub in_file : {A : Type 0} → Option (List ℕ) → (List ℕ → Result A ObjectFault) → Result A ObjectFault
 in_file None read = Err FileNotFound
 in_file (Some bytes) read = read bytes
@@ -38,7 +38,7 @@ head_of at head =
 abbrev pub head_at : ℕ → ℕ → List ℕ → Result (ℕ × ℕ) ObjectFault
 head_at at limit bytes = head_of at (take 5 (bytes_before bytes at limit))
 
--- an object or library file has at most so many bytes
+-- the largest size of an object or library file, in bytes
 abbrev pub file_limit : ℕ
 file_limit = 1073741824
 
@@ -62,7 +62,7 @@ record_at version at limit bytes = do
   body ← body_or_cut_short front.1 (take front.1 (bytes_before bytes (at + 3) limit))
   ending at front.0 front.1 body
 
--- nothing stands there any more
+-- no bytes are left
 abbrev pub end_at : ℕ → ℕ → List ℕ → Result (Unit {0}) ObjectFault
 end_at at limit bytes = if nat_lt 0 (length (take 1 (bytes_before bytes at limit))) then Err BytesAfterEnd else Ok tt
 
@@ -76,7 +76,7 @@ IsRoomRead file at limit buf (Err store.OutOfMemory) = ⊤
 
 -- ---- Bytes that a reader of records has read ahead.
 
--- What a reader is seen as: the record that it read last, and bytes of a file from a place on.
+-- The model of a reader: the record that it read last, and the bytes of a file from an offset on.
 pub record RecordReaderView : Type 0 where
   pub entry : RawRecord
   pub begin : ℕ
@@ -87,7 +87,7 @@ abbrev pub IsAhead : Option (List ℕ) → RecordReaderView → Type 0
 IsAhead None r = r.ahead ≡ []
 IsAhead (Some bytes) r = r.ahead ≡ take (length r.ahead) (drop r.begin bytes)
 
--- those of bytes that stand at a place and behind it, where the first stands at another
+-- the bytes from the second offset on, of bytes that begin at the first
 abbrev pub from_place : List ℕ → ℕ → ℕ → List ℕ
 from_place bytes begin at = if nat_lt at begin then [] else drop (at - begin) bytes
 
@@ -99,7 +99,7 @@ record_len bytes = 3 + little_number 2 (take 2 (drop 1 bytes))
 abbrev pub has_record : List ℕ → Bool
 has_record bytes = nat_le 3 (length bytes) && nat_le (record_len bytes) (length bytes)
 
--- the record with which bytes begin that stand at a place, and where the next begins
+-- the record at the front of bytes from an offset, and the offset of the next one
 unfoldable pub record_in : ℕ → ℕ → List ℕ → Result (RawRecord × ℕ) ObjectFault
 record_in version at bytes = do
   front ← front_of version (take 3 bytes)
@@ -108,13 +108,13 @@ record_in version at bytes = do
 
 -- ---- A whole object in a file.
 
--- Record by record, each first read and then taken, up to the END: at most so many records. The state, and
--- where the END ends.
+-- Records, each first read and then taken, up to the END: at most this many. The state, and the offset after
+-- the END.
 abbrev pub records_at : ℕ → State → ℕ → ℕ → List ℕ → Result (State × ℕ) ObjectFault
 records_at zero s at limit bytes = Err CutShort
 records_at (suc n) s at limit bytes = record_at s.version at limit bytes >>= (λ r. after s r.0 >>= (λ t. if t.ended then Ok (t, r.1) else records_at n t r.1 limit bytes))
 
--- the object that stands from a place on up to the end of its room, or the first fault
+-- the object from an offset up to the end of its room, or the first error
 unfoldable pub object_at : ℕ → ℕ → List ℕ → Result Object ObjectFault
 object_at at limit bytes = do
   first ← head_at at limit bytes

@@ -1,4 +1,4 @@
--- What records say, and what is kept of them.
+-- How records are decoded, and which of their facts are kept.
 use Rattle.std.specs.Prelude.{◌≡◌, ℕ, ◌+◌, ◌-◌, ◌%◌, ◌≤◌, List, [], ◌∷◌, ◌++◌, length, map, slice_get, slice_set, Option, Some, None, Bool, true, false, Result, Ok, Err, nat_le, ◌==◌, ◌&&◌, not, if◌then◌else◌, ⊤}
 use Rattle.std.specs.List.{list_all, prefix_len}
 use Rattle.std.specs.Str.{is_utf8}
@@ -37,15 +37,15 @@ new_name names name = wants (is_name name && not (is_among names name)) NotCanon
 abbrev pub new_file : List (List ℕ) → List ℕ → Result (Unit {0}) ObjectFault
 new_file names name = wants (is_utf8 name && not (is_among names name)) NotCanonical
 
--- its file is there, of so many, where it has one
+-- the file number of an origin, if it has one, is below this
 abbrev pub known_file : ℕ → Origin → Result (Unit {0}) ObjectFault
 known_file files origin = wants (has_file files origin.file) IndexOutOfRange
 
--- its sections and imports are there, of so many
+-- all section and import numbers of a form are below these
 abbrev pub has_known_indices : ℕ → ℕ → Form → Result (Unit {0}) ObjectFault
 has_known_indices sections imports f = wants (is_within sections imports f) IndexOutOfRange
 
--- all that it names is there, of so many files, sections and imports
+-- all numbers of files, sections and imports are below these
 unfoldable pub known_parts : ℕ → ℕ → ℕ → Origin → Form → Result (Unit {0}) ObjectFault
 known_parts files sections imports origin f = do
   u ← known_file files origin
@@ -68,7 +68,7 @@ is_some_fill _ = false
 abbrev pub ends_in_fill : List Fragment → Bool
 ends_in_fill fs = is_some_fill (slice_get fs (length fs - 1))
 
--- a record of a literal that isn't full stands last, or a fill
+-- the last part of a section: a literal that isn't full, a fill, or anything else
 abbrev pub last_of : Draft → Last
 last_of d = if not (length d.literal % body_limit == 0) then last.Short else if ends_in_fill (closed_fragments d) then last.Fill else last.Other
 
@@ -97,7 +97,7 @@ pub record Outline : Type 0 where
 abbrev pub outline_of : State → Outline
 outline_of s = record { version = s.version; files = s.files; imports = s.imports; sections = map (λ d. d.name) s.drafts; rooms = map room_of s.drafts; begun = s.begun; exports = map (λ e. e.name) s.exports; asserting = not (is_none s.asserts); ended = s.ended; failed = s.failed }
 
--- what a SECTION says
+-- the contents of a SECTION
 abbrev pub heading : ℕ → ℕ → List ℕ → Heading
 heading size align name = record { size = size; align = align; name = name }
 
@@ -114,7 +114,7 @@ room_at k (Some r) = Ok (k, r)
 abbrev pub open_room : List SectionFill → Result (ℕ × SectionFill) ObjectFault
 open_room rs = room_at (prefix_len is_filled rs) (slice_get rs (prefix_len is_filled rs))
 
--- so many bytes more are within the section
+-- this many more bytes are within the section
 abbrev pub room_for : SectionFill → ℕ → Result (Unit {0}) ObjectFault
 room_for r len = wants (nat_le len (r.size - r.filled)) BadSize
 
@@ -128,11 +128,11 @@ is_fill last.Fill = true
 is_fill last.Short = false
 is_fill last.Other = false
 
--- what stands last behind a literal of so many bytes
+-- the last part of a section after a literal of this many bytes
 abbrev pub last_after : ℕ → Last
 last_after len = if len % body_limit == 0 then last.Other else last.Short
 
--- the section behind a fragment
+-- the section after a fragment
 abbrev pub room_after : SectionFill → ℕ → Last → SectionFill
 room_after r len l = record { size = r.size; filled = r.filled + len; last = l }
 
@@ -150,7 +150,7 @@ room_fill body r = do
   v ← wants (not (is_fill r.last)) NotCanonical
   Ok (room_after r count last.Fill, Fill count)
 
--- a value in an object of this version with so many files, sections and imports
+-- a value in an object of this version with this many files, sections and imports
 unfoldable pub room_value : ℕ → ℕ → ℕ → ℕ → List ℕ → SectionFill → Result (SectionFill × Fragment) ObjectFault
 room_value version files sections imports body r = do
   value ← value_of version body
@@ -168,7 +168,7 @@ grow_room o kind body =
 
 -- ---- One record.
 
--- files stand before everything else; a name may be empty
+-- files come before all else; a name may be empty
 unfoldable pub scan_file : Outline → List ℕ → Result (Outline × Item) ObjectFault
 scan_file o body = do
   u ← wants (is_none o.imports && is_none o.rooms && is_none o.exports && not o.asserting) OutOfOrder
@@ -176,7 +176,7 @@ scan_file o body = do
   v ← new_file o.files body
   Ok (record o { files = o.files ++ body ∷ [] }, File body)
 
--- imports stand before everything else but files
+-- imports come before all else but files
 unfoldable pub scan_import : Outline → List ℕ → Result (Outline × Item) ObjectFault
 scan_import o body = do
   u ← wants (is_none o.rooms && is_none o.exports && not o.asserting) OutOfOrder
@@ -187,7 +187,7 @@ scan_import o body = do
 abbrev pub empty_room : ℕ → SectionFill
 empty_room size = record { size = size; filled = 0; last = last.Other }
 
--- sections stand before all fragments
+-- sections come before all fragments
 unfoldable pub scan_section : Outline → List ℕ → Result (Outline × Item) ObjectFault
 scan_section o body = do
   u ← wants (not o.begun && is_none o.exports && not o.asserting) OutOfOrder
@@ -203,7 +203,7 @@ scan_part o grow = do
   grown ← grow place.1
   Ok (record o { rooms = slice_set o.rooms place.0 grown.0; begun = true }, Part place.0 place.1.filled grown.1)
 
--- exports stand behind the last fragment, before all assertions
+-- exports come after the last fragment and before all assertions
 unfoldable pub scan_export : Outline → List ℕ → Result (Outline × Item) ObjectFault
 scan_export o body = do
   u ← wants (list_all is_filled o.rooms && not o.asserting) OutOfOrder
@@ -213,7 +213,7 @@ scan_export o body = do
   x ← canonical e.form
   Ok (record o { exports = o.exports ++ e.name ∷ [] }, Export e.name e.origin e.form)
 
--- assertions and the END stand behind the last fragment
+-- assertions and the END come after the last fragment
 unfoldable pub scan_assert : Outline → List ℕ → Result (Outline × Item) ObjectFault
 scan_assert o body = do
   u ← wants (list_all is_filled o.rooms) OutOfOrder
@@ -241,11 +241,11 @@ scan_entry o e =
     else if e.kind == 9 then scan_file o e.body
     else scan_last o e.body
 
--- what is kept behind the record and the item that it gives, or the first fault
+-- the outline after a record and the record's item, or the first error
 unfoldable pub scan_step : Outline → RawRecord → Result (Outline × Item) ObjectFault
 scan_step o e = if o.failed then Err FailedBefore else if o.ended then Err OutOfOrder else scan_entry o e
 
--- the items of records one behind the other, or the first fault
+-- the items of records in order, or the first error
 abbrev pub items_of : Outline → List RawRecord → Result (List Item) ObjectFault
 items_of o [] = Ok []
 items_of o (e ∷ es) = scan_step o e >>= (λ x. items_of x.0 es >>= (λ is. Ok (x.1 ∷ is)))
@@ -256,7 +256,7 @@ scan_end o = if o.failed then Err FailedBefore else if o.ended then Ok tt else E
 
 -- ---- What an item keeps to.
 
--- a fragment stands in this section, behind what was taken of it
+-- a fragment is in this section, after the parts already taken
 pub record FitsIn (room : SectionFill) (place : ℕ) (f : Fragment) : Type 0 where
   pub following : place ≡ room.filled
   pub within : place + fragment_len f ≤ room.size
@@ -274,7 +274,7 @@ IsWithin o End = ⊤
 
 -- ---- What a builder becomes by one record after another: what the items make that a scan gives.
 
--- the state behind a record, or the first fault
+-- the state after a record, or the first error
 unfoldable pub after : State → RawRecord → Result State ObjectFault
 after s e = scan_step (outline_of s) e >>= (λ x. Ok (with_item s x.1))
 

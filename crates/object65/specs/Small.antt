@@ -1,4 +1,4 @@
--- What keeps the bodies of an object's records within their limit.
+-- The conditions under which the bodies of an object's records are within their limit.
 use Rattle.std.specs.Prelude.{ℕ, List, length, Bool, true, nat_lt, nat_le, ◌&&◌}
 use Rattle.std.specs.List.{list_all}
 use Rattle.object65.specs.declared.object.Object.{Object}

@@ -49,7 +49,7 @@ abbrev pub action_code : Action → ℕ
 action_code action.Warning = 0
 action_code action.Error = 1
 
--- a body has at most so many bytes
+-- the largest body of a record, in bytes
 abbrev pub body_limit : ℕ
 body_limit = 4096
 
@@ -102,7 +102,7 @@ assert_entry a = record { kind = 7; body = action_code a.action ∷ (origin_byte
 abbrev pub end_entry : RawRecord
 end_entry = record { kind = 8; body = [] }
 
--- the records of an object behind those of its files
+-- the records of an object after those of its files
 abbrev pub entries_after : Object → List RawRecord
 entries_after o =
     map import_entry o.imports

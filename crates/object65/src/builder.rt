@@ -20,16 +20,16 @@ use std::mem;
 pub struct Draft {
     pub name: ListVec<u8>,
     pub align: u8,
-    /// How many bytes the section will have.
+    /// The size that the section will have, in bytes.
     pub size: u32,
-    /// How many it has.
+    /// The bytes so far.
     pub filled: u32,
     pub fragments: ListVec<Fragment>,
-    /// The literal behind these fragments, to which the next one is joined.
+    /// The literal after these fragments, which the next literal record extends.
     pub literal: ListVec<u8>,
 }
 
-/// What has been taken of an object.
+/// The parts of an object taken so far.
 #[derive(Drop)]
 pub struct Parts {
     pub alloc: Global,
@@ -41,7 +41,7 @@ pub struct Parts {
     pub asserts: ListVec<Assert>,
 }
 
-/// Puts the literal in the making behind the other fragments.
+/// Adds the unfinished literal to the fragments.
 fn close_literal(alloc: Global, draft: &mut Draft) -> Result<(), ObjectFault>
     ensures closed { OnOk result (draft.new ≡
         record draft.old { fragments = closed_fragments draft.old; literal = [] }) }
@@ -54,7 +54,7 @@ fn close_literal(alloc: Global, draft: &mut Draft) -> Result<(), ObjectFault>
     Ok(())
 }
 
-/// Puts a fragment that is no literal behind the others.
+/// Adds a fragment that is no literal.
 fn push_fragment(alloc: Global, draft: &mut Draft, fragment: Fragment) -> Result<(), ObjectFault>
     ensures pushed { Refines is_memory (λ _. draft.new) result
         (Ok (record draft.old { fragments = closed_fragments draft.old ++ fragment ∷ []; literal = [] })) }
@@ -146,9 +146,9 @@ pub fn finish_object(parts: Parts) -> Result<Object, ObjectFault>
 
 /// An object in the making, which stands for the records taken so far.
 pub struct Builder {
-    /// What takes the records.
+    /// The scan that checks the records.
     scan: Scan,
-    /// What they say.
+    /// The parts in the records.
     parts: Parts,
     failed: bool,
 }
@@ -220,7 +220,7 @@ impl Builder {
         Ok(())
     }
 
-    /// Whether the END was taken.
+    /// Returns whether the END was taken.
     pub fn is_ended(&self) -> bool
         ensures { result ≡ self.now.ended }
     {
@@ -231,7 +231,7 @@ impl Builder {
     pub fn finish(self) -> Result<Object, ObjectFault>
         ensures finished { Refines is_memory (λ o. o) result (object_of_state self) }
         ensures again { self.failed ≡ true → result ≡ Err ObjectFault.FailedBefore }
-        // What it gives can be written, and so its sections are within their limit.
+        // The object can be written, so its sections are within their limit.
         ensures good { IfOk result (λ o. is_well_formed_object o ≡ true) }
         ensures sized { IfOk result (λ o.
             AllByRecursion (λ s. section_len s ≤ section_limit) o.sections) }

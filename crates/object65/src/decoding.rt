@@ -10,8 +10,8 @@ use crate::{ObjectFault, Record};
 use arrayvec::ArrayVec;
 use byteorder::{ByteOrder, LittleEndian};
 
-/// The version, and where the records begin, behind the head that stands at a place and of which these bytes are
-/// there.
+/// Decodes a head at an offset from the bytes that are there. Returns the version and the offset of
+/// the first record.
 pub fn decode_head(bytes: &[u8], at: u64) -> Result<(u8, u64), ObjectFault>
     requires { at + length bytes.now < 2 ^ 64 }
     ensures read { result ≡ head_of at (take 5 bytes.now) }
@@ -29,7 +29,7 @@ pub fn decode_head(bytes: &[u8], at: u64) -> Result<(u8, u64), ObjectFault>
     Ok((version, at + 5))
 }
 
-/// Whether there are records of this kind in objects of this version.
+/// Returns whether there are records of this kind in objects of this version.
 pub fn is_kind(version: u8, kind: u8) -> bool
     ensures { result ≡ is_record_kind version kind }
 {
@@ -57,7 +57,7 @@ fn decode_front(version: u8, bytes: &[u8]) -> Result<(u8, usize), ObjectFault>
     Ok((kind, len))
 }
 
-/// The body that stands at a place.
+/// Returns the body at an offset.
 fn body_at(bytes: &[u8], at: usize, len: usize) -> Result<&[u8], ObjectFault>
     requires { at ≤ length bytes.now }
     ensures read { Refines is_memory (λ body. body.now) result
@@ -85,7 +85,8 @@ fn fill(body: &mut ArrayVec<u8, 4096>, bytes: &[u8])
     }
 }
 
-/// Decodes the record with which bytes begin that stand at a place of a file, and answers where the next begins.
+/// Decodes the record at the front of bytes from an offset of a file. Returns it with the offset of
+/// the next one.
 #[tactic(auto, unfolding(crate::specs::Reading::record_in))]
 pub fn decode(space: &mut Record, version: u8, bytes: &[u8], at: u64) -> Result<u64, ObjectFault>
     requires { at + length bytes.now < 2 ^ 64 }

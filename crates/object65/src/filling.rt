@@ -26,7 +26,7 @@ fn check_room(room: SectionFill, len: u32) -> Result<(), ObjectFault>
     )
 }
 
-/// The section with so many bytes more.
+/// Returns the section with `len` more bytes.
 fn room_after(room: SectionFill, len: u32, last: Last) -> SectionFill
     requires { room.filled + len ≤ room.size }
     ensures { result ≡ room_after room len last }
@@ -38,7 +38,7 @@ fn room_after(room: SectionFill, len: u32, last: Last) -> SectionFill
     }
 }
 
-/// Refuses an origin whose file isn't there, of so many.
+/// Rejects an origin whose file number isn't below `files`.
 fn check_file(origin: Origin, files: usize) -> Result<(), ObjectFault>
     ensures { result ≡ known_file files origin }
 {
@@ -78,7 +78,7 @@ pub fn check_open_form(form: &Norm) -> Result<(), ObjectFault>
     check(!is_number(form), ObjectFault::NotCanonical)
 }
 
-/// How many bytes the body of a FILL asks for.
+/// Returns the number of bytes in the body of a FILL.
 fn read_fill(body: &[u8]) -> Result<u32, ObjectFault>
     ensures { Refines is_memory (λ n. n) result (fill_of body.now) }
 {
@@ -142,7 +142,7 @@ fn width_at(code: u8) -> Result<Width, ObjectFault>
     }
 }
 
-/// How many bytes a value takes.
+/// Returns the size of a value, in bytes.
 pub fn width_size(width: Width) -> u32
     ensures { result ≡ width_len width }
 {

@@ -112,7 +112,7 @@ fn fold_difference(alloc: Global, left: Norm, right: Norm) -> Result<Norm, FormF
     }
 }
 
-/// Whether the sections and imports of a form are there, of so many.
+/// Returns whether all section and import numbers in a form are below these.
 pub fn are_there(form: &Norm, sections: usize, imports: usize) -> bool
     ensures { result ≡ is_within sections imports form.now }
 {
@@ -127,14 +127,14 @@ pub fn are_there(form: &Norm, sections: usize, imports: usize) -> bool
     }
 }
 
-/// Whether a form is a number.
+/// Returns whether a form is a number.
 pub fn is_number(form: &Norm) -> bool
     ensures { result ≡ is_literal form.now }
 {
     matches!(form.node(), Node::NumberNode(_))
 }
 
-/// Whether a prefix operation on the form would be folded.
+/// Returns whether a prefix operation on the form would be folded.
 fn folds_prefix(op: Op1, part: &Norm) -> bool
     ensures { result ≡ folds1 op part.now }
 {
@@ -144,7 +144,7 @@ fn folds_prefix(op: Op1, part: &Norm) -> bool
     }
 }
 
-/// Whether an operation on the two forms would be folded.
+/// Returns whether an operation on the two forms would be folded.
 fn folds_binary(op: Op2, left: &Norm, right: &Norm) -> bool
     ensures { result ≡ folds2 op left.now right.now }
 {
@@ -166,7 +166,7 @@ fn folds_binary(op: Op2, left: &Norm, right: &Norm) -> bool
     }
 }
 
-/// Whether no operation in a form would be folded.
+/// Returns whether no operation in a form would be folded.
 pub fn is_folded(form: &Norm) -> bool
     ensures { result ≡ is_normal form.now }
 {
@@ -179,7 +179,7 @@ pub fn is_folded(form: &Norm) -> bool
     }
 }
 
-/// Whether a form is within the limit of nodes.
+/// Returns whether a form is within the limit of nodes.
 pub fn is_limited(form: &Norm) -> bool
     ensures { result ≡ nat_le (nodes form.now) node_limit }
 {

@@ -87,7 +87,7 @@ impl Norm {
     }
 }
 
-/// How many nodes a form has, or the largest `u32` where it has more.
+/// Returns the number of nodes of a form, or the largest `u32` if it has more.
 pub fn count(form: &Norm) -> u32
     ensures { result ≡ min (nodes form.now) (2 ^ 32 - 1) }
 {

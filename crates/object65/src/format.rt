@@ -1,4 +1,4 @@
-//! What the format of objects fixes: how they begin, how much they hold, and the kinds of their records.
+//! The constants of the object format: heads, limits, and the kinds of records.
 
 /// With these bytes an object begins.
 pub const MAGIC: [u8; 4] = [0x52, 0x36, 0x35, 0x6f];
@@ -8,16 +8,16 @@ pub const VERSION_ONE: u8 = 1;
 
 pub const VERSION_TWO: u8 = 2;
 
-/// An object or library file has at most so many bytes.
+/// The largest size of an object or library file, in bytes.
 pub const FILE_LIMIT: u64 = 1_073_741_824;
 
-/// The body of a record has at most so many bytes.
+/// The largest body of a record, in bytes.
 pub const LARGEST_BODY: usize = 4096;
 
-/// The name of a file in which parts of an object stand has at most so many bytes.
+/// The longest name of a source file in an object, in bytes.
 pub const FILE_NAME_LIMIT: usize = 4096;
 
-/// A section has at most so many bytes.
+/// The largest size of a section, in bytes.
 pub const SECTION_LIMIT: u32 = 16_777_216;
 
 // The kinds of records.

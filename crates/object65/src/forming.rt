@@ -75,7 +75,7 @@ fn i64_at(bytes: &[u8]) -> Result<(i64, &[u8]), ObjectFault>
     Ok((LittleEndian::read_u64(front).cast_signed(), rest))
 }
 
-/// So many bytes as a byte at the front says, and what follows.
+/// Returns as many bytes as a byte at the front says, and the rest.
 #[tactic(auto, unfolding(crate::specs::Bodies::counted_at))]
 pub fn text_of(bytes: &[u8]) -> Result<(&[u8], &[u8]), ObjectFault>
     ensures text { Refines is_memory (λ x. (x.0.now, x.1.now)) result (counted_at bytes.now) }
@@ -158,7 +158,7 @@ fn read_operation(
     Ok((Norm::new(Node::Binary(op, left, right)), rest))
 }
 
-/// The form of a code, behind which these bytes stand.
+/// Reads a form after its code.
 #[cycle(form)]
 #[tactic(auto, unfolding(crate::specs::Bodies::lit_at, crate::specs::Bodies::sec_at, crate::specs::Bodies::imp_at))]
 fn read_after(
@@ -188,7 +188,7 @@ fn read_after(
     }
 }
 
-/// The form at the front, of at most so many nodes one within the other, and what follows.
+/// Reads the form at the front, nested at most this deep, and returns it with the rest.
 #[cycle(form)]
 fn read_form(alloc: Global, bytes: &[u8], depth: usize) -> Result<(Norm, &[u8]), ObjectFault>
     ensures { Refines is_memory (λ x. (x.0, x.1.now)) result (form_at depth bytes.now) }

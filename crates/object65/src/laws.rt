@@ -1,13 +1,14 @@
-//! What holds of objects and their bytes, whatever wrote them, and of forms. Each function's contract is a law.
+//! Laws of objects and their bytes, whatever wrote them, and of forms. Each function's contract is
+//! a law.
 
 ghost use Rattle.object65.specs.Laws.{ReadLaw, FoldExists, ObjectExists, PartExists, SpellingLaw, PrefixLaw, SpellingIsUnique, NumberIsUnique, ItemsLaw, VersionLaw, PrefixFoldLaw, BinaryFoldLaw, NormalLaw, StaysLaw};
 
-/// What is read as an object is spelled so.
+/// Bytes that are read as an object are its encoding.
 pub fn read_is_spelled()
     ensures { ReadLaw }
 {}
 
-/// What is spelled as an object is read as that object.
+/// The encoding of an object is read as that object.
 pub fn spelled_is_read()
     ensures { SpellingLaw }
 {}
@@ -17,8 +18,8 @@ pub fn object_exists()
     ensures { ObjectExists }
 {}
 
-/// So are a head, a record and an end; and whatever was taken of an object, any record is taken, or refused for a
-/// fault of its own.
+/// The same of a head, a record and an end; and after any records any record is taken, or has an
+/// error of its own.
 pub fn part_exists()
     ensures { PartExists }
 {}
@@ -61,12 +62,12 @@ pub fn binary_keeps_its_value<E>()
     ensures { BinaryFoldLaw E }
 {}
 
-/// Any operation on forms has a form, or a fault that isn't want of memory.
+/// Any operation on forms has a form, or an error that isn't *out of memory*.
 pub fn fold_exists()
     ensures { FoldExists }
 {}
 
-/// What folding gives can't be folded any more and has at most 255 nodes.
+/// A folded form can't be folded further and has at most 255 nodes.
 pub fn folded_is_normal()
     ensures { NormalLaw }
 {}

@@ -8,7 +8,7 @@ use base65::ListVec;
 pub struct Object {
     /// The version of its bytes, 1 or 2.
     pub version: u8,
-    /// The names of the files in which its parts stand; origins name them by their places here. Version 1 has none.
+    /// The names of the source files; an origin names one by its index here. Version 1 has none.
     pub files: ListVec<ListVec<u8>>,
     /// The names that the module uses and doesn't define; forms name them by their places here.
     pub imports: ListVec<ListVec<u8>>,
@@ -18,7 +18,7 @@ pub struct Object {
     pub asserts: ListVec<Assert>,
 }
 
-/// What a module adds to a segment.
+/// The part of a segment in one module.
 #[derive(Drop)]
 pub struct Section {
     /// The segment's name.
@@ -33,9 +33,9 @@ pub struct Section {
 pub enum Fragment {
     /// Bytes that are known.
     Literal(ListVec<u8>),
-    /// So many bytes of the linker's fill value.
+    /// This many bytes of the linker's fill value.
     Fill(u32),
-    /// A value that the linker computes, and where its statement stands.
+    /// A value that the linker computes, with the location of its statement.
     Value {
         width: Width,
         origin: Origin,
@@ -43,7 +43,7 @@ pub enum Fragment {
     },
 }
 
-/// Where a part of an object stands in its sources.
+/// The location of a part of an object in its sources.
 #[derive(Clone, Copy)]
 pub struct Origin {
     /// The place of the file among the object's files. In version 1 there is none.
@@ -74,17 +74,17 @@ pub struct Export {
     pub form: Norm,
 }
 
-/// What the linker has to check: a form that isn't 0.
+/// An assertion that the linker checks: its form must not be 0.
 #[derive(Drop)]
 pub struct Assert {
     pub action: Action,
     pub origin: Origin,
-    /// What is printed where the form is 0.
+    /// The text that is printed if the form is 0.
     pub text: ListVec<u8>,
     pub form: Norm,
 }
 
-/// What follows from an assertion that fails.
+/// The consequence of an assertion that fails.
 #[derive(Clone, Copy)]
 pub enum Action {
     Warning = 0,

@@ -63,7 +63,7 @@ pub fn read_head<S: Store>(
     decode_head(&head[..n], at)
 }
 
-/// Refuses bytes behind an object.
+/// Rejects bytes after an object.
 pub fn check_end<S: Store>(
     store: &mut S,
     name: &str,
@@ -85,7 +85,7 @@ pub fn check_end<S: Store>(
     Ok(())
 }
 
-/// Reads record by record behind a head up to the END, and answers where the END ends.
+/// Reads records after a head up to the END. Returns the offset after it.
 fn read_records<S: Store>(
     alloc: Global,
     store: &mut S,
@@ -114,7 +114,7 @@ fn read_records<S: Store>(
     }
 }
 
-/// Reads the object that stands in a file from a place on up to the end of its room.
+/// Reads the object at an offset of a file, up to the end of its room.
 #[tactic(auto, unfolding(crate::specs::Reading::object_at))]
 pub fn read_object<S: Store>(
     alloc: Global,
@@ -131,7 +131,8 @@ pub fn read_object<S: Store>(
     ensures frame { StoreFrame S.files S.failures S.last_failure FileError name.now store.old store.new
         result }
     ensures at_last_count { FailsAtLastCount is_system_error (S.failures store.old) result }
-    // What is read can be written, and so its sections are within their limit, also where the store doesn't tell.
+    // An object that is read can be written, so its sections are within their limit, even if the
+    // store doesn't tell its files.
     ensures good { IfOk result (λ o. is_well_formed_object o ≡ true) }
     ensures sized { IfOk result (λ o. AllByRecursion
         (λ s. section_len s ≤ section_limit) o.sections) }

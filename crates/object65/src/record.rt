@@ -11,7 +11,7 @@ pub struct Record {
     pub body: ArrayVec<u8, 4096>,
 }
 
-/// What one record of an object says.
+/// The item in one record of an object.
 #[derive(Drop)]
 pub enum Item {
     /// The name of a file.
@@ -20,11 +20,12 @@ pub enum Item {
     Import(ListVec<u8>),
     /// A section's name, its size, and the power of two to a multiple of which it is placed.
     Section(ListVec<u8>, u32, u8),
-    /// A section's place, an offset in it, and what stands there: of a literal the bytes of this record.
+    /// A section's index, an offset in it, and a fragment; of a literal only the bytes of this
+    /// record.
     Part(usize, u32, Fragment),
     /// A name that the module defines for others, where that is said, and its value.
     Export(ListVec<u8>, Origin, Norm),
-    /// What follows where the form is 0, where it stands, the text that is printed, and the form.
+    /// The action if the form is 0, the location, the text that is printed, and the form.
     Assert(Action, Origin, ListVec<u8>, Norm),
     /// The object ends.
     End,

@@ -16,7 +16,7 @@ use base65::Store;
 use byteorder::{ByteOrder, LittleEndian};
 use std::marker::Model;
 
-/// How many bytes are read at once: the longest record is shorter.
+/// The size of the buffer: the longest record is shorter.
 const BUFFER: usize = 2 * LARGEST_BODY;
 
 /// Reads records one by one into a record of its own. It reads ahead, and so keeps bytes of the file that it read
@@ -26,7 +26,7 @@ pub struct RecordReader {
     record: Record,
     /// The place in the file of the first byte of the buffer.
     begin: u64,
-    /// So many bytes of the buffer are the file's.
+    /// The number of bytes in the buffer that are the file's.
     held: usize,
     buffer: [u8; BUFFER],
 }
@@ -44,14 +44,14 @@ impl Model for RecordReader {
     ghost view = { λ r. record { entry = entry_of r.record; begin = r.begin; ahead = take r.held r.buffer } };
 }
 
-/// The first so many bytes.
+/// Returns the first `held` bytes.
 fn front(buffer: &[u8], held: usize) -> &[u8]
     ensures { result.now ≡ take held buffer.now }
 {
     buffer.get(..held).unwrap_or(buffer)
 }
 
-/// Those of the bytes, of which the first stands at a place of a file, that stand at another place and behind it.
+/// Returns the bytes from offset `at` on, of bytes that begin at offset `begin`.
 fn from_place(bytes: &[u8], begin: u64, at: u64) -> &[u8]
     ensures { result.now ≡ from_place bytes.now begin at }
 {
@@ -61,7 +61,7 @@ fn from_place(bytes: &[u8], begin: u64, at: u64) -> &[u8]
     bytes.get((at - begin) as usize..).unwrap_or(&[])
 }
 
-/// Whether bytes begin with a whole record.
+/// Returns whether bytes begin with a whole record.
 fn has_record(bytes: &[u8]) -> bool
     ensures { result ≡ has_record bytes.now }
 {

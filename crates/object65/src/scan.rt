@@ -19,12 +19,12 @@ use indexmap::IndexSet;
 use std::alloc::Global;
 use std::marker::Model;
 
-/// What stands last in a section, as far as the next record has to know it.
+/// The last part of a section, as far as it decides which records may follow.
 #[derive(Clone, Copy)]
 pub enum Last {
-    /// A record of a literal that isn't full, behind which no literal stands.
+    /// A literal record that isn't full; no literal may follow it.
     Short,
-    /// A fill, behind which no fill stands.
+    /// A fill; no fill may follow it.
     Fill,
     /// Anything else, or nothing yet.
     Other,
@@ -33,14 +33,14 @@ pub enum Last {
 /// A section in the making without its bytes.
 #[derive(Clone, Copy)]
 pub struct SectionFill {
-    /// How many bytes the section will have.
+    /// The size that the section will have, in bytes.
     pub size: u32,
-    /// How many it has.
+    /// The bytes so far.
     pub filled: u32,
     pub last: Last,
 }
 
-/// What a scan keeps of the records taken: names and sizes, and no fragment.
+/// The facts that a scan keeps of the records taken: names and sizes, and no fragment.
 #[derive(Drop)]
 pub struct ScanState {
     pub alloc: Global,
@@ -138,7 +138,7 @@ fn action_at(code: u8) -> Result<Action, ObjectFault>
     }
 }
 
-/// What the body of an ASSERT says.
+/// Reads the body of an ASSERT.
 #[tactic(auto, unfolding(crate::specs::Bodies::assert_of))]
 fn read_assert(alloc: Global, version: u8, body: &[u8]) -> Result<Assert, ObjectFault>
     ensures said { Refines is_memory (λ a. a) result (assert_of version body.now) }
@@ -276,7 +276,7 @@ impl Scan {
         Ok(item)
     }
 
-    /// Whether the END was taken.
+    /// Returns whether the END was taken.
     pub fn is_ended(&self) -> bool
         ensures { result ≡ self.now.ended }
     {

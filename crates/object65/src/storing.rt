@@ -6,7 +6,7 @@ ghost use Rattle.object65.specs.Objects.{fits_width, value_bytes};
 use crate::Width;
 use arrayvec::ArrayVec;
 
-/// Whether a value is within the range of a width.
+/// Returns whether a value is within the range of a width.
 pub fn fits(width: Width, value: i64) -> bool
     ensures { result ≡ fits_width width value }
 {

@@ -175,7 +175,7 @@ fn take_part(kept: &mut ScanState, kind: u8, body: &[u8]) -> Result<Item, Object
     Ok(Item::Part(at, room.filled, fragment))
 }
 
-/// Whether all sections are full.
+/// Returns whether all sections are full.
 pub fn all_full(kept: &mut ScanState) -> bool
     requires { IsWellFormedOutline kept.old }
     ensures full { result ≡ list_all is_filled kept.old.rooms.items }
@@ -185,7 +185,7 @@ pub fn all_full(kept: &mut ScanState) -> bool
     open_place(kept) == kept.rooms.len()
 }
 
-/// What the body of a SECTION says: the size, the alignment and the name.
+/// Reads the body of a SECTION: the size, the alignment and the name.
 fn read_section(alloc: Global, body: &[u8]) -> Result<(u32, u8, ListVec<u8>), ObjectFault>
     ensures { Refines is_memory (λ x. heading x.0 x.1 x.2) result (section_of body.now) }
 {

@@ -241,7 +241,7 @@ fn put_imports(out: &mut Vec<u8>, imports: &[ListVec<u8>]) -> Result<(), AllocEr
     Ok(())
 }
 
-/// How many bytes a fragment takes.
+/// Returns the size of a fragment, in bytes.
 pub fn fragment_size(fragment: &Fragment) -> usize
     ensures { result ≡ fragment_len fragment.now }
 {
@@ -252,7 +252,7 @@ pub fn fragment_size(fragment: &Fragment) -> usize
     }
 }
 
-/// How many bytes fragments take together.
+/// Returns the size of fragments together, in bytes.
 fn size_of(fragments: &[Fragment]) -> u32
     requires { sum_by fragment_len fragments.now ≤ section_limit }
     ensures { result ≡ sum_by fragment_len fragments.now }
@@ -361,7 +361,7 @@ fn put_object(body: &mut Vec<u8>, out: &mut Vec<u8>, object: &Object) -> Result<
     put_record(out, END, &[])
 }
 
-/// Adds the one spelling of an object. A refusal, which is want of memory alone, changes nothing.
+/// Appends the encoding of an object. If memory runs out, `out` is unchanged.
 pub fn write_object(alloc: Global, object: &Object, out: &mut Vec<u8>) -> Result<(), ObjectFault>
     requires { is_well_formed_object object.now ≡ true }
     ensures written { OnOk result (out.new.items ≡ out.old.items ++ object_bytes object.now) }

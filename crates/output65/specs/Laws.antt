@@ -1,4 +1,5 @@
--- What a run leaves is one thing, and there is one, by what each stream took and each call of the store answered.
+-- What a run leaves exists and is unique, given how much each stream took and how each call of the store
+-- ended.
 use Rattle.std.specs.Prelude.{◌≡◌, ℕ, ◌==◌, ◌≤◌, ◌↔◌, Bool, List, ◌++◌, length, take, slice_get, Option, Some, None, ⊤}
 use Rattle.base65.specs.Store.{LastFailure, FailedCall, Files, FailedOn}
 use Rattle.base65.specs.declared.output.OutputFile.{OutputFile}
@@ -9,18 +10,18 @@ use Rattle.output65.specs.RunEffects.{OverWriters, PerformsOutcome, PrintsText, 
 use Rattle.output65.specs.Left.{files_after, streams_after, said_after, status_after, written_to}
 use Rattle.output65.specs.WriteFailures.{StopsWriting, file_error_line}
 
--- what both streams held before a run
+-- the contents of both streams before a run
 abbrev pub HeldBefore : Streams → List ℕ → List ℕ → Type 0
 HeldBefore io a b = (io.out_old ≡ Some a) × (io.err_old ≡ Some b)
 
--- A stream printed a text: it took so many bytes of it, and all exactly where it says so.
+-- A stream that prints a text took some number of its bytes, and took all exactly if it reports success.
 abbrev pub PrintsLaw : Type 0
 PrintsLaw =
     (old text : List ℕ) (new : Option (List ℕ)) (whole : Bool) →
     PrintsText (Some old) new text whole
     ↔ ((k : ℕ) × (k ≤ length text) × (new ≡ Some (old ++ take k text)) × (whole ≡ (k == length text)))
 
--- Two texts were said: each stream took so many bytes of its own.
+-- Two texts were printed: each stream took some number of bytes of its own.
 abbrev pub SaysLaw : Type 0
 SaysLaw =
     (io : Streams) (a b out err : List ℕ) → HeldBefore io a b →
@@ -35,20 +36,20 @@ PerformsLaw =
     ↔ ((i : ℕ) × (j : ℕ) × (i ≤ length o.out) × (j ≤ length o.err) × (io ≡ streams_after a b o.out o.err i j)
     × (new ≡ Some (files_after o old i j)) × (status ≡ status_after o i j))
 
--- Both texts were said, and behind them a text of a fault, of which standard error took so many bytes.
+-- Both texts were printed, and then an error message, of which standard error took some number of bytes.
 abbrev pub SaysAfterLaw : Type 0
 SaysAfterLaw =
     (io : Streams) (a b out err fault : List ℕ) → HeldBefore io a b →
     SaysAfter io out err fault
     ↔ ((k : ℕ) × (k ≤ length fault) × (io ≡ said_after a b out err fault k))
 
--- so many bytes of an output are written, or it is as it was
+-- the first bytes of an output are written, or its file is unchanged
 abbrev pub IsPart : OutputFile → Option ℕ → Type 0
 IsPart output None = ⊤
 IsPart output (Some n) = n ≤ length output.bytes
 
--- Memory ran out at an output, or a call of the store failed for it: those before it are written, it is in part or not at all, and
--- standard error took so many bytes of what is said of that.
+-- Memory ran out at an output, or a call of the store failed for it: the outputs before it are written, it is
+-- written in part or not at all, and standard error took some number of bytes of the message.
 abbrev pub StopsShortLaw : Type 0
 StopsShortLaw =
     (o : Outcome) (memory : List ℕ) (old : Files) (new : Option Files) (io : Streams) (status : Status) (a b : List ℕ) → HeldBefore io a b →
@@ -75,7 +76,8 @@ WritersPerformLaw =
     × (out ≡ (streams_after a b o.out o.err i j).out_new) × (err ≡ (streams_after a b o.out o.err i j).err_new)
     × (new ≡ Some (files_after o old i j)) × (status ≡ status_after o i j))
 
--- where memory ran out at an output, or a call of the store failed for it, standard error took so many bytes behind both texts
+-- if memory ran out at an output, or a call of the store failed for it, standard error took some number of
+-- bytes after both texts
 abbrev pub WritersStopLaw : Type 0
 WritersStopLaw =
     (out_text err_text fault a b : List ℕ) (out err : Option (List ℕ)) →
@@ -83,7 +85,7 @@ WritersStopLaw =
     ↔ ((k : ℕ) × (k ≤ length fault)
     × (out ≡ Some (a ++ out_text)) × (err ≡ Some ((b ++ err_text) ++ take k fault)))
 
--- what is said of a call that failed while files were written is one text: the name that it asked for, and `file error`
+-- a call that failed while files were written has one message: the name that it requested, and `file error`
 abbrev pub WriteNamingIsUnique : Type 0
 WriteNamingIsUnique =
     (o : Outcome) (old : Files) (new : Option Files) (c : FailedCall) (io : Streams) (status : Status) →

@@ -1,5 +1,5 @@
--- What a run leaves, by how many bytes each stream took of what it was given, and by how much is written of the output at which
--- the run stopped. The streams are those that tell what they hold.
+-- What a run leaves, by how many bytes each stream took, and by how much of the output is written at which
+-- the run stopped. The streams are those whose writers tell their contents.
 use Rattle.std.specs.Prelude.{ℕ, ◌==◌, ◌&&◌, if◌then◌else◌, List, ◌++◌, length, take, Option, Some, None, true, false, not}
 use Rattle.std.specs.FinMap.{insert}
 use Rattle.base65.specs.Store.{Files}
@@ -17,7 +17,7 @@ streams_after out_old err_old out err i j =
     then streams (Some out_old) (Some (out_old ++ out)) false (Some err_old) (Some (err_old ++ take j err)) (not (j == length err))
     else streams (Some out_old) (Some (out_old ++ take i out)) true (Some err_old) (Some err_old) false
 
--- both took all, and behind that standard error took k bytes of a text of a fault
+-- both took all, and then standard error took k bytes of a message
 abbrev pub said_after : List ℕ → List ℕ → List ℕ → List ℕ → List ℕ → ℕ → Streams
 said_after out_old err_old out err fault k =
     streams (Some out_old) (Some (out_old ++ out)) false (Some err_old) (Some ((err_old ++ err) ++ take k fault)) (not (k == length fault))
@@ -29,7 +29,7 @@ files_after o old i j = if (i == length o.out) && (j == length o.err) then apply
 abbrev pub status_after : Outcome → ℕ → ℕ → Status
 status_after o i j = if (i == length o.out) && (j == length o.err) then o.status else Failure
 
--- the outputs before one are written, and of that one so many bytes, or it is as it was
+-- the outputs before one are written, and its first bytes, or its file is unchanged
 abbrev pub written_to : List OutputFile → ℕ → OutputFile → Option ℕ → Files → Files
 written_to outputs place output None old = apply (take place outputs) old
 written_to outputs place output (Some n) old = insert (apply (take place outputs) old) output.name (take n output.bytes)

@@ -1,4 +1,4 @@
--- What commands write.
+-- The files that commands write.
 use Rattle.std.specs.Prelude.{ℕ, ◌==◌, if◌then◌else◌, List, [], ◌∷◌, ◌++◌, length, Option, Some, None}
 use Rattle.base65.specs.declared.output.OutputFile.{OutputFile}
 use Rattle.output65.specs.declared.outcome.Outcome.{Outcome}
@@ -12,7 +12,7 @@ failing message = record { out = []; err = message; outputs = []; status = Failu
 abbrev pub outputs_of : List ℕ → List ℕ → List OutputFile
 outputs_of name bytes = if length name == 0 then [] else record { name = name; bytes = bytes } ∷ []
 
--- files with the map behind them, where it has a name
+-- the files followed by the map, if it has a name
 abbrev pub with_map : Option (List ℕ) → List OutputFile → List ℕ → List OutputFile
 with_map None files map = files
 with_map (Some name) files map = files ++ record { name = name; bytes = map } ∷ []

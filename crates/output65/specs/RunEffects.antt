@@ -1,4 +1,4 @@
--- What a run leaves: texts on two streams, and files.
+-- The results of a run: texts on two streams, and files.
 use Rattle.std.specs.Prelude.{◌≡◌, ℕ, ◌<◌, ◌⊎◌, List, [], ◌∷◌, ◌++◌, length, take, slice_get, Option, Some, None, Bool, true, false, not, ◌||◌, ⊤}
 use Rattle.std.specs.FinMap.{insert}
 use Rattle.std.specs.Io.KnownBytes.{Keeps}
@@ -20,7 +20,7 @@ PrintsText (Some old) None text whole = ⊥
 PrintsText (Some old) (Some new) text true = new ≡ old ++ text
 PrintsText (Some old) (Some new) text false = (k : ℕ) × (k < length text) × (new ≡ old ++ take k text)
 
--- the files behind outputs, each of which sets its name
+-- the files after outputs are written, each of which replaces the file of its name
 abbrev pub apply : List OutputFile → Files → Files
 apply [] m = m
 apply (o ∷ os) m = apply os (insert m o.name o.bytes)
@@ -33,8 +33,8 @@ IsPartly old name bytes new = (new ≡ old) ⊎ ((k : ℕ) × (new ≡ insert ol
 abbrev pub StopsAt : List OutputFile → ℕ → Files → Files → Type 0
 StopsAt outputs i old new = (o : OutputFile) × (slice_get outputs i ≡ Some o) × IsPartly (apply (take i outputs) old) o.name o.bytes new
 
--- what standard output and standard error hold before a run and behind it, where they tell, and whether they have refused
--- behind it
+-- The contents of standard output and standard error before and after a run, if the writers tell them, and
+-- whether each has refused a text.
 pub record Streams : Type 0 where
   pub out_old : Option (List ℕ)
   pub out_new : Option (List ℕ)
@@ -52,7 +52,7 @@ abbrev pub between : {W E : Type 0} → (W → Option (List ℕ)) → (E → Opt
 between out_contents err_contents o n e f =
     streams (out_contents o.writer.now) (out_contents n.writer.now) n.has_failed (err_contents e.writer.now) (err_contents f.writer.now) f.has_failed
 
--- so it is of streams over these writers, of which nothing is known but what they hold
+-- the same of streams over these writers, of which only their contents are known
 abbrev pub OverWriters : Option (List ℕ) → Option (List ℕ) → Option (List ℕ) → Option (List ℕ) → (Streams → Type 0) → Type 0
 OverWriters out_old out_new err_old err_new IsSo =
     (out_refused : Bool) × (err_refused : Bool) × IsSo (streams out_old out_new out_refused err_old err_new err_refused)
@@ -72,10 +72,10 @@ SaysNext true io err = Keeps io.err_old io.err_new × (io.err_refused ≡ false)
 abbrev pub SaysBoth : Streams → List ℕ → List ℕ → Type 0
 SaysBoth io out err = PrintsText io.out_old io.out_new out (not io.out_refused) × SaysNext io.out_refused io err
 
--- Both texts were taken whole, and behind that of standard error a text of a fault; or a first part of it, where standard
--- error has refused.
+-- Both texts were taken whole, and then a message on standard error, whole or, if the stream refused, in
+-- part.
 pub record SaysAfter (io : Streams) (out err fault : List ℕ) : Type 0 where
-  -- standard error behind its own text
+  -- standard error after its own text
   pub err_mid : Option (List ℕ)
   pub said : SaysBoth (streams io.out_old io.out_new io.out_refused io.err_old err_mid false) out err
   pub taken : io.out_refused ≡ false
@@ -93,7 +93,7 @@ is_failure u = is_file_error u.fault
 abbrev pub took_both : Streams → Bool
 took_both io = not (io.out_refused || io.err_refused)
 
--- where both texts were taken, the files behind an outcome and its status; else no file is written
+-- if both texts were taken, the files are written and the status is the outcome's; else no file is written
 abbrev pub FilesAfterRun : Outcome → Files → Option Files → Status → Bool → Type 0
 FilesAfterRun o old new status true = (new ≡ Some (apply o.outputs old)) × (status ≡ o.status)
 FilesAfterRun o old new status false = (new ≡ Some old) × (status ≡ Failure)
@@ -103,8 +103,8 @@ pub record PerformsOutcome (o : Outcome) (old : Files) (new : Option Files) (io 
   pub said : SaysBoth io o.out o.err
   pub settled : FilesAfterRun o old new status (took_both io)
 
--- Memory ran out while an outcome's files were written: its texts were taken whole, and behind them stands what is said
--- of want of memory, or a first part of that.
+-- Memory ran out while an outcome's files were written: its texts were taken whole, and after them the
+-- message *out of memory*, or a first part of it.
 pub record StopsShort (o : Outcome) (memory : List ℕ) (old : Files) (new : Option Files) (io : Streams) (status : Status) : Type 0 where
   pub said : SaysAfter io o.out o.err memory
   pub place : ℕ

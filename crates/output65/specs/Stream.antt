@@ -1,4 +1,4 @@
--- What a stream over a writer is seen as.
+-- The model of a stream over a writer.
 use Rattle.std.specs.Prelude.{ℕ, Bool, true, ◌==◌, Result, Ok, Err}
 
 -- a writer that was asked to take a text that isn't empty failed, or took nothing

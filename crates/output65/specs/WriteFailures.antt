@@ -1,4 +1,4 @@
--- What is left where a call of the store fails while files are written.
+-- What is left if a call of the store fails while files are written.
 use Rattle.std.specs.Prelude.{◌≡◌, ℕ, List, ◌∷◌, [], codes, slice_get, Option, Some}
 use Rattle.base65.specs.Store.{Files, FailedOn, RelatesFiles, LastFailure}
 use Rattle.base65.specs.declared.output.OutputFile.{OutputFile}
@@ -8,13 +8,13 @@ use Rattle.output65.specs.declared.outcome.Outcome.{Outcome}
 use Rattle.output65.specs.declared.outcome.Status.{Status}
 use Rattle.output65.specs.declared.outcome.Status.TheVariants.{Failure}
 
--- What befell a file: `name: Error: file error`.
+-- The message of a file that can't be written: `name: Error: file error`.
 abbrev pub file_error_line : List ℕ → List ℕ
 file_error_line name = concat_texts (name ∷ codes ": Error: file error\n" ∷ [])
 
--- A call failed while an outcome's files were written: its texts were taken whole; the outputs before one are written, that
--- one in part or not at all, and no later one; the failed call asked for that file; and what befell it is said behind the
--- texts, or a first part of that.
+-- A call failed while an outcome's files were written. Its texts were taken whole; the outputs before one are
+-- written, that one in part or not at all, and no later one; the failed call requested that file; and the
+-- message is printed after the texts, whole or in part.
 pub record StopsWriting (o : Outcome) (old : Files) (new : Option Files) (last_failure : LastFailure) (io : Streams) (status : Status) : Type 0 where
   pub place : ℕ
   pub left : RelatesFiles (StopsAt o.outputs place) (Some old) new

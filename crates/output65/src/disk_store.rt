@@ -87,7 +87,7 @@ impl<R: Files> DiskStore<R> {
         Ok(())
     }
 
-    /// The file to write behind its end, as it was left or opened anew.
+    /// Returns the file to write at its end: the one that is open, or opened anew.
     fn writer(&mut self, name: &str) -> io::Result<Writing<R::File>>
         ensures { self.new.failures ≡ self.old.failures }
     {
@@ -129,7 +129,7 @@ impl<R: Files> DiskStore<R> {
         Ok(())
     }
 
-    /// Writes a piece behind a file's end, one byte at least of one that isn't empty.
+    /// Writes a piece at a file's end. Writes at least one byte unless the piece is empty.
     fn append_file(&mut self, name: &str, piece: &[u8]) -> io::Result<usize>
         ensures bound { IfOk result (λ n. n ≤ length piece.now) }
         ensures some { IfOk result (λ n. n ≡ 0 → length piece.now ≡ 0) }

@@ -1,14 +1,16 @@
-//! What a run leaves is one thing, and there is one, by what each stream took and each call of the store answered. Each
-//! function's contract is a law.
+//! What a run leaves exists and is unique, given how much each stream took and how each call of the
+//! store ended. Each function's contract is a law.
 
 ghost use Rattle.output65.specs.Laws.{WriteNamingIsUnique, PerformsLaw, PrintsLaw, SaysAfterLaw, SaysLaw, StopsShortLaw, StopsWritingLaw, WritersPerformLaw, WritersStopLaw};
 
-/// A stream that prints a text holds so many bytes of it, and all exactly where it says so.
+/// A stream that prints a text took some number of its bytes, and took all exactly if it reports
+/// success.
 pub fn prints_exactly()
     ensures { PrintsLaw }
 {}
 
-/// Of two texts each stream holds so many bytes, standard error none unless standard output took all.
+/// Each stream took some number of bytes of its text, standard error none unless standard output
+/// took all.
 pub fn says_exactly()
     ensures { SaysLaw }
 {}
@@ -18,7 +20,7 @@ pub fn performs_exactly()
     ensures { PerformsLaw }
 {}
 
-/// Behind both texts standard error holds so many bytes of a text of a fault.
+/// After both texts standard error took some number of bytes of an error message.
 pub fn says_after_exactly()
     ensures { SaysAfterLaw }
 {}
@@ -28,7 +30,7 @@ pub fn stops_short_exactly()
     ensures { StopsShortLaw }
 {}
 
-/// So it is where a call of the store fails for an output, and the call asked for that.
+/// The same if a call of the store fails for an output; and the call requested that file.
 pub fn stops_writing_exactly()
     ensures { StopsWritingLaw }
 {}
@@ -38,7 +40,7 @@ pub fn writers_perform_exactly()
     ensures { WritersPerformLaw }
 {}
 
-/// So it does where it stops at an output.
+/// The same if it stops at an output.
 pub fn writers_stop_exactly()
     ensures { WritersStopLaw }
 {}

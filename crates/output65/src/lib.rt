@@ -1,4 +1,5 @@
-//! What a command leaves: texts on two streams and files, and the disk that these are written to.
+//! The results of a command: texts on two streams, and files; and the disk that files are written
+//! to.
 #![tactic(auto)]
 
 mod disk_store;

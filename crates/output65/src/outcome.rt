@@ -1,16 +1,16 @@
-//! What a command does.
+//! The outcome of a command.
 
 use base65::{ListVec, OutputFile};
 
-/// What a run answers to its caller.
+/// The exit status of a run.
 #[derive(Clone, Copy, Debug, PartialEq, Eq)]
 pub enum Status {
     Success = 0,
     Failure = 1,
 }
 
-/// What a command does once all is computed: a text for each stream, files in the order in which they are
-/// written, and its status.
+/// The result of a command, before anything is printed: a text for each stream, files in the order
+/// in which they are written, and the status.
 #[derive(Drop)]
 pub struct Outcome {
     /// For standard output.

@@ -22,7 +22,7 @@ pub fn outputs_of(
     Ok(outputs)
 }
 
-/// Files with the map behind them, where it has a name.
+/// Returns the files followed by the map, if it has a name.
 pub fn with_map(
     alloc: Global,
     name: Option<&str>,

@@ -34,7 +34,7 @@ fn say_both<W: Write, E: Write>(
     print(err, error_text)
 }
 
-/// Says that memory ran out, behind a name, and answers whether the stream took all of it.
+/// Prints that memory ran out, after a name. Returns whether the stream took all of it.
 pub fn print_out_of_memory<E: Write>(err: &mut Stream<'_, E>, name: &str) -> bool
     requires { err.old.has_failed ≡ false }
     ensures same { err.new.writer.ghost_name ≡ err.old.writer.ghost_name }
@@ -70,9 +70,10 @@ fn print_write_error<E: Write>(
     }
 }
 
-/// Carries an outcome out: says its texts, standard output's first, and then writes its files in order. Where
-/// a stream doesn't take its text nothing further is said or written; where a file isn't written no later one
-/// is, and the cause is said: want of memory behind the name handed in. Both answer failure.
+/// Prints the texts of an outcome, standard output's first, and then writes its files in order. If
+/// a stream refuses its text, nothing more is printed and nothing is written. If a file can't be
+/// written, no later one is, and the cause is printed; out of memory is printed after the given
+/// name. In both cases the status is failure.
 pub fn commit_outcome<S: Store, W: Write, E: Write>(
     outcome: &Outcome,
     store: &mut S,

@@ -26,7 +26,7 @@ pub fn print<W: Write>(stream: &mut Stream<'_, W>, text: &[u8]) -> bool
     true
 }
 
-/// Prints texts one behind the other as one text.
+/// Prints texts one after the other, as one text.
 pub fn print_all<W: Write>(stream: &mut Stream<'_, W>, parts: &[&[u8]]) -> bool
     requires { stream.old.has_failed ≡ false }
     ensures same { stream.new.writer.ghost_name ≡ stream.old.writer.ghost_name }

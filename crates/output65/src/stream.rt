@@ -28,7 +28,7 @@ impl<'a, W: Write> Stream<'a, W> {
         }
     }
 
-    /// Whether it has refused.
+    /// Returns whether it has refused.
     pub fn has_failed(&self) -> bool
         ensures { result ≡ self.now.has_failed }
     {

@@ -1,4 +1,4 @@
--- Sums, the names of their parts, and what the sums of areas come to.
+-- The sums of areas: the names of their parts, and their values.
 use Rattle.std.specs.Prelude.{ℕ, ◌+◌, ◌-◌, ◌^◌, ◌&&◌, Bool, not, nat_le, nat_lt, if◌then◌else◌, List, [], ◌∷◌, Option, Some, None, ◌++◌, codes, ◌==◌, ◌||◌, true, false, find, is_some, slice_get, Result, Ok, Err}
 use Rattle.script65.specs.declared.script.AreaAttribute.{AreaAttribute}
 use Rattle.script65.specs.declared.script.AreaAttribute.TheVariants as area
@@ -24,17 +24,18 @@ abbrev pub come_to : {T : Type 0} → (T → Bool) → (T → ℕ) → List T �
 come_to is number [] = 0
 come_to is number (t ∷ ts) = (if is t then number t else 0) + come_to is number ts
 
--- what is added less what is taken, if that is 0 or more and below 2 ^ 32
+-- the difference, if it isn't negative and is below 2 ^ 32
 abbrev pub difference : ℕ → ℕ → Option ℕ
 difference added taken = if nat_le taken added && nat_lt (added - taken) (2 ^ 32) then Some (added - taken) else None
 
--- what is added less what is taken, in whole numbers that don't wrap; only the whole has a range
+-- the sum of the added terms less that of the subtracted ones, in whole numbers that don't wrap; only the
+-- result has a range
 abbrev pub sum_of : {T : Type 0} → (T → Bool) → (T → ℕ) → List T → Option ℕ
 sum_of is_taken number ts = difference (come_to (λ t. not (is_taken t)) number ts) (come_to is_taken number ts)
 
 -- ---- The names for parts of areas and rows.
 
--- what stands behind the name of an area or a row
+-- the ending of a name, after the name of the area or row
 abbrev pub ending : List ℕ → List ℕ
 ending part = codes "_" ++ (part ++ codes "__")
 
@@ -131,7 +132,7 @@ operand_name areas rows (operand.Row i part) = attribute_name (option_map_or (λ
 
 -- ---- Sums.
 
--- what terms come to: what is added less what is taken
+-- the sum of the added terms less that of the subtracted ones
 abbrev pub sum_by : List AreaPlacement → List RowPlacement → List Term → Option ℕ
 sum_by areas rows ts = sum_of (λ (t : Term). t.minus) (term_value areas rows) ts
 
@@ -160,7 +161,8 @@ abbrev pub area_bounds : List ℕ → ℕ → ℕ → Result Bounds PlaceFault
 area_bounds name start size =
     if nat_lt (2 ^ 32) (start + size) then Err (AreaOutOfRange name) else Ok (record { start = start; end = start + size })
 
--- the first address of an area, and the one behind its last: its start, and then its size, for which its start is known
+-- the first address of an area and the first address after it: its start, and its size, in which the start is
+-- known
 abbrev pub bounds_in : SumContextView → Result Bounds PlaceFault
 bounds_in s =
     sum_in s s.own.start

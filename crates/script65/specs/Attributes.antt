@@ -5,18 +5,18 @@ use Rattle.std.specs.Str.{str_eq_ignore_ascii_case}
 use Rattle.script65.specs.declared.script.SegmentType.TheVariants.{ReadOnly, ReadWrite, Bss, ZeroPage}
 pub use Rattle.script65.specs.declared.reading.words.Block.{Block}
 pub use Rattle.script65.specs.declared.reading.words.Block.TheVariants.{Memory as memory, Segments as segments, Symbols as symbols}
--- what the type of a symbol says
+-- the type of a symbol
 pub use Rattle.script65.specs.declared.reading.words.SymbolType.{SymbolType}
 pub use Rattle.script65.specs.declared.reading.words.SymbolType.TheVariants.{Export as exported, Weak as weak, Import as imported}
--- what a word says
+-- the value of a keyword
 pub use Rattle.script65.specs.declared.reading.words.KeywordValue.{KeywordValue}
 pub use Rattle.script65.specs.declared.reading.words.KeywordValue.TheVariants.{Flag as flag, Access as access, Role as role, Width as width}
--- What is given for an attribute. A sum without names is its number, and one with a name is known
--- only where areas are placed.
+-- The value of an attribute. A sum without names is a number; one with a name has a value only once areas are
+-- placed.
 pub use Rattle.script65.specs.declared.reading.entries.Value.{Value}
 pub use Rattle.script65.specs.declared.reading.entries.Value.TheVariants.{Number as number, Byte as byte, Sum as unknown_sum, Said as meant, Area as area, File as file, Output as output_file}
--- what an attribute takes: a number from one to another, a byte, a sum, one of some words, the name
--- of an area, a file
+-- the kinds of values of attributes: a number from one to another, a byte, a sum, one of some keywords, the
+-- name of an area, a file
 pub use Rattle.script65.specs.declared.reading.words.ValueKind.{ValueKind}
 pub use Rattle.script65.specs.declared.reading.words.ValueKind.TheVariants.{Number as number_from, Byte as a_byte, Sum as a_sum, OneOf as one_of, Area as an_area, File as a_file}
 pub use Rattle.script65.specs.declared.reading.words.KeywordSet.{KeywordSet}
@@ -26,15 +26,15 @@ pub use Rattle.script65.specs.declared.reading.words.KeywordSet.TheVariants.{Fla
 abbrev pub find_keyword : {A : Type 0} → List ℕ → List (List ℕ × A) → Option (List ℕ × A)
 find_keyword {A} text rows = find (λ (row : List ℕ × A). str_eq_ignore_ascii_case text row.0) rows
 
--- what a word says, of these
+-- the value of a word in a list of keywords
 abbrev pub value_of_word : {A : Type 0} → List ℕ → List (List ℕ × A) → Option A
 value_of_word {A} text rows = option_map (λ (row : List ℕ × A). row.1) (find_keyword text rows)
 
 abbrev pub blocks : List (List ℕ × Block)
 blocks = (codes "memory", memory) ∷ (codes "segments", segments) ∷ (codes "symbols", symbols) ∷ []
 
--- what words say: `yes` or `no`; what may be in an area or in a segment; what a script does with a
--- symbol; how wide an address is, which has no effect
+-- the values of keywords: `yes` or `no`; the type of an area or of a segment; the type of a symbol; the size
+-- of an address, which has no effect
 abbrev pub keywords : KeywordSet → List (List ℕ × KeywordValue)
 keywords yes_or_no = (codes "yes", flag true) ∷ (codes "no", flag false) ∷ []
 keywords area_access = (codes "ro", access ReadOnly) ∷ (codes "rw", access ReadWrite) ∷ []

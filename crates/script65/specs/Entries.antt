@@ -1,4 +1,4 @@
--- What is read of a script: entries and what they give, values and sums, and faults of entries.
+-- The entries of a script as they are read: values, sums, and errors of entries.
 use Rattle.std.specs.Prelude.{ℕ, ◌+◌, ◌^◌, Bool, ◌&&◌, not, nat_le, nat_lt, is_some, unwrap_or, if◌then◌else◌, List, [], ◌∷◌, ◌++◌, codes, find, Option, Some, None, Result, Ok, Err}
 use Rattle.std.specs.List.{list_any}
 use Rattle.std.specs.Option.{option_map, option_map_or, option_and_then}
@@ -10,7 +10,7 @@ use Rattle.script65.specs.Attributes.{Block, memory, segments, symbols, SymbolTy
 use Rattle.script65.specs.Tokens.{Lexeme, word, numeral, string, output}
 -- ---- Entries.
 
--- a term of a sum: a number, or else a name, and its place; and whether a `-` stands before it
+-- a term of a sum: a number, or else a name, and its offset; and whether it has a `-`
 pub use Rattle.script65.specs.declared.reading.entries.ParsedTerm.{ParsedTerm}
 -- an attribute, what is given for it, and of a sum its terms
 pub use Rattle.script65.specs.declared.reading.entries.AttributeValue.{AttributeValue}
@@ -43,7 +43,7 @@ new_entry name at = record { name = name; at = at; given = [] }
 abbrev pub has_name : List ℕ → Block → Entries → Bool
 has_name name b es = list_any (λ (e : ConfigEntry). bytes_eq name e.name) (of_kind b es)
 
--- what an entry gives for an attribute
+-- the value that an entry has for an attribute
 abbrev pub given_for : List ℕ → ConfigEntry → Option AttributeValue
 given_for a e = find (λ (g : AttributeValue). bytes_eq a g.word) e.given
 
@@ -86,7 +86,7 @@ abbrev pub as_word : Option KeywordValue → Result Value Fault
 as_word (Some m) = Ok (meant m)
 as_word None = Err SyntaxError
 
--- what a token is to an attribute that takes this and no sum
+-- the value of a token for an attribute of this kind, which isn't a sum
 abbrev pub value_of : ValueKind → Lexeme → Result Value Fault
 value_of (number_from low high) (numeral n) = as_value number (in_range low high n)
 value_of a_byte (numeral n) = as_value byte (in_range 0 0xff n)
@@ -106,14 +106,14 @@ part_of taken at (numeral n) = a_part taken at (in_range 0 0xffffffff n)
 part_of taken at (word w) = Ok (record { minus = taken; number = None; name = w; at = at })
 part_of taken at _ = Err SyntaxError
 
--- What a sum comes to: the number of its terms, if that is 0 or more and below 2 ^ 32. It is unknown
--- where a term is a name.
+-- The value of a sum: the sum of its terms, if that isn't negative and is below 2 ^ 32. It is unknown if a
+-- term is a name.
 abbrev pub sum_of_parts : List ParsedTerm → Option Value
 sum_of_parts ps =
     if list_any (λ (p : ParsedTerm). not (is_some p.number)) ps then Some unknown_sum
     else option_map number (sum_of (λ (p : ParsedTerm). p.minus) (λ (p : ParsedTerm). unwrap_or p.number 0) ps)
 
--- where the last term of a sum stands
+-- the offset of the last term of a sum
 abbrev pub last_part : List ParsedTerm → ℕ
 last_part [] = 0
 last_part (p ∷ []) = p.at

@@ -24,7 +24,7 @@ fault_text TooLong = codes "script too long"
 fault_text NoSuchName = codes "no such name"
 fault_text AmbiguousName = codes "ambiguous name"
 
--- whether a fault is told with a name
+-- whether the message of an error has a name
 abbrev pub names : Fault → Bool
 names NoSuchName = true
 names AmbiguousName = true

@@ -60,10 +60,11 @@ is_sign _ = false
 
 -- ---- Faults by what stands before them.
 
--- A token has a fault where it stands: a name that an entry in a block of the kind has; a word that is no attribute of the block;
--- one of an attribute that the entry gives; the `;` of an entry that lacks an attribute, or whose attributes exclude each other or
--- come to too much; a number that the attribute doesn't take, or no term of a sum may be. Or a sum ends, without names, that is
--- out of range: the fault is at its last term.
+-- A token is an error by itself: a name that the block already has an entry for; a word that is no attribute
+-- of the block; an attribute that the entry already has; the `;` of an entry that lacks an attribute, has two
+-- that exclude each other, or whose area ends after the last address; a number out of the attribute's range,
+-- or too large for a term of a sum. Or a sum without names ends out of range: then the error is at its last
+-- term.
 pub data HasFault (bytes : List ℕ) : FaultAt → Type 0 where
   name_twice : (b : Block) (es : Entries) (w : List ℕ) (at : ℕ) → InBlock bytes b es at → (token bytes at).lexeme ≡ word w → has_name w b es ≡ true → HasFault bytes (stop_at NameTwice (token bytes at).at)
   unknown_attribute : (b : Block) (es : Entries) (e : ConfigEntry) (w : List ℕ) (at : ℕ) → InEntry bytes b es e at → (token bytes at).lexeme ≡ word w → find_keyword w (attributes b) ≡ None → HasFault bytes (stop_at UnknownAttribute (token bytes at).at)
@@ -91,8 +92,8 @@ pub data SameTokensUpTo (bytes other : List ℕ) : ℕ → ℕ → Type 0 where
 abbrev pub IsInGrammar : List ℕ → Type 0
 IsInGrammar text = (es : Entries) × IsWritten text es
 
--- A text goes on up to the `;` of an entry, there or further on, which lacks no attribute, but has two that exclude each other or
--- come to too much.
+-- A continuation of the text contains the `;` of an entry that lacks no attribute but has two that exclude
+-- each other, or whose area ends after the last address.
 pub record GoesToWrongEnd (text : List ℕ) (place : ℕ) : Type 0 where
   pub block : Block
   pub entries : Entries
@@ -105,8 +106,8 @@ pub record GoesToWrongEnd (text : List ℕ) (place : ℕ) : Type 0 where
   pub wrong : entry_fault block entry ≡ Some fault
   pub whole : fault ≢ AttributeMissing
 
--- Before a place stand attributes that no others would mend: they exclude each other or come to too much; or the word `value` of
--- an import.
+-- The attributes before an offset are wrong whatever attributes follow: they exclude each other, the area
+-- ends after the last address, or `value` is given for an import.
 pub data IsWrong (bytes : List ℕ) (place : ℕ) : Type 0 where
   wrong_entry : (b : Block) (es : Entries) (e : ConfigEntry) (fault : Fault) (at : ℕ) → InEntry bytes b es e at → at ≤ place → entry_fault b e ≡ Some fault → fault ≢ AttributeMissing → IsWrong bytes place
   value_of_import : (es : Entries) (e : ConfigEntry) (row : List ℕ × ValueKind) (at : ℕ) → InAttribute bytes symbols es e row at → at ≤ place → row.0 ≡ codes "value" → role_for e ≡ Some imported → IsWrong bytes place
@@ -119,8 +120,8 @@ pub record IsLeast (bytes : List ℕ) (place : ℕ) : Type 0 where
   pub goes_on : IsInGrammar other ⊎ (IsWrong bytes place × GoesToWrongEnd other place)
   pub ends : (text : List ℕ) → SameTokensUpTo bytes text 0 place → token text place ≡ token bytes place → IsInGrammar text ⊎ GoesToWrongEnd text place → ⊥
 
--- A first fault: one of a token by what stands before it; or else, where no token has one, a syntax error at the least token with
--- which no text goes on.
+-- A first error: one of a token by itself; or, if no token has one, a syntax error at the least token after
+-- which no continuation is a script.
 pub data IsFirst (bytes : List ℕ) : FaultAt → Type 0 where
   numbered : (f : FaultAt) → HasFault bytes f → IsFirst bytes f
   syntax_error : (place : ℕ) → ((f : FaultAt) → HasFault bytes f → ⊥) → IsLeast bytes place → IsFirst bytes (stop_at SyntaxError (token bytes place).at)

@@ -1,4 +1,4 @@
--- The grammar of scripts: what stands from one place of a text to another.
+-- The grammar of scripts, as relations between two offsets of a text.
 use Rattle.std.specs.Prelude.{◌≡◌, ℕ, Bool, true, false, List, [], ◌∷◌, Some, None, Ok, ◌⊎◌}
 use Rattle.script65.specs.Attributes.{Block, ValueKind, a_sum, attributes, blocks, find_keyword, value_of_word}
 use Rattle.script65.specs.Entries.{Entries, ConfigEntry, AttributeValue, ParsedTerm, entry_fault, is_given, has_name, no_entries, new_entry, part_of, sum_of_parts, value_of, with_entry, with_given}
@@ -33,7 +33,7 @@ pub data AreTerms (bytes : List ℕ) : Bool → List ParsedTerm → ℕ → ℕ 
 
 -- ---- Attributes.
 
--- what an attribute takes: a sum, with its terms, or else one token
+-- the value of an attribute: a sum, with its terms, or else one token
 abbrev pub IsValue : List ℕ → ValueKind → AttributeValue → ℕ → ℕ → Type 0
 IsValue bytes a_sum g at next =
     AreTerms bytes false g.parts at next × (sum_of_parts g.parts ≡ Some g.value)
@@ -55,7 +55,7 @@ pub record IsAttribute (bytes : List ℕ) (b : Block) (e : ConfigEntry) (g : Att
   pub value : IsValue bytes takes g start end
   pub comma_after : IsOptionalToken bytes comma end next
 
--- attributes, one behind the other: from what an entry gives before them to what it gives with them
+-- attributes in a row: the entry before them, and with them
 pub data AreAttributes (bytes : List ℕ) (b : Block) : ConfigEntry → ConfigEntry → ℕ → ℕ → Type 0 where
   no_attribute : (e : ConfigEntry) (at : ℕ) → AreAttributes bytes b e e at at
   attribute : (e f : ConfigEntry) (g : AttributeValue) (at mid next : ℕ) → IsAttribute bytes b e g at mid → AreAttributes bytes b (with_given g e) f mid next → AreAttributes bytes b e f at next
@@ -75,7 +75,7 @@ pub record IsEntry (bytes : List ℕ) (b : Block) (es : Entries) (e : ConfigEntr
   pub whole : entry_fault b e ≡ None
   pub semicolon_after : TokenAt bytes semicolon end next
 
--- entries, one behind the other: from those of the script before them to those with them
+-- entries in a row: those of the script before them, and with them
 pub data AreEntries (bytes : List ℕ) (b : Block) : Entries → Entries → ℕ → ℕ → Type 0 where
   no_entry : (es : Entries) (at : ℕ) → AreEntries bytes b es es at at
   entry : (es fs : Entries) (e : ConfigEntry) (at mid next : ℕ) → IsEntry bytes b es e at mid → AreEntries bytes b (with_entry b e es) fs mid next → AreEntries bytes b es fs at next
@@ -95,7 +95,7 @@ pub record IsBlock (bytes : List ℕ) (es fs : Entries) (at next : ℕ) : Type 0
   pub has_entries : AreEntries bytes block es fs start end
   pub closes : TokenAt bytes end_brace end next
 
--- blocks, one behind the other, of any kind in any order
+-- blocks in a row, of any kind in any order
 pub data AreBlocks (bytes : List ℕ) : Entries → Entries → ℕ → ℕ → Type 0 where
   no_block : (es : Entries) (at : ℕ) → AreBlocks bytes es es at at
   block : (es fs gs : Entries) (at mid next : ℕ) → IsBlock bytes es fs at mid → AreBlocks bytes fs gs mid next → AreBlocks bytes es gs at next

@@ -1,4 +1,4 @@
--- What holds of every script.
+-- Laws of scripts.
 use Rattle.std.specs.Prelude.{◌≡◌, ◌<◌, ◌≤◌, ◌⊎◌, ℕ, List, Result, Ok, Err, length, ⊤}
 use Rattle.std.specs.List.{AllByRecursion}
 use Rattle.base65.specs.SystemErrors.{IsNoSystemError}
@@ -21,7 +21,7 @@ use Rattle.script65.specs.Tokens.{IsFront, front, token}
 abbrev pub ReadingIsUnique : Type 0
 ReadingIsUnique = (bytes : List ℕ) (r q : Result Script ScriptFault) → IsScript bytes r → IsScript bytes q → r ≡ q
 
--- and one at least, which is no want of memory
+-- and there is one, which isn't *out of memory*
 abbrev pub ReadingExists : Type 0
 ReadingExists =
     (bytes : List ℕ) →
@@ -31,7 +31,8 @@ ReadingExists =
 abbrev pub SameTokens : List ℕ → List ℕ → ℕ → Type 0
 SameTokens bytes other place = (k : ℕ) → k ≤ place → token other k ≡ token bytes k
 
--- the fault stands at the token of this place; or a number is out of range, as a sum is behind its last term
+-- the error is at the token at this offset; or a number is out of range, which for a sum is reported at its
+-- last term
 abbrev pub IsFoundAt : List ℕ → FaultAt → ℕ → Type 0
 IsFoundAt bytes f place = (f.at ≡ (token bytes place).at) ⊎ (f.fault ≡ OutOfRange)
 
@@ -49,7 +50,7 @@ LongestTokens = (here : List ℕ) → IsFront here (front here).0 (front here).1
 
 -- ---- What is named is there.
 
--- the area or the row that a sum names is one of so many areas and rows
+-- the area or the row that a sum names is in the script, if it has this number of areas and rows
 abbrev pub IsThere : ℕ → ℕ → Operand → Type 0
 IsThere areas rows (operand.Number n) = ⊤
 IsThere areas rows (operand.Area k part) = k < areas
@@ -66,7 +67,7 @@ HasNames s a = AreThere (length s.areas) (length s.rows) a.start × AreThere (le
 abbrev pub HasAreas : Script → SegmentRow → Type 0
 HasAreas s r = (r.load < length s.areas) × (r.run < length s.areas)
 
--- so it is in each script that is read
+-- the same in each script that is read
 abbrev pub AllThere : Type 0
 AllThere =
     (bytes : List ℕ) (s : Script) → IsScript bytes (Ok s) →

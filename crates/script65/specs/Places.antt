@@ -1,4 +1,4 @@
--- Where the areas and rows of a script stand, said of each by those before it.
+-- The addresses of the areas and rows of a script, each determined by those before it.
 use Rattle.std.specs.Prelude.{◌≡◌, ◌≢◌, ◌≤◌, ◌<◌, ℕ, ◌+◌, ◌*◌, ◌==◌, true, false, if◌then◌else◌, List, [], ◌∷◌, ◌++◌, map, length, Option, Some, None, unwrap_or, Result, Ok, Err}
 use Rattle.std.specs.List.{AllByRecursion}
 use Rattle.script65.specs.declared.script.MemoryArea.{MemoryArea}
@@ -16,7 +16,7 @@ use Rattle.script65.specs.declared.placing.site.Bounds.{Bounds}
 use Rattle.script65.specs.AreaSums.{SumContextView, bounds_in}
 use Rattle.script65.specs.Placing.{has_row, is_in, is_read_only, place_of, size_of}
 
--- an area and where it is, a row and where it stands
+-- an area and its address, a row and its address
 abbrev pub PlacedArea : Type 0
 PlacedArea = MemoryArea × AreaPlacement
 
@@ -62,8 +62,8 @@ RunsAt (begin.Start n) align b low at = at ≡ n
 RunsAt (begin.Offset n) align b low at = at ≡ b.start + n
 RunsAt begin.Aligned align b low at = IsLeastMultiple (unit_of align) low at
 
--- where a row begins that is behind others which end there: in its run area so, and in a load area that differs at the least
--- multiple of its `align_load` that isn't below the end
+-- The address of a row after others that end at `low`: the aligned or given address in its run area; in a
+-- load area that differs, the least multiple of its `align_load` that isn't below `low`.
 pub record BeginsAt (k : ℕ) (b : Bounds) (r : SegmentRow) (low at : ℕ) : Type 0 where
   pub runs : r.run ≡ k → RunsAt r.begin r.align b low at
   pub loads : r.run ≢ k → IsLeastMultiple (unit_of r.align_load) low at
@@ -74,7 +74,7 @@ pub record FitsArea (k : ℕ) (b : Bounds) (r : SegmentRow) (size low at : ℕ) 
   pub following : low ≤ at
   pub within : at + size ≤ b.end
 
--- what a row that a module has does; any other stands at the end of those before it as that is
+-- the address of a row that a module has; any other row is placed at the end of those before it
 abbrev pub StandsBy : ℕ → Bounds → SegmentRow → Option ℕ → ℕ → ℕ → Type 0
 StandsBy k b r (Some size) low at = FitsArea k b r size low at
 StandsBy k b r None low at = at ≡ low
@@ -83,13 +83,13 @@ StandsBy k b r None low at = at ≡ low
 abbrev pub MayRun : ℕ → MemoryArea → SegmentRow → Type 0
 MayRun k a r = a.read_only ≡ true → r.run ≡ k → is_read_only r.access ≡ true
 
--- a row of an area, of a size if a module has it, at an address behind others which end at `low`
+-- a row of an area, with its size if a module has it, at an address after rows that end at `low`
 pub record IsPlacedAt (k : ℕ) (a : MemoryArea) (b : Bounds) (r : SegmentRow) (size : Option ℕ) (low at : ℕ) : Type 0 where
   pub may_run : MayRun k a r
   pub stands : StandsBy k b r size low at
 
--- Why a row can't stand there: it would run in an area that is read-only and isn't so itself; or else it would begin below the
--- end of those before it; or else it would end behind the area, by so many bytes.
+-- Why a row can't be placed: its run area is read-only and it isn't; or else it would begin below the end of
+-- those before it; or else it would end after the area's end, by this number of bytes.
 pub data RowFault (k : ℕ) (a : MemoryArea) (b : Bounds) (r : SegmentRow) (size : Option ℕ) (low : ℕ) : PlaceFault → Type 0 where
   read_only : a.read_only ≡ true → r.run ≡ k → is_read_only r.access ≡ false → RowFault k a b r size low (ReadOnlyArea r.name)
   below : (n at : ℕ) → MayRun k a r → size ≡ Some n → BeginsAt k b r low at → at < low → RowFault k a b r size low (StartBelow r.name)
@@ -97,13 +97,13 @@ pub data RowFault (k : ℕ) (a : MemoryArea) (b : Bounds) (r : SegmentRow) (size
 
 -- ---- Areas and their rows.
 
--- each of these rows that is in the area stands behind those before it
+-- each of these rows that is in the area is placed after those before it
 abbrev pub RowsStand : List SegmentNeed → ℕ → MemoryArea → Bounds → List PlacedRow → Type 0
 RowsStand needs k a b rows =
     (before after : List PlacedRow) (x : PlacedRow) → rows ≡ before ++ x ∷ after → is_in k x.0 ≡ true →
     IsPlacedAt k a b x.0 (size_of needs x.0.name) (end_of_rows k b before) (address_in k x.0 x.1)
 
--- where the sums of an area are asked for: behind these areas, and where these rows stand
+-- where the sums of an area are evaluated: after these areas, with these rows placed
 abbrev pub sum_context : Script → List PlacedArea → List PlacedRow → MemoryArea → SumContextView
 sum_context script before rows a = record {
   k = length before;
@@ -118,7 +118,8 @@ sum_context script before rows a = record {
 abbrev pub bounds_of : AreaPlacement → Bounds
 bounds_of place = record { start = place.start; end = place.start + place.size }
 
--- An area behind others is where its sums say; its rows stand in it, one behind the other; its last address is their end.
+-- An area has the start and the size of its sums, its rows are placed in it one after the other, and its last
+-- address is their end.
 pub record AreaStands (script : Script) (needs : List SegmentNeed) (before : List PlacedArea) (rows : List PlacedRow) (x : PlacedArea) : Type 0 where
   pub bounds : bounds_in (sum_context script before rows x.0) ≡ Ok (bounds_of x.1)
   pub rows_stand : RowsStand needs (length before) x.0 (bounds_of x.1) rows
@@ -129,7 +130,7 @@ pub record IsRow (needs : List SegmentNeed) (x : PlacedRow) : Type 0 where
   pub size : x.1.size ≡ unwrap_or (size_of needs x.0.name) 0
   pub one : x.0.run ≡ x.0.load → x.1.run ≡ x.1.load
 
--- The rows are those of the script, and each of these areas stands behind those before it.
+-- The rows are those of the script, and each of these areas is placed after those before it.
 pub record AreasStand (script : Script) (needs : List SegmentNeed) (areas : List PlacedArea) (rows : List PlacedRow) : Type 0 where
   pub these : map (λ (x : PlacedRow). x.0) rows ≡ script.rows
   pub each : AllByRecursion (IsRow needs) rows
@@ -140,12 +141,12 @@ pub record AreasStand (script : Script) (needs : List SegmentNeed) (areas : List
 abbrev pub HaveRows : Script → List SegmentNeed → Type 0
 HaveRows script needs = AllByRecursion (λ (n : SegmentNeed). has_row script.rows n.name ≡ true) needs
 
--- a row whose area isn't there, as no script has one that was read, stands at 0
+-- a row whose area isn't there has address 0; no script that was read has such a row
 pub record IsElsewhere (areas : ℕ) (x : PlacedRow) : Type 0 where
   pub run : areas ≤ x.0.run → x.1.run ≡ 0
   pub load : areas ≤ x.0.load → x.1.load ≡ 0
 
--- Each segment that is needed has a row, and all areas of the script stand; these are the places of areas and rows.
+-- Each segment that is needed has a row, and all areas of the script are placed: this is the placement.
 pub record IsPlacement (script : Script) (needs : List SegmentNeed) (p : Placement) : Type 0 where
   pub have_rows : HaveRows script needs
   pub areas : List PlacedArea
@@ -156,14 +157,14 @@ pub record IsPlacement (script : Script) (needs : List SegmentNeed) (p : Placeme
   pub area_places : p.areas ≡ map (λ (x : PlacedArea). x.1) areas
   pub row_places : p.rows ≡ map (λ (x : PlacedRow). x.1) rows
 
--- each segment that is needed has a row, these areas stand, and this one is the next of the script
+-- each segment that is needed has a row, these areas are placed, and this is the script's next area
 pub record IsNextArea (script : Script) (needs : List SegmentNeed) (areas : List PlacedArea) (rows : List PlacedRow) (a : MemoryArea) : Type 0 where
   pub have_rows : HaveRows script needs
   pub stand : AreasStand script needs areas rows
   pub rest : List MemoryArea
   pub next : map (λ (x : PlacedArea). x.0) areas ++ a ∷ rest ≡ script.areas
 
--- a row of the next area has this fault where those before it stand in that area
+-- a row of the next area has this error, after the rows before it are placed
 pub record IsRowFault (needs : List SegmentNeed) (k : ℕ) (a : MemoryArea) (b : Bounds) (rows : List PlacedRow) (f : PlaceFault) : Type 0 where
   pub before : List PlacedRow
   pub row : PlacedRow
@@ -173,14 +174,14 @@ pub record IsRowFault (needs : List SegmentNeed) (k : ℕ) (a : MemoryArea) (b :
   pub stand : RowsStand needs k a b before
   pub fault : RowFault k a b row.0 (size_of needs row.0.name) (end_of_rows k b before) f
 
--- The first fault: of the first need that has no row; or else, where the areas before it stand, that of an area's sums; or else,
--- where the rows before it stand, that of a row in it.
+-- The first error: of the first need that has no row; or else, once the areas before are placed, of an area's
+-- sums; or else, once the rows before are placed, of a row in the area.
 pub data FirstFault (script : Script) (needs : List SegmentNeed) : PlaceFault → Type 0 where
   of_need : (before after : List SegmentNeed) (n : SegmentNeed) → needs ≡ before ++ n ∷ after → HaveRows script before → has_row script.rows n.name ≡ false → FirstFault script needs (NoRow n.name)
   of_area : (areas : List PlacedArea) (rows : List PlacedRow) (a : MemoryArea) (f : PlaceFault) → IsNextArea script needs areas rows a → bounds_in (sum_context script areas rows a) ≡ Err f → FirstFault script needs f
   of_row : (areas : List PlacedArea) (rows : List PlacedRow) (a : MemoryArea) (b : Bounds) (f : PlaceFault) → IsNextArea script needs areas rows a → bounds_in (sum_context script areas rows a) ≡ Ok b → IsRowFault needs (length areas) a b rows f → FirstFault script needs f
 
--- where the areas and rows of a script stand, or the first fault
+-- the placement of a script, or the first error
 abbrev pub PlacementResult : Script → List SegmentNeed → Result Placement PlaceFault → Type 0
 PlacementResult script needs (Ok p) = IsPlacement script needs p
 PlacementResult script needs (Err f) = FirstFault script needs f

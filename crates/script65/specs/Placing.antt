@@ -74,19 +74,19 @@ begin_in k b r cursor = if r.run == k then begin_by b r.begin r.align cursor els
 unfoldable pub state_after_row : ℕ → SegmentRow → ℕ → RowState → RowState
 state_after_row k r at s = record { size = s.size; run = if r.run == k then at else s.run; load = if r.load == k then at else s.load }
 
--- a row of a size behind the cursor
+-- a row that has a size, placed at or after the cursor
 unfoldable pub place_sized_row : ℕ → MemoryArea → Bounds → SegmentRow → RowState → ℕ → ℕ → ℕ → Result (RowState × ℕ) PlaceFault
 place_sized_row k a b r s size at cursor =
     if nat_lt at cursor then Err (StartBelow r.name)
     else if nat_lt b.end (at + size) then Err (Overflow a.name (at + size - b.end))
     else Ok (state_after_row k r at s, at + size)
 
--- a row that no module has stands at the cursor
+-- a row that no module has is placed at the cursor
 abbrev pub sized_row : ℕ → MemoryArea → Bounds → SegmentRow → RowState → Option ℕ → ℕ → Result (RowState × ℕ) PlaceFault
 sized_row k a b r s None cursor = Ok (state_after_row k r cursor s, cursor)
 sized_row k a b r s (Some size) cursor = place_sized_row k a b r s size (begin_in k b r cursor) cursor
 
--- a row of the area behind the cursor, and the cursor behind it, or its first fault
+-- a row placed at or after the cursor, and the next cursor; or its first error
 unfoldable pub row_after : ℕ → MemoryArea → Bounds → SegmentRow → RowState → ℕ → Result (RowState × ℕ) PlaceFault
 row_after k a b r s cursor =
     if a.read_only && r.run == k && not (is_read_only r.access) then Err (ReadOnlyArea r.name)
@@ -101,7 +101,7 @@ abbrev pub places_in : ℕ → ℕ → List SegmentRow → List ℕ
 places_in k i [] = []
 places_in k i (r ∷ rs) = if is_in k r then i ∷ places_in k (i + 1) rs else places_in k (i + 1) rs
 
--- the rows of an area, each behind the cursor that the one before leaves
+-- the rows of an area, each placed at or after the cursor that the one before leaves
 abbrev pub rows_from : ℕ → MemoryArea → Bounds → List SegmentRow → List RowState → ℕ → Result (List RowState × ℕ) PlaceFault
 rows_from k a b [] ss cursor = Ok (ss, cursor)
 rows_from k a b (r ∷ rs) [] cursor = Ok ([], cursor)
@@ -118,7 +118,8 @@ area_place b last = record { start = b.start; size = b.end - b.start; last = las
 abbrev pub row_place : RowState → RowPlacement
 row_place s = record { load = s.load; run = s.run; size = unwrap_or s.size 0 }
 
--- what the sums of the area at a place are looked up in: these places of the areas before it, and these spots
+-- the values that the sums of the area at an index refer to: these placements of the areas before it, and
+-- these of rows
 abbrev pub standing : ℕ → List MemoryArea → List SegmentRow → MemoryArea → List AreaPlacement → List RowState → SumContextView
 standing k areas rows a placed ss = record {
   k = k;

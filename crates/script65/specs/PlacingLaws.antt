@@ -1,4 +1,4 @@
--- What holds of every placement.
+-- Laws of placements.
 use Rattle.std.specs.Prelude.{◌≡◌, ◌≤◌, ◌<◌, ℕ, ◌+◌, ◌^◌, true, false, not, is_some, codes, List, [], ◌∷◌, ◌++◌, map, Some, Result, Ok, length, slice_get, ⊤}
 use Rattle.std.specs.List.{AllByRecursion, list_all}
 use Rattle.base65.specs.Outcome.{◌>>=◌}
@@ -24,13 +24,13 @@ use Rattle.script65.specs.Placing.{area_place, has_row, is_in, place_of, row_pla
 
 -- ---- There is one.
 
--- a script has a placement for any needs, or else a first fault, which isn't want of memory
+-- a script has a placement for any needs, or else a first error, which isn't *out of memory*
 abbrev pub PlacementExists : Type 0
 PlacementExists = (script : Script) (needs : List SegmentNeed) → (r : Result Placement PlaceFault) × PlacementResult script needs r × IsNoSystemError is_place_system_error r
 
 -- ---- Rows in their areas.
 
--- of two rows of an area the later begins where the earlier ends, or behind it
+-- of two rows of an area the later one begins at the end of the earlier one, or later
 abbrev pub ComesAfter : ℕ → SegmentRow → RowPlacement → SegmentRow → RowPlacement → Type 0
 ComesAfter k r p later q = is_in k r ≡ true → is_in k later ≡ true → address_in k r p + p.size ≤ address_in k later q
 
@@ -48,7 +48,7 @@ NoOverlap =
     (script : Script) (needs : List SegmentNeed) (p : Placement) → place_of script needs ≡ Ok p →
     (k : ℕ) → k < length script.areas → AreApart k script.rows p.rows
 
--- a row of an area lies between its first address and the one behind its last
+-- a row of an area is within it: neither before its first address nor after its last
 abbrev pub IsWithin : ℕ → AreaPlacement → SegmentRow → RowPlacement → Type 0
 IsWithin k place r p = is_in k r ≡ true → (place.start ≤ address_in k r p) × (address_in k r p + p.size ≤ place.start + place.size)
 
@@ -69,9 +69,10 @@ abbrev pub HasSum : List AreaPlacement → List RowPlacement → List Term → �
 HasSum areas rows ts n =
     come_to (λ (t : Term). t.minus) (term_value areas rows) ts + n ≡ come_to (λ (t : Term). not t.minus) (term_value areas rows) ts
 
--- The area at a place of the script begins where its sum says and spans so many bytes as its sum says, both read off the
--- placement itself. Their names are known there: of areas that stand before, and rows in these, and the sizes of all rows; in
--- its size its own start, too. Both are below 2 ^ 32, and the area ends at the last address or before it.
+-- The area at an index of the script has the start and the size of its sums, evaluated under the placement
+-- itself. Their names are known there: those of earlier areas and of the rows in these, the sizes of all rows
+-- and, in its size, its own start. Start and size are below 2 ^ 32, and the area ends at the last address or
+-- before it.
 pub record HoldsSums (k : ℕ) (rows : List SegmentRow) (p : Placement) (a : MemoryArea) (place : AreaPlacement) : Type 0 where
   pub start : HasSum p.areas p.rows a.start place.start
   pub size : HasSum p.areas p.rows a.size place.size
@@ -81,7 +82,7 @@ pub record HoldsSums (k : ℕ) (rows : List SegmentRow) (p : Placement) (a : Mem
   pub size_less : place.size < 2 ^ 32
   pub inside : place.start + place.size ≤ 2 ^ 32
 
--- so each area holds its sums
+-- each area has the start and the size of its sums
 abbrev pub SumsHold : Type 0
 SumsHold =
     (script : Script) (needs : List SegmentNeed) (p : Placement) → place_of script needs ≡ Ok p →
@@ -90,7 +91,7 @@ SumsHold =
 
 -- ---- Areas by numbers alone.
 
--- these terms are numbers, which come to this
+-- all terms are numbers, and this is their sum
 pub record AreNumbers (ts : List Term) (n : ℕ) : Type 0 where
   pub numbers : AllByRecursion (λ (t : Term). (m : ℕ) × (t.operand ≡ operand.Number m)) ts
   pub sum : sum_by [] [] ts ≡ Some n

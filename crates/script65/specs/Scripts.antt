@@ -1,4 +1,5 @@
--- What entries say, the faults behind the last byte, and the script of a text or its first fault.
+-- The script of a text's entries, the errors after the last byte, and the script of a text or its first
+-- error.
 use Rattle.std.specs.Prelude.{◌≡◌, ℕ, Bool, true, false, ◌+◌, ◌==◌, ◌&&◌, ◌||◌, not, nat_lt, is_some, unwrap_or, if◌then◌else◌, List, [], codes, map, length, take, find, slice_get, position, Option, Some, None, Result, Ok, Err}
 use Rattle.std.specs.List.{count_by}
 use Rattle.std.specs.Option.{option_map, option_map_or, option_and_then, option_or}
@@ -59,7 +60,7 @@ abbrev pub as_area : Value → Option (List ℕ)
 as_area (area name) = Some name
 as_area _ = None
 
--- what is given for an attribute, read so, or else the default
+-- the value of an attribute, or else the default
 abbrev pub given_or : {A : Type 0} → A → (Value → Option A) → List ℕ → ConfigEntry → A
 given_or default read word e = unwrap_or (option_and_then read (value_for word e)) default
 
@@ -70,7 +71,7 @@ number_or default word e = unwrap_or (number_for word e) default
 abbrev pub fill_or : ℕ → ConfigEntry → ℕ
 fill_or default e = given_or default as_byte (codes "fillval") e
 
--- what may be in a segment or an area: `rw` where it isn't given
+-- the type of a segment or an area: `rw` if it isn't given
 abbrev pub access_of : ConfigEntry → SegmentType
 access_of e = given_or ReadWrite as_access (codes "type") e
 
@@ -114,7 +115,7 @@ as_row_part rows name part =
 abbrev pub first_of_three : Option Operand → Option Operand → Option Operand → Option Operand
 first_of_three a b c = option_or a (option_or b c)
 
--- what a name stands for: an export, a part of an area or a part of a row, and only one of these
+-- the operand of a name: an export, a part of an area or a part of a row, and only one of these
 abbrev pub one_of_three : Option Operand → Option Operand → Option Operand → Result Operand Fault
 one_of_three None None None = Err NoSuchName
 one_of_three (Some o) None None = Ok o
@@ -149,7 +150,7 @@ sum_for es word e = try_map (term_from es) (parts_for word e)
 
 -- ---- Areas.
 
--- whether `start` stands before `size` in the text
+-- whether `start` comes before `size` in the text
 abbrev pub is_start_first : ConfigEntry → Bool
 is_start_first e =
     option_map_or (λ (g : AttributeValue). bytes_eq (codes "start") g.word)
@@ -241,14 +242,14 @@ symbol_from e = record {
 
 -- ---- Scripts.
 
--- what entries say, or the first fault behind the last byte: of a name in a sum, or else of a row
+-- the script of the entries, or the first error after the last byte: of a name in a sum, or else of a row
 abbrev pub script_from : Entries → Result Script FaultAt
 script_from es = do
   areas ← try_map (area_from es) es.areas
   rows ← try_map (row_from es) es.rows
   Ok (record { areas = areas; rows = rows; symbols = map symbol_from es.symbols })
 
--- a script has at most so many bytes
+-- a script is longer than the limit
 abbrev pub is_too_long : List ℕ → Bool
 is_too_long bytes = nat_lt 1048576 (length bytes)
 
@@ -257,7 +258,7 @@ abbrev pub IsRead : List ℕ → Result Entries FaultAt → Type 0
 IsRead bytes (Ok es) = IsWritten bytes es
 IsRead bytes (Err f) = SyntaxErrorAt bytes no_entries between_blocks 0 f
 
--- the fault of a script that is too long stands at its first byte
+-- a script that is too long has its error at the first byte
 abbrev pub LengthOr : Bool → Result Entries FaultAt → Type 0 → Type 0
 LengthOr true r P = r ≡ Err (stop_at TooLong 0)
 LengthOr false r P = P

@@ -1,4 +1,4 @@
--- What may stand where in a script, and the first fault: where something else stands.
+-- The states of the reader, and the first error: the first token that isn't allowed in its state.
 use Rattle.std.specs.Prelude.{◌≡◌, ℕ, true, false, if◌then◌else◌, List, [], ◌∷◌, ◌++◌, Option, Some, None, Result, Ok, Err}
 use Rattle.std.specs.Option.{option_map_or}
 use Rattle.script65.specs.declared.fault.Fault.{Fault}
@@ -10,14 +10,14 @@ use Rattle.script65.specs.Entries.{Entries, ConfigEntry, ParsedTerm, entry_fault
 use Rattle.script65.specs.Tokens.{Lexeme, token, word, colon, semicolon, comma, equals, plus, minus, brace, end_brace, the_end}
 -- ---- What may stand where.
 
--- Where a token may stand: between blocks; behind a block's word; between the entries of a block;
--- behind an entry's name; between the attributes of an entry; behind an attribute's word; behind its
--- `=`; before a term of its sum; behind one; or behind its value.
+-- The state before a token: between blocks; after a block's keyword; between the entries of a block; after an
+-- entry's name; between the attributes of an entry; after an attribute's name; after its `=`; before a term
+-- of its sum; after a term; or after its value.
 pub use Rattle.script65.specs.declared.reading.grammar.ParseState.{ParseState}
 pub use Rattle.script65.specs.declared.reading.grammar.ParseState.TheVariants.{BetweenBlocks as between_blocks, AfterBlockWord as after_block_word, BetweenEntries as between_entries, AfterName as after_name, BetweenAttributes as between_attributes, AfterWord as after_word, BeforeValue as before_value, BeforeTerm as before_term, AfterTerm as after_term, AfterValue as after_value}
 
--- What a token does: it may stand there, what is read by then is this, and the next token stands
--- there; or the script ends; or there is this fault at this place.
+-- The effect of a token: it is allowed, with the entries read so far and the state for the next token; or it
+-- ends the script; or it is an error, with its offset.
 pub data Move : Type 0 where
   on : Entries → ParseState → Move
   done : Entries → Move
@@ -70,7 +70,7 @@ attribute_move es b e a at (Ok v) =
     on es (after_value b (with_given (record { word = a; value = v; parts = [] }) e))
 attribute_move es b e a at (Err fault) = stop fault at
 
--- a term is behind others
+-- a further term of a sum
 abbrev pub add_part : Entries → Block → ConfigEntry → List ℕ → List ParsedTerm → ℕ → Result ParsedTerm Fault → Move
 add_part es b e a ps at (Ok p) = on es (after_term b e a (ps ++ p ∷ []))
 add_part es b e a ps at (Err fault) = stop fault at
@@ -85,7 +85,7 @@ abbrev pub equals_or_value : Entries → Block → ConfigEntry → List ℕ × V
 equals_or_value es b e row equals at = on es (before_value b e row)
 equals_or_value es b e row l at = attribute_value es b e row.0 row.1 l at
 
--- `,`, or what stands between attributes
+-- `,`, or a token that may come between attributes
 abbrev pub comma_or_next : Entries → Block → ConfigEntry → Lexeme → ℕ → Move
 comma_or_next es b e comma at = on es (between_attributes b e)
 comma_or_next es b e l at = attribute_or_end es b e l at
@@ -102,7 +102,7 @@ sign_or_end es b e a ps plus at = on es (before_term b e a ps false)
 sign_or_end es b e a ps minus at = on es (before_term b e a ps true)
 sign_or_end es b e a ps l at = sum_end es b e a ps (sum_of_parts ps) l at
 
--- what a token does at a place of the grammar
+-- the effect of a token in a state
 abbrev pub token_move : Entries → ParseState → Lexeme → ℕ → Move
 token_move es between_blocks l at = block_word es l at
 token_move es (after_block_word b) l at = block_brace es b l at
@@ -117,11 +117,11 @@ token_move es (after_value b e) l at = comma_or_next es b e l at
 
 -- ---- The first fault.
 
--- what the token does that stands at a place of the text
+-- the effect of the token at an offset of the text
 abbrev pub moves : List ℕ → Entries → ParseState → ℕ → Move
 moves bytes es p at = token_move es p (token bytes at).lexeme (token bytes at).at
 
--- Tokens from here on may stand where they stand, up to one at which this is the fault.
+-- All tokens from this offset on are allowed up to one, which is an error.
 pub data SyntaxErrorAt (bytes : List ℕ) : Entries → ParseState → ℕ → FaultAt → Type 0 where
   later : (es fs : Entries) (p q : ParseState) (at : ℕ) (f : FaultAt) → moves bytes es p at ≡ on fs q → SyntaxErrorAt bytes fs q (token bytes at).following f → SyntaxErrorAt bytes es p at f
   here : (es : Entries) (p : ParseState) (at : ℕ) (fault : Fault) (place : ℕ) → moves bytes es p at ≡ stop fault place → SyntaxErrorAt bytes es p at (stop_at fault place)

@@ -9,7 +9,7 @@ use Rattle.base65.specs.Digit.{digits}
 -- `%O`; or a mark. The end of a text, and a byte with which no token begins, count as tokens, too.
 pub use Rattle.script65.specs.declared.reading.tokens.Lexeme.{Lexeme}
 pub use Rattle.script65.specs.declared.reading.tokens.Lexeme.TheVariants.{Word as word, Number as numeral, StringLiteral as string, Output as output, Colon as colon, Semicolon as semicolon, Comma as comma, Equals as equals, Plus as plus, Minus as minus, Open as brace, Close as end_brace, End as the_end, Bad as none}
--- a token, the place of its first byte, and the place behind its last
+-- a token, the offset of its first byte, and the offset after its last
 pub use Rattle.script65.specs.declared.reading.tokens.Token.{Token}
 
 -- ---- Bytes.
@@ -32,8 +32,8 @@ is_blank b = b == 32 || b == 9 || b == 13 || b == 10
 
 -- ---- The token at a place.
 
--- How many bytes of blanks and comments stand at the front, where a comment has begun or not. It is
--- from a `#` to the end of the line.
+-- The length of the blanks and comments at the front; true if a comment has begun. A comment goes from a `#`
+-- to the end of the line.
 abbrev pub gap : Bool → List ℕ → ℕ
 gap comment [] = 0
 gap true (b ∷ bs) = 1 + gap (not (b == 10)) bs
@@ -44,14 +44,14 @@ abbrev pub begins_with : ℕ → List ℕ → Bool
 begins_with b [] = false
 begins_with b (c ∷ cs) = c == b
 
--- a text between two `"`, the first of which stands before these bytes: UTF-8 without `%`
+-- a string after its opening `"`: UTF-8 without `%`, up to the closing `"`
 abbrev pub string_after : List ℕ → List ℕ → Lexeme × ℕ
 string_after text bs =
     if begins_with 34 (drop (length text) bs) && is_utf8 text && not (list_any (λ b. b == 37) text)
     then (string text, 2 + length text)
     else (none, 1)
 
--- hex digits behind a `$`
+-- hex digits after a `$`
 abbrev pub hex_after : List ℕ → Lexeme × ℕ
 hex_after [] = (none, 1)
 hex_after (d ∷ ds) = (numeral (digits 16 (d ∷ ds)), 1 + length (d ∷ ds))
@@ -90,7 +90,7 @@ token_from bytes at = record {
   following = at + (front (drop at bytes)).1;
 }
 
--- the token at a place or the next behind it
+-- the token at an offset, or the next one after it
 unfoldable pub token : List ℕ → ℕ → Token
 token bytes place = token_from bytes (place + gap false (drop place bytes))
 

@@ -28,7 +28,7 @@ pub enum Fault {
 impl Fault {
     ghost use Rattle.script65.specs.Faults.{names};
 
-    /// Whether it is a fault of a name.
+    /// Returns whether it is a fault of a name.
     pub fn names(self) -> bool
         ensures { result ≡ names self }
     {

@@ -1,4 +1,4 @@
-//! What holds of every script and of every placement by one.
+//! Laws of scripts and placements.
 
 ghost use Rattle.script65.specs.FirstFaults.{FirstFaults, NumberedFaults};
 ghost use Rattle.script65.specs.Laws.{AllThere, LongestTokens, NoContinuation, ReadingIsUnique, ReadingExists};
@@ -62,8 +62,8 @@ pub fn all_within()
     ensures { AllWithin }
 {}
 
-/// Each area begins where its sum says and spans so many bytes as its sum says, both read off the placement itself, and
-/// what they name is known there.
+/// Each area has the start and the size that its sums have under the placement itself, and all
+/// names in these sums are known there.
 pub fn sums_hold()
     ensures { SumsHold }
 {}
@@ -73,7 +73,7 @@ pub fn only_numbers()
     ensures { OnlyNumbers }
 {}
 
-/// So it is with each text whose sums have no names.
+/// The same of each text whose sums have no names.
 pub fn no_names_fixed()
     ensures { NoNamesFixed }
 {}

@@ -1,4 +1,4 @@
-//! What is to be placed, and where it is placed.
+//! The segments to place, and their placement.
 
 ghost use Rattle.std.specs.Prelude.{◌≡◌, Some};
 ghost use Rattle.script65.specs.declared.placement.PlaceFault.TheVariants.{OutOfMemory};
@@ -9,8 +9,8 @@ use std::alloc::{AllocError, AllocFailed};
 use std::error::Error;
 use std::fmt;
 
-/// What the modules of a program need of a segment: its size in bytes, gaps between their sections counted, and
-/// the largest alignment of a section, which says nothing of where the segment begins.
+/// A segment that a program needs: its size in bytes, with the gaps between its sections, and the
+/// largest alignment of a section. The alignment doesn't determine where the segment begins.
 #[derive(Drop)]
 pub struct SegmentNeed {
     pub name: ListVec<u8>,
@@ -18,7 +18,7 @@ pub struct SegmentNeed {
     pub align: u32,
 }
 
-/// Where an area begins, how many bytes it spans, and the first address behind what is placed in it.
+/// The start and size of an area, and the first address after its last row.
 #[derive(Clone, Copy, Debug, PartialEq, Eq)]
 pub struct AreaPlacement {
     pub start: u64,
@@ -51,11 +51,11 @@ pub enum PlaceFault {
     ReadOnlyArea(ListVec<u8>),
     /// A row that would begin below what is placed before it.
     StartBelow(ListVec<u8>),
-    /// An area, and how many bytes behind its end a row would end.
+    /// A row that ends after the end of its area: the area, and by how many bytes.
     Overflow(ListVec<u8>, u128),
     /// A name in an area's sum that stands for what isn't known yet.
     NotPlaced(ListVec<u8>),
-    /// An area whose start or size is no number below 2 ^ 32, or which ends behind the last address.
+    /// An area whose start or size isn't below 2 ^ 32, or that ends after the last address.
     AreaOutOfRange(ListVec<u8>),
 }
 

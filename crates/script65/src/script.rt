@@ -1,4 +1,4 @@
-//! What a linker script says.
+//! A linker script.
 
 ghost use Rattle.std.specs.Prelude.{◌≡◌};
 
@@ -12,7 +12,7 @@ pub struct Script {
     pub symbols: ListVec<Symbol>,
 }
 
-/// An area of memory, which spans so many bytes from its first address on.
+/// An area of memory, with its first address and its size.
 #[derive(Drop)]
 pub struct MemoryArea {
     pub name: ListVec<u8>,
@@ -26,7 +26,8 @@ pub struct MemoryArea {
     pub fill: bool,
     /// The byte of gaps.
     pub fill_value: u8,
-    /// Whether names for the area's start, its size and the first address behind what is placed are defined.
+    /// Whether names for the area's start, its size and the first address after its last row are
+    /// defined.
     pub define: bool,
 }
 
@@ -38,8 +39,8 @@ pub struct Term {
     pub operand: Operand,
 }
 
-/// What a term stands for: a number, or a name for a part of an area or a row. These are named by their places in the
-/// script.
+/// The value of a term: a number, or a part of an area or of a row, which is named by its index in
+/// the script.
 #[derive(Clone, Copy, Debug)]
 pub enum Operand {
     Number(u32),
@@ -47,21 +48,21 @@ pub enum Operand {
     Row(usize, RowAttribute),
 }
 
-/// What a name says of an area.
+/// The part of an area that a name refers to.
 #[derive(Clone, Copy, Debug)]
 pub enum AreaAttribute {
     /// Its first address.
     Start,
-    /// How many bytes it spans.
+    /// Its size in bytes.
     Size,
-    /// The first address behind what is placed in it.
+    /// The first address after its last row.
     Last,
 }
 
 impl AreaAttribute {
     ghost use Rattle.script65.specs.AreaSums.{area_ending};
 
-    /// What stands behind the area's name, in the name for this part of it.
+    /// Returns the ending that follows the area's name in the name of this part.
     pub fn ending(self) -> &'static [u8]
         ensures { result.now ≡ area_ending self }
     {
@@ -73,21 +74,21 @@ impl AreaAttribute {
     }
 }
 
-/// What a name says of a row.
+/// The part of a row that a name refers to.
 #[derive(Clone, Copy, Debug)]
 pub enum RowAttribute {
     /// Where its segment is loaded.
     Load,
     /// Where its segment runs.
     Run,
-    /// How many bytes its segment has.
+    /// The size of its segment, in bytes.
     Size,
 }
 
 impl RowAttribute {
     ghost use Rattle.script65.specs.AreaSums.{row_ending};
 
-    /// What stands behind the row's name, in the name for this part of it.
+    /// Returns the ending that follows the row's name in the name of this part.
     pub fn ending(self) -> &'static [u8]
         ensures { result.now ≡ row_ending self }
     {
@@ -108,7 +109,7 @@ pub enum AreaOutput {
     Named(ListVec<u8>),
 }
 
-/// What a row's segment may hold.
+/// The type of a row's segment.
 #[derive(Clone, Copy, Debug, PartialEq, Eq)]
 pub enum SegmentType {
     ReadOnly,
@@ -126,7 +127,7 @@ impl SegmentType {
         matches!(self, SegmentType::ReadOnly)
     }
 
-    /// Whether the segment's bytes are in a file.
+    /// Returns whether the segment's bytes are in a file.
     pub fn is_written(self) -> bool
         ensures { result ≡ is_written self }
     {
@@ -141,7 +142,7 @@ pub enum RowStart {
     Aligned,
     /// At an address.
     Start(u32),
-    /// So many bytes behind the area's start.
+    /// At this offset from the area's start.
     Offset(u32),
 }
 
@@ -172,7 +173,7 @@ pub struct Symbol {
     pub kind: SymbolKind,
 }
 
-/// What a script does with a symbol.
+/// The type of a symbol in the script.
 #[derive(Clone, Copy, Debug, PartialEq, Eq)]
 pub enum SymbolKind {
     /// Defines it by a value.

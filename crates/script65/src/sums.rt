@@ -3,7 +3,7 @@
 ghost use Rattle.std.specs.Prelude.{◌≡◌};
 ghost use Rattle.script65.specs.AreaSums.{difference};
 
-/// What is added less what is taken, if that is a number below 2 ^ 32.
+/// Subtracts, if the difference is a number below 2 ^ 32.
 pub fn difference(added: u128, taken: u128) -> Option<u32>
     ensures { result ≡ difference added taken }
 {

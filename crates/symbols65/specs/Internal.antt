@@ -1,2 +1,2 @@
--- How the parts of a type lie in memory, behind what contracts see.
+-- The memory layout of a type, below the model that contracts see.
 pub mod Cursors

@@ -1,4 +1,5 @@
--- What statements open, what a statement comes to at its line, and what stands behind it.
+-- The scopes and regions that statements open, the layout of a statement at its line, and the cursor after
+-- it.
 use Rattle.std.specs.Prelude.{◌≡◌, ℕ, ◌+◌, ◌<◌, ◌≤◌, List, length, if◌then◌else◌, ℤ, pos, negsuc, ◌&&◌, nat_le, nat_lt, not, Bool, false, ◌++◌, Option, Some, None, Result, Ok, Err}
 use Rattle.semantics65.specs.Layout as layout
 use Rattle.std.specs.List.{AllByRecursion}
@@ -22,7 +23,7 @@ use Rattle.symbols65.specs.Views.{table_of}
 
 -- ---- What is counted.
 
--- no more of anything than so many statements open, and of segments one more
+-- no more of anything than this number of statements opens, and of segments one more
 pub record IsCounted (count : ℕ) (w : layout.Cursor) : Type 0 where
   pub scope : w.scope ≤ count
   pub scopes : w.opened ≤ count
@@ -41,7 +42,7 @@ opened_by (OpenProc n) = 1
 opened_by (statement.Segment n size) = 1
 opened_by _ = 0
 
--- each scope is opened within one of so many
+-- each scope is opened within one of this many
 abbrev pub AreInside : ℕ → List Scope → Type 0
 AreInside count scopes = AllByRecursion (λ c. c.within ≤ count) scopes
 
@@ -59,7 +60,7 @@ pub record HasNumbers (y : Symbols) (w : layout.Cursor) : Type 0 where
 
 -- ---- What stands behind a statement, by what it places.
 
--- of so many bytes, which aligns its section to a multiple
+-- the cursor after a statement of this length, which aligns its section to a multiple
 abbrev pub cursor_with_bytes : Symbols → layout.Cursor → Statement → (count alignment : ℕ) → layout.Cursor
 cursor_with_bytes y w x count alignment = record {
   scope = scope_after y w x;
@@ -94,11 +95,11 @@ naming_fault y s x =
     (or_then (lost_scopes y.scopes s.scope (trees_of x))
     (or_then (opened_twice y.scopes s.scope (scope_name x)) (defined_twice y (key_defined s x))))
 
--- what a statement whose names are understood comes to, or its first fault of those
+-- the layout of a statement whose names are understood, or its first error
 abbrev pub layout_or_error : Symbols → layout.Cursor → Statement → Result StatementLayout AsmFault
 layout_or_error y w x = unless_fault (first_fault (placing_faults y w x)) (measure_of y w x)
 
--- a statement is refused for this fault, and for nothing else but want of memory
+-- the check fails with this error alone, or because memory ran out
 abbrev pub ChecksStatement : Result (Unit {0}) AsmFault → Option AsmFault → Type 0
 ChecksStatement result fault = Refines is_memory (λ u. u) result (unless_fault fault tt)
 
@@ -107,7 +108,7 @@ abbrev pub LaysOutStatement : LineState → Result StatementLayout AsmFault → 
 LaysOutStatement before result x =
     Refines is_memory (λ m. m) result (layout_or_error (table_of before.symbols.now) before.cursor.now x)
 
--- so many bytes, if the section has room for them
+-- this many bytes, if the section has room for them
 abbrev pub count_if_it_fits : layout.Cursor → ℕ → Result ℕ AsmFault
 count_if_it_fits w count =
     unless_fault (when (nat_lt section_limit ((context_of w).offset + count)) SectionTooLarge) count
@@ -126,12 +127,12 @@ unread_fault y w start len =
     or_then (lost_scopes y.scopes w.scope (optional_tree start ++ optional_tree len))
     (operand_fault y (context_of w) (Incbin None start len))
 
--- a place among so many, or behind the last one
+-- an index up to this number
 abbrev pub is_within : ℕ → ℤ → Bool
 is_within count (pos n) = nat_le n count
 is_within count (negsuc n) = false
 
--- whether a file of so many bytes has a part, and the part's start and length
+-- whether a file of this many bytes has a part, and the part's start and length
 abbrev pub range_in_file : ℕ → Option ℤ → Option ℤ → Result (ℕ × ℕ) AsmFault
 range_in_file count start len =
     let from : Option ℤ = Some (unwrap_or start (pos 0)) in

@@ -59,15 +59,15 @@ IsFinalWithin n y s e f = (z : Symbols) → Extends y z → norm (suc n) z s e �
 
 -- ---- Constants whose faults are those of others, whatever statements follow.
 
--- what is defined at a place, with at most so many expressions one inside the other
+-- the form of the definition at an index, with at most this many nested expressions
 abbrev pub defined_within : Symbols → ℕ → ℕ → Result Form AsmFault
 defined_within y j n = form_of_definition (norm n y) (slice_get y.definitions j)
 
--- what an outcome comes to with more and more expressions one inside the other
+-- the result with more and more nested expressions
 abbrev pub EventuallyEquals : (ℕ → Result Form AsmFault) → Result Form AsmFault → Type 0
 EventuallyEquals v r = (n : ℕ) × ((k : ℕ) → n ≤ k → v k ≡ r)
 
--- what comes to each fault to which the constant at a place comes, and leads back to itself where that does
+-- the same error as the constant at an index, or *circular* if that leads back to itself
 pub record InheritsErrors (y : Symbols) (v : ℕ → Result Form AsmFault) (j : ℕ) : Type 0 where
   pub faults : (e : AsmFault) → EventuallyEquals (defined_within y j) (Err e) → EventuallyEquals v (Err e)
   pub circular : (n : ℕ) → defined_within y j n ≡ Err Circular → v (suc n) ≡ Err Circular
@@ -85,7 +85,7 @@ IsSameOrBlockedOn y j k = (j ≡ k) ⊎ IsBlockedOn y j k
 abbrev pub BlocksAreSound : Symbols → List State → Type 0
 BlocksAreSound y states = (j k : ℕ) → slice_get states j ≡ Some (BlockedOn k) → IsBlockedOn y j k
 
--- the constant whose form an attempt needs, if it stops for want of one
+-- the constant whose form an attempt needs, if it ends for lack of one
 abbrev pub needed_in : {A : Type 0} → Result A AttemptError → Option ℕ
 needed_in (Err (Needs k)) = Some k
 needed_in (Err (Fault e)) = None
@@ -163,7 +163,7 @@ form_attempt known y s e = tried_by (operand_form known y s) s e
 abbrev pub tried_at : (ℕ → Option State) → Symbols → ℕ → Result Form AttemptError
 tried_at known y j = attempt_definition (form_attempt known y) (slice_get y.definitions j)
 
--- the attempt at the last of the constants that wait, or at the expression itself
+-- the attempt at the last of the pending constants, or at the expression itself
 abbrev pub tried_last : (ℕ → Option State) → Symbols → Result Form AttemptError → List ℕ → Result Form AttemptError
 tried_last known y first [] = first
 tried_last known y first (w ∷ ws) = tried_last known y (tried_at known y w) ws
@@ -218,13 +218,13 @@ abbrev pub constant_mentions : List ℕ → Option Definition → Bool
 constant_mentions n None = false
 constant_mentions n (Some d) = value_mentions n d.value
 
--- from a scope the global one is reached through at most so many others, each of which was opened
+-- the global scope is reached from a scope through at most this many others, each of which was opened
 abbrev pub is_near : List Scope → ℕ → ℕ → Bool
 is_near cs room zero = true
 is_near cs zero (suc i) = false
 is_near cs (suc room) (suc i) = nat_le (suc i) (length cs) && is_near cs room (enclosing cs (suc i))
 
--- what is defined stands near to the global scope, behind scopes that were opened
+-- a definition is near to the global scope, in scopes that were opened
 abbrev pub stands_near : List Scope → Option Definition → Bool
 stands_near cs None = true
 stands_near cs (Some d) = nat_le d.context.opened (length cs) && is_near cs 8 d.context.scope
@@ -236,11 +236,11 @@ is_open Unknown = 1
 is_open (BlockedOn k) = 1
 is_open _ = 0
 
--- how many aren't found and don't wait
+-- the number of constants that are neither found nor pending
 abbrev pub unknown : List State → ℕ
 unknown states = sum_by is_open states
 
--- each form is found with at most so many expressions one inside the other
+-- each form is found with at most this many nested expressions
 abbrev pub FoundBy : ℕ → Symbols → (ℕ → Option State) → Type 0
 FoundBy c y known = (j : ℕ) (f : Form) → known j ≡ Some (Found f) → form_of_definition (norm c y) (slice_get y.definitions j) ≡ Ok f
 
@@ -248,7 +248,7 @@ FoundBy c y known = (j : ℕ) (f : Form) → known j ≡ Some (Found f) → form
 abbrev pub StaysFound : ℕ → Symbols → (ℕ → Option State) → Type 0
 StaysFound c y known = (z : Symbols) → Extends y z → KeepsFound y known z → FoundBy c z known
 
--- what is known before an expression's form is looked for: no constant waits
+-- the state of the table between searches: no constant is pending
 pub record IsTable (y : Symbols) (states : List State) : Type 0 where
   pub long : length states ≡ length y.definitions
   pub turns : ℕ

@@ -1,4 +1,4 @@
--- The symbol table of the definitions for which one in memory stands, and what is known of forms by it.
+-- The models of the symbol table in memory and of the forms known by it.
 use Rattle.std.specs.Prelude.{◌≡◌, ℕ, List, [], ◌∷◌, ◌++◌, map, slice_get, slice_set, Bool, true, false, Option, Some, option_map, if◌then◌else◌, ◌==◌}
 use Rattle.std.specs.List.{list_any}
 use Rattle.std.specs.Option.{option_and_then, unwrap_or}

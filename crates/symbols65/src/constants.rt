@@ -1,5 +1,5 @@
-//! What is known of expressions at a line: their values where they are constant there, their sizes, and the addressing
-//! forms of instructions.
+//! Expressions at a line: their values if they are constant there, their sizes, and the addressing
+//! modes of instructions.
 
 ghost use Rattle.std.specs.Prelude.{◌≡◌, Ok, OnOk, IfOk, IfSome, length, if◌then◌else◌};
 ghost use Rattle.semantics65.specs.Norms.{literal_in, constant_in, norm_of, larger, size_by, size_of, size_of_meaning, size_of_value, form_of_meaning, norm, takes_byte, address_mode, first_of, is_branch, mode_for, mode_of};
@@ -143,7 +143,7 @@ fn plain(form: &Norm) -> Option<Norm>
     }
 }
 
-/// What is found where the form of an expression and the size that it has without a value are known.
+/// Combines the form of an expression and the size that it has without a value.
 fn sized_by_value(form: Option<Norm>, other: AddressSize) -> FormAndSize
     ensures form { result.form ≡ option_and_then plain form }
     ensures size { result.size ≡ size_by other (option_and_then (λ f. literal_in (Ok f)) form) }
@@ -241,7 +241,7 @@ fn reference_form_and_size(
         }
         Err(fault) => {
             pass_on_memory(&fault)?;
-            // What has no meaning yet may come to lie anywhere.
+            // A name without a meaning may be defined anywhere.
             Ok(sized_by_value(None, AddressSize::Absolute))
         }
     }

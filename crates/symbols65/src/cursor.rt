@@ -1,4 +1,4 @@
-//! Where the next statement stands.
+//! The cursor: the scope, region and segment of the next statement.
 
 ghost use Rattle.std.specs.Prelude.{◌≡◌, ◌+◌, ◌<◌, ◌≤◌, length, OnOk, IfOk, None, ◌++◌, ◌∷◌, [], if◌then◌else◌};
 ghost use Rattle.object65.specs.Objects.{section_limit};
@@ -21,7 +21,7 @@ use std::alloc::{AllocError, Global};
 use std::marker::Model;
 use syntax65::AddressSize;
 
-/// What stands behind statements.
+/// The state of the layout after statements.
 #[derive(Drop)]
 pub struct Cursor {
     /// The innermost open scope.
@@ -30,11 +30,11 @@ pub struct Cursor {
     opened: u32,
     /// How many regions of cheap labels were opened.
     region: u32,
-    /// How many unnamed labels stand before.
+    /// The number of unnamed labels before.
     unnamed: u32,
     /// The segments in the order in which they were first named.
     segments: Vec<Segment>,
-    /// The place of the segment in which the next statement stands.
+    /// The index of the current segment.
     current: u32,
     /// The places of segments that were kept, the last one last.
     kept: Vec<u32>,
@@ -55,7 +55,7 @@ impl Model for Cursor {
 }
 
 impl Cursor {
-    /// Where the first statement stands: in CODE.
+    /// Returns the cursor before the first statement: in CODE.
     pub fn start(alloc: Global) -> Result<Self, AllocError>
         ensures { IfOk result (λ w. w ≡ start) }
     {
@@ -89,14 +89,14 @@ impl Cursor {
         self.scope
     }
 
-    /// Whether a segment was kept to go back to.
+    /// Returns whether a segment was kept to go back to.
     pub fn has_pushed(&self) -> bool
         ensures { result ≡ is_kept self.now.kept }
     {
         !self.kept.is_empty()
     }
 
-    /// The segment in which the next statement stands.
+    /// Returns the segment of the next statement.
     pub fn segment(&self) -> &Segment
         ensures current { result.now ≡ segment_at self.now.segments self.now.current }
         ensures within { result.now.end ≤ section_limit }
@@ -111,7 +111,7 @@ impl Cursor {
         self.names.get_index_of(name)
     }
 
-    /// Where the next statement stands.
+    /// Returns the context of the next statement.
     pub fn context(&self) -> Context
         ensures { result ≡ context_of self.now }
     {
@@ -132,7 +132,7 @@ impl Cursor {
         SECTION_LIMIT - self.segment().end
     }
 
-    /// Moves the end of the section in which statements stand.
+    /// Moves the end of the current section.
     fn grow(&mut self, count: u32, alignment: u32)
         requires { (context_of self.old).offset + count ≤ section_limit }
         ensures { self.new ≡ record self.old {
@@ -142,7 +142,7 @@ impl Cursor {
         grow(&mut self.segments, self.current as usize, count, alignment);
     }
 
-    /// Begins a segment, in which the next statement stands.
+    /// Adds a segment and makes it the current one.
     fn begin(
         &mut self,
         alloc: Global,
@@ -191,7 +191,7 @@ impl Cursor {
         }
     }
 
-    /// Keeps the place of the segment in which statements stand.
+    /// Saves the index of the current segment.
     #[inline(never)]
     fn push_segment(&mut self) -> Result<(), AllocError>
         ensures { OnOk result (self.new ≡ record self.old {
@@ -214,7 +214,7 @@ impl Cursor {
         }
     }
 
-    /// Goes on behind a statement of so many bytes in its segments.
+    /// Moves on over a statement of this length in its segments.
     fn move_on(
         &mut self,
         alloc: Global,
@@ -249,7 +249,7 @@ impl Cursor {
         }
     }
 
-    /// Goes on behind an instruction of so many bytes.
+    /// Moves on over an instruction of this length.
     pub fn advance_by(&mut self, count: u32)
         requires { (context_of self.old).offset + count ≤ section_limit }
         ensures { (y : Table) (m : Mnemonic) (operand : Operand) → self.new
@@ -258,7 +258,7 @@ impl Cursor {
         self.grow(count, 1);
     }
 
-    /// Goes on behind a statement of so many bytes, which aligns its section to a multiple.
+    /// Moves on over a statement of this length that aligns its section to a multiple.
     pub fn advance(
         &mut self,
         alloc: Global,
@@ -275,7 +275,7 @@ impl Cursor {
         self.move_on(alloc, statement, measure.length, measure.alignment)
     }
 
-    /// Goes on behind a statement in the scopes, the regions and the unnamed labels.
+    /// Counts the scopes, regions and unnamed labels that a statement opens.
     fn count_openings(&mut self, symbols: &Symbols, statement: &Statement)
         requires { HasNumbers (table_of symbols.now) self.old }
         ensures { self.new ≡ record self.old {

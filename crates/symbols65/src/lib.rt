@@ -1,6 +1,6 @@
-//! The symbol table of an assembler: what names mean by the statements so far, what forms and sizes expressions have,
-//! and which forms are final, whatever statements follow; and by it where a statement stands, what it places, and its
-//! first fault there.
+//! The symbol table of an assembler: the meaning of names by the statements so far, the forms and
+//! sizes of expressions, and which forms are final, whatever statements follow; and from it the
+//! context of a statement, its layout, and its first error at its line.
 #![tactic(auto)]
 
 pub mod constants;

@@ -1,4 +1,4 @@
-//! What a statement comes to at its line, or its first fault there.
+//! The layout of a statement at its line, or its first error there.
 
 mod bytes;
 mod kinds;
@@ -29,7 +29,7 @@ use semantics65::{Context, EncodingChoice};
 use std::alloc::Global;
 use syntax65::{AddressSize, Mnemonic};
 
-/// What stands before a statement: the symbol table of those before it, and where it stands itself.
+/// The state before a statement: the symbol table of the statements before it, and the cursor.
 #[derive(Clone, Copy)]
 pub struct LineState<'a> {
     pub symbols: &'a Symbols,
@@ -93,7 +93,7 @@ fn nothing(cursor: &Cursor) -> StatementLayout
     }
 }
 
-/// What a statement places behind others and what it defines, or its first fault there.
+/// Computes the length and the definitions of a statement, or its first error at its line.
 pub fn lay_out_statement(
     alloc: Global,
     before: LineState<'_>,

@@ -42,7 +42,7 @@ fn intern(
     }
 }
 
-/// Adds a scope behind all others, where there is none by its opening.
+/// Adds a scope, unless there is one by its opening.
 fn push_scope(
     scopes: &mut IndexMap<ScopeKey, bool, Seed>,
     opening: ScopeKey,
@@ -96,7 +96,7 @@ impl Symbols {
         }
     }
 
-    /// Whether a scope other than the global one may define a word.
+    /// Returns whether a scope other than the global one may define a word.
     pub fn is_inner(&self, word: usize) -> bool
         ensures { result ≡ false → (scope : ℕ) (n : List ℕ) → position (bytes_eq n) (words_of self.now) ≡ Some word → definition_index (table_of self.now) (named (suc scope) n) ≡ None }
     {
@@ -129,7 +129,7 @@ impl Symbols {
         }
     }
 
-    /// Whether a name is neither defined nor imported.
+    /// Returns whether a name is neither defined nor imported.
     pub fn is_unknown(&self, name: &[u8]) -> bool
         ensures { result ≡ true → IsUnknownName (table_of self.now) name.now }
     {
@@ -163,7 +163,7 @@ impl Symbols {
         self.scopes.len()
     }
 
-    /// The scope in which a scope was opened; the global one stands in no other.
+    /// Returns the scope in which a scope was opened; the global one has none.
     pub fn enclosing(&self, scope: usize) -> usize
         ensures { result ≡ enclosing (table_of self.now).scopes scope }
     {
@@ -203,7 +203,7 @@ impl Symbols {
         self.imports.get_index_of(name)
     }
 
-    /// Whether a name was imported for the zero page.
+    /// Returns whether a name was imported for the zero page.
     pub fn is_zero_page(&self, name: &[u8]) -> bool
         ensures { result ≡ is_zero_page_name (table_of self.now) name.now }
     {
@@ -243,7 +243,7 @@ impl Symbols {
         }
     }
 
-    /// Adds a scope behind all others, where there is none by this opening.
+    /// Adds a scope, unless there is one by this opening.
     fn put_scope(&mut self, opening: ScopeKey, is_proc: bool) -> Result<(), AllocError>
         requires number { first_number (words_of self.old) (word_opened opening) ≡ word_opened opening }
         requires distinct { HasNumber (length self.old.scopes.entries) opening }

@@ -43,7 +43,7 @@ fn copy_of(alloc: Global, files: &MemStore, names: &[PathString]) -> Result<MemS
     Ok(copy)
 }
 
-/// Whether one list of names begins with another.
+/// Returns whether one list of names begins with another.
 fn begins_with(names: &[PathString], front: &[PathString]) -> bool {
     front.len() <= names.len()
         && front
@@ -52,7 +52,7 @@ fn begins_with(names: &[PathString], front: &[PathString]) -> bool {
             .all(|(name, other)| name.as_str() == other.as_str())
 }
 
-/// How many lines begin in some bytes.
+/// Returns how many lines begin in some bytes.
 fn lines_begun(bytes: &[u8]) -> usize {
     let ended = bytes.iter().filter(|byte| **byte == b'\n').count();
     match bytes.last() {
@@ -61,7 +61,7 @@ fn lines_begun(bytes: &[u8]) -> usize {
     }
 }
 
-/// Whether a line asks for a file of this name.
+/// Returns whether a line asks for a file of this name.
 fn asks_for(line: &str, name: &str) -> bool {
     let Some((directive, rest)) = line.split_once(" \"") else {
         return false;
@@ -70,7 +70,7 @@ fn asks_for(line: &str, name: &str) -> bool {
     (directive == ".include" || directive == ".incbin") && asked == name
 }
 
-/// Whether a place is this line of a file.
+/// Returns whether a place is this line of a file.
 fn is_line(alloc: Global, place: &str, file: &str, line: usize) -> Result<bool, AllocError> {
     let wanted = format!(in alloc; "{file}:{line}")?;
     Ok(wanted.as_str() == place)
@@ -120,7 +120,7 @@ impl Plain<'_> {
         line.checked_add(1)
     }
 
-    /// Whether a place is that of the first line that asks for a file.
+    /// Returns whether a place is that of the first line that asks for a file.
     fn is_asking(&self, alloc: Global, place: &str, name: &str) -> Result<bool, AllocError> {
         let (_, name) = name.rsplit_once('/').unwrap_or(("", name));
         for file in self.names.iter() {
@@ -144,7 +144,7 @@ impl Plain<'_> {
         }
     }
 
-    /// Whether a place is the one where a source was read when the call failed: a line of the file that it read, or where there is
+    /// Returns whether a place is the one where a source was read when the call failed: a line of the file that it read, or where there is
     /// none yet, the line that asks for that file, or the source without a line.
     fn is_source_place(
         &self,
@@ -166,7 +166,7 @@ impl Plain<'_> {
         self.is_asking(alloc, place, name)
     }
 
-    /// Whether a place is that of the call that failed: where a source is read that of a line, else the file's name, where a library is
+    /// Returns whether a place is that of the call that failed: where a source is read that of a line, else the file's name, where a library is
     /// read perhaps with a member's.
     fn is_place(&self, alloc: Global, place: &str, store: &FailsOnce) -> Result<bool, AllocError> {
         if self.words.get(1) == Some(&"ca65") && !self.is_written(store) {

@@ -220,8 +220,8 @@ impl Store for Counting {
     ghost counted = { λ _. Prim.search rules };
 }
 
-/// How many bytes are read of the library where none of its members is needed: its first four, and its index with the byte at
-/// which it ends.
+/// The number of bytes read of a library of which no member is needed: its first four, and its
+/// index with the byte at which it ends.
 const INDEX: usize = 4 + 59 + 1;
 
 /// The members that are needed are read once: a of 42 bytes, b of 46.

@@ -66,21 +66,21 @@ pub fn index_of(alloc: Global, members: &[Member]) -> Result<Index, LibraryFault
     }
 }
 
-/// Whether a library is written as these bytes.
+/// Returns whether a library is written as these bytes.
 fn is_written_as(alloc: Global, library: &Library, wanted: &[u8]) -> Result<bool, LibraryFault> {
     let mut bytes = Vec::new(alloc);
     library.write(&mut bytes)?;
     Ok(bytes.as_slice() == wanted)
 }
 
-/// Whether a library is written as it has to be without a member, and with one.
+/// Returns whether a library is written as it has to be without a member, and with one.
 fn writes_one_member(alloc: Global, library: &mut Library) -> Result<bool, LibraryFault> {
     let is_empty = is_written_as(alloc, library, NO_MEMBER)?;
     library.replace(b"a.o", THREE_BYTES)?;
     Ok(is_empty && is_written_as(alloc, library, ONE_MEMBER)?)
 }
 
-/// Whether a file of the store is the library of the one member.
+/// Returns whether a file of the store is the library of the one member.
 fn loads_one_member(alloc: Global, store: &mut MemStore) -> Result<bool, LibraryFault> {
     store.put("l.lib", ONE_MEMBER)?;
     let library = Library::load(alloc, store, "l.lib")?;
@@ -96,7 +96,7 @@ fn a_library_of_one_member_has_51_bytes(rt: HostRuntime) -> Result<(), Fail> {
     Ok(())
 }
 
-/// Whether a library has two members of these names, and the first has these bytes.
+/// Returns whether a library has two members of these names, and the first has these bytes.
 fn are_members(library: &Library, first: &[u8], second: &[u8], bytes: &[u8]) -> bool {
     let mut names = library.names();
     names.next() == Some(first)
@@ -105,7 +105,7 @@ fn are_members(library: &Library, first: &[u8], second: &[u8], bytes: &[u8]) -> 
         && library.get(first) == Some(bytes)
 }
 
-/// Whether of three members the second keeps its place where it is replaced, and the first goes where it is deleted.
+/// Returns whether of three members the second keeps its place where it is replaced, and the first goes where it is deleted.
 fn keeps_places(alloc: Global, library: &mut Library) -> Result<bool, LibraryFault> {
     let newer = object(alloc, b"", b"f")?;
     for name in [b"w.o".as_slice(), b"x.o", b"y.o"] {
@@ -159,7 +159,7 @@ fn names_of(alloc: Global, letters: &[u8]) -> Result<Names, AllocError> {
     Ok(names)
 }
 
-/// Whether these members of a library are selected for the names wanted, where others are defined.
+/// Returns whether these members of a library are selected for the names wanted, where others are defined.
 fn selects_in(
     alloc: Global,
     index: &Index,

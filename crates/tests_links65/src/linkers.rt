@@ -94,7 +94,7 @@ pub fn pending_after(
     Ok(counts)
 }
 
-/// Whether a link gives one file with these bytes.
+/// Returns whether a link gives one file with these bytes.
 fn is_image(linked: &Linked, bytes: &[u8]) -> bool {
     match linked.files.as_slice() {
         [file] => file.bytes.as_slice() == bytes,
@@ -102,7 +102,7 @@ fn is_image(linked: &Linked, bytes: &[u8]) -> bool {
     }
 }
 
-/// Whether a linker to which all was fed gives one file with these bytes, and no warning.
+/// Returns whether a linker to which all was fed gives one file with these bytes, and no warning.
 pub fn gives(linker: Linker, bytes: &[u8]) -> Result<bool, LinkFault> {
     let linked = finish(linker)?;
     Ok(is_image(&linked, bytes) && linked.warnings.len() == 0)
@@ -127,7 +127,7 @@ fn takes_jump(alloc: Global, linker: &mut Linker) -> Result<bool, LinkFault> {
     end(linker).map(|()| is_so)
 }
 
-/// Whether the jump links to its own place, where its value is taken with its record.
+/// Returns whether the jump links to its own place, where its value is taken with its record.
 fn links_jump(alloc: Global) -> Result<bool, LinkFault> {
     let mut linker = linker_by(alloc, SCRIPT)?;
     match takes_jump(alloc, &mut linker) {
@@ -156,7 +156,7 @@ fn feed(
     end(linker)
 }
 
-/// Whether names are these, of one letter each, in this order.
+/// Returns whether names are these, of one letter each, in this order.
 fn are_names(names: &Names, letters: &[u8]) -> bool {
     names.len() == letters.len()
         && names
@@ -169,22 +169,22 @@ const SYMBOLS: &[u8] =
     b"MEMORY { A: start = 0, size = 1; } SEGMENTS { C: load = A, optional = yes; }
 SYMBOLS { s: type = import; e: type = export, value = 1; w: type = weak, value = 2; }";
 
-/// Whether these names are open.
+/// Returns whether these names are open.
 fn are_open(linker: &Linker, letters: &[u8]) -> Result<bool, LinkFault> {
     Ok(are_names(&linker.open_names()?, letters))
 }
 
-/// Whether these names are defined.
+/// Returns whether these names are defined.
 fn are_defined(linker: &Linker, letters: &[u8]) -> Result<bool, LinkFault> {
     Ok(are_names(&linker.defined_names()?, letters))
 }
 
-/// Whether these names are open and these are defined.
+/// Returns whether these names are open and these are defined.
 fn tells(linker: &Linker, open: &[u8], defined: &[u8]) -> Result<bool, LinkFault> {
     Ok(are_open(linker, open)? && are_defined(linker, defined)?)
 }
 
-/// Whether names are open in order of first reference until something gives them; a weak name gives nothing here.
+/// Returns whether names are open in order of first reference until something gives them; a weak name gives nothing here.
 fn tells_after(alloc: Global, linker: &mut Linker) -> Result<bool, LinkFault> {
     let first = tells(linker, b"s", b"e")?;
     feed(alloc, linker, b"gewf", b"h", None)?;
@@ -221,13 +221,13 @@ fn takes(
     }
 }
 
-/// Whether both calls for names are refused because a call before was.
+/// Returns whether both calls for names are refused because a call before was.
 fn has_failed(linker: &Linker) -> bool {
     matches!(linker.open_names(), Err(LinkFault::FailedBefore))
         && matches!(linker.defined_names(), Err(LinkFault::FailedBefore))
 }
 
-/// Whether a new linker takes a module where an entry has these names, as is said.
+/// Returns whether a new linker takes a module where an entry has these names, as is said.
 fn compares(
     alloc: Global,
     (imports, exports): (&[u8], &[u8]),
@@ -238,7 +238,7 @@ fn compares(
     Ok(takes(&mut linker, alloc, imports, exports, entry) == Some(is_taken))
 }
 
-/// Whether a module is taken only where it has the names of an entry in their order.
+/// Returns whether a module is taken only where it has the names of an entry in their order.
 fn compares_all(alloc: Global, entry: Option<&Entry>) -> Result<bool, LinkFault> {
     let modules: [(&[u8], &[u8]); 6] = [
         (b"xy", b"fg"),

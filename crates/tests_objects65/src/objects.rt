@@ -41,7 +41,7 @@ fn refusal(alloc: Global, bytes: &[u8]) -> Option<ObjectFault> {
     }
 }
 
-/// Whether the object has these three bytes in CODE, and nothing else.
+/// Returns whether the object has these three bytes in CODE, and nothing else.
 fn is_code(object: &Object) -> bool {
     let is_alone = object.imports.len() == 0
         && object.exports.len() == 0
@@ -107,7 +107,7 @@ fn refuses_other_versions_and_kinds(rt: HostRuntime) -> Result<(), Fail> {
     Ok(())
 }
 
-/// Whether the bytes are refused for what they are, or are the spelling of what is read.
+/// Returns whether the bytes are refused for what they are, or are the spelling of what is read.
 fn is_settled(alloc: Global, bytes: &[u8]) -> Result<bool, Fail> {
     match read(alloc, bytes) {
         Ok(object) => {

@@ -1,4 +1,4 @@
--- What a line of the librarian does.
+-- The outcome of the librarian's command lines.
 use Rattle.std.specs.Prelude.{◌≡◌, ℕ, List, [], ◌∷◌, map, Result, Ok, Err}
 use Rattle.base65.specs.Store.{Files}
 use Rattle.cli65.specs.Line.{Archiving}
@@ -13,7 +13,7 @@ use Rattle.output65.specs.declared.outcome.Outcome.{Outcome}
 use Rattle.output65.specs.declared.outcome.Status.TheVariants.{Success}
 use Rattle.output65.specs.Outputs.{failing}
 
--- the library's file, under its name as it stands in the line
+-- the library's file, under its name in the command line
 abbrev pub library_file : List ℕ → List ℕ → List OutputFile
 library_file name bytes = record { name = name; bytes = bytes } ∷ []
 
@@ -31,6 +31,6 @@ abbrev pub archive_outcome : Archiving → Result Archived ArchiveFault → Outc
 archive_outcome a (Ok x) = archived_outcome a x
 archive_outcome a (Err e) = failing (error_message a e)
 
--- what an archive line does with these files
+-- the outcome of a command line of the librarian with these files
 abbrev pub ArchivesFiles : Archiving → Files → Outcome → Type 0
 ArchivesFiles a m o = o ≡ archive_outcome a (archived_of m a)

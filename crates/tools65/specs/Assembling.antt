@@ -1,4 +1,4 @@
--- What ca65 names and says.
+-- The names and messages of ca65.
 use Rattle.std.specs.Prelude.{◌≡◌, ℕ, nat_eq, List, map, Option, Some, None, if◌then◌else◌}
 use Rattle.syntax65.specs.declared.source_location.SourceLocation.{SourceLocation}
 use Rattle.ast65.specs.Faults.{fault_text}
@@ -13,7 +13,7 @@ use Rattle.tools65.specs.Naming.{IsObjectName}
 abbrev pub define_in : Defining → Define
 define_in d = (d.name, d.value)
 
--- what an assemble line has assembled
+-- the job of an assembler's command line
 abbrev pub job_in : Assembling → Job
 job_in a = record { source = a.source; include = a.include; defines = map define_in a.defines }
 
@@ -22,7 +22,7 @@ abbrev pub IsOutputName : Option (List ℕ) → List ℕ → List ℕ → Type 0
 IsOutputName None source name = IsObjectName source name
 IsOutputName (Some given) source name = name ≡ given
 
--- a message at a line, or behind the source's name where no line was read
+-- a message at a line, or after the source's name if no line was read
 abbrev pub said_at : List ℕ → SourceLocation → List ℕ → List ℕ
 said_at source p words = if nat_eq p.line 0 then file_message source words else line_message p.file p.line words
 

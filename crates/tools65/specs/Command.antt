@@ -1,4 +1,4 @@
--- What a command does.
+-- The outcome of a command.
 use Rattle.std.specs.Prelude.{◌≡◌, ℕ, ◌⊎◌, List, [], ◌++◌, Option, Result, Ok, Err, if◌then◌else◌}
 use Rattle.base65.specs.Store.{Files}
 use Rattle.object65.specs.declared.object.Object.{Object}
@@ -23,23 +23,23 @@ use Rattle.tools65.specs.Archives.{ArchivesFiles}
 use Rattle.cli65.specs.Messages.{line_message_of, line_memory_message, memory_line}
 use Rattle.ld65.specs.Faults.{error_message, memory_message}
 
--- what linking does: it warns and writes its files, the map last, or says why there are none
+-- the outcome of linking: warnings and files, the map last; or the error
 abbrev pub outcome_of : Linking → Result Linked LinkCommandFault → Outcome
 outcome_of l (Ok linked) = record { out = []; err = linked.warnings; outputs = with_map l.map linked.files linked.map; status = Success }
 outcome_of l (Err e) = failing (error_message l e)
 
--- what a link line does with these files
+-- the outcome of a linker's command line with these files
 abbrev pub IsLinkOutcome : Linking → Files → Outcome → Type 0
 IsLinkOutcome l m o = (r : Result Linked LinkCommandFault) × IsLinked m l r × (o ≡ outcome_of l r)
 
--- what assembling comes to without an object: what was said, and why; or only that memory ran out
+-- the outcome of assembling without an object: the output so far and the error; or only *out of memory*
 abbrev pub refused_with : List ℕ → List ℕ → List ℕ → LocatedFault → Outcome
 refused_with source out err e =
     if is_memory e.fault then failing (memory_line source)
     else record { out = out; err = err ++ asm_message source e; outputs = []; status = Failure }
 
--- what assembling comes to: the object's file, whose numbers are those of their types, or why there is none, behind
--- what was said
+-- the outcome of assembling: the object's file, whose numbers fit their types; or the output so far and the
+-- error
 abbrev pub AssemblesWith : Assembling → List ℕ → List ℕ → Result Object LocatedFault → Outcome → Type 0
 AssemblesWith a out err (Ok object) o =
     ObjectFits object × (name : List ℕ) × IsOutputName a.output a.source name × (o ≡ record { out = out; err = err; outputs = outputs_of name (object_bytes object); status = Success })
@@ -48,7 +48,7 @@ AssemblesWith a out err (Err e) o = o ≡ refused_with a.source out err e
 abbrev pub AssemblesTo : Assembling → asm.Outcome → Outcome → Type 0
 AssemblesTo a x o = AssemblesWith a x.out x.err x.result o
 
--- what an assemble line does with these files
+-- the outcome of an assembler's command line with these files
 abbrev pub AssemblesSource : Assembling → Files → Outcome → Type 0
 AssemblesSource a m o = (x : asm.Outcome) × IsOutcome m (job_in a) x × AssemblesTo a x o
 
@@ -58,18 +58,18 @@ abbrev pub RunSatisfies : (Files → Outcome → Type 0) → List ℕ → Files 
 RunSatisfies does memory m new io status =
     (o : Outcome) × (does m o ⊎ (o ≡ failing memory)) × (PerformsOutcome o m new io status ⊎ StopsShort o memory m new io status)
 
--- what a line does, given the files
+-- the outcome of a command line, given the files
 abbrev pub IsOutcomeOfCommand : CommandView → Files → Outcome → Type 0
 IsOutcomeOfCommand (assemble a) m o = AssemblesSource a m o
 IsOutcomeOfCommand (link l) m o = IsLinkOutcome l m o
 IsOutcomeOfCommand (archive a) m o = ArchivesFiles a m o
 
--- what words do as a command, given the files
+-- the outcome of words as a command, given the files
 abbrev pub IsOutcomeOfArgs : Result CommandView LineFault → Files → Outcome → Type 0
 IsOutcomeOfArgs (Ok line) m o = IsOutcomeOfCommand line m o
 IsOutcomeOfArgs (Err e) m o = o ≡ failing (line_message_of e)
 
--- what is said of want of memory while a line runs
+-- the message if memory runs out while a command line runs
 abbrev pub line_memory : CommandView → List ℕ
 line_memory (assemble a) = memory_line a.source
 line_memory (link l) = memory_message

@@ -1,4 +1,4 @@
--- What a run leaves where a call of the store fails while it runs.
+-- The results of a run in which a call of the store fails.
 use Rattle.std.specs.Prelude.{◌≡◌, ℕ, ◌⊎◌, true, List, [], ◌++◌, Option, Some, Result, Ok, Err}
 use Rattle.base65.specs.Store.{Files, max_failures, LastFailure}
 use Rattle.ar65.specs.declared.fault.ArchiveFault.{ArchiveFault as ArchiveRefusal}
@@ -40,9 +40,9 @@ RunFails does Why m new last_failure io status =
     StopsReading (Why m last_failure) m new io status
     ⊎ ((o : Outcome) × does m o × StopsWriting o m new last_failure io status)
 
--- What a line says on both streams of a call that failed while it read files: one message. Where a source is assembled it
--- says where that was, and stands behind what the source said up to there; else it names what the call asked for (the
--- script, an input or a member of one; the library or a FILE that is put in).
+-- The output of a command line of which a call failed while it read files: one message. For ca65 the message
+-- has the location and follows the output of the source up to there. Otherwise it names the file that the
+-- call requested: the script, an input or a member of one; the library or a FILE that is added.
 abbrev pub SaysFailure : CommandView → Files → LastFailure → List ℕ → List ℕ → Type 0
 SaysFailure (assemble a) m last_failure out err =
     (e : LocatedFault) × (before : List ℕ) × (asm.is_failure e.fault ≡ true) × StoreFailureStops m last_failure (job_in a) e out before × (err ≡ before ++ asm_message a.source e)

@@ -1,4 +1,4 @@
--- What holds of inputs that ca65 wrote of sources, or that are libraries of such members.
+-- Laws of inputs that ca65 wrote from sources, or that are libraries of such members.
 use Rattle.std.specs.Prelude.{◌≡◌, ℕ, ◌≤◌, List, [], ◌∷◌, length, Some, Ok}
 use Rattle.std.specs.FinMap.{get}
 use Rattle.std.specs.List.{AllByRecursion}
@@ -15,11 +15,12 @@ use Rattle.ld65.specs.Linkage.{member_input}
 use Rattle.tools65.specs.OneProgram.{AreInputOf, IsModuleOf, IsObjectOf, SelectsSources, Source}
 use Rattle.tools65.specs.Written.{IsOneOf, IsSourceInput, IsWrittenOf}
 
--- what ca65 wrote of a source is spelled as an object of the grammar
+-- the bytes that ca65 wrote from a source encode an object of the grammar
 abbrev pub WrittenObjectLaw : Type 0
 WrittenObjectLaw = (x : Source) (bytes : List ℕ) (w : IsWrittenOf x bytes) → IsObject bytes w.object
 
--- a file that ca65 wrote of a source gives one module, an object of the source, behind whatever modules it stands
+-- a file that ca65 wrote from a source gives one module, an object of the source, whatever modules come
+-- before it
 abbrev pub WrittenInputLaw : Type 0
 WrittenInputLaw =
     (s : Script) (m : Files) (before : List Module) (name bytes : List ℕ) (x : Source) →

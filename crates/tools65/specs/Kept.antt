@@ -1,4 +1,4 @@
--- What the commands ca65 and ar65 write is as inputs are supposed to be.
+-- The files that ca65 and ar65 write meet the premises on inputs.
 use Rattle.std.specs.Prelude.{◌≡◌, ℕ, ◌≤◌, List, length, IfSome, Ok}
 use Rattle.std.specs.FinMap.{get}
 use Rattle.std.specs.List.{AllByRecursion}
@@ -15,7 +15,7 @@ use Rattle.tools65.specs.Command.{AssemblesSource}
 use Rattle.tools65.specs.OneProgram.{Source}
 use Rattle.tools65.specs.Written.{IsSourceLibrary, IsSourceObject, IsWrittenOf}
 
--- what an assemble line has assembled, of these files
+-- the source of an assembler's command line, with these files
 abbrev pub source_in : Assembling → Files → Source
 source_in a m = record { files = m; job = job_in a }
 

@@ -12,8 +12,8 @@ pub record IsPlain (byte : ℕ) : Type 0 where
   pub dot : byte ≢ 46
   pub slash : byte ≢ 47
 
--- A name's extension begins at this place: with a `.`, behind which neither `.` nor `/` stands, and before which
--- stands a byte that isn't `/`.
+-- A name's extension begins at this index: with a `.` that no `.` or `/` follows, after a byte that isn't
+-- `/`.
 pub record IsExtension (name : List ℕ) (k : ℕ) : Type 0 where
   pub inside : k < length name
   pub dot : get_or name k 0 ≡ dot
@@ -24,7 +24,7 @@ pub record IsExtension (name : List ℕ) (k : ℕ) : Type 0 where
 abbrev pub HasNoExtension : List ℕ → Type 0
 HasNoExtension name = (k : ℕ) → IsExtension name k → ⊥
 
--- a source's name with `.o` in place of its extension, or behind it where it has none
+-- a source's name with `.o` in place of its extension, or added if it has none
 abbrev pub IsObjectName : List ℕ → List ℕ → Type 0
 IsObjectName source name =
     ((k : ℕ) × IsExtension source k × (name ≡ take k source ++ codes ".o"))

@@ -9,7 +9,7 @@ use Rattle.output65.specs.declared.outcome.Outcome.{Outcome}
 use Rattle.tools65.specs.Command.{IsOutcomeOfArgs}
 use Rattle.tools65.specs.Failing.{SaysFailure}
 
--- what words, or the line that they are, do as a command is one thing at most: these texts, these files, this status
+-- words, and a parsed command line, have at most one outcome: texts, files and status
 abbrev pub OutcomeIsUnique : Type 0
 OutcomeIsUnique = (words : Result CommandView LineFault) (m : Files) (a b : Outcome) → IsOutcomeOfArgs words m a → IsOutcomeOfArgs words m b → a ≡ b
 
@@ -20,8 +20,8 @@ OutcomeExists =
     (o : Outcome) × IsOutcomeOfArgs (line_of words) m o
     × ((other : Outcome) → IsOutcomeOfArgs (line_of words) m other → other ≡ o)
 
--- What ld65 and ar65 say of a call that failed while files were read is one text, of ld65 if the call's place tells which part of
--- a library it asked for.
+-- A call of ld65 or ar65 that failed while files were read has one message; for ld65 if its offset determines
+-- which part of a library it requested.
 abbrev pub FailureIsUnique : Type 0
 FailureIsUnique =
     (m : Files) (c : FailedCall) (out err other_out other_err : List ℕ) →

@@ -1,4 +1,4 @@
--- What ca65 wrote, linked, and the whole program of its sources.
+-- The link of objects that ca65 wrote, and the whole program of their sources.
 use Rattle.std.specs.Prelude.{◌≡◌, ℕ, ◌⊎◌, ◌↔◌, true, List, [], ◌∷◌, ◌++◌, Option, Some, None, Result, Ok, ⊤}
 use Rattle.std.specs.FinMap.{get}
 use Rattle.base65.specs.Store.{Files}
@@ -68,7 +68,7 @@ OneProgramLaw =
     (output : List ℕ) (s : Script) (xs : List Source) (ms : List Module) (files : List OutputFile) →
     AreObjectsOf xs ms → WholeOf output s xs files ↔ IsLinkedTo output s ms files
 
--- So it is decided whether sources have an image.
+-- Sources either have an image or have none.
 abbrev pub ImageOrNoneLaw : Type 0
 ImageOrNoneLaw =
     (output : List ℕ) (s : Script) (xs : List Source) (ms : List Module) → AreObjectsOf xs ms →
@@ -87,18 +87,18 @@ AreMembers m library (e ∷ es) (x ∷ ms) = IsModuleOf m (member_input library 
 AreMembers m library [] (x ∷ ms) = ⊥
 AreMembers m library (e ∷ es) [] = ⊥
 
--- the members of a library that the modules before it need, in the order in which they stand
+-- the members of a library that the modules before it need, in file order
 abbrev pub AreTaken : Script → Files → List Module → List ℕ → List Module → Type 0
 AreTaken s m before library ms =
     (es : List Entry) × (places : List ℕ) × (index_in m library ≡ Ok es)
     × IsSelection es (open_names s (program_of before)) (given_names s (program_of before)) places × AreMembers m library (selected_entries es places) ms
 
--- the modules of an input behind others
+-- the modules after an input
 abbrev pub AreInputOf : Script → Files → List Module → List ℕ → List Module → Type 0
 AreInputOf s m before name ms =
     ByKind (is_library_in m name) (AreTaken s m before name ms) ((x : Module) × IsModuleOf m (file_input name) x × (ms ≡ x ∷ []))
 
--- the modules of inputs behind others, whether or not a name is given twice
+-- the modules after inputs, whether or not a name is defined twice
 abbrev pub AreSelected : Script → Files → List Module → List (List ℕ) → List Module → Type 0
 AreSelected s m before [] ms = ms ≡ []
 AreSelected s m before (name ∷ names) ms =
@@ -134,7 +134,7 @@ IsRefusal l o = (e : LinkCommandFault) × (o ≡ failing (error_message l e))
 abbrev pub HaveNoImage : Linking → Script → List Source → Type 0
 HaveNoImage l s xs = (files : List OutputFile) → WholeOf (output_of l) s xs files → ⊥
 
--- What a line does with these files, where its modules are those of sources.
+-- The effect of a command line with these files, if its modules are objects of sources.
 pub record DoesWhole (l : Linking) (s : Script) (xs : List Source) (m : Files) (o : Outcome) : Type 0 where
   pub does : IsLinkOutcome l m o
   -- where the sources have an image as one program, its files and then the map
@@ -170,7 +170,7 @@ WordsLinkWhole words m new io status =
     (l : Linking) → words ≡ Ok (link l)
     → LinksWhole l m new io status ⊎ PerformsOutcome (failing line_memory_message) m new io status
 
--- What a run of words or of a line does by its command, it does so.
+-- A run of words, or of a parsed command line, has the effect of its command.
 abbrev pub RunsLaw : Type 0
 RunsLaw =
     (words : List (List ℕ)) (m : Files) (new : Option Files) (io : Streams) (status : Status) →

@@ -1,4 +1,4 @@
--- What ca65 wrote of sources, alone and in libraries, in either version.
+-- Files that ca65 wrote from sources, alone and in libraries, in either version.
 use Rattle.std.specs.Prelude.{◌≡◌, ℕ, ◌≤◌, ◌⊎◌, List, length, slice_get, Some, Ok}
 use Rattle.std.specs.FinMap.{get}
 use Rattle.std.specs.List.{AllByRecursion}

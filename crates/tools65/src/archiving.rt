@@ -1,4 +1,4 @@
-//! What a line of the librarian does.
+//! The outcome of the librarian's command lines.
 
 ghost use Rattle.std.specs.Prelude.{◌≡◌, IfOk, IfSome, map};
 ghost use Rattle.cli65.specs.Line.{archive, archiving};
@@ -40,8 +40,8 @@ fn member_outputs(
     Ok(outputs)
 }
 
-/// What a line does that isn't refused: it writes the library anew, prints names, or writes
-/// members.
+/// Returns the outcome of a command line without an error: it writes the library, prints names, or
+/// writes members.
 fn archived_outcome(
     alloc: Global,
     line: &ArchiveArgs<'_>,
@@ -64,7 +64,7 @@ fn archived_outcome(
     })
 }
 
-/// What a line does, or why it does nothing.
+/// Returns the outcome of a command line: its result, or its error.
 fn archive_outcome(
     alloc: Global,
     line: &ArchiveArgs<'_>,

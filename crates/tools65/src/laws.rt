@@ -1,11 +1,11 @@
-//! What holds of commands, and of linking what ca65 wrote. Each function's contract is a law.
+//! Laws of commands, and of linking objects that ca65 wrote. Each function's contract is a law.
 
 ghost use Rattle.tools65.specs.Inputs.{SourcesSelectedLaw, WrittenInputLaw, WrittenMemberLaw, WrittenObjectLaw};
 ghost use Rattle.tools65.specs.Kept.{ArchivedSourcesLaw, AssembledFileLaw};
 ghost use Rattle.tools65.specs.OneOutcome.{OutcomeExists, FailureIsUnique, OutcomeIsUnique};
 ghost use Rattle.tools65.specs.OneProgram.{ImageOrNoneLaw, LineRunsLaw, OneProgramLaw, RunsLaw};
 
-/// What words do as a command, given the files, is one outcome at most: these texts, these files, this status.
+/// Given the files, a command line has at most one outcome: its texts, files and status.
 pub fn outcome_is_unique()
     ensures { OutcomeIsUnique }
 {}
@@ -16,7 +16,8 @@ pub fn outcome_exists()
     ensures { OutcomeExists }
 {}
 
-/// What ld65 and ar65 say of a call that failed while files were read is one text, where the call's place tells what it asked for.
+/// A call of ld65 or ar65 that failed while files were read has one message, if its offset
+/// determines what it requested.
 pub fn failure_is_unique()
     ensures { FailureIsUnique }
 {}
@@ -32,9 +33,9 @@ pub fn image_or_none()
     ensures { ImageOrNoneLaw }
 {}
 
-/// What `run` does with words that are a link of sources' objects: it carries out the image that the sources have as one
-/// program, unless memory runs out or a stream stops short; with status 0 it wrote that image; where they have none it
-/// writes nothing and fails.
+/// The effect of `run` on words that link objects of sources. It carries out the image that the
+/// sources have as one program, unless memory runs out or a stream refuses its text. With status 0
+/// it wrote that image. If they have none, it writes nothing and fails.
 pub fn runs_of_one_program()
     ensures { RunsLaw }
 {}
@@ -44,7 +45,7 @@ pub fn lines_of_one_program()
     ensures { LineRunsLaw }
 {}
 
-/// What ca65 wrote of a source, in either version, is spelled as an object of the grammar.
+/// The bytes that ca65 wrote from a source, in either version, encode an object of the grammar.
 pub fn written_is_an_object()
     ensures { WrittenObjectLaw }
 {}

@@ -1,4 +1,4 @@
-//! What a line of the linker does.
+//! The outcome of the linker's command lines.
 
 ghost use Rattle.std.specs.Prelude.{◌≡◌, IfOk, IfSome};
 ghost use Rattle.cli65.specs.Line.{link, linking};
@@ -11,7 +11,7 @@ use ld65::{LinkCommandFault, Linked, error_message, link_files};
 use output65::{Outcome, Status, with_map};
 use std::alloc::{AllocError, Global};
 
-/// What linking does: it warns and writes its files and its map, or says why there are none.
+/// Returns the outcome of linking: warnings, files and the map; or the error.
 fn link_outcome(
     alloc: Global,
     line: &LinkArgs<'_>,

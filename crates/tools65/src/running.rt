@@ -20,7 +20,7 @@ use std::alloc::{AllocError, Global};
 use std::convert::AsStr;
 use std::io::Write;
 
-/// The name behind which want of memory is said while a line runs.
+/// Returns the name in the message *out of memory* while a command line runs.
 fn memory_name<'a>(line: &'a Line<'_>) -> &'a str
     ensures { memory_line result.now ≡ line_memory (view line.now) }
 {

@@ -22,12 +22,12 @@ use Rattle.whole65.specs.Values.{Program, Value}
 
 -- ---- Values.
 
--- what is stored of a value in a statement at an address: a branch counts from the address behind it
+-- the stored value of a statement's operand: a branch counts from the address after the branch
 abbrev pub counted_from : Width → ℤ → ℤ → ℤ
 counted_from Branch address v = wrap_signed (v -ℤ wrap_signed (address +ℤ pos 2))
 counted_from width address v = v
 
--- what fits is stored as bytes
+-- a value that fits is stored as bytes
 abbrev pub AreStored : Width → ℤ → List ℕ → Type 0
 AreStored width v bytes = (fits_width width v ≡ true) × (bytes ≡ value_bytes width v)
 

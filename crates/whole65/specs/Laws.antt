@@ -1,4 +1,4 @@
--- What holds of whole programs: the ladder from one value to the equality.
+-- Laws of whole programs, from a single value to the equality.
 use Rattle.std.specs.Prelude.{◌≡◌, ℕ, ℤ, ◌↔◌, List, [], ◌∷◌, map, slice_get, take, false, Some, IfSome, Result, Ok}
 use Rattle.syntax65.specs.Trees.{Tree, name}
 use Rattle.object65.specs.Form.{Form}
@@ -35,7 +35,7 @@ ValueIsUnique =
     (p : Program) (owner place : ℕ) (e : Tree) (v w : ℤ) →
     Value p owner place e v → Value p owner place e w → v ≡ w
 
--- what is needed for its own value has none
+-- a name that is needed for its own value has none
 abbrev pub CircularLaw : Type 0
 CircularLaw = (p : Program) (x : LocatedExpr) (v : ℤ) → NeedsValueOf p x x → Value p x.owner x.place x.tree v → ⊥
 
@@ -46,8 +46,8 @@ SameValuesLaw E =
     (p : Program) (o : Objects E) → AreObjects p o → (depth owner place : ℕ) (e : Tree) (f : Form) (v : ℤ) →
     norm depth (o.symbols owner) (o.contexts owner place) e ≡ Ok f → Value p owner place e v ↔ HasValue o owner f v
 
--- The offset of a statement in its section is the position behind the lines before it in its segment; the section's size is
--- the position behind all, and its alignment the largest of their multiples.
+-- The offset of a statement in its section is its position after the lines before it in its segment; the
+-- section's size is the position after all of them, and its alignment the largest of their multiples.
 pub record AreOffsets (y : Layout) (owner : ℕ) : Type 0 where
   pub offset :
       (place : ℕ) (l : LaidOutStatement) → slice_get y.laid place ≡ Some l →
@@ -81,8 +81,8 @@ PlacementLaw =
     (s : Script) (ys : List Layout) (ms : List Module) → AreSources ys ms →
     place_of s (places.needs_of (linked.program_of ms)) ≡ place_of s (needs_of ys)
 
--- The rows have bytes in the whole program exactly where each value that waits in a link passes its check, and those that the
--- link writes.
+-- The rows have bytes in the whole program exactly if each value that needs addresses passes its check in the
+-- link; and these are the bytes that the link writes.
 abbrev pub RowsLaw : Type 0
 RowsLaw =
     (s : Script) (placement : Placement) (ys : List Layout) (ms : List Module) (table : List (Result ℤ ValueFault)) (bytes : RowBytes) →
@@ -93,7 +93,7 @@ RowsLaw =
     ↔ ((each_passes (check_fixup l (linked.program_of ms).members (in_table table)) (fixups_by_row s.rows segments) ≡ Ok tt)
     × AllByRecursion (λ r. bytes r ≡ row_bytes l (in_table table) segments r) s.rows)
 
--- What an export of an object comes to in a link is the value of its name in the whole program.
+-- The value of an object's export in a link is the value of its name in the whole program.
 abbrev pub ExportValueLaw : Type 0
 ExportValueLaw =
     (s : Script) (placement : Placement) (ys : List Layout) (ms : List Module) (table : List (Result ℤ ValueFault)) (i : ℕ)

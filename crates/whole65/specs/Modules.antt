@@ -1,4 +1,4 @@
--- What names mean in a module, which names it gives to others, and which it needs.
+-- The names of a module: their meaning, the names that it exports, and those that it needs.
 use Rattle.std.specs.Prelude.{ℕ, suc, Bool, List, [], ◌∷◌, ◌++◌, map, slice_get, is_some, Option, Some, None, Result, Ok, Err, filter, length}
 use Rattle.std.specs.List.{flat_map}
 use Rattle.syntax65.specs.Trees.{Tree}
@@ -17,7 +17,8 @@ table_of y = symbols_of y.laid
 
 -- ---- Where definitions stand.
 
--- the places of the statements that make definitions, in the order of the definitions, where the first stands at a place
+-- the indices of the statements that make definitions, in the order of the definitions, where the first
+-- statement has this index
 abbrev pub defining_from : ℕ → List LaidOutStatement → List ℕ
 defining_from place [] = []
 defining_from place (l ∷ ls) = map (λ d. place) (definitions_of l) ++ defining_from (suc place) ls
@@ -46,7 +47,7 @@ meaning_by y (Ok (names.defined_at d)) = statement_at y.laid (slice_get (definin
 meaning_by y (Ok (names.imported_as k)) = import_named (slice_get (table_of y).imports k)
 meaning_by y (Err e) = None
 
--- behind the last statement, in the global scope and in no segment
+-- after the last statement, in the global scope and in no segment
 abbrev pub global_context : Layout → Context
 global_context y = record {
   scope = 0;
@@ -64,7 +65,7 @@ context_or other (Some l) = l.context
 abbrev pub context_at : Layout → ℕ → Context
 context_at y place = context_or (global_context y) (slice_get y.laid place)
 
--- what an operand means at a place, among all statements of the module
+-- the meaning of an operand at a statement, among all statements of the module
 abbrev pub means_in : Layout → ℕ → Tree → Option SymbolBinding
 means_in y place e = meaning_by y (names.binding_of (table_of y) (context_at y place) e)
 

@@ -11,8 +11,8 @@ use Rattle.semantics65.specs.Symbols.{binding_of, Definition, Symbols}
 use Rattle.semantics65.specs.Norms.{norm}
 use Rattle.whole65.specs.Values.{Provider, by_module, by_script, by_nobody, SymbolBinding, label_at, constant_at, import_of, Program}
 
--- Of each module, by its place: its symbol table, where its statements stand, and what its sections and imports come to.
--- What else than a value an import may come to is left open.
+-- Of each module, by index: its symbol table, the positions of its statements, and the results of its
+-- sections and imports. The error of an import is left open.
 pub record Objects (E : Type 0) : Type 0 where
   -- that an operation has no value
   pub none : E
@@ -22,10 +22,10 @@ pub record Objects (E : Type 0) : Type 0 where
   pub places : (owner definition : ℕ) → ℕ
   -- the address at which the section of a segment begins
   pub bases : (owner segment : ℕ) → ℤ
-  -- what the import of a number comes to through fewer than so many exports, one inside the other
+  -- the result of an import, given its number, through fewer than this many nested exports
   pub imports : (turns owner number : ℕ) → Result ℤ E
 
--- the value of a form of a module, through so many exports
+-- the value of a form of a module, through this many nested exports
 abbrev pub form_value : {E : Type 0} → Objects E → ℕ → ℕ → Form → Result ℤ E
 form_value o turns owner f = value_in o.none (o.bases owner) (o.imports turns owner) f
 
@@ -55,7 +55,7 @@ meaning_shown o owner (Ok (names.imported_as k)) = import_shown (slice_get (o.sy
 abbrev pub HasNone : {E : Type 0} → Objects E → ℕ → ℕ → Type 0
 HasNone o owner k = (turns : ℕ) (v : ℤ) → o.imports turns owner k ≢ Ok v
 
--- to what the export of a name by a module comes to, one export deeper
+-- the result of a name's export by a module, one export deeper
 pub record IsExport {E : Type 0} (p : Program) (o : Objects E) (owner k : ℕ) (x : List ℕ) (provider : ℕ) : Type 0 where
   pub depth : ℕ
   pub form : Form
@@ -86,6 +86,6 @@ pub record AreObjects {E : Type 0} (p : Program) (o : Objects E) : Type 0 where
       p.address owner place ≡ wrap_signed (o.bases owner (o.contexts owner place).segment +ℤ pos (o.contexts owner place).offset)
   pub given : (owner k : ℕ) → ImportHasValue p o owner k (slice_get (o.symbols owner).imports k)
 
--- through some number of exports a form comes to a value
+-- through some number of exports a form has a value
 abbrev pub HasValue : {E : Type 0} → Objects E → ℕ → Form → ℤ → Type 0
 HasValue o owner f v = (turns : ℕ) × (form_value o turns owner f ≡ Ok v)

@@ -21,14 +21,14 @@ pub record IsPower (n : ℕ) : Type 0 where
 abbrev pub ArePowers : List SegmentLine → Type 0
 ArePowers xs = AllByRecursion (λ x. IsPower x.alignment) xs
 
--- statements laid one behind the other, none of which has a fault at its line
+-- statements laid out in order, none of which has an error at its line
 pub data IsSoundLayoutOf : Layout → Type 0 where
   begun : IsSoundLayoutOf nothing_laid
   following :
       (y : Layout) (place : SourceLocation) (x : Statement) →
       IsSoundLayoutOf y → line_fault (symbols_of y.laid) y.cursor x ≡ None → IsSoundLayoutOf (layout_after y place x)
 
--- the lines of a module that stand in its segment of a number
+-- the lines of a module in its segment of this number
 abbrev pub lines_at : ℕ → List SegmentLine → List SegmentLine
 lines_at g xs = filter (λ x. nat_eq x.laid.context.segment g) xs
 

@@ -1,4 +1,4 @@
--- The statements of all modules that stand in a segment, as one list, and their positions in it.
+-- The statements of all modules in a segment, as one list, and their positions in it.
 use Rattle.std.specs.Prelude.{ℕ, suc, ◌+◌, max, Bool, ◌==◌, ◌&&◌, false, List, [], ◌∷◌, ◌++◌, map, filter, length, if◌then◌else◌}
 use Rattle.std.specs.List.{flat_map, list_any}
 use Rattle.std.specs.Str.{bytes_eq}
@@ -17,7 +17,7 @@ pub record SegmentLine : Type 0 where
   pub alignment : ℕ
   pub laid : LaidOutStatement
 
--- what stands in the list of a segment
+-- an item in the list of a segment
 pub data Item : Type 0 where
   -- before a module's statements: the position is rounded up to a multiple
   rounding : ℕ → Item
@@ -28,7 +28,7 @@ pub data Item : Type 0 where
 abbrev pub segment_name : Layout → ℕ → List ℕ
 segment_name y g = (segment_at y.cursor.segments g).name
 
--- a module's statement behind those before it
+-- a module's statement, after those before it
 abbrev pub line_of : ℕ → List LaidOutStatement → LaidOutStatement → SegmentLine
 line_of owner before l = record {
   owner = owner;
@@ -37,7 +37,7 @@ line_of owner before l = record {
   laid = l;
 }
 
--- a module's statements as lines, behind those before
+-- a module's statements as lines, after those before
 abbrev pub lines_after : ℕ → List LaidOutStatement → List LaidOutStatement → List SegmentLine
 lines_after owner before [] = []
 lines_after owner before (l ∷ ls) = line_of owner before l ∷ lines_after owner (before ++ l ∷ []) ls
@@ -45,7 +45,7 @@ lines_after owner before (l ∷ ls) = line_of owner before l ∷ lines_after own
 abbrev pub stands_in : Layout → List ℕ → LaidOutStatement → Bool
 stands_in y name l = bytes_eq (segment_name y l.context.segment) name
 
--- the lines of a module that stand in the segment of a name
+-- the lines of a module in the segment of a name
 abbrev pub lines_in : ℕ → Layout → List ℕ → List SegmentLine
 lines_in owner y name = filter (λ x. stands_in y name x.laid) (lines_after owner [] y.laid)
 
@@ -80,7 +80,7 @@ line_end at alignment l = go l.stated
     go (Align n v) = next_multiple_of at alignment
     go _ = at + l.length
 
--- the position behind an item that begins at a position
+-- the position after an item that begins at a position
 abbrev pub end_after : ℕ → Item → ℕ
 end_after at (rounding alignment) = next_multiple_of at alignment
 end_after at (line x) = line_end at x.alignment x.laid

@@ -6,7 +6,7 @@ use Rattle.base65.specs.Values.{value1, value2}
 use Rattle.base65.specs.declared.values.Op1.{Op1}
 use Rattle.base65.specs.declared.values.Op2.{Op2}
 
--- what an operand of an expression stands for
+-- the meaning of an operand of an expression
 pub data SymbolBinding : Type 0 where
   -- a label: the statement at a place of the module
   label_at : (place : ℕ) → SymbolBinding
@@ -26,15 +26,15 @@ pub data Provider : Type 0 where
 -- Modules and statements are named by their places: a module by its place in the order of linking, a statement by its
 -- place in its module.
 pub record Program : Type 0 where
-  -- what an operand means where it stands, if anything
+  -- the meaning of an operand at its statement, if it has one
   pub means : (owner place : ℕ) → Tree → Option SymbolBinding
-  -- the place behind the last statement of a module, in its global scope
+  -- the index after the last statement of a module, in its global scope
   pub global : (owner : ℕ) → ℕ
   pub provider : List ℕ → Provider
   -- the address of a statement
   pub address : (owner place : ℕ) → ℤ
 
--- what stands for a definition: numbers, `*` and operations have values of their own
+-- the definition that an operand refers to; numbers, `*` and operations have values of their own
 abbrev pub meaning_in : Program → (owner place : ℕ) → Tree → Option SymbolBinding
 meaning_in p owner place (tree.number n) = None
 meaning_in p owner place tree.here = None
@@ -42,11 +42,12 @@ meaning_in p owner place (tree.unary op e) = None
 meaning_in p owner place (tree.binary op e f) = None
 meaning_in p owner place e = p.means owner place e
 
--- The value of an expression where it stands. A derivation is finite, so a name that is needed for its own value has none.
+-- The value of an expression at its statement. A derivation is finite, so a name that is needed for its own
+-- value has none.
 pub data Value (p : Program) : (owner place : ℕ) → Tree → ℤ → Type 0 where
   -- a number is its own value
   number : {owner place n : ℕ} → Value p owner place (tree.number n) (pos n)
-  -- `*` is the address of the statement in which it stands
+  -- `*` is the address of its statement
   here : {owner place : ℕ} → Value p owner place tree.here (p.address owner place)
   -- a label has the address of its statement
   label :
@@ -75,7 +76,7 @@ pub data Value (p : Program) : (owner place : ℕ) → Tree → ℤ → Type 0 w
 
 -- ---- What an expression needs for its value.
 
--- an expression, and where it stands
+-- an expression, and the statement that has it
 pub record LocatedExpr : Type 0 where
   pub owner : ℕ
   pub place : ℕ

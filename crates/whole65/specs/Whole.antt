@@ -42,7 +42,7 @@ HasAssertion p x = go x.laid.stated
 abbrev pub IsProvided : Program → List ℕ → Type 0
 IsProvided p x = p.provider x ≢ by_nobody
 
--- what a module says to others and to the linker
+-- a module's declarations for others and for the linker
 pub record IsSaid (p : Program) (owner : ℕ) (y : Layout) : Type 0 where
   pub forced : AllByRecursion (IsProvided p) (forced_of y)
   pub exports : AllByRecursion (HasExport p owner) (exports_of y)

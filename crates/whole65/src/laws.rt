@@ -1,4 +1,5 @@
-//! What holds of whole programs, from one value to the equality. Each function's contract is a law.
+//! Laws of whole programs, from a single value to the equality with the linked image. Each
+//! function's contract is a law.
 
 ghost use Rattle.whole65.specs.Equality.{EqualityLaw};
 ghost use Rattle.whole65.specs.Laws.{CircularLaw, ExportValueLaw, NeedsLaw, OffsetLaw, ValueIsUnique, PlacementLaw, RowsLaw, SameValuesLaw, SourceLaw};
@@ -8,7 +9,7 @@ pub fn value_is_unique()
     ensures { ValueIsUnique }
 {}
 
-/// What is needed for its own value has none.
+/// A name that is needed for its own value has none.
 pub fn none_where_circular()
     ensures { CircularLaw }
 {}
@@ -19,7 +20,8 @@ pub fn same_values<E>()
     ensures { SameValuesLaw E }
 {}
 
-/// Offsets in sections are positions behind the lines before, in a module whose lines have no fault.
+/// In a module without errors at its lines the offset of a statement in its section is its position
+/// among the module's lines.
 pub fn offsets()
     ensures { OffsetLaw }
 {}

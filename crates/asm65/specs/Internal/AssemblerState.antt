@@ -46,7 +46,7 @@ AreBefore next ds = AllByRecursion (λ d. IsBefore next d.key) ds
 
 -- ---- An assembler.
 
--- An assembler holds a state, behind statements that opened so much.
+-- An assembler represents a state, after statements that opened at most this many scopes and regions.
 pub record Represents (count : ℕ) (t : State) (a : Assembler) : Type 0 where
   pub symbols : table_of a.symbols ≡ t.symbols
   pub known : IsTable t.symbols a.known.states.items
@@ -62,7 +62,7 @@ pub record Represents (count : ℕ) (t : State) (a : Assembler) : Type 0 where
 
 -- ---- What calls do.
 
--- Pieces of a statement that stands here are entered, one behind the other; else nothing changes.
+-- Pieces of a statement in this context are emitted or deferred, in order; all else is unchanged.
 abbrev pub EmitsPieces : SourceLocation → Context → List piece.Piece → Assembler → Assembler → Type 0
 EmitsPieces place s ps old new =
     (count : ℕ) (t : State) → Represents count t old →
@@ -79,14 +79,14 @@ known_where y s = record {
 
 -- ---- A piece that is left waiting.
 
--- the same, but for what is put into sections and what waits
+-- the same except for section contents and pending pieces
 pub record KeepsTables (old new : Assembler) : Type 0 where
   pub symbols : new.symbols ≡ old.symbols
   pub known : new.known ≡ old.known
   pub cursor : new.cursor ≡ old.cursor
   pub texts : new.texts ≡ old.texts
 
--- A piece of a statement that stands here waits.
+-- A piece of a statement in this context is deferred.
 abbrev pub DefersPiece : SourceLocation → Context → piece.Piece → Assembler → Assembler → Type 0
 DefersPiece place s p old new =
     (count : ℕ) (t : State) → Represents count t old →
@@ -111,7 +111,7 @@ pub record AreStored (width : Width) (ns value_part : List ℕ) : Type 0 where
 
 -- ---- Pieces.
 
--- a piece of a statement that stands here is entered, or nothing changes
+-- a piece of a statement in this context is emitted, or nothing changes
 abbrev pub EmitsIfResolved : SourceLocation → Context → piece.Piece → Assembler → Assembler → Bool → Type 0
 EmitsIfResolved place s p old new false = new ≡ old
 EmitsIfResolved place s p old new true = EmitsPieces place s (p ∷ []) old new
@@ -156,15 +156,14 @@ pub record KeepsPut (old new : Assembler) : Type 0 where
   pub sections : new.sections ≡ old.sections
   pub texts : new.texts ≡ old.texts
 
--- Pieces of a statement that stands here are entered, and then the symbol table is the one that it
--- becomes.
+-- Pieces of a statement in this context are emitted, and then the symbol table is updated.
 abbrev pub EmitsThenDefines : SourceLocation → Context → List piece.Piece → (Symbols → Symbols) → Assembler → Assembler → Type 0
 EmitsThenDefines place s ps becomes old new =
     (count : ℕ) (t : State) → Represents count t old → AreInside count (becomes t.symbols).scopes →
     AreBefore t.cursor.unnamed (becomes t.symbols).definitions →
     (u : State) × PieceSteps place s t ps u × Represents count (record u { symbols = becomes t.symbols }) new
 
--- some state is held, behind statements that may be followed by one more
+-- some state is represented, after statements that one more may follow
 abbrev pub IsRepresentable : Assembler → Type 0
 IsRepresentable a = (count : ℕ) × (t : State) × Represents count t a × (count < opening_limit)
 
@@ -213,13 +212,13 @@ name_use_piece mention.Imported n = piece.imported n
 name_use_piece mention.ForcedImport n = piece.demanded n
 name_use_piece (mention.Exported must) n = piece.exported must n
 
--- pieces that wait, one behind the other
+-- pending pieces, in order
 abbrev pub all_awaiting : SourceLocation → Context → State → List piece.Piece → State
 all_awaiting place s t [] = t
 all_awaiting place s t (p ∷ ps) =
     all_awaiting place s (with_fixup t (record { place = place; context = s; piece = p })) ps
 
--- names that a statement here mentions wait
+-- the names that a statement mentions here are deferred
 abbrev pub DefersMentions : SourceLocation → Context → List piece.Piece → Assembler → Assembler → Type 0
 DefersMentions place s ps old new =
     (count : ℕ) (t : State) → Represents count t old → Represents count (all_awaiting place s t ps) new

@@ -1,4 +1,5 @@
--- What calls leave, the states that are held, the lines of a source, and what waits behind them.
+-- The effects of calls, the states that are represented, the lines of a source, and the pending pieces after
+-- them.
 use Rattle.std.specs.Prelude.{◌≡◌, ℕ, ◌+◌, ◌*◌, ◌≤◌, ◌<◌, List, [], ◌∷◌, Option, None, IfErr, IfSome, Bool, true, false, Result, Ok, Err, take, ◌++◌, map, length, string_bytes, ⊤}
 use Rattle.std.specs.List.{list_any}
 use Rattle.std.specs.Str.{bytes_eq}
@@ -48,11 +49,11 @@ pub record AsmStoreFrame {X T : Type 0} (files_of : X → Option Files) (failure
   pub files : files_of new ≡ files_of old
   pub count : PropagatesIoErrors is_failure (failures_of old) (failures_of new) result
 
--- a state is held, behind statements that opened at most so much
+-- a state is represented, after statements that opened at most this much
 abbrev pub RepresentsWithin : ℕ → State → Assembler → Type 0
 RepresentsWithin most t a = (count : ℕ) × (count ≤ most) × Represents count t a
 
--- some state is held, behind which so much more may be opened
+-- some state is represented, and this much more may be opened
 abbrev pub HasHeadroom : ℕ → Assembler → Type 0
 HasHeadroom more a = (count : ℕ) × (t : State) × (count + more ≤ opening_limit) × Represents count t a
 
@@ -62,7 +63,7 @@ SaysAs t a = (a.texts.out ≡ t.out) × (a.texts.err ≡ t.err)
 
 -- ---- States that statements lead to.
 
--- behind statements whose names objects can hold, wherever they stand
+-- the states after statements whose names objects can hold, in any context
 pub data IsReached : State → Type 0 where
   at_first : IsReached initial_state
   following :
@@ -85,7 +86,7 @@ abbrev pub ForKnownFiles :
     Result State AsmFault → Type 0
 ForKnownFiles o IsAnswer t r = IfSome o (λ m. IsAnswer m t r)
 
--- so for each state that is held and behind which so much may be opened
+-- the same for each represented state in which this much more may be opened
 abbrev pub TakesBy :
     Type 0 → (State → Result State AsmFault → Type 0) → ℕ → Assembler → Assembler →
     Result (Unit {0}) AsmFault → Type 0
@@ -93,8 +94,8 @@ TakesBy AreSo IsAnswer more old new r =
     (count : ℕ) (t : State) → count + more ≤ opening_limit → Represents count t old →
     RefinesTransition AreSo (IsAnswer t) (count + more) t new r
 
--- Where the store failed, that is the fault, and nothing more was said. Without its file the answer would be that it
--- isn't there, for each state that is held and behind which so much may be opened.
+-- If the store failed, that is the error, and nothing more was printed. If the file weren't there, the error
+-- would say so, for each represented state in which this much more may be opened.
 pub record IsStopped (IsAnswer : State → Result State AsmFault → Type 0) (more : ℕ) (old new : Assembler) (e : AsmFault) : Type 0 where
   pub fault : e ≡ FileError
   pub out : new.texts.out ≡ old.texts.out
@@ -122,7 +123,7 @@ pub record RefinesRead (o : Option Files) (last_failure : LastFailure) (AreSo : 
 abbrev pub running_limit : ℕ
 running_limit = 6291458
 
--- a run holds a state, behind which what is left may open as much as it can
+-- a run represents a state, in which the remaining statements may open as much as they can
 pub record RunRepresents (t : State) (run : Run) : Type 0 where
   pub count : ℕ
   pub room : count + 2 * measure_of run.expander ≤ running_limit
@@ -136,7 +137,7 @@ IsRunning run = (t : State) × IsReached t × RunRepresents t run
 abbrev pub RepresentsSome : State → Assembler → Type 0
 RepresentsSome t a = (count : ℕ) × Represents count t a
 
--- what the statements of a source come to, or their first fault, unless it is refused from outside
+-- the result of the statements of a source, or their first error, unless it is a system error
 abbrev pub RefinesRun : Files → Job → Run → Result (Unit {0}) AsmFault → Type 0
 RefinesRun m job new (Ok x) =
     (u : State) × RunsStatements m job (record { following = u; fault = None }) × RepresentsSome u new.assembler
@@ -153,7 +154,7 @@ abbrev pub TakesOne :
     Result (Unit {0}) AsmFault → Type 0
 TakesOne o last_failure place x = RefinesRead o last_failure (AreSymbolNames (tokens_of x)) (λ m t. AssemblesExpanded m StepsTo t place x) 2
 
--- such statements are taken one behind the other, up to the first that is refused
+-- statements are taken in order, up to the first that has an error
 pub data TakesAll (o : Option Files) (last_failure : LastFailure) (place : SourceLocation) :
     List expand.ExpandedStatement → Assembler → Assembler → Result (Unit {0}) AsmFault → Type 0 where
   none : (a : Assembler) → TakesAll o last_failure place [] a a (Ok tt)
@@ -196,7 +197,7 @@ pub record IsRefusedUnread (o : Option Files) (last_failure : LastFailure) (t : 
 
 -- ---- What a piece comes to.
 
--- the files among which it stands, and its place
+-- the files of a pending piece, and its location
 abbrev pub files_here : FixupLocation → List (List ℕ)
 files_here t = map string_bytes t.files.now
 
@@ -214,7 +215,7 @@ made_at t m = record {
   warning = unwrap_or (option_map (warning_at (place_here t)) m.warning) [];
 }
 
--- an entry stands here, if it stands anywhere, and doesn't wait
+-- the location of an entry, if it has one and isn't pending
 abbrev pub StandsWhere : SourcePos → SectionEntry → Type 0
 StandsWhere pos (entry.Value width g o f) = o ≡ pos
 StandsWhere pos (entry.DeclarationEntry t) = t.value.pos ≡ pos
@@ -224,11 +225,11 @@ StandsWhere pos _ = ⊤
 abbrev pub StandsAt : SourcePos → code.ResolvedPiece → Type 0
 StandsAt pos m = IfSome m.entry (StandsWhere pos)
 
--- an entry may stand in the place of a content
+-- an entry may replace a content
 abbrev pub CanReplace : List (List ℕ) → Content → SectionEntry → Type 0
 CanReplace files c e = AreSlotsAlike (resolved c ∷ []) (slot_of files e ∷ [])
 
--- what a saying comes to that is written with its place
+-- the result of a declaration that is written with its location
 abbrev pub declaration_result : SourceLocation → Declaration → Result PieceResult AsmFault
 declaration_result place s = located_declarations place (said_at place s ∷ []) >>= as_said
 
@@ -243,12 +244,12 @@ pub record IsFoundBy (y : Symbols) (e : ResolveState) : Type 0 where
   pub forms : IsTable y e.known.states.items
   pub names : HasDefined y (names_of e.exported)
 
--- entries that were fed stand in these files, and say nothing yet
+-- entries that refer to these files, and declare nothing yet
 pub record AreFed (files : List (List ℕ)) (es : List SectionEntry) : Type 0 where
   pub standing : StandIn (length files) es
   pub unsaid : all_said (contents_so_far (map (slot_of files) es)) ≡ []
 
--- a slot has come to its content, which an entry holds, and its warning is said
+-- a slot is resolved to its content, which an entry represents, and its warning is printed
 pub record IsSettled (y : Symbols) (files : List (List ℕ)) (x : Slot) (e : SectionEntry) (old new : ResolveState) : Type 0 where
   pub made : PieceResult
   pub found : slot_result y (names_of old.exported) x ≡ Ok made
@@ -271,7 +272,7 @@ abbrev pub ResolvesSlot : Symbols → List (List ℕ) → Slot → ResolveState 
 ResolvesSlot y files x old new (Ok e) = IsSettled y files x e old new
 ResolvesSlot y files x old new (Err e) = Unless (is_diagnostic_system_error e) (IsFaulty y x e old new)
 
--- all slots have come to contents, which the entries hold
+-- all slots are resolved to contents, which the entries represent
 pub record AreSettled (y : Symbols) (files : List (List ℕ)) (xs : List Slot) (es : List SectionEntry) (old new : ResolveState) :
     Type 0 where
   pub contents : List Content
@@ -281,7 +282,7 @@ pub record AreSettled (y : Symbols) (files : List (List ℕ)) (xs : List Slot) (
   pub standing : StandIn (length files) es
   pub err : new.err ≡ old.err ++ said
 
--- there is a first fault, behind the warnings of what stands before it
+-- there is a first error, after the warnings of the slots before it
 pub record AreFaulty (y : Symbols) (names : List (List ℕ)) (xs : List Slot) (e : Diagnostic) (old new : List ℕ) :
     Type 0 where
   pub said : List ℕ
@@ -294,7 +295,8 @@ SettlesAll y files xs old new (Ok es) = AreSettled y files xs es old new
 SettlesAll y files xs old new (Err e) =
     Unless (is_diagnostic_system_error e) (AreFaulty y (names_of old.exported) xs e old.err new.err)
 
--- slots come to contents, and this is their object, which can be written if what it rests on holds
+-- slots are resolved to contents, and this is their object; it can be written if the conditions on the
+-- contents hold
 pub record IsObjectOf (y : Symbols) (segments : List Segment) (xs : List Slot) (o : Object) (old new : List ℕ) :
     Type 0 where
   pub contents : List Content
@@ -304,7 +306,7 @@ pub record IsObjectOf (y : Symbols) (segments : List Segment) (xs : List Slot) (
   pub good : AreSound segments y.imports contents → is_well_formed_object o ≡ true
   pub err : new ≡ old ++ said
 
--- the object of slots, or their first fault, and what was said before and is said behind
+-- the object of slots, or their first error, and the output before and after
 abbrev pub ComesTo :
     Symbols → List Segment → List Slot → (old new : List ℕ) → Result Object Diagnostic → Type 0
 ComesTo y segments xs old new (Ok o) = IsObjectOf y segments xs o old new

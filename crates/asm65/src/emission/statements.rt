@@ -47,7 +47,7 @@ pub fn operand_value(operand: Operand) -> Option<Expr>
     }
 }
 
-/// Whether a value is another one than 0, whatever statements follow.
+/// Returns whether a value is another one than 0, whatever statements follow.
 pub fn is_known_true(
     alloc: Global,
     symbols: &Symbols,
@@ -166,7 +166,7 @@ pub fn emit_values(
     }
 }
 
-/// Enters room of so many bytes, filled with the byte that is settled, if there is one.
+/// Emits room of this many bytes, filled with the byte that is decided, if there is one.
 #[inline(never)]
 pub fn emit_reserve(
     assembler: &mut Assembler,
@@ -183,7 +183,7 @@ pub fn emit_reserve(
     }
 }
 
-/// Enters so many bytes of a file from the one on that is settled.
+/// Emits this many bytes of a file, from the offset that is decided.
 #[inline(never)]
 pub fn emit_incbin(
     assembler: &mut Assembler,

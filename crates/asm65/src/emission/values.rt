@@ -1,4 +1,5 @@
-//! Values and other parts of statements, which are put at once where they are settled without a fault, or wait.
+//! Emits values and other parts of statements at once if they are settled without an error, or
+//! defers them.
 
 ghost use Rattle.std.specs.Prelude.{◌≡◌, drop, IfOk, IfSome, map, Ok, OnOk, take, ◌∷◌, []};
 ghost use Rattle.semantics65.specs.Norms.{literal_in};
@@ -24,7 +25,7 @@ use std::alloc::{AllocError, Global};
 use symbols65::{operand_form, stable_form};
 use syntax65::{Expr, ExprKind};
 
-/// The bytes of numbers, one behind the other, if each is in range.
+/// Returns the bytes of numbers, in order, if each is in range.
 pub fn bytes_of(
     alloc: Global,
     width: Width,
@@ -101,8 +102,7 @@ fn faultless_form(
     }
 }
 
-/// Puts what is stored of an operand's form into the section in which it stands, if it has no
-/// fault.
+/// Emits the stored form of an operand, if it has no error.
 pub fn put_operand(
     alloc: Global,
     sections: &mut Sections,
@@ -145,14 +145,14 @@ pub fn literal_of(form: &Norm) -> Option<i64>
     }
 }
 
-/// Whether an object can hold the name of a file.
+/// Returns whether an object can hold the name of a file.
 pub fn is_file_name(name: &str) -> bool
     ensures { result ≡ is_file_name name.now }
 {
     name.len() <= FILE_NAME_LIMIT
 }
 
-/// A piece of a statement waits.
+/// Defers a piece of a statement.
 #[inline(never)]
 pub fn defer(
     assembler: &mut Assembler,

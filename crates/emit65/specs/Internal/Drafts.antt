@@ -29,7 +29,7 @@ use Rattle.emit65.specs.declared.numbering.fragments.FragmentMerger.{FragmentMer
 use Rattle.emit65.specs.declared.numbering.keys.Numbers.{Numbers}
 use Rattle.emit65.specs.declared.numbering.ordering.Order.{Order}
 
--- what is said brings the same imports wherever it stands
+-- a declaration brings the same imports whatever its location
 abbrev pub anywhere : SourceLocation
 anywhere = place_in [] 0
 
@@ -53,11 +53,11 @@ put_in g es = filter (λ e. is_segment g (segment_of e)) es
 abbrev pub draft_of : List SectionEntry → ℕ → SectionDraft
 draft_of es g = record { segment = g; entries = put_in g es }
 
--- a draft behind an entry, which may put something into its segment
+-- a draft after an entry, which may add to its segment
 abbrev pub with_entry : SectionEntry → SectionDraft → SectionDraft
 with_entry e d = if is_segment d.segment (segment_of e) then record d { entries = d.entries ++ e ∷ [] } else d
 
--- what an entry says
+-- the declarations of an entry
 abbrev pub sayings_of : SectionEntry → List LocatedDeclaration
 sayings_of (DeclarationEntry t) = t.value ∷ []
 sayings_of _ = []
@@ -111,7 +111,7 @@ fragments_of n es = all_joined (filter (λ f. not (is_empty f)) (map (fragment_o
 abbrev pub all_of : FragmentMerger → List Fragment
 all_of t = t.done ++ cons_option t.last []
 
--- behind an open fragment another one begins
+-- another fragment begins after the last one
 abbrev pub with_new_fragment : FragmentMerger → Fragment → FragmentMerger
 with_new_fragment t f = record { done = all_of t; last = Some f }
 
@@ -149,7 +149,7 @@ pub record IsNumbered (names : List (List ℕ)) (asked : List ℕ) (es : List Se
   pub drafts : t.parted.drafts.items ≡ map (draft_of es) asked
   pub declarations : t.parted.declarations ≡ flat_map sayings_of es
 
--- what these come to, with the names of all imports and all files
+-- the object of these, with the names of all imports and all files
 abbrev pub object_of : List Segment → (imports files : List (List ℕ)) → Numbered → Object
 object_of segments imports files t = record {
   version = 2;

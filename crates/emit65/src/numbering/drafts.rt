@@ -16,7 +16,7 @@ pub struct SectionDraft {
     pub entries: ListVec<SectionEntry>,
 }
 
-/// What was fed, by section, and what is said.
+/// The contents by section, and the declarations.
 #[derive(Drop)]
 pub struct EntriesBySection {
     pub drafts: Vec<SectionDraft>,

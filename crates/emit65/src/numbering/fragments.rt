@@ -17,11 +17,11 @@ use std::mem;
 #[derive(Drop)]
 pub struct FragmentMerger {
     pub done: ListVec<Fragment>,
-    /// The fragment behind these, to which the next one may be joined.
+    /// The last fragment, to which the next one may be joined.
     pub last: Option<Fragment>,
 }
 
-/// Puts a fragment behind the others.
+/// Adds a fragment.
 fn begin(joined: &mut FragmentMerger, fragment: Fragment) -> Result<(), AllocError>
     ensures { OnOk result (joined.new ≡ with_new_fragment joined.old fragment) }
 {
@@ -44,7 +44,7 @@ fn add_bytes(joined: &mut FragmentMerger, bytes: ListVec<u8>) -> Result<(), Allo
     begin(joined, Fragment::Literal(bytes))
 }
 
-/// Adds so many bytes of the linker's fill value.
+/// Adds `count` bytes of the linker's fill value.
 fn add_fill(joined: &mut FragmentMerger, count: u32) -> Result<(), AllocError>
     ensures added { OnOk result (joined.new ≡ with_fragment joined.old (Fill count)) }
     ensures fits { OnOk result (JoinedFits joined.old → JoinedFits joined.new) }

@@ -21,7 +21,7 @@ pub struct Order {
     pub last: Option<u32>,
 }
 
-/// Names the file in which something stands. It is mostly the one before, and then it isn't looked up.
+/// Numbers the file of an entry. It is mostly the last one, and then it isn't looked up.
 fn name_file(order: &mut Order, pos: SourcePos) -> Result<(), AllocError>
     requires { HasLast order.old }
     ensures named { OnOk result (order.new.files.keys ≡ distinct_keys order.old.files.keys

@@ -1,4 +1,5 @@
--- What feeding a linker comes to: the records of an object, an object, a library's members, and the inputs of a line.
+-- Feeding a linker: the records of an object, an object, a library's members, and the inputs of a command
+-- line.
 use Rattle.std.specs.Prelude.{◌≡◌, ℕ, List, [], ◌∷◌, ◌++◌, length, option_map, Option, Result, Ok, Err, IfErr, IfSome, OnOk, Bool, true, false}
 use Rattle.std.specs.FinMap.{get}
 use Rattle.base65.specs.Outcome.{Unless}
@@ -39,7 +40,8 @@ FeedRefinesThen is_out Next known read r = LeadsBy is_out Next known (λ m q. re
 abbrev pub input_of : ObjectInput → Input
 input_of i = record { file = i.file.now; begin = i.begin; end = i.end; name = i.name.now; entry = option_map (λ e. e.now) i.entry }
 
--- the records of an object behind its head, which says its version and where they begin, up to the END
+-- the records of an object up to the END, after its head, which has the version and the offset of the first
+-- record
 abbrev pub records_in : Files → Input → ℕ × ℕ → Result (State × ℕ) ObjectFault
 records_in m i head = in_file (get m i.file) (λ bytes. records_at (length bytes) (start head.0) head.1 i.end bytes)
 
@@ -67,7 +69,7 @@ FeedsFile known k name old new r = FeedsBy known (λ m before q. with_file old.s
 abbrev pub FeedsMembers : Option Files → List ℕ → List Entry → LinkerView → LinkerView → Result (Unit {0}) LinkCommandFault → Type 0
 FeedsMembers known library es old new r = FeedsBy known (λ m before q. with_members old.script m library before es ≡ q) old new r
 
--- the places of an index at which the members stand that are needed
+-- the indices of the members of an index that are needed
 abbrev pub AreChosen : List Entry → List ℕ → LinkerView → Type 0
 AreChosen es places f =
     (before : List Module) → IsFed f before → IsSelection es (open_names f.script (program_of before)) (given_names f.script (program_of before)) places

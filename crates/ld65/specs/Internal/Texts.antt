@@ -5,7 +5,7 @@ use Rattle.base65.specs.Store.{Files}
 use Rattle.ld65.specs.declared.fault.LinkCommandFault.{LinkCommandFault}
 use Rattle.ld65.specs.Linkage.{text_of}
 
--- a script has at most so many bytes
+-- the largest size of a script, in bytes
 abbrev pub script_limit : ℕ
 script_limit = 1048576
 

@@ -1,4 +1,4 @@
--- What the records of an object export and import.
+-- The exports and imports in the records of an object.
 use Rattle.std.specs.Prelude.{◌≡◌, ℕ, List, length, Result, Ok, Err}
 use Rattle.object65.specs.declared.fault.ObjectFault.{ObjectFault}
 use Rattle.object65.specs.Record.{RefinesErr, is_memory}

@@ -12,7 +12,7 @@ use Rattle.library65.specs.Selection.{IsClosed, first_exporter, has_place, impor
 abbrev pub IsTable : Exporters → Type 0
 IsTable t = (name : List ℕ) → get_by (λ k. bytes_eq name k.now) t.by_name ≡ first_exporter t.entries.now name
 
--- what is marked is what was found, once
+-- the marked members are those that were found, each once
 pub record IsWellFormedTable (f : Found) : Type 0 where
   pub marks : (i : ℕ) → get_or f.marks.items i false ≡ has_place f.places.items i
   pub count : count_by not f.marks.items + length f.places.items ≡ length f.marks.items
@@ -39,8 +39,8 @@ pub record FindsMore (t : Exporters) (defined names : List (List ℕ)) (old new 
 abbrev pub IsNeeded : List Entry → List (List ℕ) → List (List ℕ) → List ℕ → Type 0
 IsNeeded es wanted defined name = (has : List ℕ → Bool) → IsClosed es wanted defined has → has name ≡ true
 
--- What was found is needed, the first exporters of what is wanted were found, and so were those of what the members
--- before a place of the list import.
+-- All members found are needed; the first exporters of the wanted names were found, and those of the imports
+-- of the members before an index of the list.
 pub record IsSearched (es : List Entry) (wanted defined : List (List ℕ)) (found : List ℕ) (next : ℕ) : Type 0 where
   pub needed : (i : ℕ) → has_place found i ≡ true → (name : List ℕ) × IsNeeded es wanted defined name × (first_exporter es name ≡ Some i)
   pub wanted_found : (name : List ℕ) (i : ℕ) → is_among wanted name ≡ true → is_among defined name ≡ false → first_exporter es name ≡ Some i → has_place found i ≡ true

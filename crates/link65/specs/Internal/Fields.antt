@@ -1,4 +1,4 @@
--- What a linker's fields stand for.
+-- The models of a linker's fields.
 use Rattle.std.specs.Prelude.{◌≡◌, ℕ, List, [], ◌∷◌, ◌++◌, drop, map, Bool, true, ◌&&◌, ◌||◌, Ok, Err, Option, Some, None, Result, if◌then◌else◌}
 use Rattle.std.specs.Option.{option_map}
 use Rattle.object65.specs.declared.object.Object.{Object}
@@ -18,19 +18,19 @@ use Rattle.link65.specs.declared.feeding.OpenModule.{OpenModule}
 abbrev pub opened_in : Option OpenModule → Option OpenModuleView
 opened_in o = option_map (λ m. record { name = m.name; scan = m.scan; first_export = m.first_export; listed = m.listed }) o
 
--- names behind others: each that isn't given, once, where it first stands
+-- names added to others: each that isn't defined, once, at its first occurrence
 abbrev pub missing_after : List (List ℕ) → List (List ℕ) → List (List ℕ) → List (List ℕ)
 missing_after given before [] = before
 missing_after given before (name ∷ names) =
     missing_after given (if is_among given name || is_among before name then before else before ++ name ∷ []) names
 
--- so much of a module has come behind a program
+-- the part of a module that has been read follows a program
 pub record RepresentsOpenModule (p : Program) (s : State) (g : PartialProgram) (o : Outline) : Type 0 where
   pub growth : g ≡ growth_of p s
   pub scan : o ≡ outline_of s
   pub reached : IsReached s
 
--- a record comes behind those of the module
+-- a record is added to those of the open module
 abbrev pub GrowsProgram : RawRecord → PartialProgram → PartialProgram → Outline → Outline → Result (Unit {0}) LinkFault → Type 0
 GrowsProgram e old new o n r =
     (p : Program) (s : State) → RepresentsOpenModule p s old o → RefinesThen (λ t. RepresentsOpenModule p t new n) r (as_link (after s e))
@@ -47,8 +47,8 @@ are_listed (Some l) exports imports = are_same l.exports exports && are_same l.i
 abbrev pub matching_object : Option OpenEntry → List (List ℕ) → List (List ℕ) → Object → Result Object LinkFault
 matching_object l exports imports object = if are_listed l exports imports then Ok object else Err IndexDisagrees
 
--- the module, which has this name, comes behind the program, if its names are those listed and none of its exports is
--- given twice
+-- the open module, which has this name, is added to the program if its names agree with the index entry and
+-- none of its exports is defined twice
 abbrev pub ClosesModule : PartialProgram → PartialProgram → List (List ℕ) → List (List ℕ) → OpenModule → Result (Unit {0}) LinkFault → Type 0
 ClosesModule old new before given m r =
     (p : Program) (s : State) → RepresentsOpenModule p s old m.scan

@@ -20,7 +20,7 @@ pub record LaysAll (pieces : List RowPiece) (old new : List ℕ) : Type 0 where
   pub len : length new ≡ length old
   pub each : (i : ℕ) → i < length old → get_or new i 0 ≡ byte_over pieces i (get_or old i 0)
 
--- one piece is all of so many bytes
+-- one piece covers all of these bytes
 abbrev pub IsWhole : ℕ → List RowPiece → Type 0
 IsWhole len pieces = (p : RowPiece) × (pieces ≡ p ∷ []) × (p.offset ≡ 0) × (length p.bytes ≡ len)
 

@@ -1,4 +1,4 @@
--- What the parts of a scan and of a builder stand for, and how they hang together.
+-- The models of the parts of a scan and of a builder, and their invariants.
 use Rattle.std.specs.Prelude.{◌≡◌, ◌≤◌, ◌+◌, ℕ, List, map, slice_get, Some, true, false, ⊤, Result, IfOk, OnOk}
 use Rattle.std.specs.List.{list_all, prefix_len}
 use Rattle.object65.specs.declared.scan.ScanState.{ScanState}
@@ -29,12 +29,13 @@ pub record IsReachable (o : Outline) : Type 0 where
   pub reached : IsReached state
   pub same : o ≡ outline_of state
 
--- what holds of a scan that hasn't failed
+-- the invariant of a scan that hasn't failed
 pub record IsIntact (k : ScanState) : Type 0 where
   pub sound : IsWellFormedOutline k
   pub stands : IsReachable (outline_in k)
 
--- what a call that takes a record answers and leaves: what a scan says of it, with a text whose length is one byte
+-- the result and the effect of a call that takes a record: those of a scan, with a text whose length is one
+-- byte
 pub record RefinesScan (old new : ScanState) (result : Result Item ObjectFault) (said : Result (Outline × Item) ObjectFault) : Type 0 where
   pub taken : Refines is_memory (λ i. (outline_in new, i)) result said
   pub small : IfOk result (λ i. has_small_text i ≡ true)
@@ -68,7 +69,7 @@ HasRoom ds (Export name origin form) = ⊤
 HasRoom ds (Assert action origin text form) = ⊤
 HasRoom ds End = ⊤
 
--- what holds of a builder that hasn't failed
+-- the invariant of a builder that hasn't failed
 pub record IsWhole (p : Parts) (o : Outline) : Type 0 where
   -- its scan has taken the same records
   pub scanned : o ≡ outline_of (state_in p o)

@@ -9,7 +9,7 @@ use std::io::{Read, Seek, SeekFrom};
 
 const BUFFER: usize = 8192;
 
-/// How many bytes are read past the buffer at least.
+/// The least number of bytes for which a read bypasses the buffer.
 const LARGE: usize = 4096;
 
 /// An open file, with a buffer that holds what it has from a place on once a small part of it was read.
@@ -55,12 +55,12 @@ impl<F: Read + Seek + Drop> ReadAhead<F> {
         }
     }
 
-    /// Whether the file has this name.
+    /// Returns whether the file has this name.
     pub fn is_of(&self, name: &str) -> bool {
         self.name.as_str() == name
     }
 
-    /// Reads what stands from a place on into the buffer.
+    /// Reads from an offset on into the buffer.
     fn fill(&mut self, at: u64) -> io::Result<()> {
         self.filled = 0;
         self.is_begun = true;

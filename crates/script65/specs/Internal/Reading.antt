@@ -1,4 +1,4 @@
--- What a token does as the code has it, and the script of a text.
+-- The effect of a token in terms of the code, and the script of a text.
 use Rattle.std.specs.Prelude.{◌≡◌, ℕ, false, List, Option, Some, None, Result, Ok, Err, ⊤}
 use Rattle.base65.specs.Outcome.{◌>>=◌, Unless}
 use Rattle.script65.specs.declared.fault.FaultAt.{FaultAt}

@@ -4,7 +4,7 @@ use Rattle.std.specs.List.{AllByRecursion}
 use Rattle.std.specs.Str.{bytes_eq}
 use Rattle.script65.specs.declared.reading.entries.ConfigEntry.{ConfigEntry}
 
--- each entry stands under its own name
+-- the key of each entry is its own name
 abbrev pub KeysMatchNames : List (List ℕ × ConfigEntry) → Type 0
 KeysMatchNames es = AllByRecursion (λ (e : List ℕ × ConfigEntry). e.0 ≡ e.1.name) es
 

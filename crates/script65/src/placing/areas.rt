@@ -137,7 +137,7 @@ pub fn members_of(
     Ok(members)
 }
 
-// Places a row of an area, and answers the address behind it.
+// Places a row of an area, and returns the address after it.
 fn place_member(
     alloc: Global,
     site: &AreaContext,
@@ -162,7 +162,7 @@ fn place_member(
     Ok(end)
 }
 
-// Places the rows of an area, and answers the address behind them.
+// Places the rows of an area, and returns the address after the last one.
 fn place_area(
     alloc: Global,
     site: &AreaContext,

@@ -10,14 +10,14 @@ use crate::script::{MemoryArea, RowStart, SegmentRow};
 use base65::ListVec;
 use std::alloc::Global;
 
-/// The first address of an area, and the one behind its last.
+/// The first address of an area, and the first address after it.
 #[derive(Clone, Copy)]
 pub struct Bounds {
     pub start: u64,
     pub end: u64,
 }
 
-/// What is known of a row: its size, if a module has its segment, and where it runs and loads, once it is placed.
+/// A row: its size, if a module has its segment, and its run and load addresses, once it is placed.
 #[derive(Clone, Copy)]
 pub struct RowState {
     pub size: Option<u64>,
@@ -76,7 +76,7 @@ fn moved(place: usize, row: &SegmentRow, at: u64, spot: RowState) -> RowState
 }
 
 impl AreaContext<'_> {
-    // A row of a size behind the cursor.
+    // Places a row that has a size, at or after the cursor.
     #[tactic(auto, unfolding(crate::specs::Placing::place_sized_row))]
     fn fit(
         &self,
@@ -105,7 +105,7 @@ impl AreaContext<'_> {
         Ok((moved(self.place, row, at, spot), at + size))
     }
 
-    /// A row behind the cursor, and the cursor behind it.
+    /// Places a row at or after the cursor, and returns it with the next cursor.
     #[tactic(auto, unfolding(crate::specs::Placing::row_after))]
     pub fn place_row(
         &self,

@@ -1,4 +1,4 @@
-//! What the sums of areas come to.
+//! The values of the sums of areas.
 
 ghost use Rattle.std.specs.Prelude.{◌≡◌, ◌≤◌, ◌++◌, ◌^◌, IfOk, codes, is_some, map, slice_get};
 ghost use Rattle.script65.specs.declared.script.MemoryArea.{MemoryArea};
@@ -39,7 +39,7 @@ pub fn row_place(spot: RowState) -> RowPlacement
     }
 }
 
-// `__N_PART__`, by what stands behind the name.
+// Returns `__N_PART__`, from the area's or row's name N and the ending.
 fn attribute_name(alloc: Global, name: &[u8], ending: &[u8]) -> Result<ListVec<u8>, AllocError>
     ensures { IfOk result (λ text. text ≡ codes "__" ++ (name.now ++ ending.now)) }
 {
@@ -139,7 +139,7 @@ impl SumContext<'_> {
         }
     }
 
-    // What terms come to: what is added less what is taken.
+    // Returns the sum of the added terms less that of the subtracted ones.
     fn sum_by(&self, terms: &[Term]) -> Option<u32>
         ensures { result ≡ sum_by (places_there (standing_in self.now)) (map row_place self.now.spots.now) terms.now }
     {
@@ -172,7 +172,7 @@ impl SumContext<'_> {
         }
     }
 
-    /// The first address of the area, and the one behind its last.
+    /// Returns the first address of the area, and the first address after it.
     pub fn bounds(&self, alloc: Global) -> Result<Bounds, PlaceFault>
         requires { self.now.start ≡ None }
         ensures value { Refines is_place_system_error (λ b. b) result (bounds_in (standing_in self.now)) }

@@ -1,4 +1,4 @@
-//! What is read of a script: entries, and what they give.
+//! The entries of a script as they are read, with the values of their attributes.
 
 ghost use Rattle.std.specs.Prelude.{◌≡◌, ◌++◌, ◌∷◌, [], position, slice_get, OnOk, false};
 ghost use Rattle.std.specs.List.{list_any};
@@ -17,8 +17,8 @@ use indexmap::IndexMap;
 use std::alloc::{AllocError, Global};
 use std::marker::Model;
 
-/// What is given for an attribute. A sum without names is its number, and one with a name is known only where areas are
-/// placed.
+/// The value of an attribute. A sum without names is a number; one with a name has a value only
+/// once areas are placed.
 #[derive(Drop)]
 pub enum Value<'a> {
     Number(u32),
@@ -35,7 +35,7 @@ pub enum Value<'a> {
 /// A term of a sum: a number, or else a name, and its place.
 #[derive(Drop)]
 pub struct ParsedTerm<'a> {
-    /// Whether a `-` stands before it.
+    /// Whether the term has a `-`.
     pub minus: bool,
     pub number: Option<u32>,
     pub name: Bytes<'a>,
@@ -59,7 +59,7 @@ pub struct ConfigEntry<'a> {
 }
 
 impl<'a> ConfigEntry<'a> {
-    /// What the entry gives for an attribute.
+    /// Returns the value that the entry has for an attribute.
     pub fn given_for(&self, word: &str) -> Option<&AttributeValue<'a>>
         ensures { option_map (λ g. g.now) result ≡ given_for word.now self.now }
     {
@@ -140,7 +140,7 @@ impl<'a> ConfigEntry<'a> {
         }
     }
 
-    /// Whether an attribute says yes.
+    /// Returns whether an attribute says yes.
     pub fn flag_for(&self, word: &str) -> bool
         ensures { result ≡ flag_for word.now self.now }
     {
@@ -159,7 +159,7 @@ impl<'a> ConfigEntry<'a> {
         }
     }
 
-    /// What is wrong with an entry of a block, at its end.
+    /// Returns the error of an entry of a block, at its end.
     pub fn entry_fault(&self, block: Block) -> Option<Fault>
         ensures { result ≡ entry_fault block self.now }
     {
@@ -210,7 +210,7 @@ impl<'a> Table<'a> {
         }
     }
 
-    /// Whether an entry has this name.
+    /// Returns whether an entry has this name.
     pub fn has(&self, name: &[u8]) -> bool
         ensures { result ≡ list_any (λ (e : ConfigEntry). bytes_eq name.now e.name) self.now }
     {
@@ -232,7 +232,7 @@ impl<'a> Table<'a> {
         Some(entry)
     }
 
-    /// Adds an entry of a new name behind the others.
+    /// Adds an entry with a new name after the others.
     pub fn push(&mut self, entry: ConfigEntry<'a>) -> Result<(), AllocError>
         requires { list_any (λ (e : ConfigEntry). bytes_eq entry.name e.name) self.old ≡ false }
         ensures ok { OnOk result (self.new ≡ self.old ++ entry.entry ∷ []) }
@@ -261,7 +261,7 @@ impl<'a> Entries<'a> {
         }
     }
 
-    /// Whether an entry of a block's kind has this name.
+    /// Returns whether an entry of a block's kind has this name.
     pub fn has(&self, block: Block, name: &[u8]) -> bool
         ensures { result ≡ has_name name.now block self.now }
     {

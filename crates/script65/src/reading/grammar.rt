@@ -1,4 +1,5 @@
-//! Reads the entries of a script token by token, by what may stand where.
+//! Reads the entries of a script token by token, by a state that decides which tokens may come
+//! next.
 
 ghost use Rattle.std.specs.Prelude.{◌≡◌, false};
 ghost use Rattle.script65.specs.Tokens.{word};
@@ -18,7 +19,7 @@ use crate::reading::words::{BLOCKS, Block, ValueKind, attributes, find_keyword};
 use base65::ListVec;
 use std::alloc::Global;
 
-/// Where a token may stand, and what is read there of an entry that isn't closed yet.
+/// The state of the reader, with the entry that isn't closed yet.
 #[derive(Drop)]
 pub enum ParseState<'a> {
     BetweenBlocks,
@@ -30,7 +31,7 @@ pub enum ParseState<'a> {
     AfterWord(Block, ConfigEntry<'a>, (Bytes<'a>, ValueKind)),
     /// Behind its `=`.
     BeforeValue(Block, ConfigEntry<'a>, (Bytes<'a>, ValueKind)),
-    /// Before a term of an attribute's sum, and whether a `-` stands before that.
+    /// Before a term of an attribute's sum; true if the term has a `-`.
     BeforeTerm(Block, ConfigEntry<'a>, Bytes<'a>, ListVec<ParsedTerm<'a>>, bool),
     AfterTerm(Block, ConfigEntry<'a>, Bytes<'a>, ListVec<ParsedTerm<'a>>),
     AfterValue(Block, ConfigEntry<'a>),
@@ -68,7 +69,7 @@ fn attribute_or_end<'a>(
     }
 }
 
-// The same, or the `,` behind a value.
+// Reads the `,` after a value, or an attribute.
 fn comma_or_next<'a>(
     entries: &mut Entries<'a>,
     block: Block,
@@ -86,7 +87,7 @@ fn comma_or_next<'a>(
     }
 }
 
-// A term of a sum behind others.
+// Adds a term to a sum that has others.
 fn add_part<'a>(
     block: Block,
     entry: ConfigEntry<'a>,
@@ -134,7 +135,7 @@ fn attribute_value<'a>(
     }
 }
 
-// `+`, `-`, or what stands behind the sum.
+// Reads `+` or `-`, or ends the sum.
 fn sign_or_end<'a>(
     entries: &mut Entries<'a>,
     block: Block,

@@ -25,7 +25,7 @@ fn export_named(symbols: &Table, name: &[u8]) -> Option<Operand>
     }
 }
 
-// What stands between `__` and an ending.
+// Returns the part of a name between `__` and an ending.
 fn inside<'a>(name: &'a [u8], ending: &[u8]) -> Option<&'a [u8]>
     ensures { MatchOption result ((n : List ℕ) → name.now ≢ codes "__" ++ (n ++ ending.now))
         (λ n. name.now ≡ codes "__" ++ (n.now ++ ending.now)) }
@@ -54,7 +54,7 @@ fn row_named(rows: &Table, name: &[u8], part: RowAttribute) -> Option<Operand>
     Some(Operand::Row(place, part))
 }
 
-// What a term stands for, which is one of an export, a part of an area and a part of a row.
+// Resolves a term: a number, or the name of an export, of a part of an area or of a part of a row.
 fn operand_for(entries: &Entries, number: Option<u32>, name: &[u8]) -> Result<Operand, Fault>
     ensures { result ≡ operand_for entries.now number name.now }
 {
@@ -99,7 +99,7 @@ fn sum_for(
     Ok(terms)
 }
 
-// Whether `start` stands before `size` in the text.
+// Returns whether `start` comes before `size` in the text.
 fn is_start_first(entry: &ConfigEntry) -> bool
     ensures { result ≡ is_start_first entry.now }
 {

@@ -40,8 +40,8 @@ impl<'a> Bytes<'a> {
     }
 }
 
-/// What a token is: an identifier; a number, by its value if that is below 2 ^ 32; a string, by its text; `%O`; or a
-/// mark. The end of the script and a byte with which no token begins are tokens, too.
+/// A token: an identifier; a number, with its value if that is below 2 ^ 32; a string, with its
+/// text; `%O`; or a mark. The end of the script and a byte that begins no token are tokens, too.
 #[derive(Drop)]
 pub enum Lexeme<'a> {
     Word(Bytes<'a>),
@@ -60,7 +60,7 @@ pub enum Lexeme<'a> {
     Bad,
 }
 
-/// A token, the place of its first byte, and the place behind its last.
+/// A token, the offset of its first byte, and the offset after its last.
 #[derive(Drop)]
 pub struct Token<'a> {
     pub lexeme: Lexeme<'a>,
@@ -132,7 +132,7 @@ fn has_percent(bytes: &[u8]) -> bool
     bytes.iter().any(|b| *b == b'%')
 }
 
-// The token whose `"` stands before these bytes, and of how many bytes it is.
+// Reads a string after its opening `"`. Returns the token and its length in bytes.
 fn string(rest: &[u8]) -> (Lexeme<'_>, usize)
     ensures value { result ≡ string_after (take_while is_string_byte rest.now) rest.now }
     ensures within { result.1 ≤ 1 + length rest.now }
@@ -147,7 +147,7 @@ fn string(rest: &[u8]) -> (Lexeme<'_>, usize)
     }
 }
 
-// The token whose `$` stands before these bytes, and of how many bytes it is.
+// Reads a number after its `$`. Returns the token and its length in bytes.
 fn hex(rest: &[u8]) -> (Lexeme<'_>, usize)
     ensures value { result ≡ hex_after (take_while is_ascii_hexdigit rest.now) }
     ensures within { result.1 ≤ 1 + length rest.now }
@@ -204,7 +204,7 @@ fn front(here: &[u8]) -> (Lexeme<'_>, usize)
     }
 }
 
-/// The token at a place, or the next behind it.
+/// Returns the token at an offset, or the next one after it.
 #[tactic(auto, unfolding(crate::specs::Tokens::token))]
 pub fn token_at(bytes: &[u8], place: usize) -> Token<'_>
     requires { place ≤ length bytes.now }

@@ -1,4 +1,4 @@
-//! What tokens are to attributes, and what sums come to.
+//! The values of tokens as attributes, and of sums.
 
 ghost use Rattle.std.specs.Prelude.{◌≡◌, ◌≤◌, IfOk, is_some, not, unwrap_or};
 ghost use Rattle.std.specs.List.{list_any};
@@ -23,7 +23,7 @@ fn in_range(low: u32, high: u32, number: Option<u32>) -> Result<u32, Fault>
     }
 }
 
-/// What a token is to an attribute that takes this and no sum.
+/// Returns the value of a token for an attribute of this kind, which isn't a sum.
 pub fn value_of<'a>(takes: ValueKind, lexeme: Lexeme<'a>) -> Result<Value<'a>, Fault>
     ensures { result ≡ value_of takes lexeme.entry }
 {
@@ -69,7 +69,7 @@ fn has_name(parts: &[ParsedTerm]) -> bool
     parts.iter().any(|p| p.number.is_none())
 }
 
-// What terms come to that are all numbers.
+// Returns the sum of terms if all of them are numbers.
 fn number_of(parts: &[ParsedTerm]) -> Option<u32>
     ensures { result ≡ sum_of (λ (p : ParsedTerm). p.minus) (λ (p : ParsedTerm). unwrap_or p.number 0) parts.now }
 {
@@ -86,7 +86,7 @@ fn number_of(parts: &[ParsedTerm]) -> Option<u32>
     difference(added, taken)
 }
 
-/// What a sum comes to, if that is in range. It is unknown where a term is a name.
+/// Returns the value of a sum if it is in range. The value is unknown if a term is a name.
 pub fn sum_of_parts(parts: &[ParsedTerm]) -> Option<Value<'static>>
     ensures { result ≡ sum_of_parts parts.now }
 {
@@ -99,7 +99,7 @@ pub fn sum_of_parts(parts: &[ParsedTerm]) -> Option<Value<'static>>
     }
 }
 
-/// Where the last term of a sum stands.
+/// Returns the offset of the last term of a sum.
 pub fn last_part(parts: &[ParsedTerm]) -> usize
     ensures { result ≡ last_part parts.now }
 {

@@ -15,7 +15,7 @@ pub enum Block {
     Symbols,
 }
 
-/// What the type of a symbol says.
+/// The type of a symbol.
 #[derive(Clone, Copy)]
 pub enum SymbolType {
     Export,
@@ -23,14 +23,14 @@ pub enum SymbolType {
     Import,
 }
 
-/// What an attribute takes.
+/// The kind of value that an attribute accepts.
 #[derive(Clone, Copy)]
 pub enum ValueKind {
     /// A number between two others, these among them.
     Number(u32, u32),
     /// A number from 0 to 255.
     Byte,
-    /// Numbers and names, one behind the other with `+` or `-` between them.
+    /// Numbers and names with `+` or `-` between them.
     Sum,
     OneOf(KeywordSet),
     /// The name of an area.
@@ -50,7 +50,7 @@ pub enum KeywordSet {
     Width,
 }
 
-/// What a word says that an attribute takes.
+/// The value that a keyword gives an attribute.
 #[derive(Clone, Copy)]
 pub enum KeywordValue {
     Flag(bool),

@@ -1,4 +1,4 @@
--- Where the next statement stands, as it lies in memory.
+-- The cursor as it lies in memory.
 use Rattle.std.specs.Prelude.{◌≡◌, ◌<◌, ◌≤◌, List, length, map, reverse}
 use Rattle.std.specs.List.{AllByRecursion}
 use Rattle.object65.specs.Objects.{section_limit}
@@ -6,7 +6,7 @@ use Rattle.semantics65.specs.Layout as layout
 use Rattle.semantics65.specs.declared.contents.Segment.{Segment}
 use Rattle.symbols65.specs.declared.cursor.Cursor.TheInside.{Inside}
 
--- the segments that are kept stand with the last one last
+-- saved segments are stored with the last one at the end
 abbrev pub cursor_of : Inside → layout.Cursor
 cursor_of w = record {
   scope = w.scope;

@@ -71,7 +71,7 @@ pub fn check_unread(
     Ok(())
 }
 
-/// A value as a place among so many, or behind the last one.
+/// Returns a value as an index up to `count`.
 fn place_in(count: usize, value: i64) -> Result<usize, AsmFault>
     ensures place { Refines is_memory (λ n. n) result
         (unless_fault (when (not (is_within count value)) BadPart) (byte_count (Some value))) }
@@ -84,7 +84,7 @@ fn place_in(count: usize, value: i64) -> Result<usize, AsmFault>
     }
 }
 
-/// The start and the length of a part of a file of so many bytes.
+/// Returns the start and the length of a part of a file of `count` bytes.
 fn ranged(count: usize, start: Option<i64>, len: Option<i64>) -> Result<(usize, usize), AsmFault>
     ensures part { Refines is_memory (λ p. p) result (range_in_file count start len) }
     ensures few { IfOk result (λ p. p.0 ≤ 16777216) }
@@ -195,7 +195,7 @@ fn item_len(width: Width, item: &Item) -> usize
     }
 }
 
-/// What is left of some room behind a list of any elements, if it is enough.
+/// Returns the bytes left after a list of any elements, if there are enough.
 fn room_after_mixed(width: Width, items: &[Item], room: usize) -> Option<usize>
     ensures { MatchOption result (room < sum_by (item_len width) items.now)
         (λ left. left + sum_by (item_len width) items.now ≡ room) }
@@ -207,7 +207,7 @@ fn room_after_mixed(width: Width, items: &[Item], room: usize) -> Option<usize>
     Some(left)
 }
 
-/// What is left of some room behind a list, if it is enough.
+/// Returns the bytes left after a list, if there are enough.
 fn room_after(width: Width, items: &Items, room: usize) -> Option<usize>
     ensures { MatchOption result (room < sum_by (item_len width) items.now)
         (λ left. left + sum_by (item_len width) items.now ≡ room) }
@@ -221,7 +221,7 @@ fn room_after(width: Width, items: &Items, room: usize) -> Option<usize>
     }
 }
 
-/// What a list of values places, if the section has room for them.
+/// Returns the length of a list of values, if the section has room for it.
 #[inline(never)]
 #[tactic(auto, using(crate::proofs::Measures::same_test))]
 pub fn values(cursor: &Cursor, width: Width, items: &Items) -> Result<StatementLayout, AsmFault>

@@ -116,7 +116,7 @@ pub fn check_defined(
     }
 }
 
-/// Whether an expression has a `*`.
+/// Returns whether an expression has a `*`.
 fn has_here(value: &Expr) -> bool
     ensures { result ≡ has_here value.now }
 {
@@ -128,7 +128,7 @@ fn has_here(value: &Expr) -> bool
     }
 }
 
-/// Whether a statement asks for a section of the segment in which it stands.
+/// Returns whether a statement requires a section of its segment.
 pub fn needs_section(statement: &Statement) -> bool
     ensures { result ≡ needs_section statement.now }
 {
@@ -166,7 +166,7 @@ fn constant(
     Ok(StatementLayout { size, ..measure })
 }
 
-/// What a statement whose names are understood places, or its first fault.
+/// Returns the length of a statement whose names are understood, or its first error.
 pub fn place(
     alloc: Global,
     before: LineState<'_>,

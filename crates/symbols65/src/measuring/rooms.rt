@@ -21,7 +21,7 @@ use semantics65::{Context, EncodingChoice, Segment};
 use std::alloc::Global;
 use syntax65::{AddressSize, Expr};
 
-/// Whether the scope at a place was opened by `.scope`.
+/// Returns whether the scope at a place was opened by `.scope`.
 fn is_scope_at(symbols: &Symbols, place: usize) -> bool
     ensures { result ≡ is_scope (slice_get (table_of symbols.now).scopes place) }
 {
@@ -31,7 +31,7 @@ fn is_scope_at(symbols: &Symbols, place: usize) -> bool
     }
 }
 
-/// Whether a scope was opened by `.scope`.
+/// Returns whether a scope was opened by `.scope`.
 pub fn is_scope(symbols: &Symbols, scope: usize) -> bool
     ensures { result ≡ is_scope (opened_as (table_of symbols.now).scopes scope) }
 {

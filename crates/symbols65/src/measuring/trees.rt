@@ -38,7 +38,7 @@ fn check_name(
     }
 }
 
-/// Whether an expression has names with `::`. What has none names no scope.
+/// Returns whether an expression has names with `::`. What has none names no scope.
 pub fn names_scopes(value: &Expr) -> bool
     ensures { result ≡ false → (cs : List Scope) (scope : ℕ) →
         lost_scope cs scope value.now ≡ None }

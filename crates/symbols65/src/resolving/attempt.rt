@@ -70,7 +70,7 @@ pub fn address(context: Context) -> Norm
     Norm::new(Node::SectionOffset(context.segment, i64::from(context.offset)))
 }
 
-/// Passes on want of memory, and takes any other fault for a form that is missing.
+/// Passes on *out of memory*, and takes any other error for a missing form.
 pub fn pass_on_memory(fault: &AsmFault) -> Result<(), AllocError>
     ensures { OnOk result (is_memory fault.now ≡ false) }
 {
@@ -140,7 +140,7 @@ fn meant(
     }
 }
 
-/// The form of an expression where it stands.
+/// Attempts the form of an expression in its context.
 pub fn try_norm(
     alloc: Global,
     symbols: &Symbols,
@@ -191,7 +191,7 @@ fn try_at(
     }
 }
 
-/// The attempt at the last of the constants that wait, or, if none does, at the expression itself.
+/// Attempts the last of the pending constants or, if there is none, the expression itself.
 pub fn try_last(
     alloc: Global,
     symbols: &Symbols,

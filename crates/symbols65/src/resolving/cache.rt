@@ -24,7 +24,7 @@ use syntax65::Expr;
 /// How many constants are looked through at most: to find the forms of more of them again costs no more in the end.
 const MANY: usize = 256;
 
-/// The constant for want of whose final form an expression has none yet, if there is one.
+/// Returns the constant whose final form the form of an expression needs, if there is one.
 fn needed_by(
     alloc: Global,
     symbols: &Symbols,
@@ -59,7 +59,7 @@ fn needed_at(alloc: Global, symbols: &Symbols, place: usize) -> Result<Option<us
     }
 }
 
-/// Whether the form of the constant at a place isn't found, and isn't looked for.
+/// Returns whether the form of the constant at a place isn't found, and isn't looked for.
 pub fn may_be_looked_for(states: &[State], place: usize) -> bool
     ensures { result ≡ may_be_looked_for (slice_get states.now place) }
 {
@@ -168,7 +168,7 @@ impl NormCache {
         })
     }
 
-    /// Whether the forms that were found stay where a key is defined that isn't yet: no expression by which one was found
+    /// Returns whether the forms that were found stay where a key is defined that isn't yet: no expression by which one was found
     /// has its name.
     pub fn keeps_with(&self, symbols: &Symbols, key: Key<'_>) -> bool
         ensures { result ≡ true → (d : Definition) → d.key ≡ key_of key.entry → KeepsFound (table_of symbols.now) (slice_get self.now.states.items) (with_definition (table_of symbols.now) d) }
@@ -188,7 +188,7 @@ impl NormCache {
         !any_mentions(symbols, &self.noted, name)
     }
 
-    /// Whether the forms that were found stay where a scope is opened.
+    /// Returns whether the forms that were found stay where a scope is opened.
     pub fn keeps_opened(&self, symbols: &Symbols) -> bool
         ensures { result ≡ true → (c : Scope) → KeepsFound (table_of symbols.now) (slice_get self.now.states.items) (with_scope (table_of symbols.now) c) }
     {
@@ -220,7 +220,7 @@ impl NormCache {
         forget_noted(&mut self.states, &mut self.noted);
     }
 
-    /// The constant at a place waits for others.
+    /// Marks the constant at an index as pending.
     fn wait(&mut self, place: usize)
         requires { place < length self.old.states.items }
         ensures { self.new.states.items ≡ slice_set self.old.states.items place Waiting }
@@ -238,7 +238,7 @@ impl NormCache {
         Ok(())
     }
 
-    /// The last constant waits no more, and those before it hang on others.
+    /// Removes the last pending constant; those before it depend on others.
     fn give_up(
         &mut self,
         alloc: Global,
@@ -272,8 +272,8 @@ impl NormCache {
         }
     }
 
-    /// The normal form of an expression. The forms of constants that are found on the way stay, and after a fault no
-    /// constant waits.
+    /// Finds the normal form of an expression. The forms of constants found on the way are kept,
+    /// and after an error no constant is pending.
     pub fn find(
         &mut self,
         alloc: Global,
@@ -311,7 +311,7 @@ impl NormCache {
     }
 }
 
-/// Whether the form of the constant at a place is found.
+/// Returns whether the form of the constant at a place is found.
 fn is_found(states: &[State], place: usize) -> bool
     ensures { result ≡ is_found (slice_get states.now place) }
 {

@@ -133,7 +133,7 @@ fn final_place(symbols: &Symbols, context: Context, operand: &Expr) -> Option<us
     }
 }
 
-/// Whether each operand of an expression means the same whatever statements follow.
+/// Returns whether each operand of an expression means the same whatever statements follow.
 pub fn are_final(symbols: &Symbols, context: Context, value: &Expr) -> bool
     ensures { result ≡ true →
         EachOperand (MeansFinally (table_of symbols.now) context) value.now }
@@ -172,7 +172,7 @@ fn final_operand(
         Err(AttemptError::Needs(_)) => Ok(None),
         Err(AttemptError::Fault(fault)) => {
             pass_on_memory(&fault)?;
-            // A fault is found behind the last line.
+            // An error is found after the last line.
             Ok(None)
         }
     }

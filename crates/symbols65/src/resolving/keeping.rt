@@ -16,7 +16,7 @@ const GLOBAL: usize = GLOBAL_SCOPE as usize;
 /// How many scopes are looked through between one and the global one.
 const NEAR: usize = 8;
 
-/// Whether an expression has a name, with or without scopes before it.
+/// Returns whether an expression has a name, with or without scopes before it.
 fn mentions(value: &Expr, name: &[u8]) -> bool
     ensures { result ≡ mentions name.now value.now }
 {
@@ -31,7 +31,7 @@ fn mentions(value: &Expr, name: &[u8]) -> bool
     }
 }
 
-/// Whether the expression of the constant at a place has a name.
+/// Returns whether the expression of the constant at a place has a name.
 fn constant_mentions(symbols: &Symbols, place: usize, name: &[u8]) -> bool
     ensures { result ≡ constant_mentions name.now (slice_get (table_of symbols.now).definitions place) }
 {
@@ -44,7 +44,7 @@ fn constant_mentions(symbols: &Symbols, place: usize, name: &[u8]) -> bool
     }
 }
 
-/// Whether the expression of a constant at one of these places has a name.
+/// Returns whether the expression of a constant at one of these places has a name.
 pub fn any_mentions(symbols: &Symbols, places: &[usize], name: &[u8]) -> bool
     ensures { result ≡ list_any (λ place. constant_mentions name.now (slice_get (table_of symbols.now).definitions place)) places.now }
 {
@@ -53,7 +53,8 @@ pub fn any_mentions(symbols: &Symbols, places: &[usize], name: &[u8]) -> bool
         .any(|place| constant_mentions(symbols, *place, name))
 }
 
-/// Whether the global scope is reached from a scope through at most so many others, each of which was opened.
+/// Returns whether the global scope is reached from a scope through at most `room` others, each of
+/// which was opened.
 fn is_near(symbols: &Symbols, room: usize, scope: usize) -> bool
     ensures { result ≡ is_near (table_of symbols.now).scopes room scope }
 {
@@ -66,8 +67,8 @@ fn is_near(symbols: &Symbols, room: usize, scope: usize) -> bool
     is_near(symbols, room - 1, symbols.enclosing(scope))
 }
 
-/// Whether what is defined at a place stands near to the global scope, behind scopes that were opened. (No clause says
-/// that these always were.)
+/// Returns whether the definition at an index is near to the global scope, in scopes that were
+/// opened. (No clause states that these always were.)
 fn stands_near(symbols: &Symbols, place: usize) -> bool
     ensures { result ≡ stands_near (table_of symbols.now).scopes (slice_get (table_of symbols.now).definitions place) }
 {
@@ -80,7 +81,7 @@ fn stands_near(symbols: &Symbols, place: usize) -> bool
     }
 }
 
-/// Whether what is defined at each of these places does.
+/// Returns whether what is defined at each of these places does.
 pub fn all_stand_near(symbols: &Symbols, places: &[usize]) -> bool
     ensures { result ≡ list_all (λ place. stands_near (table_of symbols.now).scopes (slice_get (table_of symbols.now).definitions place)) places.now }
 {

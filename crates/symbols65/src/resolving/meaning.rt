@@ -38,7 +38,8 @@ pub fn folded(form: Result<Norm, FormFault>) -> Result<Norm, AsmFault>
     }
 }
 
-/// The form that is stored of an operand: of a branch, how far its target lies from behind it.
+/// Returns the stored form of an operand: of a branch, the distance of its target from the address
+/// after it.
 pub fn operand_form(
     alloc: Global,
     width: Width,
@@ -59,7 +60,8 @@ pub fn operand_form(
     }
 }
 
-/// The place of the definition that a name means where it stands, if it means one: none where it is imported.
+/// Returns the index of the definition that a name means in its context, if it means one; none if
+/// it is imported.
 pub fn definition_of(symbols: &Symbols, context: Context, name: &Name) -> Option<usize>
     ensures { result ≡ defined_place (binding_of (table_of symbols.now) context
         (name_tree name.now.is_global name.now.parts)) }
@@ -86,7 +88,7 @@ pub enum Binding {
     Imported(usize),
 }
 
-/// What is defined at a place, or imported by a name where nothing is.
+/// Returns the meaning of a definition's index or, if there is none, of an imported name.
 fn defined_or_imported(symbols: &Symbols, defined: Option<usize>, name: &[u8]) -> Option<Binding>
     ensures { (fault : AsmFault) → or_fault fault defined (import_index (table_of symbols.now) name.now) ≡ ok_or (option_map meaning_in result) fault }
 {
@@ -193,7 +195,7 @@ pub fn plain_part(name: &Name) -> Option<&[u8]>
     }
 }
 
-/// The unnamed label before which so many stand.
+/// Returns the unnamed label with this many before it.
 fn unnamed_label(symbols: &Symbols, count: usize) -> Option<Binding>
     ensures { unnamed_meaning (table_of symbols.now) count ≡ ok_or (option_map meaning_in result) NoSuchLabel }
 {
@@ -201,7 +203,7 @@ fn unnamed_label(symbols: &Symbols, count: usize) -> Option<Binding>
     Some(Binding::Defined(place))
 }
 
-/// An unnamed label behind a use before which so many stand.
+/// Returns an unnamed label after a use, given the number of labels before the use.
 fn label_after(symbols: &Symbols, before: u32, steps: usize) -> Option<Binding>
     ensures { unnamed_meaning (table_of symbols.now) (before + steps - 1) ≡ ok_or (option_map meaning_in result) NoSuchLabel }
 {
@@ -213,7 +215,7 @@ fn label_after(symbols: &Symbols, before: u32, steps: usize) -> Option<Binding>
     unnamed_label(symbols, count)
 }
 
-/// An unnamed label before a use before which so many stand.
+/// Returns an unnamed label before a use, given the number of labels before the use.
 fn label_before(symbols: &Symbols, before: u32, steps: usize) -> Option<Binding>
     ensures { backward_meaning (table_of symbols.now) before steps ≡ ok_or (option_map meaning_in result) NoSuchLabel }
 {
@@ -221,7 +223,7 @@ fn label_before(symbols: &Symbols, before: u32, steps: usize) -> Option<Binding>
     unnamed_label(symbols, count)
 }
 
-/// What an operand means where it stands. No memory is taken where it means something.
+/// Returns the meaning of an operand in its context. Allocates only for an error.
 pub fn binding_of(
     alloc: Global,
     symbols: &Symbols,

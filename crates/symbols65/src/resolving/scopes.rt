@@ -10,7 +10,7 @@ use base65::ListVec;
 use semantics65::GLOBAL_SCOPE;
 use std::alloc::{AllocError, Global};
 
-/// What stands between two parts of a name.
+/// The separator between two parts of a name.
 const BETWEEN: &[u8] = b"::";
 
 /// Adds parts with `::` between them.
@@ -65,7 +65,8 @@ pub fn defined_outward(symbols: &Symbols, scope: usize, name: &[u8]) -> Option<u
     let word = symbols.word(name)?;
     let is_inner = symbols.is_inner(word);
     let mut scope = scope;
-    // A scope stands in scopes that were opened before it, so there are no more of them than its number.
+    // A scope is within scopes that were opened before it, so there are no more of them than its
+    // number.
     let mut left = scope;
     loop {
         if let Some(place) = defined_in(symbols, scope, word, is_inner) {

@@ -35,7 +35,7 @@ fn entry(alloc: Global, symbols: &mut Symbols, key: Key<'_>) -> Result<InternedK
     }
 }
 
-/// Adds a definition behind all others, where there is none by its entry.
+/// Adds a definition, unless there is one by its entry.
 fn push(
     definitions: &mut IndexMap<InternedKey, Definition, Seed>,
     entry: InternedKey,
@@ -75,7 +75,7 @@ fn note(inner: &mut Vec<bool>, entry: InternedKey) -> Result<(), AllocError>
     }
 }
 
-/// Adds a definition behind all others, where its entry has none.
+/// Adds a definition whose entry has none.
 fn put(symbols: &mut Symbols, entry: InternedKey, definition: Definition) -> Result<(), AllocError>
     requires number { first_number (words_of symbols.old) (word_of entry) ≡ word_of entry }
     requires counted { IsCounted entry }
@@ -94,7 +94,7 @@ fn put(symbols: &mut Symbols, entry: InternedKey, definition: Definition) -> Res
     }
 }
 
-/// Adds a definition behind all others. Nothing is said where its key has one.
+/// Adds a definition. Unspecified if its key has one.
 pub fn define(
     alloc: Global,
     symbols: &mut Symbols,

@@ -12,10 +12,10 @@ use semantics65::Context;
 use std::alloc::Global;
 use syntax65::{AddressSize, Expr};
 
-/// What a key stands for.
+/// The definition of a key.
 #[derive(Drop)]
 pub struct Definition {
-    /// The expression of a constant; what has none is the address of where it stands.
+    /// The expression of a constant; a label has none, and its value is its address.
     pub value: Option<Expr>,
     pub context: Context,
     pub size: AddressSize,
@@ -30,7 +30,7 @@ pub enum Key<'a> {
     Named { scope: usize, name: &'a [u8] },
     /// A cheap label, in a region.
     Cheap { region: usize, name: &'a [u8] },
-    /// The unnamed label before which so many stand.
+    /// The unnamed label with this many before it.
     Unnamed(usize),
 }
 
@@ -52,7 +52,7 @@ pub enum ScopeKey {
 /// A symbol table.
 #[derive(Drop)]
 pub struct Symbols {
-    /// Each name once. It is looked up as it stands, so no search makes a copy of one.
+    /// Each name once. A search makes no copy of a name.
     pub words: IndexSet<InternedName, Seed>,
     /// Each definition, in the order of the source.
     pub definitions: IndexMap<InternedKey, Definition, Seed>,

@@ -107,7 +107,7 @@ pub fn run_len(byte: u8, bytes: &[u8]) -> usize
     bytes.iter().take_while(|b| **b == byte).count()
 }
 
-/// How many bytes at the front are blanks or tabs.
+/// Returns how many bytes at the front are blanks or tabs.
 pub fn blank_len(bytes: &[u8]) -> usize
     ensures count { result ≡ prefix_len is_blank bytes.now }
     ensures within { result ≤ length bytes.now }
@@ -115,7 +115,7 @@ pub fn blank_len(bytes: &[u8]) -> usize
     bytes.iter().take_while(|b| is_blank(**b)).count()
 }
 
-/// How many bytes at the front are no `"`.
+/// Returns how many bytes at the front are no `"`.
 pub fn text_len(bytes: &[u8]) -> usize
     ensures count { result ≡ prefix_len is_no_quote bytes.now }
     ensures within { result ≤ length bytes.now }

@@ -48,7 +48,7 @@ fn shown(alloc: Global, folded: Result<Norm, FormFault>) -> Result<String, Fail>
     Ok(text)
 }
 
-/// Whether an operation of two forms is folded into this one.
+/// Returns whether an operation of two forms is folded into this one.
 fn folds(alloc: Global, op: Op2, left: Norm, right: Norm, wanted: &str) -> Result<bool, Fail> {
     let text = shown(alloc, Norm::binary(alloc, op, left, right))?;
     Ok(text.as_str() == wanted)

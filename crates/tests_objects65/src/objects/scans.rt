@@ -39,7 +39,7 @@ fn is_start_of_first(node: &Node) -> bool {
     matches!(node, Node::SectionOffset(0, 0))
 }
 
-/// Whether the item is that of the record at this place among those of the jump.
+/// Returns whether the item is that of the record at this place among those of the jump.
 fn is_of_jump(place: usize, item: &Item) -> bool {
     match (place, item) {
         (0, Item::Section(name, 3, 0)) => name.as_slice() == b"CODE".as_slice(),

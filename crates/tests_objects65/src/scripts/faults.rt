@@ -19,7 +19,7 @@ fn faults_with_their_lines(rt: HostRuntime) {
     }
 }
 
-/// Whether a text is refused for a word that isn't there, or accepted; none where it is refused otherwise.
+/// Returns whether a text is refused for a word that isn't there, or accepted; none where it is refused otherwise.
 fn is_refused_early(alloc: Global, text: &[u8]) -> Option<bool> {
     match read_script(alloc, text) {
         Ok(_) => Some(false),
@@ -41,7 +41,7 @@ fn parts_of_a_script(rt: HostRuntime) {
     }
 }
 
-/// Whether a fault has these words, with a line and without.
+/// Returns whether a fault has these words, with a line and without.
 fn has_words(alloc: Global, fault: Fault, words: &str) -> Result<bool, Fail> {
     let placed = ScriptFault {
         fault,

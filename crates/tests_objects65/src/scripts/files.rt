@@ -23,7 +23,7 @@ fn names_of(alloc: Global, rows: &[SegmentRow]) -> Result<Vec<ListVec<u8>>, Allo
 const TEXT: &[u8] =
     b"MEMORY { ROM: start = $8000, size = $10, fillval = $FF; } SEGMENTS { CODE: load = ROM, type = ro; BSS: load = ROM, type = bss; DATA: load = ROM; }";
 
-/// Whether there is one file with this name and these bytes.
+/// Returns whether there is one file with this name and these bytes.
 fn is_file(files: &[OutputFile], name: &str, bytes: &[u8]) -> bool {
     match files {
         [file] => file.name.as_str() == name && file.bytes.as_slice() == bytes,
@@ -31,7 +31,7 @@ fn is_file(files: &[OutputFile], name: &str, bytes: &[u8]) -> bool {
     }
 }
 
-/// Whether rows that hold their names, placed so, make one file with these bytes.
+/// Returns whether rows that hold their names, placed so, make one file with these bytes.
 fn make(
     alloc: Global,
     script: &Script,

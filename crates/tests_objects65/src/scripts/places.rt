@@ -9,7 +9,7 @@ fn row(load: u64, run: u64, size: u64) -> RowPlacement {
     RowPlacement { load, run, size }
 }
 
-/// Whether a script refuses to place segments with this text.
+/// Returns whether a script refuses to place segments with this text.
 fn refuses(alloc: Global, text: &str, sizes: &[(&str, u64)], wanted: &str) -> Result<bool, Fail> {
     match place_text(alloc, text, sizes)? {
         Ok(_) => Ok(false),
@@ -17,7 +17,7 @@ fn refuses(alloc: Global, text: &str, sizes: &[(&str, u64)], wanted: &str) -> Re
     }
 }
 
-/// Whether a script places rows and ends areas here.
+/// Returns whether a script places rows and ends areas here.
 fn places(
     alloc: Global,
     text: &str,

@@ -7,7 +7,7 @@ use script65::{
 };
 use std::test::Fail;
 
-/// Whether the only term of a sum is this number.
+/// Returns whether the only term of a sum is this number.
 fn is_number(terms: &[Term], number: u32) -> bool {
     match terms {
         [term] => !term.minus && matches!(term.operand, Operand::Number(n) if n == number),
@@ -15,7 +15,7 @@ fn is_number(terms: &[Term], number: u32) -> bool {
     }
 }
 
-/// Whether an area begins and is as long as these numbers say.
+/// Returns whether an area begins and is as long as these numbers say.
 fn spans(area: &MemoryArea, start: u32, size: u32) -> bool {
     is_number(area.start.as_slice(), start) && is_number(area.size.as_slice(), size)
 }
@@ -38,7 +38,7 @@ fn is_plain_row(row: &SegmentRow) -> bool {
         && !row.define
 }
 
-/// Whether the script is the one of an area with two rows, of which the second is optional.
+/// Returns whether the script is the one of an area with two rows, of which the second is optional.
 fn is_rom(script: &Script) -> bool {
     match (script.areas.as_slice(), script.rows.as_slice()) {
         ([area], [code, data]) => {
@@ -139,7 +139,7 @@ fn whole_scripts(rt: HostRuntime) -> Result<(), Fail> {
 const SUMS: &str =
     "MEMORY { A: start = 5 - e, size = $20; B: size = e + __A_LAST__ - __S_RUN__ start __A_START__; } SEGMENTS { S: load = A; } SYMBOLS { e: type = export, value = 3; }";
 
-/// Whether the terms are 5 and, taken from it, the export's 3.
+/// Returns whether the terms are 5 and, taken from it, the export's 3.
 fn is_difference(terms: &[Term]) -> bool {
     match terms {
         [five, three] => {
@@ -152,7 +152,7 @@ fn is_difference(terms: &[Term]) -> bool {
     }
 }
 
-/// Whether the terms are the export's 3, the end of the first area, and, taken from these, where the first row runs.
+/// Returns whether the terms are the export's 3, the end of the first area, and, taken from these, where the first row runs.
 fn has_names(terms: &[Term]) -> bool {
     match terms {
         [three, last, run] => {

@@ -1,4 +1,4 @@
--- What a line comes to once its files are read, before anything is said or written.
+-- The outcome of a command line once its files are read, before anything is printed or written.
 use Rattle.std.specs.Prelude.{◌≡◌, ℕ, ◌≤◌, ◌⊎◌, List, Option, Result, IfOk}
 use Rattle.base65.specs.Store.{LastFailure, Files, HasFailed}
 use Rattle.cli65.specs.Line.{CommandView}
@@ -18,7 +18,8 @@ pub record ComputesOutcome (line : CommandView) (m : Files) (last_failure : Last
   pub done : (HasFailed old new → ⊥) → IsOutcomeOfCommand line m o ⊎ (o ≡ failing (line_memory line))
   pub failed : HasFailed old new → OnlyReports line m last_failure o
 
--- What computing leaves: the files as they were, and an outcome that fails where a call failed.
+-- The results of computing an outcome: the files are unchanged, and the outcome is a failure if a call
+-- failed.
 pub record ComputeFrame {X E : Type 0} (files_of : X → Option Files) (failures_of : X → ℕ) (old new : X) (result : Result Outcome E) : Type 0 where
   pub files : files_of new ≡ files_of old
   pub later : failures_of old ≤ failures_of new

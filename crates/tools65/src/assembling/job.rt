@@ -1,4 +1,4 @@
-//! What an assemble line has assembled.
+//! The job of an assembler's command line.
 
 ghost use Rattle.std.specs.Prelude.{◌≡◌, IfOk, map};
 ghost use Rattle.asm65.specs.Assembly.{define_of};

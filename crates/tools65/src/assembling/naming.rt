@@ -22,7 +22,7 @@ fn extension_at(name: &[u8]) -> Option<usize>
     None
 }
 
-/// A source's name with `.o` in place of its extension, or behind it where it has none.
+/// Returns a source's name with `.o` in place of its extension, or added if it has none.
 pub fn object_name(alloc: Global, source: &str) -> Result<String, AllocError>
     ensures { IfOk result (λ name. IsObjectName source.now (string_bytes name)) }
 {

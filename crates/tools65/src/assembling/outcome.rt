@@ -1,4 +1,4 @@
-//! What assembling comes to.
+//! The outcome of assembling.
 
 ghost use Rattle.std.specs.Prelude.{◌≡◌, IfOk, IfSome, true};
 ghost use Rattle.object65.specs.Objects.{ObjectFits, is_well_formed_object};
@@ -41,7 +41,7 @@ fn object_bytes(alloc: Global, object: &Object) -> Result<ListVec<u8>, AllocErro
     }
 }
 
-/// What assembling does without an object: it says what was said, and why there is none.
+/// Returns the outcome without an object: the output so far, and the error.
 fn refused(
     alloc: Global,
     source: &str,
@@ -68,7 +68,7 @@ fn refused(
     })
 }
 
-/// What assembling does: it writes the object, or says why there is none.
+/// Returns the outcome of assembling: the object's file, or the error.
 fn asm_outcome(
     alloc: Global,
     line: &AssembleArgs<'_>,

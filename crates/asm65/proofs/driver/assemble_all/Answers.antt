@@ -109,7 +109,7 @@ statements-preserved g c =
     let new = c.take_next.new.run in
     let t = c.in_ok-take_next.ensures in
     record {
-      files = t.kept.files ∙ e.files ∙ told;
+      files = t.frame.files ∙ e.files ∙ told;
       count = search rules;
       running = still_running old mid e.same less (g.S.Store.files c.next.new.store) statement new c.in_ok-take_next.field-0 t.read.taken t.same (subst IsRunning (sym here) c.statements.invariant.running);
       placed = placed_on (g.S.Store.files c.args.store.now) (g.S.Store.files c.take_at_hand.new.store) told c.args.run.now old mid new t.same (subst K (sym here) c.statements.invariant.placed) e.placed;
@@ -134,7 +134,7 @@ statements-preserved-in_ok-take_next g c =
     let new = c.take_next.new.run in
     let t = c.in_ok-take_next.ensures in
     record {
-      files = t.kept.files ∙ e.files ∙ told;
+      files = t.frame.files ∙ e.files ∙ told;
       count = search rules;
       running = still_running old mid e.same less (g.S.Store.files c.next.new.store) statement new c.in_ok-take_next.field-0 t.read.taken t.same (subst IsRunning (sym here) c.statements.invariant.running);
       placed = placed_on (g.S.Store.files c.args.store.now) (g.S.Store.files c.take_at_hand.new.store) told c.args.run.now old mid new t.same (subst K (sym here) c.statements.invariant.placed) e.placed;
@@ -213,7 +213,7 @@ statements-preserved-then-branch g c =
     let o = g.S.Store.files c.statements.store in
     let line = line_taken o last_failure old new c.in_ok-take_at_hand.field-0 c.if-branch.true e.next in
     record {
-      files = e.kept.files ∙ c.statements.invariant.files;
+      files = e.frame.files ∙ c.statements.invariant.files;
       count = search rules;
       running = line_running o last_failure (place_of new.expander) line.statements old.expander new.expander old.assembler new.assembler line.given line.taken refl c.statements.invariant.running;
       placed = some_then (λ m. StaysPlaced m c.args.run.now old) (λ m. StaysPlaced m c.args.run.now new) (g.S.Store.files c.args.store.now) (λ m h first. line.placed m (h first)) c.statements.invariant.placed;

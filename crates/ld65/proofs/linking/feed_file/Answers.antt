@@ -9,7 +9,7 @@ returns-in-Ok-clause-fed g c =
 pub returns-in-Ok-clause-frame : goal.returns-in-Ok-clause-frame
 returns-in-Ok-clause-frame g c =
     let fed = c.in-Ok.ensures in
-    object_left _ _ _ _ fed.keeps fed.files _ c.args.input.now.name.now fed.opened fed.kept
+    object_left _ _ _ _ fed.keeps fed.files _ c.args.input.now.name.now fed.opened fed.frame
 
 pub returns-in-Err-clause-fed : goal.returns-in-Err-clause-fed
 returns-in-Err-clause-fed g c =
@@ -18,4 +18,4 @@ returns-in-Err-clause-fed g c =
 pub returns-in-Err-clause-frame : goal.returns-in-Err-clause-frame
 returns-in-Err-clause-frame g c =
     let refused = c.in-Err.ensures in
-    rw c.of_input.ensures (file_left _ _ _ _ refused.keeps refused.files c.args.input.now.place c.args.input.now.name.now c.in-Err.fault refused.kept)
+    rw c.of_input.ensures (file_left _ _ _ _ refused.keeps refused.files c.args.input.now.place c.args.input.now.name.now c.in-Err.fault refused.frame)

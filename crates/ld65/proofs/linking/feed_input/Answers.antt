@@ -15,8 +15,8 @@ returns-in-Ok-true-clause-frame g c =
     let front = c.in-Ok-true.ensures in
     let read = rw c.in-Ok-true.field-0-test at front.read in
     after_others (λ before b. NamesFailure (IsOfInput known s before b place name)) (λ before b. NamesFailure (IsOfLibrary now s before b place name)) _ _ _ _ _ _ c.feed_library.result
-    (λ modules stands. (modules, stands, by_library known now s place name front.kept.files modules _ c.feed_library.result (kind known name true read)))
-    (front_read _ name _ _ _ _ c.requires front.kept) c.feed_library.ensures.frame
+    (λ modules stands. (modules, stands, by_library known now s place name front.frame.files modules _ c.feed_library.result (kind known name true read)))
+    (front_read _ name _ _ _ _ c.requires front.frame) c.feed_library.ensures.frame
 
 pub returns-in-Ok-false-clause-frame : goal.returns-in-Ok-false-clause-frame
 returns-in-Ok-false-clause-frame g c =
@@ -28,7 +28,7 @@ returns-in-Ok-false-clause-frame g c =
     let read = rw c.in-Ok-false.field-0-test at front.read in
     after_others (λ before b. NamesFailure (IsOfInput known s before b place name)) (λ _ b. NamesFailure (IsOfObject b place name)) _ _ _ _ _ _ c.feed_file.result
     (λ modules stands. (modules, stands, by_object known s place name modules _ c.feed_file.result (kind known name false read)))
-    (front_read _ name _ _ _ _ c.requires front.kept) c.feed_file.ensures.frame
+    (front_read _ name _ _ _ _ c.requires front.frame) c.feed_file.ensures.frame
 
 pub returns-in-Err-clause-frame : goal.returns-in-Err-clause-frame
 returns-in-Err-clause-frame g c =

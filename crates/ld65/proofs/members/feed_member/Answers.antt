@@ -16,7 +16,7 @@ returns-in-Ok-clause-fed g c =
 pub returns-in-Ok-clause-frame : goal.returns-in-Ok-clause-frame
 returns-in-Ok-clause-frame g c =
     let fed = c.in-Ok.ensures in
-    object_left _ _ _ _ fed.keeps fed.files _ c.args.member.now.library.now fed.opened fed.kept
+    object_left _ _ _ _ fed.keeps fed.files _ c.args.member.now.library.now fed.opened fed.frame
 
 pub returns-in-Err-clause-fed : goal.returns-in-Err-clause-fed
 returns-in-Err-clause-fed g c =
@@ -26,4 +26,4 @@ returns-in-Err-clause-fed g c =
 pub returns-in-Err-clause-frame : goal.returns-in-Err-clause-frame
 returns-in-Err-clause-frame g c =
     let refused = c.in-Err.ensures in
-    rw c.of_member.ensures (member_left _ _ _ _ refused.keeps refused.files c.args.member.now.library.now c.in_ok-name.name c.args.member.now.entry.now c.in-Err.fault c.in_ok-name.ensures refused.kept refused.within)
+    rw c.of_member.ensures (member_left _ _ _ _ refused.keeps refused.files c.args.member.now.library.now c.in_ok-name.name c.args.member.now.entry.now c.in-Err.fault c.in_ok-name.ensures refused.frame refused.within)

@@ -53,8 +53,8 @@ pub fn run_line_with_streams<S: Store, W: Write, E: Write>(
     out: &mut Stream<'_, W>,
     err: &mut Stream<'_, E>,
 ) -> Status
-    requires out { out.old.has_refused ≡ false }
-    requires err { err.old.has_refused ≡ false }
+    requires out { out.old.has_failed ≡ false }
+    requires err { err.old.has_failed ≡ false }
     ensures same { AreSame out.old out.new err.old err.new }
     ensures done { IfSome (S.files store.old) (λ m. NoneFailed (S.failures store.old) (S.failures store.new) →
         RunSatisfies (IsOutcomeOfCommand (view line.now)) (line_memory (view line.now)) m (S.files store.new)
@@ -114,8 +114,8 @@ pub fn run_with_streams<A: AsStr, S: Store, W: Write, E: Write>(
     out: &mut Stream<'_, W>,
     err: &mut Stream<'_, E>,
 ) -> Status
-    requires out { out.old.has_refused ≡ false }
-    requires err { err.old.has_refused ≡ false }
+    requires out { out.old.has_failed ≡ false }
+    requires err { err.old.has_failed ≡ false }
     ensures same { AreSame out.old out.new err.old err.new }
     ensures done { IfSome (S.files store.old) (λ m. NoneFailed (S.failures store.old) (S.failures store.new) →
         RunsCommand (map A.text words.now) m (S.files store.new)

@@ -57,7 +57,7 @@ abbrev pub or_last : List Segment → Option ℕ → ℕ
 or_last gs (Some i) = i
 or_last gs None = length gs
 
--- a segment with more bytes at its end, aligned to a multiple
+-- a segment with more bytes at its end, and at least this alignment
 abbrev pub segment_after : ℕ → ℕ → Segment → Segment
 segment_after count alignment g = record { name = g.name; size = g.size; end = g.end + count; align = max g.align alignment }
 
@@ -276,7 +276,7 @@ abbrev pub is_there : {A : Type 0} → Option A → Bool
 is_there None = false
 is_there (Some x) = true
 
--- an operand that must be constant is, and is within its range
+-- the error of an operand that must be constant and isn't, or of a count or fill value that is out of range
 abbrev pub operand_fault : Symbols → Context → Statement → Option AsmFault
 operand_fault y s (statement.Reserve n v) = when (not (is_count (constant_in y s n) && is_byte_value (optional_value y s v (pos 0)))) BadOperand
 operand_fault y s (statement.Align n v) = when (not (is_there (constant_in y s n) && is_byte_value (optional_value y s v (pos 0)))) BadOperand

@@ -42,7 +42,7 @@ abbrev pub warning_of : SourceLocation → Statement → List ℕ
 warning_of place (statement.Warning words) = warning_at place words
 warning_of place _ = []
 
--- the text of an assertion that the assembler decides and that fails
+-- the warning of a warning assertion that the assembler decides and that fails
 abbrev pub failed_assertion_text : SourceLocation → Action → List ℕ → Result Form AsmFault → List ℕ
 failed_assertion_text place action.Warning words (Ok (lit (pos zero))) = warning_at place words
 failed_assertion_text place act words r = []
@@ -69,7 +69,7 @@ pub data Piece : Type 0 where
   -- a part that needs no value
   given : Part → Piece
   valued : Purpose → Tree → Piece
-  -- a name that the module doesn't define, and one that is imported regardless
+  -- a name that the module must not define, and one that is imported even if it is unused
   imported : List ℕ → Piece
   demanded : List ℕ → Piece
   -- a name that is exported if it is defined, or that must be defined

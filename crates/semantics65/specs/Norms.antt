@@ -55,7 +55,7 @@ abbrev pub form_of_meaning : (Context → Tree → Result Form AsmFault) → Sym
 form_of_meaning constant_form y (imported_as k) = Ok (imp k)
 form_of_meaning constant_form y (defined_at j) = form_of_definition constant_form (slice_get y.definitions j)
 
--- The normal form of an expression, if constants are expanded at most this deep.
+-- The normal form of an expression, if constants are expanded less than this deep.
 abbrev pub norm : ℕ → Symbols → Context → Tree → Result Form AsmFault
 norm zero y s e = Err Circular
 norm (suc n) y s e = form_by (λ operand. binding_of y s operand >>= form_of_meaning (norm n y) y) s e
@@ -226,7 +226,7 @@ abbrev pub gap : ℕ → Option ℤ → ℕ
 gap offset (Some (pos (suc n))) = next_multiple_of offset (suc n) - offset
 gap offset _ = 0
 
--- the bytes of a file from a start on: the given number, or all that follow
+-- the bytes of a file from a start on, as many as given; none without a number
 abbrev pub bytes_between : List ℕ → ℕ → Option ℤ → List ℕ
 bytes_between bytes start None = []
 bytes_between bytes start (Some len) = take (byte_count (Some len)) (drop start bytes)

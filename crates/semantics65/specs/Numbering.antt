@@ -124,7 +124,7 @@ abbrev pub segment_name : Option Segment → List ℕ
 segment_name None = []
 segment_name (Some s) = s.name
 
--- the power of two to which a segment is aligned
+-- the exponent of the power of two to which a segment is aligned
 abbrev pub segment_power : Option Segment → ℕ
 segment_power None = 0
 segment_power (Some s) = number_of powers s.align
@@ -202,7 +202,7 @@ object_with segments names cs = object_by 2 (files_of cs) (in_files (files_of cs
 
 -- ---- Tokens and statements.
 
--- a name of this kind that an object can hold
+-- the text of a token: if it is an identifier, an object can hold it
 abbrev pub IsNamed : TokenKind → List ℕ → Type 0
 IsNamed token.Identifier t = is_name t ≡ true
 IsNamed _ t = ⊤
@@ -210,7 +210,7 @@ IsNamed _ t = ⊤
 abbrev pub AreSymbolNames : List Lexeme → Type 0
 AreSymbolNames ts = AllByRecursion (λ t. IsNamed t.0 t.1) ts
 
--- the names of a statement fit an object, and its texts are short enough
+-- the names that a statement imports, exports or gives a segment fit an object, and an assertion's text has at most 255 bytes
 abbrev pub IsWellFormedStatement : Statement → Type 0
 IsWellFormedStatement (statement.Segment n own) = is_name n ≡ true
 IsWellFormedStatement (statement.Import own names) = list_all is_name names ≡ true

@@ -29,7 +29,7 @@ abbrev pub is_unnamed : Statement → Bool
 is_unnamed UnnamedLabel = true
 is_unnamed _ = false
 
--- ---- Which segments have a section.
+-- ---- A section is a module's part of a segment. Which segments have one.
 
 -- whether the expression contains `*`
 abbrev pub has_here : Tree → Bool
@@ -66,7 +66,7 @@ pub data Key : Type 0 where
 
 pub record Definition : Type 0 where
   pub key : Key
-  -- the expression of a constant; a definition without one is the address of its location
+  -- the expression of a constant; the value of a definition without one is the address of its context
   pub value : Option Tree
   pub context : Context
   pub size : AddressSize
@@ -179,12 +179,12 @@ abbrev pub parent_scope : Option Scope → ℕ
 parent_scope None = zero
 parent_scope (Some c) = c.within
 
--- the parent of a scope; the global scope has none
+-- the parent of a scope; the global scope is its own
 abbrev pub enclosing : List Scope → ℕ → ℕ
 enclosing cs zero = zero
 enclosing cs (suc i) = parent_scope (slice_get cs i)
 
--- a scope and its ancestors, at most this many
+-- a scope and at most this many ancestors
 abbrev pub outward_from : List Scope → ℕ → ℕ → List ℕ
 outward_from cs n zero = zero ∷ []
 outward_from cs zero (suc i) = suc i ∷ []

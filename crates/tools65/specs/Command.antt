@@ -75,7 +75,7 @@ line_memory (assemble a) = memory_line a.source
 line_memory (link l) = memory_message
 line_memory (archive a) = memory_line a.library
 
--- A run of words: their line's, or what is said of words that are none; or memory ran out before they were a line.
+-- A run with these arguments: of the command line that they are; or, if they are none, of an error message. Memory may also run out before they are parsed.
 abbrev pub ArgsRunSatisfies : Result CommandView LineFault → Files → Option Files → Streams → Status → Type 0
 ArgsRunSatisfies (Ok line) m new io status =
     RunSatisfies (IsOutcomeOfCommand line) (line_memory line) m new io status ⊎ PerformsOutcome (failing line_memory_message) m new io status

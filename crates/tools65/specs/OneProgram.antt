@@ -77,7 +77,7 @@ ImageOrNoneLaw =
 
 -- ---- The modules that a line selects: the objects given, and of each library the members that are needed.
 
--- the module of an object, which its library's index tells, if it is a member of one
+-- the module of an input's object; a library's member agrees with its index entry
 abbrev pub IsModuleOf : Files → Input → Module → Type 0
 IsModuleOf m i x = (o : Object) × (object_in m i ≡ Ok o) × (agrees_with i.entry o ≡ true) × (x ≡ module_of i.name o)
 
@@ -93,12 +93,12 @@ AreTaken s m before library ms =
     (es : List Entry) × (places : List ℕ) × (index_in m library ≡ Ok es)
     × IsSelection es (open_names s (program_of before)) (given_names s (program_of before)) places × AreMembers m library (selected_entries es places) ms
 
--- the modules after an input
+-- the modules that an input gives, after these modules
 abbrev pub AreInputOf : Script → Files → List Module → List ℕ → List Module → Type 0
 AreInputOf s m before name ms =
     ByKind (is_library_in m name) (AreTaken s m before name ms) ((x : Module) × IsModuleOf m (file_input name) x × (ms ≡ x ∷ []))
 
--- the modules after inputs, whether or not a name is defined twice
+-- the modules that inputs give in turn, after these modules; a name may be defined twice
 abbrev pub AreSelected : Script → Files → List Module → List (List ℕ) → List Module → Type 0
 AreSelected s m before [] ms = ms ≡ []
 AreSelected s m before (name ∷ names) ms =
@@ -164,13 +164,13 @@ unfoldable pub LineLinksWhole : CommandView → Files → Option Files → Strea
 LineLinksWhole line m new io status =
     (l : Linking) → line ≡ link l → LinksWhole l m new io status
 
--- where words are such a line, unless memory ran out before they were one
+-- The same for arguments that parse to a link, unless memory ran out while they were parsed.
 unfoldable pub WordsLinkWhole : Result CommandView LineFault → Files → Option Files → Streams → Status → Type 0
 WordsLinkWhole words m new io status =
     (l : Linking) → words ≡ Ok (link l)
     → LinksWhole l m new io status ⊎ PerformsOutcome (failing line_memory_message) m new io status
 
--- A run of words, or of a parsed command line, has the effect of its command.
+-- Clause `done` implies clause `one_program`: for words, and for a parsed command line.
 abbrev pub RunsLaw : Type 0
 RunsLaw =
     (words : List (List ℕ)) (m : Files) (new : Option Files) (io : Streams) (status : Status) →

@@ -35,7 +35,7 @@ ValueIsUnique =
     (p : Program) (owner place : ℕ) (e : Tree) (v w : ℤ) →
     Value p owner place e v → Value p owner place e w → v ≡ w
 
--- a name that is needed for its own value has none
+-- an expression that is needed for its own value has none
 abbrev pub CircularLaw : Type 0
 CircularLaw = (p : Program) (x : LocatedExpr) (v : ℤ) → NeedsValueOf p x x → Value p x.owner x.place x.tree v → ⊥
 
@@ -69,7 +69,7 @@ NeedsLaw =
     (ys : List Layout) (ms : List Module) (name : List ℕ) → AreSources ys ms →
     IfSome (segment_of (linked.program_of ms).segments name) (λ g. places.need_of g ≡ need_of ys name)
 
--- statements without a fault that lay a sound module are the source of their object, and of its version 1
+-- a layout without errors that fits an object is the source of its object, and of that object's version 1
 abbrev pub SourceLaw : Type 0
 SourceLaw =
     (y : Layout) (name : List ℕ) (o : Object) → IsSoundLayoutOf y → IsSoundLayout y → object_of y ≡ Ok o →

@@ -25,7 +25,7 @@ pub record Objects (E : Type 0) : Type 0 where
   -- the result of an import, given its number, through fewer than this many nested exports
   pub imports : (turns owner number : ℕ) → Result ℤ E
 
--- the value of a form of a module, through this many nested exports
+-- the value of a form of a module, through at most this many nested exports
 abbrev pub form_value : {E : Type 0} → Objects E → ℕ → ℕ → Form → Result ℤ E
 form_value o turns owner f = value_in o.none (o.bases owner) (o.imports turns owner) f
 

@@ -29,7 +29,7 @@ abbrev pub exporter_from : ℕ → List Layout → List ℕ → Provider → Pro
 exporter_from owner [] name other = other
 exporter_from owner (y ∷ ys) name other = if is_among (exports_of y) name then by_module owner else exporter_from (suc owner) ys name other
 
--- The names that the script defines or exports, then the exports of modules, and its weak names only where there is none
+-- The provider of a name: the script, if it defines or exports it; else a module that exports it; else the weak name of the script
 -- of these.
 abbrev pub provider_of : Script → Placement → List Layout → List ℕ → Provider
 provider_of s p ys name =
@@ -46,7 +46,7 @@ abbrev pub length_of : Option Layout → ℕ
 length_of None = 0
 length_of (Some y) = length y.laid
 
--- the run address of the segment's row and the position in the segment
+-- the run address of the segment's row plus the position in the segment
 abbrev pub address_in : Script → Placement → List Layout → ℕ → ℕ → List ℕ → ℤ
 address_in s p ys owner place name = wrap_signed (pos (run_of s.rows p.rows name + position_of ys name owner place))
 

@@ -13,7 +13,7 @@ use Rattle.semantics65.specs.Layout.{Layout, multiple_of, segment_at}
 pub record SegmentLine : Type 0 where
   pub owner : ℕ
   pub place : ℕ
-  -- that to a multiple of which an `.align` rounds the position; 1 for other statements
+  -- the operand of an `.align`; 1 for other statements
   pub alignment : ℕ
   pub laid : LaidOutStatement
 
@@ -104,7 +104,7 @@ position_of ys name owner place = end_of 0 (items_before owner place (items_of y
 
 -- ---- What segments need.
 
--- the segments of which a module has a section, in the order of the first line that asks
+-- the segment of each line of a module that asks for a section, in order, with repetitions
 abbrev pub asked_by : Layout → List (List ℕ)
 asked_by y = map (λ l. segment_name y l.context.segment) (filter (λ l. needs_section l.stated) y.laid)
 

@@ -8,7 +8,7 @@ use Rattle.link65.specs.Programs.{Module}
 use Rattle.semantics65.specs.Module.{object_of}
 use Rattle.whole65.specs.Offsets.{IsSoundLayoutOf}
 
--- a module's object is that of laid statements, of which no line has a fault, or that of version 1 of the same statements
+-- a module's object is that of laid statements, of which no line has an error, and whose names and sizes fit an object, or that of version 1 of the same statements
 pub record IsSource (y : Layout) (m : Module) : Type 0 where
   pub laid_out : IsSoundLayoutOf y
   pub sound : IsSoundLayout y

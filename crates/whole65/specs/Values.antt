@@ -6,7 +6,7 @@ use Rattle.base65.specs.Values.{value1, value2}
 use Rattle.base65.specs.declared.values.Op1.{Op1}
 use Rattle.base65.specs.declared.values.Op2.{Op2}
 
--- the meaning of an operand of an expression
+-- the meaning of a name or label in an expression
 pub data SymbolBinding : Type 0 where
   -- a label: the statement at a place of the module
   label_at : (place : ℕ) → SymbolBinding

@@ -22,11 +22,11 @@ use Rattle.whole65.specs.Values.{Program, Value, by_nobody}
 
 -- ---- What has to have a value, whether or not it is used.
 
--- each name that a module exports has one, in the module's global scope
+-- each name that a module exports has a value, in the module's global scope
 abbrev pub HasExport : Program → ℕ → List ℕ → Type 0
 HasExport p owner x = (v : ℤ) × Value p owner (p.global owner) (name false (x ∷ [])) v
 
--- an error assertion has one other than 0, a warning any
+-- an error assertion has a value other than 0, a warning any value
 abbrev pub AssertionHolds : Action → ℤ → Type 0
 AssertionHolds action.Error v = v ≢ pos 0
 AssertionHolds action.Warning v = ⊤
@@ -38,11 +38,11 @@ HasAssertion p x = go x.laid.stated
     go (Assert e act words) = (v : ℤ) × Value p x.owner x.place e v × AssertionHolds act v
     go _ = ⊤
 
--- a name that is needed whether or not it is used is given
+-- a module or the script provides the name
 abbrev pub IsProvided : Program → List ℕ → Type 0
 IsProvided p x = p.provider x ≢ by_nobody
 
--- a module's declarations for others and for the linker
+-- the declarations of a module hold: forced names are provided, exports have values, assertions pass
 pub record IsSaid (p : Program) (owner : ℕ) (y : Layout) : Type 0 where
   pub forced : AllByRecursion (IsProvided p) (forced_of y)
   pub exports : AllByRecursion (HasExport p owner) (exports_of y)

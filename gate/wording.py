@@ -4,8 +4,6 @@ import glob
 import os
 import re
 
-# Crates whose comments are still to be rewritten: their retired words pass.
-NOT_YET = {"object65", "library65", "script65", "link65", "whole65", "symbols65", "emit65", "asm65", "cli65", "output65", "ld65", "ar65", "tools65"}
 # Names that pass, and why.
 EXCEPTIONS = {
     "Refines": "the word of the field for a result that a definition allows; all crates use it",
@@ -39,12 +37,12 @@ def why_named(name, is_relation):
     return None
 
 
-def why_worded(line, names, is_new):
+def why_worded(line, names):
     """Returns why a comment may not have this line, or None."""
     plain = re.sub(r"`[^`]*`", "", line)
     if found := next((it for it in re.findall(r"\w+", plain) if it in names and re.search(r"_|[a-z][A-Z]", it)), None):
         return f"the definition {found} is named in a sentence: {line}"
-    return f"the word is retired: {found[0]}: {line}" if is_new and (found := RETIRED.search(plain)) else None
+    return f"the word is retired: {found[0]}: {line}" if (found := RETIRED.search(plain)) else None
 
 
 def looked_at(root):
@@ -58,6 +56,6 @@ def looked_at(root):
         for path in [*specs, *glob.glob(f"{folder}/src/**/*.rt", recursive=True)]:
             comment = COMMENT[os.path.splitext(path)[1]]
             for line in (read.get(path) or open(path, encoding="utf-8").read()).split("\n"):
-                if (match := comment.match(line)) and match[1] and (why := why_worded(match[1], names, crate not in NOT_YET)):
+                if (match := comment.match(line)) and match[1] and (why := why_worded(match[1], names)):
                     wrong.append(why)
         yield f"{crate}: words", "; ".join(wrong[:3]) or None

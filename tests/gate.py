@@ -265,11 +265,10 @@ GOOD_LINES = ("the bytes after the head", "what `concat_texts` returns", "`behin
 def words():
     """Checks which names of definitions and which lines of comments are refused."""
     named = {it: any(map(wording.why_named, *zip(*found))) if (found := list(wording.definitions(it))) else False for it in (*BAD_NAMES, *GOOD_NAMES)}
-    lines = {it: bool(wording.why_worded(it, {"concat_texts"}, True)) for it in (*BAD_LINES, *GOOD_LINES)}
+    lines = {it: bool(wording.why_worded(it, {"concat_texts"})) for it in (*BAD_LINES, *GOOD_LINES)}
     return {
         **{f"a name: {it}": named[it] == (it in BAD_NAMES) for it in named},
         **{f"a line: {it}": lines[it] == (it in BAD_LINES) for it in lines},
-        "a line of a crate that is still to be rewritten": not wording.why_worded(BAD_LINES[0], set(), False),
     }
 
 

@@ -25,7 +25,7 @@ pub record AnswersWithoutFile {S : Type 0} (o : Option Files) (last_failure : La
   pub inside : IfSome o (λ m. FailedWithin last_failure name 0 (length (bytes_in (get m name))))
   pub answered : (m : Files) → file_named m name ≡ None → IsAnswer m t r
 
--- ---- What assembling a source gives.
+-- ---- The result of assembling a source.
 
 abbrev pub define_of : code.Define → Define
 define_of d = (d.name.now, d.value)

@@ -101,7 +101,7 @@ pub fn define_all(
     Ok(())
 }
 
-/// A refusal from outside before a line was read, with which nothing is said.
+/// Returns a system error before the first line, without output.
 fn refused_outside(alloc: Global, fault: AsmFault) -> Assembly
     ensures fault { IfErr result.result (λ e. e.fault ≡ fault) }
     ensures placed { IfErr result.result (λ e. (placed_of e).place ≡ nowhere) }

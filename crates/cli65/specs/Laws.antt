@@ -5,6 +5,6 @@ use Rattle.base65.specs.SystemErrors.{IsNoSystemError}
 use Rattle.cli65.specs.Line.{line_of}
 use Rattle.cli65.specs.LineFaults.{is_system_error}
 
--- words are a line, or bad arguments, which alone don't come from outside
+-- words are a command line or bad arguments, the only error that is no system error
 abbrev pub LineExists : Type 0
 LineExists = (words : List Text) → IsNoSystemError is_system_error (line_of words)

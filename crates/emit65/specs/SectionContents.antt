@@ -30,7 +30,7 @@ use Rattle.emit65.specs.declared.sections.Sections.{Sections}
 abbrev pub names_of : {S : Type 0} → IndexSet (Vec ℕ) S → List (List ℕ)
 names_of s = map (λ k. k.items) s.keys
 
--- ---- Alike contents: they come to the same object.
+-- ---- Alike contents: they give the same object.
 
 -- Two lists of contents are alike: they bring the same imports in the same order, put the same bytes, room
 -- and values into each segment, whatever comes before and after them, use the same files in the same order,
@@ -44,7 +44,7 @@ pub record AreAlike (cs ds : List Content) : Type 0 where
   pub files : (g : ℕ) → flat_map part_files (parts_in cs g) ≡ flat_map part_files (parts_in ds g)
   pub said : all_said cs ≡ all_said ds
 
--- ---- Alike slots: they come to alike contents, or to the same fault.
+-- ---- Alike slots: they give alike contents, or the same error.
 
 -- the content of a slot; a pending one has none so far
 abbrev pub so_far : Slot → Content
@@ -70,7 +70,7 @@ pub record AreSlotsAlike (xs ys : List Slot) : Type 0 where
   pub held : AreAlike (contents_so_far xs) (contents_so_far ys)
   pub come : (y : Symbols) (names : List (List ℕ)) → ComeAlike (resolution_of y names xs) (resolution_of y names ys)
 
--- ---- Entries, of which some wait.
+-- ---- Entries, of which some are deferred.
 
 -- a location, with the file of this index
 abbrev pub place_by : List (List ℕ) → SourcePos → SourceLocation

@@ -51,7 +51,7 @@ text_of (Some bytes) = Ok bytes
 abbrev pub output_of : Linking → List ℕ
 output_of l = unwrap_or l.output (codes "a.out")
 
--- ---- One object more behind other modules.
+-- ---- One more object after other modules.
 
 -- An object to link: its offset in a file, the name of its module, and its entry in a library's index, if it
 -- is a member of one.

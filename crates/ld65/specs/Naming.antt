@@ -20,7 +20,7 @@ use Rattle.ld65.specs.declared.fault.LinkCommandFault.TheVariants.{ScriptFile, O
 use Rattle.ld65.specs.Linkage.{AreInputs, selected_entries, index_in, is_library_in, member_module, with_members}
 use Rattle.ld65.specs.Faults.{is_failure}
 
--- ---- One input, behind the modules of those before it.
+-- ---- One input, after the modules of those before it.
 
 -- the front of the input at this index of the command line, by which it is a library or an object
 abbrev pub IsOfFront : LastFailure → ℕ → List ℕ → LinkCommandFault → Type 0

@@ -30,7 +30,7 @@ use Rattle.base65.specs.declared.output.OutputFile.{OutputFile}
 use Rattle.link65.specs.Files.{AddsAreas, IsAreaFile}
 use Rattle.link65.specs.Names.{first_again, given_names, unresolved_names}
 
--- ---- What is refused once all is placed: by the values of data, of exports and of assertions, in this order.
+-- ---- Errors after placement: by the values of data, exports and assertions, in this order.
 
 -- each in turn, up to the first fault
 abbrev pub each_passes : {A : Type 0} → (A → Result (Unit {0}) LinkFault) → List A → Result (Unit {0}) LinkFault
@@ -103,7 +103,7 @@ check_asserts l members exports [] = Ok []
 check_asserts l members exports (a ∷ rest) =
     check_assert l members exports a >>= (λ text. check_asserts l members exports rest >>= (λ more. Ok (text ++ more)))
 
--- ---- What stands before values, in this order.
+-- ---- Errors that come before those of values, in this order.
 
 abbrev pub no_name_again : Option (List ℕ) → Result (Unit {0}) LinkFault
 no_name_again None = Ok tt
@@ -129,7 +129,7 @@ as_placement (Err e) = Err (fault.Place e)
 abbrev pub placement_result : Script → Program → Result Placement LinkFault
 placement_result s p = names_given s p >>= (λ u. as_placement (place_of s (needs_of p)))
 
--- ---- Values, where exports come to this.
+-- ---- Values, given those of exports.
 
 -- data, exports and assertions pass, in this order: what is warned of assertions
 abbrev pub check_result : Script → Program → Linkage → Exports → Result (List ℕ) LinkFault

@@ -76,7 +76,7 @@ symbol_imports symbols = flat_map (λ s. import_name s.kind s.name) symbols
 abbrev pub script_definitions : Script → Placement → List ScriptSymbol
 script_definitions s p = areas_definitions s.areas p.areas ++ rows_definitions s.rows p.rows ++ symbol_exports s.symbols
 
--- ---- The names alone, which stand before anything is placed.
+-- ---- The names alone, which are known before anything is placed.
 
 abbrev pub area_names : MemoryArea → List (List ℕ)
 area_names a =
@@ -154,7 +154,7 @@ abbrev pub provider_of : List ScriptSymbol → List Exported → List ScriptSymb
 provider_of own exports weak name =
     by_definition own (defined_at own name) (by_export (exported_at exports name) (by_definition weak (defined_at weak name) Nobody))
 
--- ---- A script with one more weak name, and links that come to the same images.
+-- ---- A script with one more weak name, and links with the same images.
 
 -- a script with a weak name and its value added to its other symbols
 abbrev pub with_weak : Script → List ℕ → ℕ → Script

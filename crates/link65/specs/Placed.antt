@@ -42,7 +42,7 @@ use Rattle.link65.specs.Links.{check_export, check_fixup, check_result}
 use Rattle.link65.specs.CodeInvariants.{segments_from}
 use Rattle.link65.specs.Texts.{definition_line, map_text, member_lines, row_lines, symbol_line, weak_line, concat_texts, warnings_of_rows}
 
--- ---- What is known of exports while they are evaluated.
+-- ---- The states of exports during their evaluation.
 
 -- the value that was found, or why there is none
 abbrev pub as_found : Result ℤ ValueFault → Result ℤ EvalBlocked
@@ -156,7 +156,7 @@ address_in runs p = cast_signed w64 ((run_in runs p.segment + p.offset) % 2 ^ 64
 abbrev pub resolved_by : DefinedSymbols → RunAddresses → LinkedModule → Resolved
 resolved_by n runs m = record { bases = map (address_in runs) m.sections; providers = map (provider_in n) m.imports }
 
--- ---- A placed program whose exports are all found, as the code holds it, and what it comes to but for its files.
+-- ---- A placed program with resolved exports, as the code stores it, and its link except for the files.
 
 abbrev pub linkage_in : PlacedProgram → Linkage
 linkage_in p = linkage p.modules.now p.exports.now

@@ -36,7 +36,7 @@ pub record Module : Type 0 where
   pub name : List ℕ
   pub object : Object
 
--- ---- What segments hold: each module's section behind those of the modules before it.
+-- ---- The contents of segments: each module's section after those of the modules before it.
 
 -- a byte of a segment: one that is known, one of the fill value, or one of a value that needs addresses
 pub data Cell : Type 0 where
@@ -100,7 +100,7 @@ abbrev pub section_places : ℕ → List Segment → List Section → List Secti
 section_places owner gs [] = []
 section_places owner gs (s ∷ ss) = section_place gs s ∷ section_places owner (with_section owner gs s) ss
 
--- ---- What modules come to before anything is placed: all that a link needs of them.
+-- ---- The modules before placement: all that a link needs of them.
 
 -- A member is a module's name, the places of its sections in their segments, the names that it imports, and those of its files. An
 -- owner is a member's place.

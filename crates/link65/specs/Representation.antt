@@ -39,7 +39,7 @@ abbrev pub with_each : List (List ℕ) → List (List ℕ) → Result (List (Lis
 with_each before [] = Ok before
 with_each before (name ∷ names) = with_new before name >>= (λ more. with_each more names)
 
--- ---- What a linker stands for: the modules that it was fed, and the records so far of the one that is open.
+-- ---- The state that a linker represents: the modules so far, and the records of the open one.
 
 -- a module that is open: its name, and what is kept of its records beside what grows
 pub record OpenModuleView : Type 0 where

@@ -272,7 +272,7 @@ IsWithin o (Export name origin form) = ⊤
 IsWithin o (Assert action origin text form) = is_small_text text ≡ true
 IsWithin o End = ⊤
 
--- ---- What a builder becomes by one record after another: what the items make that a scan gives.
+-- ---- The states of a builder, record by record: what the items of a scan build.
 
 -- the state after a record, or the first error
 unfoldable pub after : State → RawRecord → Result State ObjectFault

@@ -1,5 +1,4 @@
--- What a run leaves exists and is unique, given how much each stream took and how each call of the store
--- ended.
+-- The effects of a run exist and are unique, given how much each stream took and how each call of the store ended.
 use Rattle.std.specs.Prelude.{◌≡◌, ℕ, ◌==◌, ◌≤◌, ◌↔◌, Bool, List, ◌++◌, length, take, slice_get, Option, Some, None, ⊤}
 use Rattle.base65.specs.Store.{LastFailure, FailedCall, Files, FailedOn}
 use Rattle.base65.specs.declared.output.OutputFile.{OutputFile}

@@ -1,5 +1,5 @@
--- What a run leaves, by how many bytes each stream took, and by how much of the output is written at which
--- the run stopped. The streams are those whose writers tell their contents.
+-- The effects of a run, by the number of bytes that each stream took and that are written of the output at which the
+-- run stopped. The streams are those whose writers tell their contents.
 use Rattle.std.specs.Prelude.{ℕ, ◌==◌, ◌&&◌, if◌then◌else◌, List, ◌++◌, length, take, Option, Some, None, true, false, not}
 use Rattle.std.specs.FinMap.{insert}
 use Rattle.base65.specs.Store.{Files}

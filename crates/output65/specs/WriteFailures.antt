@@ -1,4 +1,4 @@
--- What is left if a call of the store fails while files are written.
+-- The effects of a run if a call of the store fails while files are written.
 use Rattle.std.specs.Prelude.{◌≡◌, ℕ, List, ◌∷◌, [], codes, slice_get, Option, Some}
 use Rattle.base65.specs.Store.{Files, FailedOn, RelatesFiles, LastFailure}
 use Rattle.base65.specs.declared.output.OutputFile.{OutputFile}

@@ -1,5 +1,5 @@
-//! What a run leaves exists and is unique, given how much each stream took and how each call of the
-//! store ended. Each function's contract is a law.
+//! The effects of a run exist and are unique, given how much each stream took and how each call of the store ended.
+//! Each law is the contract of a function that does nothing.
 
 ghost use Rattle.output65.specs.Laws.{WriteNamingIsUnique, PerformsLaw, PrintsLaw, SaysAfterLaw, SaysLaw, StopsShortLaw, StopsWritingLaw, WritersPerformLaw, WritersStopLaw};
 

@@ -59,7 +59,7 @@ area_ending part = ending (area_word part)
 abbrev pub row_ending : RowAttribute → List ℕ
 row_ending part = ending (row_word part)
 
--- ---- What a term comes to, by the places of areas and rows.
+-- ---- The value of a term, by the placement of areas and rows.
 
 abbrev pub area_value : AreaAttribute → AreaPlacement → ℕ
 area_value area.Start p = p.start

@@ -10,7 +10,7 @@ use Rattle.script65.specs.Grammar.{AreAttributes, AreBlocks, AreEntries, AreTerm
 use Rattle.script65.specs.Scripts.{IsRead}
 use Rattle.script65.specs.Tokens.{Lexeme, brace, colon, equals, minus, plus, semicolon, token, word}
 
--- ---- What stands before a place.
+-- ---- The text before a position.
 
 -- within a block: whole blocks, the word of this one, `{` and whole entries; these are the entries of the script so far
 pub record InBlock (bytes : List ℕ) (b : Block) (es : Entries) (at : ℕ) : Type 0 where
@@ -58,7 +58,7 @@ is_sign plus = true
 is_sign minus = true
 is_sign _ = false
 
--- ---- Faults by what stands before them.
+-- ---- Errors, by the text before them.
 
 -- A token is an error by itself: a name that the block already has an entry for; a word that is no attribute
 -- of the block; an attribute that the entry already has; the `;` of an entry that lacks an attribute, has two

@@ -48,7 +48,7 @@ NoContinuation =
 abbrev pub LongestTokens : Type 0
 LongestTokens = (here : List ℕ) → IsFront here (front here).0 (front here).1
 
--- ---- What is named is there.
+-- ---- Names that a script uses are defined.
 
 -- the area or the row that a sum names is in the script, if it has this number of areas and rows
 abbrev pub IsThere : ℕ → ℕ → Operand → Type 0

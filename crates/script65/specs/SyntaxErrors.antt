@@ -8,7 +8,7 @@ use Rattle.script65.specs.Faults.{stop_at}
 use Rattle.script65.specs.Attributes.{Block, Value, ValueKind, a_sum, attributes, blocks, find_keyword, value_of_word}
 use Rattle.script65.specs.Entries.{Entries, ConfigEntry, ParsedTerm, entry_fault, is_given, has_name, last_part, new_entry, part_of, sum_of_parts, value_of, with_entry, with_given}
 use Rattle.script65.specs.Tokens.{Lexeme, token, word, colon, semicolon, comma, equals, plus, minus, brace, end_brace, the_end}
--- ---- What may stand where.
+-- ---- The tokens that are allowed in each state.
 
 -- The state before a token: between blocks; after a block's keyword; between the entries of a block; after an
 -- entry's name; between the attributes of an entry; after an attribute's name; after its `=`; before a term

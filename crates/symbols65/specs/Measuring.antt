@@ -58,7 +58,7 @@ pub record HasNumbers (y : Symbols) (w : layout.Cursor) : Type 0 where
   pub unnamed : w.unnamed < 4294967295
   pub enclosing : enclosing y.scopes w.scope < 4294967296
 
--- ---- What stands behind a statement, by what it places.
+-- ---- The cursor after a statement, by its layout.
 
 -- the cursor after a statement of this length, which aligns its section to a multiple
 abbrev pub cursor_with_bytes : Symbols → layout.Cursor → Statement → (count alignment : ℕ) → layout.Cursor

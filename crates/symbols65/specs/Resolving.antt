@@ -50,7 +50,7 @@ IsReference (unary op e) = ⊥
 IsReference (binary op e f) = ⊥
 IsReference e = ⊤
 
--- ---- Forms that stay, within so many expressions.
+-- ---- Final forms, within a depth of expressions.
 
 -- an expression has this form whatever statements follow, and needs no more expressions one inside the other than there
 -- are definitions, and itself
@@ -263,7 +263,7 @@ may_be_looked_for (Some Unknown) = true
 may_be_looked_for (Some (BlockedOn k)) = true
 may_be_looked_for _ = false
 
--- ---- What is known of forms by those that are final.
+-- ---- Known forms, by those that are final.
 
 -- what a call answered is so, where it doesn't need another form and memory sufficed
 abbrev pub RefinesAttempt : Result Form AsmFault → Result Form AttemptError → Type 0

@@ -47,7 +47,7 @@ known_by t source.Finals j =
     option_and_then (λ d. option_map Found d.form) (option_map (λ e. e.1) (slice_get t.definitions.entries j))
 known_by t (source.Table states) j = slice_get states.now j
 
--- ---- Which places of a table of forms are found, and the table without those that wait.
+-- ---- The indices of a table of forms that are resolved, and the table without the deferred ones.
 
 abbrev pub is_found : Option State → Bool
 is_found (Some (Found f)) = true

@@ -15,7 +15,7 @@ use Rattle.whole65.specs.Values.{SymbolBinding, label_at, constant_at, import_of
 abbrev pub table_of : Layout → Symbols
 table_of y = symbols_of y.laid
 
--- ---- Where definitions stand.
+-- ---- The statements of definitions.
 
 -- the indices of the statements that make definitions, in the order of the definitions, where the first
 -- statement has this index
@@ -69,7 +69,7 @@ context_at y place = context_or (global_context y) (slice_get y.laid place)
 abbrev pub means_in : Layout → ℕ → Tree → Option SymbolBinding
 means_in y place e = meaning_by y (names.binding_of (table_of y) (context_at y place) e)
 
--- ---- What a module gives and needs.
+-- ---- The exports and imports of a module.
 
 abbrev pub exported_by : Statement → List (List ℕ)
 exported_by (Export names) = names

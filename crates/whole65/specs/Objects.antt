@@ -49,7 +49,7 @@ meaning_shown o owner (Err e) = None
 meaning_shown o owner (Ok (names.defined_at d)) = definition_shown (o.places owner d) (slice_get (o.symbols owner).definitions d)
 meaning_shown o owner (Ok (names.imported_as k)) = import_shown (slice_get (o.symbols owner).imports k)
 
--- ---- What imports come to.
+-- ---- The values of imports.
 
 -- never to a value
 abbrev pub HasNone : {E : Type 0} → Objects E → ℕ → ℕ → Type 0

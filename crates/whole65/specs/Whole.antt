@@ -20,7 +20,7 @@ use Rattle.whole65.specs.Programs.{program_of}
 use Rattle.whole65.specs.Segments.{SegmentLine, items_of, lines_after, needs_of}
 use Rattle.whole65.specs.Values.{Program, Value, by_nobody}
 
--- ---- What has to have a value, whether or not it is used.
+-- ---- Names and expressions that must have a value even if they aren't used.
 
 -- each name that a module exports has a value, in the module's global scope
 abbrev pub HasExport : Program → ℕ → List ℕ → Type 0

@@ -175,7 +175,7 @@ abbrev pub RequestsSection : ℕ → Statement → Assembler → Assembler → T
 RequestsSection segment x old new =
     (count : ℕ) (t : State) → Represents count t old → Represents count (asked_of segment x t) new
 
--- ---- Where a statement stands.
+-- ---- The context of a statement.
 
 -- a statement here has no fault at its line, and places so much
 pub record IsMeasuredAt (t : State) (x : Statement) (s : Context) (m : StatementLayout) : Type 0 where
@@ -183,7 +183,7 @@ pub record IsMeasuredAt (t : State) (x : Statement) (s : Context) (m : Statement
   pub context : s ≡ context_of t.cursor
   pub measured : m ≡ measure_of t.symbols t.cursor x
 
--- it has this fault there, unless that came from outside
+-- it has this error there, unless that is a system error
 abbrev pub IsRefused : State → Statement → AsmFault → Type 0
 IsRefused t x e = Unless (is_system_error e) (line_fault t.symbols t.cursor x ≡ Some e)
 

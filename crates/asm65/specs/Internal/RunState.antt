@@ -42,7 +42,7 @@ use Rattle.asm65.specs.declared.texts.Diagnostic.{Diagnostic}
 use Rattle.asm65.specs.declared.resolving.FixupLocation.{FixupLocation}
 use Rattle.asm65.specs.declared.resolving.ResolvedPiece as code
 
--- ---- What a call that takes statements leaves.
+-- ---- The frame of a call that assembles statements.
 
 -- of a store: its files as before, and its count of failures, by the answer
 pub record AsmStoreFrame {X T : Type 0} (files_of : X → Option Files) (failures_of : X → ℕ) (old new : X) (result : Result T AsmFault) : Type 0 where
@@ -70,8 +70,8 @@ pub data IsReached : State → Type 0 where
       (t u : State) (place : SourceLocation) (x : Statement) →
       IsReached t → IsWellFormedStatement x → StepsTo t place x (Ok u) → IsReached u
 
--- Behind a state, an answer: what it says is held; or it is refused with nothing more said, as it
--- says where names are so, unless it is refused from outside.
+-- After a state, a result: the assembler represents the next state; or it has the error without further output, if the
+-- names are valid, unless that is a system error.
 abbrev pub RefinesTransition :
     Type 0 → (Result State AsmFault → Type 0) → ℕ → State → Assembler →
     Result (Unit {0}) AsmFault → Type 0
@@ -195,7 +195,7 @@ pub record IsRefusedUnread (o : Option Files) (last_failure : LastFailure) (t : 
   pub inside : Unless (is_system_error e) ((m : Files) → StepsTo t place (with_bytes m place x) (Err e))
   pub failed : is_failure e ≡ true → AnswersWithoutFile o last_failure (λ m t. StepsTo t place (with_bytes m place x)) t (Err FileNotFound)
 
--- ---- What a piece comes to.
+-- ---- The result of a piece.
 
 -- the files of a pending piece, and its location
 abbrev pub files_here : FixupLocation → List (List ℕ)

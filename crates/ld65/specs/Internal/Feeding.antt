@@ -26,8 +26,8 @@ is_fed_system_error link.OutOfMemory = true
 is_fed_system_error (link.Malformed f) = is_object_system_error f
 is_fed_system_error _ = false
 
--- A call leads to a next state by something that the files give, or is refused as they say, unless from outside. Where
--- the files aren't known, it still leads to a next state.
+-- A call leads to a next state by a value that the files determine, or has their error, unless that is a system error.
+-- If the files aren't known, it still leads to a next state.
 abbrev pub LeadsBy : {E A R : Type 0} → (E → Bool) → (R → A → Type 0) → Option Files → (Files → Result A E → Type 0) → Result R E → Type 0
 LeadsBy {E} {A} is_out Next known Reads (Ok r) = (x : A) × IfSome known (λ m. Reads m (Ok x)) × Next r x
 LeadsBy is_out Next known Reads (Err e) = IfSome known (λ m. Unless (is_out e) (Reads m (Err e)))

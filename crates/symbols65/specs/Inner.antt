@@ -1,2 +1,3 @@
 -- How the parts of a type lie in memory, behind what contracts see.
+pub mod Absences
 pub mod Cursors

@@ -4,7 +4,7 @@ use Rattle.semantics65.specs.Layout as layout
 use Rattle.std.specs.List.{AllByRecursion}
 use Rattle.std.specs.Option.{unwrap_or}
 use Rattle.object65.specs.Objects.{section_limit}
-use Rattle.semantics65.specs.Layout.{context_of, current_behind, kept_behind, opens_scope, scope_behind, segments_behind, multiple_of, own_size, size_stated, defined_twice, file_limit, first_fault, is_open, is_part, left_from, line_fault, lost_scopes, opened_twice, operand_fault, optional_tree, or_then, placing_faults, scope_name, stands_outside, trees_of, when, unless_fault}
+use Rattle.semantics65.specs.Layout.{context_of, current_behind, kept_behind, opens_scope, scope_behind, segments_behind, multiple_of, own_size, size_stated, defined_twice, file_limit, first_fault, is_byte_value, is_open, is_part, left_from, line_fault, lost_scopes, opened_twice, operand_fault, optional_tree, or_then, placing_faults, scope_name, stands_outside, trees_of, when, unless_fault}
 use Rattle.ast65.specs.declared.language.Statement.{Statement}
 use Rattle.ast65.specs.declared.language.Statement.TheVariants as statement
 use Rattle.ast65.specs.declared.language.Statement.TheVariants.{Label, OpenProc, OpenScope, UnnamedLabel, FilePart}
@@ -15,7 +15,8 @@ use Rattle.ast65.specs.declared.fault.AsmFault.{AsmFault}
 use Rattle.ast65.specs.declared.fault.AsmFault.TheVariants.{BadOperand, BadPart, NotUnderstood, SectionTooLarge}
 use Rattle.ast65.specs.Faults.{is_memory}
 use Rattle.semantics65.specs.declared.laid.Context.{Context}
-use Rattle.semantics65.specs.Norms.{counted, length_of, settled_of}
+use Rattle.semantics65.specs.declared.laid.Settled.{Settled}
+use Rattle.semantics65.specs.Norms.{counted, fill_settled, length_of, optional_value, settled_of}
 use Rattle.symbols65.specs.declared.measuring.Before.{Before}
 use Rattle.symbols65.specs.declared.measuring.Measured.{Measured}
 use Rattle.symbols65.specs.Views.{table_of}
@@ -106,6 +107,12 @@ Checks result fault = Gives is_memory (λ u. u) result (unless_fault fault tt)
 abbrev pub Places : Before → Result Measured AsmFault → Statement → Type 0
 Places before result x =
     Gives is_memory (λ m. m) result (placed (table_of before.symbols.now) before.cursor.now x)
+
+-- what fills room, where that is a byte
+abbrev pub Fills : Symbols → Context → Option Tree → Result Settled AsmFault → Type 0
+Fills y s v result =
+    Gives is_memory (λ st. st) result
+    (unless_fault (when (not (is_byte_value (optional_value y s v (pos 0)))) BadOperand) (fill_settled y s v))
 
 -- so many bytes, if the section has room for them
 abbrev pub fitted : layout.Cursor → ℕ → Result ℕ AsmFault

@@ -11,21 +11,22 @@ ghost use Rattle.object65.specs.Objects.{section_limit};
 ghost use Rattle.ast65.specs.Faults.{is_memory};
 ghost use Rattle.semantics65.specs.declared.laid.Settled.TheVariants.{Unsettled};
 ghost use Rattle.ast65.specs.declared.language.Statement.TheVariants.{Instruction};
-ghost use Rattle.semantics65.specs.Layout.{own_size, context_of};
+ghost use Rattle.semantics65.specs.Layout.{own_size, context_of, unless_fault};
 ghost use Rattle.symbols65.specs.Resolving.{IsTable};
 ghost use Rattle.symbols65.specs.Views.{table_of};
-ghost use Rattle.symbols65.specs.Measuring.{Checks, fitted, measured, naming_fault};
+ghost use Rattle.symbols65.specs.Evaluations.{AreEvaluations};
+ghost use Rattle.symbols65.specs.Measuring.{fitted, measured, naming_fault};
 
 pub use self::bytes::check_unread;
 use self::bytes::instruction;
 pub use self::kinds::asks_section;
 use self::kinds::{check_defined, check_opened, check_outside, place};
-use self::trees::{check_operand, check_trees};
+use self::trees::{Evaluations, evaluate_optional, evaluate_trees, operand_value};
 use crate::cursor::Cursor;
 use crate::resolving::NormCache;
 use crate::table::Symbols;
 use ast65::{AsmFault, Operand, Statement};
-use semantics65::{Context, Settled};
+use semantics65::Settled;
 use std::alloc::Global;
 use syntax65::{AddressSize, Mnemonic};
 
@@ -48,20 +49,30 @@ pub struct Measured {
     pub settled: Settled,
 }
 
-/// Refuses a statement for the names and scopes in it.
+/// The evaluations of the expressions of a statement; or the statement is refused for the names and scopes in it.
 fn check_naming(
     alloc: Global,
-    symbols: &Symbols,
-    context: Context,
+    before: Before<'_>,
+    known: &mut NormCache,
     statement: &Statement,
-) -> Result<(), AsmFault>
-    ensures { Checks result (naming_fault (table_of symbols.now) context statement.now) }
+) -> Result<Evaluations, AsmFault>
+    requires { IsTable (table_of before.symbols.now) known.old.states.items }
+    ensures naming { Gives is_memory (λ _. tt {0}) result (unless_fault (naming_fault
+        (table_of before.entry.symbols.now) (context_of before.entry.cursor.now)
+        statement.now) tt) }
+    ensures found { IfOk result (AreEvaluations (table_of before.entry.symbols.now)
+        (context_of before.entry.cursor.now) (own_size before.entry.cursor.now)
+        statement.now) }
+    ensures table { OnOk result
+        (IsTable (table_of before.entry.symbols.now) known.new.states.items) }
 {
+    let context = before.cursor.context();
     let scope = context.scope as usize;
     check_outside(scope, statement)?;
-    check_trees(alloc, symbols, scope, statement)?;
-    check_opened(alloc, symbols, scope, statement)?;
-    check_defined(alloc, symbols, context, statement)
+    let found = evaluate_trees(alloc, before, known, statement)?;
+    check_opened(alloc, before.symbols, scope, statement)?;
+    check_defined(alloc, before.symbols, context, statement)?;
+    Ok(found)
 }
 
 /// So many bytes, if the section has room for them.
@@ -109,8 +120,8 @@ pub fn measure(
     ensures table { OnOk result
         (IsTable (table_of before.entry.symbols.now) known.new.states.items) }
 {
-    check_naming(alloc, before.symbols, before.cursor.context(), statement)?;
-    place(alloc, before, known, statement)
+    let found = check_naming(alloc, before, known, statement)?;
+    place(before, statement, &found)
 }
 
 /// The same of an instruction, which most statements are.
@@ -130,7 +141,6 @@ pub fn measure_instruction(
     ensures table { OnOk result
         (IsTable (table_of before.entry.symbols.now) known.new.states.items) }
 {
-    let scope = before.cursor.context().scope as usize;
-    check_operand(alloc, before.symbols, scope, operand)?;
-    instruction(alloc, before, known, mnemonic, operand)
+    let found = evaluate_optional(alloc, before, known, operand_value(operand))?;
+    instruction(before.cursor, mnemonic, operand, &found)
 }

@@ -1,25 +1,28 @@
 //! Segments and blocks, and statements that place room.
 
-ghost use Rattle.std.specs.Prelude.{◌≡◌, not, slice_get, ◌<◌, ◌≤◌, IfOk, OnOk, pos, Some};
-ghost use Rattle.semantics65.specs.Layout.{place_of, segment_at, context_of as cursor_context, changed_size, is_scope, opened_as, same_size, when, unless_fault, is_byte_value, is_count, multiple_fault};
+ghost use Rattle.std.specs.Prelude.{◌≡◌, not, slice_get, ◌<◌, ◌≤◌, IfOk, Option, pos, Some};
+ghost use Rattle.semantics65.specs.Layout.{place_of, segment_at, context_of as cursor_context, changed_size, is_scope, opened_as, own_size, same_size, when, unless_fault, is_count, multiple_fault};
 ghost use Rattle.ast65.specs.declared.fault.AsmFault.TheVariants.{BadOperand};
 ghost use Rattle.symbols65.specs.Views.{table_of};
-ghost use Rattle.symbols65.specs.Measuring.{Places};
+ghost use Rattle.symbols65.specs.Evaluations.{AreEvaluations, IsEvaluated};
+ghost use Rattle.symbols65.specs.Measuring.{Fills, placed};
 ghost use Rattle.base65.specs.Outcome.{Gives};
 ghost use Rattle.ast65.specs.Faults.{is_memory};
 ghost use Rattle.ast65.specs.declared.language.Statement.TheVariants.{Align, Reserve};
-ghost use Rattle.semantics65.specs.Norms.{counted, fill_settled, gap, optional_value};
-ghost use Rattle.symbols65.specs.Resolving.{IsTable};
+ghost use Rattle.semantics65.specs.Norms.{counted, gap};
+ghost use Rattle.semantics65.specs.Symbols.{Symbols as Table};
+ghost use Rattle.semantics65.specs.declared.laid.Context.{Context};
+ghost use Rattle.syntax65.specs.Trees.{Tree};
+ghost use Rattle.syntax65.specs.declared.lexing.tokens.AddressSize.{AddressSize};
 
+use super::trees::Evaluations;
 use crate::cursor::Cursor;
-use crate::knowing;
-use crate::measuring::{Before, Measured, fit, nothing};
-use crate::resolving::NormCache;
+use crate::knowing::{Evaluation, number};
+use crate::measuring::{Measured, fit, nothing};
 use crate::table::Symbols;
-use ast65::{AsmFault, OptionalExpr};
-use semantics65::{Context, Segment, Settled};
-use std::alloc::Global;
-use syntax65::{AddressSize, Expr};
+use ast65::AsmFault;
+use semantics65::{Segment, Settled};
+use syntax65::AddressSize;
 
 /// Whether the scope at a place was opened by `.scope`.
 fn is_scope_at(symbols: &Symbols, place: usize) -> bool
@@ -83,25 +86,14 @@ pub fn check_segment(
 }
 
 /// What fills room.
-fn fill(
-    alloc: Global,
-    symbols: &Symbols,
-    known: &mut NormCache,
-    context: Context,
-    value: &OptionalExpr,
-) -> Result<Settled, AsmFault>
-    requires { IsTable (table_of symbols.now) known.old.states.items }
-    ensures byte { Gives is_memory (λ _. tt {0}) result (unless_fault
-        (when (not (is_byte_value (optional_value (table_of symbols.now) context
-        value.now (pos 0)))) BadOperand) tt) }
-    ensures settled { IfOk result (λ s. s
-        ≡ fill_settled (table_of symbols.now) context value.now) }
-    ensures table { OnOk result (IsTable (table_of symbols.now) known.new.states.items) }
+fn fill(found: &Option<Evaluation>) -> Result<Settled, AsmFault>
+    ensures { (y : Table) (s : Context) (own : AddressSize) (e : Option Tree) →
+        IsEvaluated y s own e found.now → Fills y s e result }
 {
-    let Some(value) = value.get() else {
+    if found.is_none() {
         return Ok(Settled::Unsettled);
-    };
-    match knowing::constant(alloc, symbols, known, context, value)? {
+    }
+    match number(found) {
         Some(value) if 0 <= value && value < 256 => Ok(Settled::FilledWith(value as u8)),
         _ => Err(AsmFault::BadOperand),
     }
@@ -118,28 +110,20 @@ fn count_of(value: Option<i64>) -> Result<usize, AsmFault>
     }
 }
 
-/// What `.res` places.
+/// What `.res` places, by the evaluations of its number and of what fills it.
 #[inline(never)]
-pub fn reserve(
-    alloc: Global,
-    before: Before<'_>,
-    known: &mut NormCache,
-    count: &Expr,
-    value: &OptionalExpr,
-) -> Result<Measured, AsmFault>
-    requires table { IsTable (table_of before.symbols.now) known.old.states.items }
-    ensures placed { Places before.entry result (Reserve count.now value.now) }
-    ensures table { OnOk result
-        (IsTable (table_of before.entry.symbols.now) known.new.states.items) }
+pub fn reserve(cursor: &Cursor, found: &Evaluations) -> Result<Measured, AsmFault>
+    ensures { (y : Table) (n : Tree) (v : Option Tree) →
+        AreEvaluations y (cursor_context cursor.now) (own_size cursor.now) (Reserve n v) found.now →
+        Gives is_memory (λ m. m) result (placed y cursor.now (Reserve n v)) }
 {
-    let context = before.cursor.context();
-    let count = count_of(knowing::constant(alloc, before.symbols, known, context, count)?)?;
-    let settled = fill(alloc, before.symbols, known, context, value)?;
-    let length = fit(before.cursor, count)?;
+    let count = count_of(number(&found.first))?;
+    let settled = fill(&found.second)?;
+    let length = fit(cursor, count)?;
     Ok(Measured {
         length,
         settled,
-        ..nothing(before.cursor)
+        ..nothing(cursor)
     })
 }
 
@@ -183,32 +167,24 @@ fn gap(cursor: &Cursor, multiple: u32) -> u32
     offset.next_multiple_of(multiple) - offset
 }
 
-/// What `.align` places.
+/// What `.align` places, by the evaluations of its multiple and of what fills it.
 #[inline(never)]
-pub fn align(
-    alloc: Global,
-    before: Before<'_>,
-    known: &mut NormCache,
-    multiple: &Expr,
-    value: &OptionalExpr,
-) -> Result<Measured, AsmFault>
-    requires table { IsTable (table_of before.symbols.now) known.old.states.items }
-    ensures placed { Places before.entry result (Align multiple.now value.now) }
-    ensures table { OnOk result
-        (IsTable (table_of before.entry.symbols.now) known.new.states.items) }
+pub fn align(cursor: &Cursor, found: &Evaluations) -> Result<Measured, AsmFault>
+    ensures { (y : Table) (n : Tree) (v : Option Tree) →
+        AreEvaluations y (cursor_context cursor.now) (own_size cursor.now) (Align n v) found.now →
+        Gives is_memory (λ m. m) result (placed y cursor.now (Align n v)) }
 {
-    let context = before.cursor.context();
-    let multiple = knowing::constant(alloc, before.symbols, known, context, multiple)?;
-    let Some(_) = multiple else {
+    let multiple = number(&found.first);
+    if multiple.is_none() {
         return Err(AsmFault::BadOperand);
-    };
-    let settled = fill(alloc, before.symbols, known, context, value)?;
+    }
+    let settled = fill(&found.second)?;
     let multiple = multiple_of(multiple)?;
-    let length = fit(before.cursor, gap(before.cursor, multiple) as usize)?;
+    let length = fit(cursor, gap(cursor, multiple) as usize)?;
     Ok(Measured {
         length,
         multiple,
         settled,
-        ..nothing(before.cursor)
+        ..nothing(cursor)
     })
 }

@@ -22,7 +22,7 @@ use std::alloc::{AllocError, Global};
 use syntax65::{Expr, ExprKind, Name};
 
 /// The value of an expression of numbers alone, which no symbol table changes, if it has one.
-pub fn number_of(value: &Expr) -> Option<i64>
+fn number_of(value: &Expr) -> Option<i64>
     ensures { IfSome result (IsNumber value.now) }
 {
     match value.kind() {
@@ -110,7 +110,7 @@ fn opened_member(symbols: &Symbols, context: Context, name: &Name) -> Option<usi
 
 /// The place of the definition that an operand means whatever statements follow, where that is evident already: never
 /// of an import, of a reference further on, or of a name without `::` that is only defined further out.
-fn final_place(symbols: &Symbols, context: Context, operand: &Expr) -> Option<usize>
+pub fn final_place(symbols: &Symbols, context: Context, operand: &Expr) -> Option<usize>
     ensures { IfSome result
         (MeansAlways (table_of symbols.now) context operand.now) }
 {

@@ -1,6 +1,6 @@
 //! One statement of the source is taken, of names and texts that objects can hold.
 
-ghost use Rattle.std.specs.Prelude.{◌≡◌, true, Err, ◌+◌, ◌<◌, ◌∷◌, [], ℕ, IfErr, IfOk, OnOk, false};
+ghost use Rattle.std.specs.Prelude.{◌≡◌, true, Err, ◌+◌, ◌<◌, ℕ, IfErr, IfOk, OnOk, false};
 ghost use Rattle.std.specs.List.{list_all};
 ghost use Rattle.object65.specs.Objects.{is_name, is_printed};
 ghost use Rattle.semantics65.specs.Numbering.{IsSound};
@@ -11,8 +11,10 @@ ghost use Rattle.ast65.specs.Faults.{is_failure, is_outside};
 ghost use Rattle.semantics65.specs.Views.{place_at};
 ghost use Rattle.symbols65.specs.Measuring.{opened_by, opening_limit};
 ghost use Rattle.sources65.specs.Machine.{State, Takes, symbols_behind};
-ghost use Rattle.semantics65.specs.Module.{asserted, instruction_pieces, pieces_of, valued};
+ghost use Rattle.semantics65.specs.Contents.{operand_tree};
+ghost use Rattle.semantics65.specs.Module.{instruction_pieces, pieces_of};
 ghost use Rattle.sources65.specs.Reading.{Answers};
+ghost use Rattle.symbols65.specs.Evaluations.{HasFinal, HaveFinals, items_in, first_tree};
 ghost use Rattle.symbols65.specs.Resolving.{IsTable};
 ghost use Rattle.symbols65.specs.Views.{table_of};
 ghost use Rattle.asm65.specs.Inner.Holding.{Enters, Holds, KeepsTables, Asks, IsHeld, IsNew, IsPlaced, IsRefused, Turns, laid_as, stepped};
@@ -20,18 +22,17 @@ ghost use Rattle.asm65.specs.Inner.Holding.{Enters, Holds, KeepsTables, Asks, Is
 use crate::assembler::Assembler;
 use crate::putting::Site;
 use crate::putting::statements::{
-    enter_code, enter_operand_of, enter_part, enter_room, enter_values, is_so, operand_value,
-    width_of,
+    enter_code, enter_operand, enter_part, enter_room, enter_values, width_of,
 };
-use crate::putting::values::wait;
+use crate::putting::values::enter_value;
 use ast65::{AsmFault, Operand, Statement};
 use base65::Sequence;
 use emit65::Piece;
-use object65::Action;
+use object65::Norm;
 use semantics65::{At, Context, Settled};
 use std::alloc::{AllocError, Global};
-use symbols65::{Before, Measured, asks_section, measure, measure_instruction};
-use syntax65::{Expr, Mnemonic, Mode, opcode};
+use symbols65::{Analysis, Before, Measured, asks_section, measure, measure_instruction};
+use syntax65::{Mnemonic, Mode, opcode};
 
 /// How many bytes a name or a text has fewer than.
 const LEN_LIMIT: usize = 256;
@@ -72,11 +73,11 @@ pub fn is_sound(statement: &Statement) -> bool
     }
 }
 
-/// Where a statement stands, and what it places.
-#[derive(Clone, Copy)]
+/// Where a statement stands, and what is known of it there.
+#[derive(Drop)]
 struct Placed {
     context: Context,
-    measured: Measured,
+    analysis: Analysis,
 }
 
 /// The refusal of a statement. (What it holds is let go here, not where most statements go by.)
@@ -117,14 +118,16 @@ impl Assembler {
         mnemonic: Mnemonic,
         mode: Mode,
         operand: Operand,
+        form: Option<Norm>,
     ) -> Result<(), AllocError>
+        requires { HasFinal (table_of self.old.symbols) site.context (operand_tree operand) form }
         ensures { OnOk result (Enters
             (place_at site.entry.at) site.entry.context
             (instruction_pieces mnemonic operand (InMode mode))
             self.old self.new) }
     {
         enter_code(self, site.context, opcode(mnemonic, mode))?;
-        enter_operand_of(alloc, self, site, width_of(mode), operand_value(operand))
+        enter_operand(alloc, self, site, width_of(mode), operand, form)
     }
 
     /// An instruction is entered in the form that is settled.
@@ -136,44 +139,20 @@ impl Assembler {
         settled: Settled,
         mnemonic: Mnemonic,
         operand: Operand,
+        form: Option<Norm>,
     ) -> Result<(), AllocError>
+        requires { HasFinal (table_of self.old.symbols) site.context (operand_tree operand) form }
         ensures { OnOk result (Enters
             (place_at site.entry.at) site.entry.context
             (instruction_pieces mnemonic operand settled)
             self.old self.new) }
     {
         match settled {
-            Settled::InMode(mode) => self.enter_instruction(alloc, site, mnemonic, mode, operand),
+            Settled::InMode(mode) => {
+                self.enter_instruction(alloc, site, mnemonic, mode, operand, form)
+            }
             Settled::Unsettled | Settled::FilledWith(_) | Settled::FromByte(_) => Ok(()),
         }
-    }
-
-    /// Enters an assertion.
-    #[inline(never)]
-    fn enter_assertion(
-        &mut self,
-        alloc: Global,
-        site: Site<'_>,
-        action: Action,
-        text: Sequence<u8>,
-        value: Expr,
-    ) -> Result<(), AllocError>
-        ensures { OnOk result (Enters
-            (place_at site.entry.at) site.entry.context
-            (valued (asserted action text) value ∷ []) self.old self.new) }
-    {
-        if is_so(alloc, &self.symbols, site.context, &value)? {
-            return Ok(());
-        }
-        wait(
-            self,
-            site,
-            Piece::Assertion {
-                action,
-                text,
-                value,
-            },
-        )
     }
 
     /// The pieces of a statement are entered, and then its names are known.
@@ -182,18 +161,27 @@ impl Assembler {
         &mut self,
         alloc: Global,
         site: Site<'_>,
-        measured: Measured,
+        analysis: Analysis,
         statement: Statement,
     ) -> Result<(), AllocError>
         requires known { IsTable (table_of self.old.symbols) self.old.known.states.items }
         requires new { IsNew (table_of self.old.symbols) site.context statement }
+        requires form { HasFinal (table_of self.old.symbols) site.context
+            (first_tree statement) analysis.form }
+        requires forms { HaveFinals (table_of self.old.symbols) site.context
+            (items_in statement) analysis.forms.items }
         ensures { OnOk result (let place = place_at site.entry.at in
-            let s = site.entry.context in let m = measured in
+            let s = site.entry.context in let m = analysis.measured in
             Turns place s (pieces_of m.length m.settled statement)
             (λ y. symbols_behind y (laid_as place s m statement))
             self.old self.new) }
     {
         let context = site.context;
+        let Analysis {
+            measured,
+            form,
+            forms,
+        } = analysis;
         let Measured {
             length,
             settled,
@@ -201,9 +189,11 @@ impl Assembler {
         } = measured;
         match statement {
             Statement::Instruction { mnemonic, operand } => {
-                self.enter_settled(alloc, site, settled, mnemonic, operand)
+                self.enter_settled(alloc, site, settled, mnemonic, operand, form)
             }
-            Statement::Values { width, items } => enter_values(alloc, self, site, width, items),
+            Statement::Values { width, items } => {
+                enter_values(alloc, self, site, width, items, forms)
+            }
             Statement::Reserve { .. } => enter_room(self, context, length, settled),
             Statement::Align { .. } => enter_room(self, context, length, settled),
             Statement::FilePart { bytes, .. } => enter_part(self, context, length, settled, bytes),
@@ -211,8 +201,15 @@ impl Assembler {
                 value,
                 action,
                 text,
-            } => self.enter_assertion(alloc, site, action, text, value),
-            other => self.enter_names(alloc, site, measured, other),
+            } => {
+                let piece = Piece::Assertion {
+                    action,
+                    text,
+                    value,
+                };
+                enter_value(alloc, self, site, form, piece)
+            }
+            other => self.enter_names(alloc, site, measured, other, form),
         }
     }
 
@@ -227,7 +224,7 @@ impl Assembler {
     ) -> Result<Placed, AsmFault>
         requires { IsHeld self.old }
         ensures placed { (count : ℕ) (t : State) → Holds count t self.old → IfOk result (λ p.
-            IsPlaced t statement.now p.context p.measured) }
+            IsPlaced t statement.now p.context p.analysis.measured) }
         ensures holds { (count : ℕ) (t : State) → Holds count t self.old → OnOk result
             (Holds (count + opened_by statement.now)
             (stepped t (place_at at.entry) statement.now)
@@ -237,6 +234,10 @@ impl Assembler {
         ensures known { OnOk result
             (IsTable (table_of self.new.symbols) self.new.known.states.items) }
         ensures new { IfOk result (λ p. IsNew (table_of self.new.symbols) p.context statement.now) }
+        ensures form { IfOk result (λ p. HasFinal (table_of self.new.symbols) p.context
+            (first_tree statement.now) p.analysis.form) }
+        ensures forms { IfOk result (λ p. HaveFinals (table_of self.new.symbols) p.context
+            (items_in statement.now) p.analysis.forms.items) }
         ensures texts { IfErr result (λ e. is_outside e ≡ false → self.new.texts ≡ self.old.texts) }
         ensures inside { IfErr result (λ e. is_failure e ≡ false) }
     {
@@ -244,13 +245,13 @@ impl Assembler {
             symbols: &self.symbols,
             cursor: &self.cursor,
         };
-        let measured = measure(alloc, before, &mut self.known, statement)?;
+        let analysis = measure(alloc, before, &mut self.known, statement)?;
         let context = self.cursor.context();
         self.ask(context.segment, statement)?;
         self.texts.say(at, statement)?;
         self.cursor
-            .advance(alloc, &self.symbols, statement, measured)?;
-        Ok(Placed { context, measured })
+            .advance(alloc, &self.symbols, statement, analysis.measured)?;
+        Ok(Placed { context, analysis })
     }
 
     /// Finds what an instruction places and where it stands, or its first fault; asks for its section,
@@ -264,12 +265,14 @@ impl Assembler {
     ) -> Result<Placed, AsmFault>
         requires { IsHeld self.old }
         ensures placed { (count : ℕ) (t : State) → Holds count t self.old → IfOk result (λ p.
-            IsPlaced t (Instruction mnemonic operand.now) p.context p.measured) }
+            IsPlaced t (Instruction mnemonic operand.now) p.context p.analysis.measured) }
         ensures holds { (place : Place) (count : ℕ) (t : State) → Holds count t self.old →
             OnOk result (Holds (count + opened_by (Instruction mnemonic operand.now))
             (stepped t place (Instruction mnemonic operand.now)) self.new) }
         ensures refused { (count : ℕ) (t : State) → Holds count t self.old → IfErr result
             (IsRefused t (Instruction mnemonic operand.now)) }
+        ensures form { IfOk result (λ p. HasFinal (table_of self.new.symbols) p.context
+            (operand_tree operand.now) p.analysis.form) }
         ensures texts { IfErr result (λ e. is_outside e ≡ false → self.new.texts ≡ self.old.texts) }
         ensures inside { IfErr result (λ e. is_failure e ≡ false) }
     {
@@ -277,11 +280,11 @@ impl Assembler {
             symbols: &self.symbols,
             cursor: &self.cursor,
         };
-        let measured = measure_instruction(alloc, before, &mut self.known, mnemonic, operand)?;
+        let analysis = measure_instruction(alloc, before, &mut self.known, mnemonic, operand)?;
         let context = self.cursor.context();
         self.sections.ask(context.segment)?;
-        self.cursor.advance_by(measured.length);
-        Ok(Placed { context, measured })
+        self.cursor.advance_by(analysis.measured.length);
+        Ok(Placed { context, analysis })
     }
 
     /// Takes an instruction behind other statements, as `take` does.
@@ -301,9 +304,10 @@ impl Assembler {
         ensures inside { IfErr result (λ e. is_failure e ≡ false) }
     {
         match self.place_instruction(alloc, mnemonic, &operand) {
-            Ok(Placed { context, measured }) => {
+            Ok(Placed { context, analysis }) => {
                 let site = Site { at, context };
-                self.enter_settled(alloc, site, measured.settled, mnemonic, operand)?;
+                let Analysis { measured, form, .. } = analysis;
+                self.enter_settled(alloc, site, measured.settled, mnemonic, operand, form)?;
                 Ok(())
             }
             Err(fault) => refused_operand(operand, fault),
@@ -320,8 +324,8 @@ impl Assembler {
         ensures inside { IfErr result (λ e. is_failure e ≡ false) }
     {
         match self.place(alloc, at, &statement) {
-            Ok(Placed { context, measured }) => {
-                self.enter(alloc, Site { at, context }, measured, statement)?;
+            Ok(Placed { context, analysis }) => {
+                self.enter(alloc, Site { at, context }, analysis, statement)?;
                 Ok(())
             }
             Err(fault) => refused(statement, fault),

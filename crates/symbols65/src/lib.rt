@@ -10,9 +10,11 @@ mod resolving;
 mod table;
 
 pub use cursor::Cursor;
-pub use measuring::{Before, Measured, asks_section, check_unread, measure, measure_instruction};
+pub use measuring::{
+    Analysis, Before, Measured, asks_section, check_unread, measure, measure_instruction,
+};
 pub use resolving::{
     Meaning, NormCache, State, defined_norm, definition_of, meaning_of, norm, operand_form,
-    plain_part, scope_of, scopes_in, shown, stable_form,
+    plain_part, scope_of, scopes_in, shown,
 };
 pub use table::{Definition, Entry, Key, Opening, Symbols, define};

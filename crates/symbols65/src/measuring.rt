@@ -11,10 +11,11 @@ ghost use Rattle.object65.specs.Objects.{section_limit};
 ghost use Rattle.ast65.specs.Faults.{is_memory};
 ghost use Rattle.semantics65.specs.declared.laid.Settled.TheVariants.{Unsettled};
 ghost use Rattle.ast65.specs.declared.language.Statement.TheVariants.{Instruction};
+ghost use Rattle.semantics65.specs.Contents.{operand_tree};
 ghost use Rattle.semantics65.specs.Layout.{own_size, context_of, unless_fault};
 ghost use Rattle.symbols65.specs.Resolving.{IsTable};
 ghost use Rattle.symbols65.specs.Views.{table_of};
-ghost use Rattle.symbols65.specs.Evaluations.{AreEvaluations};
+ghost use Rattle.symbols65.specs.Evaluations.{AreEvaluations, HasFinal, HaveFinals, first_tree, items_in};
 ghost use Rattle.symbols65.specs.Measuring.{fitted, measured, naming_fault};
 
 pub use self::bytes::check_unread;
@@ -23,9 +24,11 @@ pub use self::kinds::asks_section;
 use self::kinds::{check_defined, check_opened, check_outside, place};
 use self::trees::{Evaluations, evaluate_optional, evaluate_trees, operand_value};
 use crate::cursor::Cursor;
+use crate::knowing::final_form;
 use crate::resolving::NormCache;
 use crate::table::Symbols;
 use ast65::{AsmFault, Operand, Statement};
+use object65::Norm;
 use semantics65::Settled;
 use std::alloc::Global;
 use syntax65::{AddressSize, Mnemonic};
@@ -47,6 +50,16 @@ pub struct Measured {
     /// The multiple to which it aligns its section.
     pub multiple: u32,
     pub settled: Settled,
+}
+
+/// What is known of a statement at its line.
+#[derive(Drop)]
+pub struct Analysis {
+    pub measured: Measured,
+    /// The final form of the expression of an instruction, a constant or an assertion, if that is evident already.
+    pub form: Option<Norm>,
+    /// The final forms of the elements of a list, each at the place of its element; none of numbers alone.
+    pub forms: Vec<Option<Norm>>,
 }
 
 /// The evaluations of the expressions of a statement; or the statement is refused for the names and scopes in it.
@@ -110,18 +123,29 @@ pub fn measure(
     before: Before<'_>,
     known: &mut NormCache,
     statement: &Statement,
-) -> Result<Measured, AsmFault>
+) -> Result<Analysis, AsmFault>
     requires table { IsTable (table_of before.symbols.now) known.old.states.items }
-    ensures measured { Gives is_memory (λ m. m) result (measured
+    ensures measured { Gives is_memory (λ a. a.measured) result (measured
         (table_of before.entry.symbols.now) before.entry.cursor.now
         statement.now) }
-    ensures room { IfOk result (λ m.
-        (context_of before.entry.cursor.now).offset + m.length ≤ section_limit) }
+    ensures room { IfOk result (λ a.
+        (context_of before.entry.cursor.now).offset + a.measured.length ≤ section_limit) }
+    ensures form { IfOk result (λ a. HasFinal (table_of before.entry.symbols.now)
+        (context_of before.entry.cursor.now) (first_tree statement.now) a.form) }
+    ensures forms { IfOk result (λ a. HaveFinals (table_of before.entry.symbols.now)
+        (context_of before.entry.cursor.now) (items_in statement.now) a.forms.items) }
     ensures table { OnOk result
         (IsTable (table_of before.entry.symbols.now) known.new.states.items) }
 {
     let found = check_naming(alloc, before, known, statement)?;
-    place(before, statement, &found)
+    let measured = place(before, statement, &found)?;
+    let Evaluations { first, forms, .. } = found;
+    let form = final_form(first);
+    Ok(Analysis {
+        measured,
+        form,
+        forms,
+    })
 }
 
 /// The same of an instruction, which most statements are.
@@ -131,16 +155,24 @@ pub fn measure_instruction(
     known: &mut NormCache,
     mnemonic: Mnemonic,
     operand: &Operand,
-) -> Result<Measured, AsmFault>
+) -> Result<Analysis, AsmFault>
     requires table { IsTable (table_of before.symbols.now) known.old.states.items }
-    ensures measured { Gives is_memory (λ m. m) result (measured
+    ensures measured { Gives is_memory (λ a. a.measured) result (measured
         (table_of before.entry.symbols.now) before.entry.cursor.now
         (Instruction mnemonic operand.now)) }
-    ensures room { IfOk result (λ m.
-        (context_of before.entry.cursor.now).offset + m.length ≤ section_limit) }
+    ensures room { IfOk result (λ a.
+        (context_of before.entry.cursor.now).offset + a.measured.length ≤ section_limit) }
+    ensures form { IfOk result (λ a. HasFinal (table_of before.entry.symbols.now)
+        (context_of before.entry.cursor.now) (operand_tree operand.now) a.form) }
     ensures table { OnOk result
         (IsTable (table_of before.entry.symbols.now) known.new.states.items) }
 {
     let found = evaluate_optional(alloc, before, known, operand_value(operand))?;
-    instruction(before.cursor, mnemonic, operand, &found)
+    let measured = instruction(before.cursor, mnemonic, operand, &found)?;
+    let form = final_form(found);
+    Ok(Analysis {
+        measured,
+        form,
+        forms: Vec::new(alloc),
+    })
 }

@@ -10,7 +10,7 @@ mod settling;
 
 pub use attempt::{Source, State, Stop, address, defined, pass_on_memory};
 pub use cache::NormCache;
-pub use finals::{binary_form, final_place, prefix_form, stable_form};
+pub use finals::{binary_form, final_place, prefix_form};
 pub use meaning::{
     Meaning, definition_of, meaning_at, meaning_of, operand_form, plain_part, scopes_in,
 };

@@ -1,24 +1,27 @@
 //! What statements that define no name put into sections.
 
-ghost use Rattle.std.specs.Prelude.{◌≡◌, IfOk, true, ◌∷◌, [], OnOk, map};
+ghost use Rattle.std.specs.Prelude.{◌≡◌, ◌∷◌, [], OnOk, map};
 ghost use Rattle.semantics65.specs.Contents.{operand_tree, file_bytes, opcode_part, room_part, Known};
 ghost use Rattle.semantics65.specs.Norms.{width_of};
 ghost use Rattle.symbols65.specs.Views.{table_of};
-ghost use Rattle.asm65.specs.Inner.Holding.{IsSo, Enters};
+ghost use Rattle.symbols65.specs.Evaluations.{HasFinal, HaveFinals};
+ghost use Rattle.std.specs.Vec.Iter.{into_iter_items};
+ghost use Rattle.asm65.specs.Inner.Holding.{Enters, IsNext, KeepsTables};
 ghost use Rattle.syntax65.specs.declared.place.Place.{Place};
 ghost use Rattle.semantics65.specs.Views.{place_at};
 ghost use Rattle.semantics65.specs.Module.{given, item_piece, operand_pieces};
 ghost use Rattle.ast65.specs.Items.{numbered};
 
 use super::Site;
-use super::values::{bytes_of, enter_datum, enter_operand, file_bytes, items_of, literal_of};
+use super::values::{bytes_of, enter_value, file_bytes, items_of};
 use crate::assembler::Assembler;
 use ast65::{Item, Items, ItemsKind, Operand};
 use base65::Sequence;
-use object65::Width;
+use emit65::Piece;
+use object65::{Norm, Width};
 use semantics65::{Context, Settled};
 use std::alloc::{AllocError, Global};
-use symbols65::{Symbols, stable_form};
+use std::vec::IntoIter;
 use syntax65::{Expr, Mode};
 
 /// How wide the operand of an instruction of a form is stored, if it has a value.
@@ -34,7 +37,7 @@ pub fn width_of(mode: Mode) -> Option<Width>
 }
 
 /// The expression of an operand, if it has one.
-pub fn operand_value(operand: Operand) -> Option<Expr>
+fn operand_value(operand: Operand) -> Option<Expr>
     ensures { result ≡ operand_tree operand }
 {
     match operand {
@@ -47,24 +50,6 @@ pub fn operand_value(operand: Operand) -> Option<Expr>
     }
 }
 
-/// Whether a value is another one than 0, whatever statements follow.
-pub fn is_so(
-    alloc: Global,
-    symbols: &Symbols,
-    context: Context,
-    value: &Expr,
-) -> Result<bool, AllocError>
-    ensures { IfOk result (λ so. so ≡ true → IsSo (table_of symbols.now) context value.now) }
-{
-    match stable_form(alloc, symbols, context, value)? {
-        Some(form) => match literal_of(&form) {
-            Some(value) => Ok(value != 0),
-            None => Ok(false),
-        },
-        None => Ok(false),
-    }
-}
-
 /// Enters the code of an instruction.
 #[inline(always)]
 pub fn enter_code(
@@ -72,8 +57,9 @@ pub fn enter_code(
     context: Context,
     code: Option<u8>,
 ) -> Result<(), AllocError>
-    ensures { OnOk result ((place : Place) → Enters place context
+    ensures entered { OnOk result ((place : Place) → Enters place context
         (given (opcode_part code) ∷ []) assembler.old assembler.new) }
+    ensures tables { KeepsTables assembler.old assembler.new }
 {
     match code {
         Some(code) => assembler.sections.append(context.segment, &[code]),
@@ -83,20 +69,40 @@ pub fn enter_code(
 
 /// Enters the value of an operand, if there is one.
 #[inline(always)]
-pub fn enter_operand_of(
+pub fn enter_operand(
     alloc: Global,
     assembler: &mut Assembler,
     site: Site<'_>,
     width: Option<Width>,
-    value: Option<Expr>,
+    operand: Operand,
+    form: Option<Norm>,
 ) -> Result<(), AllocError>
+    requires { HasFinal (table_of assembler.old.symbols) site.context (operand_tree operand) form }
     ensures { OnOk result (Enters
         (place_at site.entry.at) site.entry.context
-        (operand_pieces width value) assembler.old assembler.new) }
+        (operand_pieces width (operand_tree operand)) assembler.old assembler.new) }
 {
-    match (width, value) {
-        (Some(width), Some(value)) => enter_operand(alloc, assembler, site, width, value),
+    match (width, operand_value(operand)) {
+        (Some(width), Some(value)) => {
+            enter_value(
+                alloc,
+                assembler,
+                site,
+                form,
+                Piece::Operand { width, value },
+            )
+        }
         _ => Ok(()),
+    }
+}
+
+/// The form of the next element of a list, if one was handed on.
+fn next_form(forms: &mut IntoIter<Option<Norm>>) -> Option<Norm>
+    ensures { IsNext (into_iter_items forms.old) result (into_iter_items forms.new) }
+{
+    match forms.next() {
+        Some(form) => form,
+        None => None,
     }
 }
 
@@ -107,14 +113,20 @@ fn enter_mixed(
     site: Site<'_>,
     width: Width,
     items: Sequence<Item>,
+    forms: Vec<Option<Norm>>,
 ) -> Result<(), AllocError>
+    requires { HaveFinals (table_of assembler.old.symbols) site.context items forms.items }
     ensures { OnOk result (Enters
         (place_at site.entry.at) site.entry.context
         (map (item_piece width) items) assembler.old assembler.new) }
 {
+    let mut forms = forms.into_iter();
     for item in items.into_vec() {
+        let form = next_form(&mut forms);
         match item {
-            Item::Value(value) => enter_datum(alloc, assembler, site, width, value)?,
+            Item::Value(value) => {
+                enter_value(alloc, assembler, site, form, Piece::Datum { width, value })?
+            }
             Item::Text(bytes) => {
                 assembler
                     .sections
@@ -141,7 +153,10 @@ fn enter_numbers(
         Some(bytes) => assembler
             .sections
             .append(site.context.segment, bytes.as_slice()),
-        None => enter_mixed(alloc, assembler, site, width, items_of(alloc, numbers)?),
+        None => {
+            let items = items_of(alloc, numbers)?;
+            enter_mixed(alloc, assembler, site, width, items, Vec::new(alloc))
+        }
     }
 }
 
@@ -153,7 +168,9 @@ pub fn enter_values(
     site: Site<'_>,
     width: Width,
     items: Items,
+    forms: Vec<Option<Norm>>,
 ) -> Result<(), AllocError>
+    requires { HaveFinals (table_of assembler.old.symbols) site.context items forms.items }
     ensures { OnOk result (Enters
         (place_at site.entry.at) site.entry.context
         (map (item_piece width) items) assembler.old assembler.new) }
@@ -162,7 +179,7 @@ pub fn enter_values(
         ItemsKind::Numbers(numbers) => {
             enter_numbers(alloc, assembler, site, width, numbers.as_slice())
         }
-        ItemsKind::Mixed(items) => enter_mixed(alloc, assembler, site, width, items),
+        ItemsKind::Mixed(items) => enter_mixed(alloc, assembler, site, width, items, forms),
     }
 }
 

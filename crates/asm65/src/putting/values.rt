@@ -1,16 +1,18 @@
 //! Values and other parts of statements, which are put at once where they are settled without a fault, or wait.
 
-ghost use Rattle.std.specs.Prelude.{◌≡◌, drop, IfOk, IfSome, map, Ok, OnOk, take, ◌∷◌, []};
+ghost use Rattle.std.specs.Prelude.{◌≡◌, drop, IfOk, IfSome, map, Ok, OnOk, Some, take, ◌∷◌, []};
 ghost use Rattle.semantics65.specs.Norms.{literal_in};
-ghost use Rattle.semantics65.specs.Contents.{file_bytes, operand_form, put, stored, Known};
+ghost use Rattle.semantics65.specs.Contents.{file_bytes, put, stored, Known};
 ghost use Rattle.ast65.specs.Items.{numbered};
 ghost use Rattle.semantics65.specs.Views.{place_at};
-ghost use Rattle.asm65.specs.Inner.Holding.{AreStored, IsPut, operand_stored, KeepsTables, Waits, IsTried, Enters};
+ghost use Rattle.symbols65.specs.Evaluations.{HasFinal};
+ghost use Rattle.symbols65.specs.Views.{table_of};
+ghost use Rattle.asm65.specs.Inner.Holding.{AreStored, IsPut, operand_stored, KeepsTables, Waits, IsTried, Enters, tree_in};
 ghost use Rattle.base65.specs.Outcome.{Gives};
 ghost use Rattle.ast65.specs.Faults.{is_memory};
 ghost use Rattle.object65.specs.Objects.{is_file_name};
 ghost use Rattle.emit65.specs.Fed.{piece_of};
-ghost use Rattle.semantics65.specs.Module.{datum, operand, valued};
+ghost use Rattle.semantics65.specs.Module.{datum, valued};
 
 use super::Site;
 use crate::assembler::Assembler;
@@ -21,7 +23,7 @@ use object65::format::FILE_NAME_LIMIT;
 use object65::{Node, Norm, Width, fits, put};
 use semantics65::{At, Context, Settled};
 use std::alloc::{AllocError, Global};
-use symbols65::{operand_form, stable_form};
+use symbols65::operand_form;
 use syntax65::{Expr, ExprKind};
 
 /// The bytes of numbers, one behind the other, if each is in range.
@@ -81,29 +83,9 @@ pub fn put_form(
     }
 }
 
-/// The form that is stored of an operand, if it has no fault.
-fn faultless_form(
-    alloc: Global,
-    width: Width,
-    context: Context,
-    form: Norm,
-) -> Result<Option<Norm>, AllocError>
-    ensures { IfOk result (λ found. IfSome found (λ f. operand_form width context form ≡ Ok f)) }
-{
-    match operand_form(alloc, width, context, form) {
-        Ok(form) => Ok(Some(form)),
-        Err(fault) => {
-            if fault.is_memory() {
-                return Err(AllocError);
-            }
-            Ok(None)
-        }
-    }
-}
-
 /// Puts what is stored of an operand's form into the section in which it stands, if it has no
 /// fault.
-pub fn put_operand(
+fn put_operand(
     alloc: Global,
     sections: &mut Sections,
     site: Site<'_>,
@@ -114,9 +96,11 @@ pub fn put_operand(
         (operand_stored width site.entry.context
         (place_at site.entry.at) form)) }
 {
-    match faultless_form(alloc, width, site.context, form)? {
-        Some(form) => put_form(sections, site.context.segment, width, site.at, form),
-        None => Ok(false),
+    match operand_form(alloc, width, site.context, form) {
+        Ok(form) => put_form(sections, site.context.segment, width, site.at, form),
+        Err(fault) if fault.is_memory() => Err(AllocError),
+        // A fault is reported after the last line.
+        Err(_) => Ok(false),
     }
 }
 
@@ -163,76 +147,57 @@ pub fn wait(assembler: &mut Assembler, site: Site<'_>, piece: Piece) -> Result<(
     assembler.sections.wait(site.at, site.context, piece)
 }
 
-/// Puts a value of a list, if it is settled without a fault.
-fn try_datum(
+/// Puts the value of a piece, whose form is final, if it has no fault.
+fn put_value(
     alloc: Global,
     assembler: &mut Assembler,
     site: Site<'_>,
-    width: Width,
-    value: &Expr,
+    form: Norm,
+    piece: &Piece,
 ) -> Result<bool, AllocError>
-    ensures { IfOk result (IsTried
+    requires { HasFinal (table_of assembler.old.symbols) site.context
+        (tree_in piece.now) (Some form) }
+    ensures tried { IfOk result (IsTried
         (place_at site.entry.at) site.entry.context
-        (valued (datum width) value.now) assembler.old assembler.new) }
+        (piece_of piece.now) assembler.old assembler.new) }
+    ensures tables { KeepsTables assembler.old assembler.new }
 {
     let segment = site.context.segment;
-    match stable_form(alloc, &assembler.symbols, site.context, value)? {
-        Some(form) => put_form(&mut assembler.sections, segment, width, site.at, form),
-        None => Ok(false),
+    let sections = &mut assembler.sections;
+    match piece {
+        Piece::Datum { width, .. } => put_form(sections, segment, *width, site.at, form),
+        Piece::Operand { width, .. } => put_operand(alloc, sections, site, *width, form),
+        // An assertion that holds puts nothing.
+        Piece::Assertion { .. } => match literal_of(&form) {
+            Some(value) => Ok(value != 0),
+            None => Ok(false),
+        },
+        _ => Ok(false),
     }
 }
 
-/// Puts the value of an operand, if it is settled without a fault.
-fn try_operand(
-    alloc: Global,
-    assembler: &mut Assembler,
-    site: Site<'_>,
-    width: Width,
-    value: &Expr,
-) -> Result<bool, AllocError>
-    ensures { IfOk result (IsTried
-        (place_at site.entry.at) site.entry.context
-        (valued (operand width) value.now) assembler.old assembler.new) }
-{
-    match stable_form(alloc, &assembler.symbols, site.context, value)? {
-        Some(form) => put_operand(alloc, &mut assembler.sections, site, width, form),
-        None => Ok(false),
-    }
-}
-
-/// Enters a value of a list.
-pub fn enter_datum(
-    alloc: Global,
-    assembler: &mut Assembler,
-    site: Site<'_>,
-    width: Width,
-    value: Expr,
-) -> Result<(), AllocError>
-    ensures { OnOk result (Enters
-        (place_at site.entry.at) site.entry.context
-        (valued (datum width) value ∷ []) assembler.old assembler.new) }
-{
-    if try_datum(alloc, assembler, site, width, &value)? {
-        return Ok(());
-    }
-    wait(assembler, site, Piece::Datum { width, value })
-}
-
-/// Enters the value of an operand.
+/// Enters a value: it is put at once if its form is final and it has no fault, else it waits.
 #[inline(never)]
-pub fn enter_operand(
+pub fn enter_value(
     alloc: Global,
     assembler: &mut Assembler,
     site: Site<'_>,
-    width: Width,
-    value: Expr,
+    form: Option<Norm>,
+    piece: Piece,
 ) -> Result<(), AllocError>
-    ensures { OnOk result (Enters
+    requires { HasFinal (table_of assembler.old.symbols) site.context (tree_in piece) form }
+    ensures entered { OnOk result (Enters
         (place_at site.entry.at) site.entry.context
-        (valued (operand width) value ∷ []) assembler.old assembler.new) }
+        (piece_of piece ∷ []) assembler.old assembler.new) }
+    ensures tables { KeepsTables assembler.old assembler.new }
 {
-    if try_operand(alloc, assembler, site, width, &value)? {
-        return Ok(());
+    match form {
+        Some(form) => {
+            if put_value(alloc, assembler, site, form, &piece)? {
+                return Ok(());
+            }
+            wait(assembler, site, piece)
+        }
+        None => wait(assembler, site, piece),
     }
-    wait(assembler, site, Piece::Operand { width, value })
 }

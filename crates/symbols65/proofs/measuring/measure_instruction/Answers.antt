@@ -1,8 +1,4 @@
-use Rattle.std.proofs.Common.{Option, Result, ◌≡◌, ◌∙◌, ap, subst, sym}
-use Rattle.base65.specs.Outcome.{Gives}
-use Rattle.ast65.specs.declared.fault.AsmFault.{AsmFault}
-use Rattle.ast65.specs.Faults.{is_memory}
-use Rattle.symbols65.specs.declared.measuring.Measured.{Measured}
+use Rattle.std.proofs.Common.{Option, Ok, ◌≡◌, ◌∙◌, ap, subst, sym}
 use Rattle.std.proofs.lemmas.Result.{err_from_is_err_and}
 use Rattle.syntax65.specs.Trees.{Tree}
 use Rattle.syntax65.specs.declared.instructions.names.Mnemonic.{Mnemonic}
@@ -32,17 +28,32 @@ returns-in_err-found-clause-measured c =
     let w = c.args.before.cursor.now in
     rw (p.1, p.2) (measured_refused y w (Instruction c.args.mnemonic c.args.operand.now) e (refused_same e _ _ (naming_is y w c.args.mnemonic c.args.operand.now _ c.operand_value.ensures) c.in_err-found.ensures.scopes))
 
+pub returns-in_err-measured-clause-measured : goal.returns-in_err-measured-clause-measured
+returns-in_err-measured-clause-measured c =
+    let p = err_from_is_err_and c.from_residual-in_err-measured.result c.from_residual-in_err-measured.ensures.1 in
+    let y = table_of c.args.before.symbols.now in
+    let w = c.args.before.cursor.now in
+    let named = naming_is y w c.args.mnemonic c.args.operand.now _ c.operand_value.ensures ∙ c.in_ok-found.ensures.scopes in
+    let found = subst (λ (o : Option Tree). IsEvaluated y (context_of w) (own_size w) o c.in_ok-found.found) c.operand_value.ensures c.in_ok-found.ensures.found in
+    rw (p.1, p.2) (refused_same c.in_err-measured.field-0.0 _ _ (measured_named y w (Instruction c.args.mnemonic c.args.operand.now) named) (c.in_err-measured.ensures y found))
+
 pub returns-clause-measured : goal.returns-clause-measured
 returns-clause-measured c =
     let y = table_of c.args.before.symbols.now in
     let w = c.args.before.cursor.now in
     let found = subst (λ (o : Option Tree). IsEvaluated y (context_of w) (own_size w) o c.in_ok-found.found) c.operand_value.ensures c.in_ok-found.ensures.found in
-    let P : Result Measured AsmFault → Type 0 = λ r. Gives is_memory (λ m. m) c.instruction.result r in
-    subst P (sym (measured_named y w (Instruction c.args.mnemonic c.args.operand.now) (naming_is y w c.args.mnemonic c.args.operand.now _ c.operand_value.ensures ∙ c.in_ok-found.ensures.scopes))) (c.instruction.ensures y found)
+    measured_named y w (Instruction c.args.mnemonic c.args.operand.now) (naming_is y w c.args.mnemonic c.args.operand.now _ c.operand_value.ensures ∙ c.in_ok-found.ensures.scopes) ∙ c.in_ok-measured.ensures y found
 
 pub returns-clause-room : goal.returns-clause-room
 returns-clause-room c =
     let y = table_of c.args.before.symbols.now in
     let w = c.args.before.cursor.now in
     let found = subst (λ (o : Option Tree). IsEvaluated y (context_of w) (own_size w) o c.in_ok-found.found) c.operand_value.ensures c.in_ok-found.ensures.found in
-    room_of y w (Instruction c.args.mnemonic c.args.operand.now) c.instruction.result (c.instruction.ensures y found)
+    room_of y w (Instruction c.args.mnemonic c.args.operand.now) (Ok c.in_ok-measured.measured) (c.in_ok-measured.ensures y found)
+
+pub returns-clause-form : goal.returns-clause-form
+returns-clause-form c =
+    let y = table_of c.args.before.symbols.now in
+    let w = c.args.before.cursor.now in
+    let found = subst (λ (o : Option Tree). IsEvaluated y (context_of w) (own_size w) o c.in_ok-found.found) c.operand_value.ensures c.in_ok-found.ensures.found in
+    c.final_form-form.ensures y (context_of w) (own_size w) (operand_tree c.args.operand.now) found

@@ -12,7 +12,7 @@ use Rattle.semantics65.specs.Layout.{Cursor}
 use Rattle.semantics65.specs.Symbols.{Symbols}
 use Rattle.symbols65.specs.Measuring.{advanced}
 use Rattle.symbols65.specs.declared.measuring.Measured.{Measured}
-use Rattle.symbols65.specs.declared.measuring.Measured as found
+use Rattle.symbols65.specs.declared.measuring.Analysis.{Analysis}
 use Rattle.symbols65.proofs.Behind.{is_measured}
 use Rattle.sources65.specs.Machine.{entered}
 use Rattle.symbols65.specs.Views.{table_of}
@@ -26,35 +26,35 @@ use Rattle.asm65.proofs.assembler.Assembler.place_instruction.Goals as goal
 
 pub returns-clause-placed : goal.returns-clause-placed
 returns-clause-placed c = λ count t h.
-    placed_is count t c.args.self.now h (Instruction c.args.mnemonic c.args.operand.now) c.in_ok-measured.measured c.context-context.result c.in_ok-measured.ensures.measured c.context-context.ensures
+    placed_is count t c.args.self.now h (Instruction c.args.mnemonic c.args.operand.now) c.in_ok-analysis.analysis.measured c.context-context.result c.in_ok-analysis.ensures.measured c.context-context.ensures
 
 pub returns-clause-holds : goal.returns-clause-holds
 returns-clause-holds c = λ place count t h.
     (let old : Assembler = c.args.self.now in
     let x : Statement = Instruction c.args.mnemonic c.args.operand.now in
-    let m : Measured = c.in_ok-measured.measured in
+    let m : Measured = c.in_ok-analysis.analysis.measured in
     let y : Symbols = table_of old.symbols in
     let w : Cursor = old.cursor in
     let known : Assembler = record old { known = c.measure_instruction.new.known } in
     let mid : Assembler = record known { sections = c.ask.new.self } in
     let segment = ap (λ (s : Context). s.segment) c.context-context.ensures ∙ ap (λ (v : Cursor). (layout.context_of v).segment) h.cursor in
-    let knows : Holds count t known = holds_known count t old c.measure_instruction.new.known h c.in_ok-measured.ensures.table in
+    let knows : Holds count t known = holds_known count t old c.measure_instruction.new.known h c.in_ok-analysis.ensures.table in
     let asked : Holds count (entered t (asking c.context-context.result.segment)) mid = holds_entered count t known mid knows (record { symbols = refl; known = refl; cursor = refl; texts = refl }) (asking c.context-context.result.segment) refl c.in_ok-ask.ensures in
     let held : Holds count (asked_of (layout.context_of t.cursor).segment x t) mid = subst (λ (g : ℕ). Holds count (entered t (asking g)) mid) segment asked in
-    let one : 1 ≡ m.multiple = ap (λ (k : Measured). k.multiple) (is_measured y w x m c.in_ok-measured.ensures.measured) in
+    let one : 1 ≡ m.multiple = ap (λ (k : Measured). k.multiple) (is_measured y w x m c.in_ok-analysis.ensures.measured) in
     let moved : c.advance_by.new.self ≡ layout.cursor_behind t.symbols t.cursor x =
     c.advance_by.ensures y c.args.mnemonic c.args.operand.now
     ∙ ap (λ (k : ℕ). advanced y w x m.length k) one
-    ∙ moved_behind count t old h x m c.in_ok-measured.ensures.measured in
-    holds_stepped count t place x mid c.advance_by.new.self old.texts held moved (more_counted count t old h x m c.in_ok-measured.ensures.measured) (sym (append-nil old.texts.out)) (sym (append-nil old.texts.err)))
+    ∙ moved_behind count t old h x m c.in_ok-analysis.ensures.measured in
+    holds_stepped count t place x mid c.advance_by.new.self old.texts held moved (more_counted count t old h x m c.in_ok-analysis.ensures.measured) (sym (append-nil old.texts.out)) (sym (append-nil old.texts.err)))
 
-pub returns-in_err-measured-clause-refused : goal.returns-in_err-measured-clause-refused
-returns-in_err-measured-clause-refused c = λ count t h.
+pub returns-in_err-analysis-clause-refused : goal.returns-in_err-analysis-clause-refused
+returns-in_err-analysis-clause-refused c = λ count t h.
     (let p = err_from_is_err_and c.from_residual.result c.from_residual.ensures.1 in
-    rw (p.1, p.2) (refused_is count t c.args.self.now h (Instruction c.args.mnemonic c.args.operand.now) c.in_err-measured.field-0.0 c.in_err-measured.ensures.measured))
+    rw (p.1, p.2) (refused_is count t c.args.self.now h (Instruction c.args.mnemonic c.args.operand.now) c.in_err-analysis.field-0.0 c.in_err-analysis.ensures.measured))
 
-pub returns-in_err-measured-clause-inside : goal.returns-in_err-measured-clause-inside
-returns-in_err-measured-clause-inside c =
+pub returns-in_err-analysis-clause-inside : goal.returns-in_err-analysis-clause-inside
+returns-in_err-analysis-clause-inside c =
     let p = err_from_is_err_and c.from_residual.result c.from_residual.ensures.1 in
-    let answer : Result found.Measured AsmFault = Err c.in_err-measured.field-0.0 in
-    rw (p.1, p.2) (measured_inside answer (λ m. m) (table_of c.args.self.now.symbols) c.args.self.now.cursor (Instruction c.args.mnemonic c.args.operand.now) c.in_err-measured.ensures.measured)
+    let answer : Result Analysis AsmFault = Err c.in_err-analysis.field-0.0 in
+    rw (p.1, p.2) (measured_inside answer (λ a. a.measured) (table_of c.args.self.now.symbols) c.args.self.now.cursor (Instruction c.args.mnemonic c.args.operand.now) c.in_err-analysis.ensures.measured)

@@ -12,6 +12,7 @@ import tempfile
 import time
 
 import pages
+import results
 
 FIRST = re.compile(r"\d\d:\d\d:\d\d (\d+) parts, (.*): (a minute|some \d+ minutes) where nothing else runs\.\n")
 PART = re.compile(r"\d\d:\d\d:\d\d part (\d+) of (\d+): (.*); (a minute|some \d+ minutes) left\n")
@@ -49,12 +50,7 @@ def main():
         checks["the images"] = sum("images the same" in it for it in text) == 14 and not any("DIFFER" in it for it in text)
     else:
         checks["bin65 alone"] = "bin65 alone" in text[0] and not any("cc65 /" in it for it in times)
-    for name, is_so in checks.items():
-        if not is_so:
-            print(f"{name}: FAILED")
-    failed = sum(not it for it in checks.values())
-    print(f"{len(checks) - failed} passed, {failed} failed")
-    sys.exit(failed > 0)
+    sys.exit(results.report(checks))
 
 
 main()

@@ -15,6 +15,7 @@ import sys
 import tempfile
 
 import pages
+import results
 
 sys.path.insert(0, f"{pages.ROOT}/workbench")
 sys.dont_write_bytecode = True
@@ -155,12 +156,7 @@ def main():
     in_bash(checks)
     own_lines(checks)
     others(checks)
-    for name, is_so in checks.items():
-        if not is_so:
-            print(f"{name}: FAILED")
-    failed = sum(not it for it in checks.values())
-    print(f"{len(checks) - failed} passed, {failed} failed")
-    sys.exit(failed > 0)
+    sys.exit(results.report(checks))
 
 
 main()

@@ -21,6 +21,7 @@ import ci  # noqa: E402
 import kit  # noqa: E402
 import mutants  # noqa: E402
 import reasons  # noqa: E402
+import results  # noqa: E402
 import wording  # noqa: E402
 
 SOURCE = """//! Counts.
@@ -274,12 +275,7 @@ def words():
 
 def main():
     checks = {**together(kit.load()), **turns(), **failures(), **listed(), **beside(), **words()}
-    for name, is_so in checks.items():
-        if not is_so:
-            print(f"FAILED: {name}")
-    failed = sum(not it for it in checks.values())
-    print(f"{len(checks) - failed} passed, {failed} failed")
-    return 1 if failed else 0
+    return results.report(checks)
 
 
 if __name__ == "__main__":

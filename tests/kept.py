@@ -9,6 +9,7 @@ import sys
 sys.path.insert(0, f"{os.path.dirname(os.path.dirname(os.path.abspath(__file__)))}/gate")
 import kept  # noqa: E402
 import kit  # noqa: E402
+import results  # noqa: E402
 
 # What is added to the linker's code, each of which keeps records or items, or makes a module.
 LINKERS = {
@@ -54,12 +55,7 @@ def main():
     checks = {f"{it} as it is": kept.why_kept(it, code[it]) is None for it in kept.LINKER + kept.ASSEMBLER}
     checks |= {f"link65: {name}": kept.why_kept("link65", f"{code['link65']} {text}") is not None for name, text in LINKERS.items()}
     checks |= {f"asm65: {name}": kept.why_kept("asm65", f"{code['asm65']} {text}") is not None for name, text in ASSEMBLERS.items()}
-    for name, is_so in checks.items():
-        if not is_so:
-            print(f"failed: {name}")
-    failed = sum(not it for it in checks.values())
-    print(f"{len(checks) - failed} passed, {failed} failed")
-    return 1 if failed else 0
+    return results.report(checks)
 
 
 if __name__ == "__main__":

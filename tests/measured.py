@@ -13,6 +13,7 @@ import sys
 import tempfile
 
 import failing
+import results
 
 CALLS = os.path.join(os.path.dirname(os.path.abspath(__file__)), "..", "crates", "tests_calls65", "out", "tests_calls65")
 MEGABYTE = 1 << 20
@@ -83,12 +84,7 @@ def main():
         library = failing.build(room)
         for measure in (calls, links, sources):
             measure(library, program, folder, checks)
-    for name, is_so in checks.items():
-        if not is_so:
-            print(f"FAILED: {name}")
-    failed = sum(not it for it in checks.values())
-    print(f"{len(checks) - failed} passed, {failed} failed")
-    return 1 if failed else 0
+    return results.report(checks)
 
 
 if __name__ == "__main__":

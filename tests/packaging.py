@@ -15,6 +15,7 @@ import tempfile
 import zipfile
 
 import pages
+import results
 
 VERSION = re.search(r"^## (\S+)$", pages.read("CHANGELOG.md"), re.M)[1]
 # The files that pip reads, beside which the wheel has the package and its pages.
@@ -132,12 +133,7 @@ def main():
         installed(checks, program, built(checks, program, top), top)
     ran = run(f"{pages.ROOT}/workbench", sys.executable, "-B", "-m", "work65", "--version")
     checks["python3 -m work65"] = ran.stdout == f"work65 {VERSION}\n"
-    for name, is_so in checks.items():
-        if not is_so:
-            print(f"{name}: FAILED")
-    failed = sum(not it for it in checks.values())
-    print(f"{len(checks) - failed} passed, {failed} failed")
-    sys.exit(failed > 0)
+    sys.exit(results.report(checks))
 
 
 main()

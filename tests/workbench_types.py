@@ -13,6 +13,7 @@ import tempfile
 from typing import Iterator
 
 import pages
+import results
 
 # Which modules Python itself has: known from 3.10 on.
 STANDARD = set(getattr(sys, "stdlib_module_names", ()))
@@ -29,27 +30,22 @@ def imported(tree: ast.AST) -> Iterator[str]:
 
 
 def main() -> None:
-    results = {}
+    checks = {}
     files = sorted(glob.glob(f"{PACKAGE}/work65/**/*.py", recursive=True))
     for file in files:
         text, name = pages.read(os.path.relpath(file, pages.ROOT)), os.path.relpath(file, PACKAGE)
-        results[f"{name} has at most 400 lines"] = len(text.splitlines()) <= 400
+        checks[f"{name} has at most 400 lines"] = len(text.splitlines()) <= 400
         others = set(imported(ast.parse(text, feature_version=(3, 9)))) - {"work65"} - STANDARD
-        results[f"{name} imports the standard library alone: {sorted(others)}"] = not others or not STANDARD
-    results["there are modules"] = len(files) > 10
+        checks[f"{name} imports the standard library alone: {sorted(others)}"] = not others or not STANDARD
+    checks["there are modules"] = len(files) > 10
     if shutil.which("mypy"):
         with tempfile.TemporaryDirectory() as cache:
             words = ["mypy", "--cache-dir", cache, "--disallow-untyped-defs", "--disallow-incomplete-defs", "work65"]
             ran = subprocess.run(words, cwd=PACKAGE, capture_output=True, text=True)
-        results[f"mypy: {ran.stdout}{ran.stderr}"] = ran.returncode == 0
+        checks[f"mypy: {ran.stdout}{ran.stderr}"] = ran.returncode == 0
     else:
         print("mypy isn't here: types aren't checked")
-    for name, is_so in results.items():
-        if not is_so:
-            print(f"{name}: FAILED")
-    failed = sum(not it for it in results.values())
-    print(f"{len(results) - failed} passed, {failed} failed")
-    sys.exit(failed > 0)
+    sys.exit(results.report(checks))
 
 
 main()

@@ -43,7 +43,7 @@ def _option(option: Option) -> str:
 
 
 def _words(command: Command) -> Iterator[str]:
-    """Yields what says the words that stand alone, from the end of their condition on. Options before them aren't thought of."""
+    """Yields the rest of the line of each positional argument, from the end of its condition. Counts options as arguments, too."""
     for at, word in enumerate(command.words, 2):
         there = f"; and test (count (commandline -opc)) -{'ge' if word.is_repeated else 'eq'} {at}'"
         if word.takes is Takes.CHOICE:

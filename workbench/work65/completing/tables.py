@@ -80,7 +80,7 @@ def _options(parser: argparse.ArgumentParser) -> Iterator[Option]:
 
 
 def _word(action: argparse.Action) -> Argument:
-    """Returns the value of an option, or a word that stands alone."""
+    """Returns an option's value or a positional argument."""
     name = str(action.metavar or action.dest)
     is_repeated = isinstance(action, argparse._AppendAction) or action.nargs in ("+", "*")
     if action.nargs == 0:

@@ -78,6 +78,6 @@ def _specs(option: Option) -> Iterator[str]:
 
 
 def _word(word: Argument, at: int) -> str:
-    """Returns the specification of a word that stands alone. What follows the word of a command is that command's."""
+    """Returns the specification of a positional argument. Arguments after the name of a command belong to that command."""
     place = "*:" if word.takes is Takes.COMMAND else "*" if word.is_repeated else str(at)
     return _quoted(f"{place}:{word.name}:{_action(word)}")

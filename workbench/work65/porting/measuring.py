@@ -1,4 +1,4 @@
-"""Forms as cc65 takes them: the sizes of lines are compared, and `a:` or `z:` stands where bin65 takes another one."""
+"""Compares the sizes of lines with cc65's, and writes `a:` or `z:` before an operand if bin65 takes another address size."""
 from typing import AbstractSet, Callable, Dict, Iterator, List, NamedTuple, Sequence, Set, Tuple
 
 from work65.frontend import words

@@ -24,7 +24,7 @@ SHORT_TO_FAR, MOST = 8, 200
 
 @dataclass(frozen=True)
 class SecondOptions:
-    """What a line of second asks for. `image` is the image to compare with in place of the one that cc65's tools make."""
+    """The options of a line of second. `image` is compared with in place of the image that cc65's tools make."""
 
     script: str
     sources: List[str]

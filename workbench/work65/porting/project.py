@@ -50,7 +50,7 @@ class Spread:
 
 @dataclass
 class Project:
-    """What is known of the tree. Paths are relative to `base`, those of files of cc65's own begin with `work65/`."""
+    """The tree to port. Paths are relative to `base`; those of cc65's own files begin with `work65/`."""
 
     base: str
     texts: Dict[str, Text]

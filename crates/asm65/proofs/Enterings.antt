@@ -1,6 +1,6 @@
 -- Pieces that are entered, one behind the other, and when they are put at once.
 use Rattle.std.proofs.Common.{◌≡◌, ℕ, zero, suc, List, [], ◌∷◌, ◌++◌, map, refl, sym, ap, subst, append-nil, append_assoc}
-use Rattle.std.specs.Prelude.{ℤ, pos, negsuc, Bool, true, false, Result, Ok, Err}
+use Rattle.std.specs.Prelude.{ℤ, pos, negsuc, Bool, true, false, Option, Some, None, Result, Ok, Err}
 use Rattle.std.specs.List.{list_all}
 use Rattle.base65.specs.Outcome.{◌>>=◌}
 use Rattle.syntax65.specs.Trees.{Tree, number}
@@ -12,9 +12,12 @@ use Rattle.object65.specs.declared.object.Action.{Action}
 use Rattle.object65.specs.declared.object.Action.TheVariants as action
 use Rattle.object65.specs.declared.object.Width.{Width}
 use Rattle.ast65.specs.Items.{literal_item}
+use Rattle.ast65.specs.declared.language.Item.{Item}
+use Rattle.symbols65.specs.Evaluations.{HasFinal, HaveFinals, item_tree}
+use Rattle.symbols65.proofs.Evaluations.{finals_rest}
 use Rattle.semantics65.specs.Contents.{Content, Known, Part, section_part, value_part, declaration_content}
 use Rattle.ast65.specs.declared.fault.AsmFault.{AsmFault}
-use Rattle.semantics65.specs.Norms.{IsFinal}
+use Rattle.semantics65.specs.Norms.{IsFinal, literal_in}
 use Rattle.semantics65.specs.declared.laid.Context.{Context}
 use Rattle.sources65.specs.Machine.{IsSettled, PieceSteps, State, at_once, with_content}
 use Rattle.semantics65.specs.Module.{Piece, Purpose, as_part, asserted, datum, given, operand, quietly, value_result, valued, item_piece, Slot, resolved}
@@ -27,8 +30,8 @@ use Rattle.emit65.proofs.Alikes.{alike_sym, empty_alike}
 use Rattle.emit65.proofs.Pieces.{held_stand, runs, runs_stand}
 use Rattle.symbols65.specs.Views.{table_of}
 use Rattle.asm65.specs.declared.assembler.Assembler.{Assembler}
-use Rattle.asm65.specs.Internal.AssemblerState.{EmitsPieces, AreStored, IsPut, EmitsIfResolved, DefersPiece, operand_stored}
-use Rattle.asm65.proofs.Puttings.{stored_is}
+use Rattle.asm65.specs.Internal.AssemblerState.{EmitsPieces, AreStored, IsNext, IsPut, EmitsIfResolved, DefersPiece, operand_stored}
+use Rattle.asm65.proofs.Puttings.{literal_is, stored_is}
 use Rattle.asm65.proofs.Waitings.{all_entered, holds_all, holds_entered, waits_enters}
 
 -- ---- One behind the other.
@@ -75,6 +78,18 @@ datum_tried old x place s width e f b final h = value_tried old x place s (datum
 
 pub operand_tried : (old : Assembler) (x : Sections) (place : SourceLocation) (s : Context) (width : Width) (e : Tree) (f : Form) (b : Bool) → IsFinal (table_of old.symbols) s e f → IsPut old.sections x s.segment (operand_stored width s place f) b → EmitsIfResolved place s (valued (operand width) e) old (fed old x) b
 operand_tried old x place s width e f b final h = value_tried old x place s (operand width) e f final (operand_stored width s place f) b refl h
+
+-- ---- Elements of lists, one behind the other, and their final forms.
+
+pub next_finals : (y : Symbols) (s : Context) (x : Item) (items : List Item) (forms : List (Option Form)) (o : Option Form) (rest : List (Option Form)) → HaveFinals y s (x ∷ items) forms → IsNext forms o rest → HasFinal y s (item_tree x) o × HaveFinals y s items rest
+next_finals y s x items [] o rest h n = (subst (HasFinal y s (item_tree x)) (sym n.0) (none_final (item_tree x)), subst (HaveFinals y s items) (sym n.1) (λ i z p at held. absurd cc))
+  where
+    none_final : (e : Option Tree) → HasFinal y s e None
+    none_final None = tt
+    none_final (Some e) = tt
+next_finals y s x items (f ∷ fs) o rest h n =
+    let both = finals_rest y s x items f fs h in
+    (subst (HasFinal y s (item_tree x)) (sym n.0) both.0, subst (HaveFinals y s items) (sym n.1) both.1)
 
 -- ---- Numbers in one go.
 
@@ -127,6 +142,11 @@ so_used place s action.Warning words (negsuc n) h = refl
 -- an assertion that is so whatever statements follow
 pub so_enters : (old : Assembler) (place : SourceLocation) (s : Context) (act : Action) (words : List ℕ) (e : Tree) (v : ℤ) → (v ≡ pos 0 → ⊥) → IsFinal (table_of old.symbols) s e (lit v) → EmitsPieces place s (valued (asserted act words) e ∷ []) old old
 so_enters old place s act words e v h final = fed_enters old old.sections place s (valued (asserted act words) e) (declaration_content []) refl (says_nothing old.sections) (final_settles (table_of old.symbols) place s (asserted act words) e (lit v) (declaration_content []) final (so_used place s act words v h))
+
+-- one that may be so
+pub assertion_tried : (old : Assembler) (place : SourceLocation) (s : Context) (act : Action) (words : List ℕ) (e : Tree) (f : Form) (v : ℤ) → IsFinal (table_of old.symbols) s e f → literal_in (Ok f) ≡ Some v → (b : Bool) → (b ≡ true → v ≡ pos 0 → ⊥) → EmitsIfResolved place s (valued (asserted act words) e) old old b
+assertion_tried old place s act words e f v final is true other = so_enters old place s act words e v (other refl) (subst (IsFinal (table_of old.symbols) s e) (literal_is f v is) final)
+assertion_tried old place s act words e f v final is false other = refl
 
 -- ---- Later.
 

@@ -8,8 +8,7 @@ ghost use Rattle.std.specs.Option.{option_map};
 ghost use Rattle.semantics65.specs.Layout.{opened_twice};
 ghost use Rattle.symbols65.specs.Resolving.{IsTable};
 ghost use Rattle.asm65.specs.Internal.AssemblerState.{EmitsPieces, KeepsPut, IsNew, is_put, laid_as, KeepsTables, name_use_piece, is_for_zero_page, label_at, DefersMentions, EmitsThenDefines};
-ghost use Rattle.semantics65.specs.Norms.{IsFinal};
-ghost use Rattle.object65.specs.Form.{Form};
+ghost use Rattle.symbols65.specs.Evaluations.{HasFinal, first_tree};
 ghost use Rattle.emit65.specs.SectionContents.{piece_of};
 ghost use Rattle.sources65.specs.Machine.{symbols_after};
 ghost use Rattle.semantics65.specs.Views.{place_at};
@@ -26,7 +25,7 @@ use emit65::FixupKind;
 use object65::Norm;
 use semantics65::Context;
 use std::alloc::{AllocError, Global};
-use symbols65::{Definition, Key, StatementLayout, define, stable_form};
+use symbols65::{Definition, Key, StatementLayout, define};
 use syntax65::{AddressSize, Expr};
 
 /// How a statement mentions a name.
@@ -153,8 +152,7 @@ impl Assembler {
         value: &Expr,
         form: &Option<Norm>,
     ) -> Result<(), AllocError>
-        requires { (f : Form) → form.now ≡ Some f →
-            IsFinal (table_of self.old.symbols) site.context value.now f }
+        requires { HasFinal (table_of self.old.symbols) site.context (Some value.now) form.now }
         ensures entered { OnOk result (EmitsPieces (place_at site.entry.at)
             site.entry.context (valued equated value.now ∷ []) self.old self.new) }
         ensures tables { KeepsTables self.old self.new }
@@ -175,9 +173,11 @@ impl Assembler {
         size: AddressSize,
         name: &[u8],
         value: Expr,
+        form: Option<Norm>,
     ) -> Result<(), AllocError>
         requires known { IsTable (table_of self.old.symbols) self.old.known.states.items }
         requires new { definition_index (table_of self.old.symbols) (named site.context.scope name.now) ≡ None }
+        requires form { HasFinal (table_of self.old.symbols) site.context (Some value) form }
         ensures { OnOk result (EmitsThenDefines (place_at site.entry.at)
             site.entry.context (valued equated value ∷ [])
             (λ y. with_definition y (record {
@@ -189,7 +189,6 @@ impl Assembler {
             self.old self.new) }
     {
         let context = site.context;
-        let form = stable_form(alloc, &self.symbols, context, &value)?;
         self.enter_constant(alloc, site, &value, &form)?;
         let scope = context.scope as usize;
         let definition = Definition {
@@ -333,10 +332,13 @@ impl Assembler {
         site: PieceContext<'_>,
         measured: StatementLayout,
         statement: Statement,
+        form: Option<Norm>,
     ) -> Result<(), AllocError>
         requires known { IsTable (table_of self.old.symbols) self.old.known.states.items }
         requires new { IsNew (table_of self.old.symbols) site.context statement }
         requires named { is_put statement ≡ false }
+        requires form { HasFinal (table_of self.old.symbols) site.context
+            (first_tree statement) form }
         ensures { OnOk result (let place = place_at site.entry.at in
             let s = site.entry.context in let m = measured in
             EmitsThenDefines place s (pieces_of m.length m.settled statement)
@@ -360,7 +362,7 @@ impl Assembler {
                 self.define_label(alloc, Key::Unnamed(context.unnamed as usize), context, size)
             }
             Statement::Constant { name, value } => {
-                self.define_constant(alloc, site, size, name.as_slice(), value)
+                self.define_constant(alloc, site, size, name.as_slice(), value, form)
             }
             Statement::OpenScope(name) => match name {
                 Some(name) => self.open_block(alloc, context, Some(name.as_slice())),

@@ -1,6 +1,6 @@
 //! One statement of the source is taken, of names and texts that objects can hold.
 
-ghost use Rattle.std.specs.Prelude.{◌≡◌, true, Err, ◌+◌, ◌<◌, ◌∷◌, [], ℕ, IfErr, IfOk, OnOk, false};
+ghost use Rattle.std.specs.Prelude.{◌≡◌, true, Err, ◌+◌, ◌<◌, ℕ, IfErr, IfOk, OnOk, false};
 ghost use Rattle.std.specs.List.{list_all};
 ghost use Rattle.object65.specs.Objects.{is_name, is_printed};
 ghost use Rattle.semantics65.specs.Numbering.{IsWellFormedStatement};
@@ -11,8 +11,10 @@ ghost use Rattle.ast65.specs.Faults.{is_failure, is_system_error};
 ghost use Rattle.semantics65.specs.Views.{place_at};
 ghost use Rattle.symbols65.specs.Measuring.{opened_by, opening_limit};
 ghost use Rattle.sources65.specs.Machine.{State, StepsTo, symbols_after};
-ghost use Rattle.semantics65.specs.Module.{asserted, instruction_pieces, pieces_of, valued};
+ghost use Rattle.semantics65.specs.Contents.{operand_tree};
+ghost use Rattle.semantics65.specs.Module.{instruction_pieces, pieces_of};
 ghost use Rattle.sources65.specs.Reading.{RepresentsOrFails};
+ghost use Rattle.symbols65.specs.Evaluations.{HasFinal, HaveFinals, items_in, first_tree};
 ghost use Rattle.symbols65.specs.Resolving.{IsTable};
 ghost use Rattle.symbols65.specs.Views.{table_of};
 ghost use Rattle.asm65.specs.Internal.AssemblerState.{EmitsPieces, Represents, KeepsTables, RequestsSection, IsRepresentable, IsNew, IsMeasuredAt, IsRefused, EmitsThenDefines, laid_as, state_after_layout};
@@ -20,20 +22,19 @@ ghost use Rattle.asm65.specs.Internal.AssemblerState.{EmitsPieces, Represents, K
 use crate::assembler::Assembler;
 use crate::emission::PieceContext;
 use crate::emission::statements::{
-    emit_incbin, emit_opcode, emit_reserve, emit_values, enter_operand_of, is_known_true,
-    operand_value, width_of,
+    emit_incbin, emit_opcode, emit_reserve, emit_values, enter_operand, width_of,
 };
-use crate::emission::values::defer;
+use crate::emission::values::enter_value;
 use ast65::{AsmFault, Operand, Statement};
 use base65::ListVec;
 use emit65::FixupKind;
-use object65::Action;
+use object65::Norm;
 use semantics65::{Context, EncodingChoice, LocationRef};
 use std::alloc::{AllocError, Global};
 use symbols65::{
-    LineState, StatementLayout, lay_out_statement, measure_instruction, needs_section,
+    Analysis, LineState, StatementLayout, lay_out_statement, measure_instruction, needs_section,
 };
-use syntax65::{Expr, Mnemonic, Mode, opcode};
+use syntax65::{Mnemonic, Mode, opcode};
 
 /// How many bytes a name or a text has fewer than.
 const LEN_LIMIT: usize = 256;
@@ -74,11 +75,11 @@ pub fn is_sound(statement: &Statement) -> bool
     }
 }
 
-/// The context of a statement, and its length.
-#[derive(Clone, Copy)]
+/// The context of a statement, and its analysis there.
+#[derive(Drop)]
 struct LaidOut {
     context: Context,
-    measured: StatementLayout,
+    analysis: Analysis,
 }
 
 /// The refusal of a statement. (What it holds is let go here, not where most statements go by.)
@@ -119,14 +120,16 @@ impl Assembler {
         mnemonic: Mnemonic,
         mode: Mode,
         operand: Operand,
+        form: Option<Norm>,
     ) -> Result<(), AllocError>
+        requires { HasFinal (table_of self.old.symbols) site.context (operand_tree operand) form }
         ensures { OnOk result (EmitsPieces
             (place_at site.entry.at) site.entry.context
             (instruction_pieces mnemonic operand (InMode mode))
             self.old self.new) }
     {
         emit_opcode(self, site.context, opcode(mnemonic, mode))?;
-        enter_operand_of(alloc, self, site, width_of(mode), operand_value(operand))
+        enter_operand(alloc, self, site, width_of(mode), operand, form)
     }
 
     /// An instruction is entered in the form that is settled.
@@ -138,48 +141,22 @@ impl Assembler {
         settled: EncodingChoice,
         mnemonic: Mnemonic,
         operand: Operand,
+        form: Option<Norm>,
     ) -> Result<(), AllocError>
+        requires { HasFinal (table_of self.old.symbols) site.context (operand_tree operand) form }
         ensures { OnOk result (EmitsPieces
             (place_at site.entry.at) site.entry.context
             (instruction_pieces mnemonic operand settled)
             self.old self.new) }
     {
         match settled {
-            EncodingChoice::InMode(mode) => self.enter_instruction(
-                alloc, site, mnemonic, mode, operand,
-            ),
+            EncodingChoice::InMode(mode) => {
+                self.enter_instruction(alloc, site, mnemonic, mode, operand, form)
+            }
             EncodingChoice::Undecided
             | EncodingChoice::FillByte(_)
             | EncodingChoice::FileOffset(_) => Ok(()),
         }
-    }
-
-    /// Enters an assertion.
-    #[inline(never)]
-    fn enter_assertion(
-        &mut self,
-        alloc: Global,
-        site: PieceContext<'_>,
-        action: Action,
-        text: ListVec<u8>,
-        value: Expr,
-    ) -> Result<(), AllocError>
-        ensures { OnOk result (EmitsPieces
-            (place_at site.entry.at) site.entry.context
-            (valued (asserted action text) value ∷ []) self.old self.new) }
-    {
-        if is_known_true(alloc, &self.symbols, site.context, &value)? {
-            return Ok(());
-        }
-        defer(
-            self,
-            site,
-            FixupKind::Assertion {
-                action,
-                text,
-                value,
-            },
-        )
     }
 
     /// The pieces of a statement are entered, and then its names are known.
@@ -188,18 +165,27 @@ impl Assembler {
         &mut self,
         alloc: Global,
         site: PieceContext<'_>,
-        measured: StatementLayout,
+        analysis: Analysis,
         statement: Statement,
     ) -> Result<(), AllocError>
         requires known { IsTable (table_of self.old.symbols) self.old.known.states.items }
         requires new { IsNew (table_of self.old.symbols) site.context statement }
+        requires form { HasFinal (table_of self.old.symbols) site.context
+            (first_tree statement) analysis.form }
+        requires forms { HaveFinals (table_of self.old.symbols) site.context
+            (items_in statement) analysis.forms.items }
         ensures { OnOk result (let place = place_at site.entry.at in
-            let s = site.entry.context in let m = measured in
+            let s = site.entry.context in let m = analysis.measured in
             EmitsThenDefines place s (pieces_of m.length m.settled statement)
             (λ y. symbols_after y (laid_as place s m statement))
             self.old self.new) }
     {
         let context = site.context;
+        let Analysis {
+            measured,
+            form,
+            forms,
+        } = analysis;
         let StatementLayout {
             length,
             settled,
@@ -207,9 +193,11 @@ impl Assembler {
         } = measured;
         match statement {
             Statement::Instruction { mnemonic, operand } => {
-                self.enter_settled(alloc, site, settled, mnemonic, operand)
+                self.enter_settled(alloc, site, settled, mnemonic, operand, form)
             }
-            Statement::Values { width, items } => emit_values(alloc, self, site, width, items),
+            Statement::Values { width, items } => {
+                emit_values(alloc, self, site, width, items, forms)
+            }
             Statement::Reserve { .. } => emit_reserve(self, context, length, settled),
             Statement::Align { .. } => emit_reserve(self, context, length, settled),
             Statement::Incbin { bytes, .. } => emit_incbin(self, context, length, settled, bytes),
@@ -217,8 +205,15 @@ impl Assembler {
                 value,
                 action,
                 text,
-            } => self.enter_assertion(alloc, site, action, text, value),
-            other => self.enter_names(alloc, site, measured, other),
+            } => {
+                let piece = FixupKind::Assertion {
+                    action,
+                    text,
+                    value,
+                };
+                enter_value(alloc, self, site, form, piece)
+            }
+            other => self.enter_names(alloc, site, measured, other, form),
         }
     }
 
@@ -233,7 +228,7 @@ impl Assembler {
     ) -> Result<LaidOut, AsmFault>
         requires { IsRepresentable self.old }
         ensures placed { (count : ℕ) (t : State) → Represents count t self.old → IfOk result (λ p.
-            IsMeasuredAt t statement.now p.context p.measured) }
+            IsMeasuredAt t statement.now p.context p.analysis.measured) }
         ensures holds { (count : ℕ) (t : State) → Represents count t self.old → OnOk result
             (Represents (count + opened_by statement.now)
             (state_after_layout t (place_at at.entry) statement.now)
@@ -243,6 +238,10 @@ impl Assembler {
         ensures known { OnOk result
             (IsTable (table_of self.new.symbols) self.new.known.states.items) }
         ensures new { IfOk result (λ p. IsNew (table_of self.new.symbols) p.context statement.now) }
+        ensures form { IfOk result (λ p. HasFinal (table_of self.new.symbols) p.context
+            (first_tree statement.now) p.analysis.form) }
+        ensures forms { IfOk result (λ p. HaveFinals (table_of self.new.symbols) p.context
+            (items_in statement.now) p.analysis.forms.items) }
         ensures texts { IfErr result (λ e. is_system_error e ≡ false → self.new.texts ≡ self.old.texts) }
         ensures inside { IfErr result (λ e. is_failure e ≡ false) }
     {
@@ -250,13 +249,13 @@ impl Assembler {
             symbols: &self.symbols,
             cursor: &self.cursor,
         };
-        let measured = lay_out_statement(alloc, before, &mut self.known, statement)?;
+        let analysis = lay_out_statement(alloc, before, &mut self.known, statement)?;
         let context = self.cursor.context();
         self.request_section(context.segment, statement)?;
         self.texts.record_output(at, statement)?;
         self.cursor
-            .advance(alloc, &self.symbols, statement, measured)?;
-        Ok(LaidOut { context, measured })
+            .advance(alloc, &self.symbols, statement, analysis.measured)?;
+        Ok(LaidOut { context, analysis })
     }
 
     /// Computes the length and the context of an instruction, or its first error; requests its
@@ -270,12 +269,14 @@ impl Assembler {
     ) -> Result<LaidOut, AsmFault>
         requires { IsRepresentable self.old }
         ensures placed { (count : ℕ) (t : State) → Represents count t self.old → IfOk result (λ p.
-            IsMeasuredAt t (Instruction mnemonic operand.now) p.context p.measured) }
+            IsMeasuredAt t (Instruction mnemonic operand.now) p.context p.analysis.measured) }
         ensures holds { (place : SourceLocation) (count : ℕ) (t : State) → Represents count t self.old →
             OnOk result (Represents (count + opened_by (Instruction mnemonic operand.now))
             (state_after_layout t place (Instruction mnemonic operand.now)) self.new) }
         ensures refused { (count : ℕ) (t : State) → Represents count t self.old → IfErr result
             (IsRefused t (Instruction mnemonic operand.now)) }
+        ensures form { IfOk result (λ p. HasFinal (table_of self.new.symbols) p.context
+            (operand_tree operand.now) p.analysis.form) }
         ensures texts { IfErr result (λ e. is_system_error e ≡ false → self.new.texts ≡ self.old.texts) }
         ensures inside { IfErr result (λ e. is_failure e ≡ false) }
     {
@@ -283,11 +284,11 @@ impl Assembler {
             symbols: &self.symbols,
             cursor: &self.cursor,
         };
-        let measured = measure_instruction(alloc, before, &mut self.known, mnemonic, operand)?;
+        let analysis = measure_instruction(alloc, before, &mut self.known, mnemonic, operand)?;
         let context = self.cursor.context();
         self.sections.request_section(context.segment)?;
-        self.cursor.advance_by(measured.length);
-        Ok(LaidOut { context, measured })
+        self.cursor.advance_by(analysis.measured.length);
+        Ok(LaidOut { context, analysis })
     }
 
     /// Takes an instruction, as `take` does.
@@ -307,9 +308,10 @@ impl Assembler {
         ensures inside { IfErr result (λ e. is_failure e ≡ false) }
     {
         match self.place_instruction(alloc, mnemonic, &operand) {
-            Ok(LaidOut { context, measured }) => {
+            Ok(LaidOut { context, analysis }) => {
                 let site = PieceContext { at, context };
-                self.enter_settled(alloc, site, measured.settled, mnemonic, operand)?;
+                let Analysis { measured, form, .. } = analysis;
+                self.enter_settled(alloc, site, measured.settled, mnemonic, operand, form)?;
                 Ok(())
             }
             Err(fault) => refused_operand(operand, fault),
@@ -331,8 +333,8 @@ impl Assembler {
         ensures inside { IfErr result (λ e. is_failure e ≡ false) }
     {
         match self.lay_out(alloc, at, &statement) {
-            Ok(LaidOut { context, measured }) => {
-                self.emit_statement(alloc, PieceContext { at, context }, measured, statement)?;
+            Ok(LaidOut { context, analysis }) => {
+                self.emit_statement(alloc, PieceContext { at, context }, analysis, statement)?;
                 Ok(())
             }
             Err(fault) => refused(statement, fault),

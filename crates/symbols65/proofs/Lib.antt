@@ -1,5 +1,6 @@
 pub mod Beginnings
 pub mod Following
+pub mod Evaluations
 pub mod Finals
 pub mod GivenUp
 pub mod Growing

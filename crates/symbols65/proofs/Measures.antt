@@ -1,7 +1,7 @@
 -- Faults one after the other.
 use Rattle.std.proofs.Common.{arith, ◌≡◌, ℕ, zero, suc, ◌+◌, ◌*◌, ◌<◌, ◌≤◌, nat_lt, drop, get_or, add-one, Bool, true, false, List, [], ◌∷◌, length, map, Option, Some, None, refl, sym, subst, ap, ◌∙◌}
 use Rattle.std.proofs.lemmas.Grind.{common_steps}
-use Rattle.std.specs.Prelude.{IfOk, OnOk, Result, Ok, Err, ◌&&◌, sum_by, ℤ, pos, negsuc, not, ◌-◌, MatchOption, SomeIff}
+use Rattle.std.specs.Prelude.{IfOk, OnOk, is_some, Result, Ok, Err, ◌&&◌, sum_by, ℤ, pos, negsuc, not, ◌-◌, MatchOption, SomeIff}
 use Rattle.base65.specs.Outcome.{Unless, ◌>>=◌, Refines}
 use Rattle.std.proofs.lemmas.List.{drop_all}
 use Rattle.std.proofs.lemmas.List.Sums.{sum_by-cons}
@@ -135,6 +135,30 @@ reserved_as y w n v k e = ap (reserved w (is_byte_value (optional_value y (conte
 pub bad_fill : (w : Cursor) (b : Bool) (st : EncodingChoice) (k : Option ℤ) (m : ℕ) (e : AsmFault) → unless_fault (when (not (is_count k)) BadOperand) (byte_count k) ≡ Ok m → Unless (is_memory e) (unless_fault {A = Unit {0}} (when (not b) BadOperand) tt ≡ Err e) → Unless (is_memory e) (reserved w b st k ≡ Err e)
 bad_fill w b st x m e t h = grind (arith, common_steps)
 
+-- a number that is refused
+pub bad_count : (w : Cursor) (b : Bool) (st : EncodingChoice) (k : Option ℤ) (e : AsmFault) → Unless (is_memory e) (unless_fault (when (not (is_count k)) BadOperand) (byte_count k) ≡ Err e) → Unless (is_memory e) (reserved w b st k ≡ Err e)
+bad_count w b st x e h = grind (arith, common_steps)
+
+-- too much room, where the values aren't refused
+pub reserved_full : (w : Cursor) (b : Bool) (st : EncodingChoice) (k : Option ℤ) (m : ℕ) (e : AsmFault) → unless_fault (when (not (is_count k)) BadOperand) (byte_count k) ≡ Ok m → unless_fault {A = Unit {0}} (when (not b) BadOperand) tt ≡ Ok tt → count_if_it_fits w m ≡ Err e → Unless (is_memory e) (reserved w b st k ≡ Err e)
+reserved_full w b st x m e h k f = grind (arith, common_steps)
+
+pub reserved_well : (w : Cursor) (b : Bool) (st : EncodingChoice) (k : Option ℤ) (m len : ℕ) → unless_fault (when (not (is_count k)) BadOperand) (byte_count k) ≡ Ok m → unless_fault {A = Unit {0}} (when (not b) BadOperand) tt ≡ Ok tt → count_if_it_fits w m ≡ Ok len → reserved w b st k ≡ Ok (record { length = len; size = own_size w; alignment = 1; settled = st })
+reserved_well w b st x m len h k f = grind (arith, common_steps)
+
+-- ---- What fills room.
+
+-- it is refused by whatever it is
+pub fill_refused : {A B : Type 0} (e : AsmFault) (f : Option AsmFault) (x : A) (y : B) → Unless (is_memory e) (unless_fault f x ≡ Err e) → Unless (is_memory e) (unless_fault f y ≡ Err e)
+fill_refused e f x y h = unless_then (is_memory e) (λ p. other f p) h
+  where
+    other : (f : Option AsmFault) → unless_fault f x ≡ Err e → unless_fault f y ≡ Err e
+    other None p = absurd cc
+    other (Some z) p = (let same : z ≡ e = cc in ap (λ k. Err k) same)
+
+pub fill_there : (f : Option AsmFault) (st other : EncodingChoice) → unless_fault f st ≡ Ok other → (unless_fault {A = Unit {0}} f tt ≡ Ok tt) × (st ≡ other)
+fill_there f st other h = grind (arith, common_steps)
+
 -- ---- Alignment.
 
 pub no_fault : {A : Type 0} (f : Option AsmFault) (x y : A) → unless_fault f x ≡ Ok y → (f ≡ None) × (x ≡ y)
@@ -154,6 +178,18 @@ aligned w b st k =
 
 pub aligned_as : (y : Symbols) (w : Cursor) (n : Tree) (v : Option Tree) (k : Option ℤ) → constant_in y (context_of w) n ≡ k → layout_or_error y w (statement.Align n v) ≡ aligned w (is_byte_value (optional_value y (context_of w) v (pos 0))) (fill_settled y (context_of w) v) k
 aligned_as y w n v k e = ap (aligned w (is_byte_value (optional_value y (context_of w) v (pos 0))) (fill_settled y (context_of w) v)) e
+
+pub none_there : (k : Option ℤ) → is_some k ≡ false → is_there k ≡ false
+none_there None e = refl
+none_there (Some v) e = absurd cc
+
+pub is_multiple : (k : Option ℤ) → is_some k ≡ true → unless_fault {A = Unit {0}} (when (not (is_there k)) BadOperand) tt ≡ Ok tt
+is_multiple None e = absurd cc
+is_multiple (Some v) e = refl
+
+-- a multiple that isn't constant
+pub no_multiple : (w : Cursor) (b : Bool) (st : EncodingChoice) (k : Option ℤ) → is_there k ≡ false → aligned w b st k ≡ Err BadOperand
+no_multiple w b st x e = grind (arith, common_steps)
 
 -- a multiple that is refused, where the values aren't
 refused_third : {A : Type 0} (a b : Bool) (f r : Option AsmFault) (x : A) (m : ℕ) (e : AsmFault) → unless_fault {A = Unit {0}} (when (not a) BadOperand) tt ≡ Ok tt → unless_fault {A = Unit {0}} (when (not b) BadOperand) tt ≡ Ok tt → Unless (is_memory e) (unless_fault f m ≡ Err e) → Unless (is_memory e) (unless_fault (first_fault (None ∷ when (not (a && b)) BadOperand ∷ f ∷ None ∷ None ∷ None ∷ None ∷ None ∷ r ∷ [])) x ≡ Err e)

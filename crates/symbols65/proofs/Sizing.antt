@@ -1,4 +1,4 @@
--- Forms of numbers alone, and forms that are numbers or addresses.
+-- Forms that are numbers or addresses.
 use Rattle.std.proofs.Common.{◌≡◌, ◌∙◌, ◌⊎◌, inl, inr, length, Option, Some, None, refl, sym, ap, arith, Bool, true, false, Result, Ok, Err}
 use Rattle.std.specs.Prelude.{ℤ, pos, nat_le, if◌then◌else◌}
 use Rattle.syntax65.specs.Trees.{Tree, number, here, name, cheap, forward, backward, unary, binary}
@@ -7,7 +7,7 @@ use Rattle.syntax65.specs.declared.lexing.tokens.AddressSize.TheVariants as size
 use Rattle.semantics65.specs.declared.laid.Context.{Context}
 use Rattle.semantics65.specs.Symbols.{Binding, binding_of, Symbols}
 use Rattle.semantics65.specs.Norms.{constant_in, form_of_meaning, literal_in, fold_result, larger, norm, norm_of, size_by, size_of, size_of_meaning, size_of_value, takes_byte}
-use Rattle.symbols65.specs.Resolving.{IsNumber, binary_form, plain, plain_in, prefix_form}
+use Rattle.symbols65.specs.Resolving.{binary_form, plain, plain_in, prefix_form}
 use Rattle.std.proofs.lemmas.Grind.{common_steps}
 use Rattle.std.specs.Option.{option_and_then}
 use Rattle.std.specs.Result.{result_ok}
@@ -22,25 +22,9 @@ use Rattle.object65.specs.declared.folding.FormFault.{FormFault}
 use Rattle.object65.specs.declared.folding.FormFault.TheVariants as fault
 use Rattle.ast65.specs.declared.fault.AsmFault.{AsmFault}
 
--- ---- What expressions of numbers alone come to.
-
--- the value of such an expression has its size
-pub number_size : (y : Symbols) (s : Context) (own : AddressSize) (e : Tree) (v : ℤ) → IsNumber e v → size_of y s own e ≡ size_of_value v
-number_size y s own e v h = by e (ap literal_in (h (length y.definitions) y s))
-  where
-    by : (e : Tree) → constant_in y s e ≡ Some v → size_of y s own e ≡ size_of_value v
-    by (number m) k = (let same : pos m ≡ v = cc in ap size_of_value same)
-    by here k = absurd cc
-    by (unary op e) k = ap (size_by (if takes_byte op then size.ZeroPage else size_of y s own e)) k
-    by (binary op e f) k = ap (size_by (larger (size_of y s own e) (size_of y s own f))) k
-    by (name global parts) k = ap (size_by (size_of_meaning y (binding_of y s (name global parts)))) k
-    by (cheap n) k = ap (size_by (size_of_meaning y (binding_of y s (cheap n)))) k
-    by (forward n) k = ap (size_by (size_of_meaning y (binding_of y s (forward n)))) k
-    by (backward n) k = ap (size_by (size_of_meaning y (binding_of y s (backward n)))) k
-
 -- ---- Folding forms that are numbers or addresses, where others are missing, gives those of normal forms.
 
-folded_plain : (x : Result Form FormFault) → option_and_then plain (result_ok x) ≡ plain_in (fold_result x)
+pub folded_plain : (x : Result Form FormFault) → option_and_then plain (result_ok x) ≡ plain_in (fold_result x)
 folded_plain (Ok f) = refl
 folded_plain (Err fault.OutOfMemory) = refl
 folded_plain (Err fault.NoValue) = refl
@@ -149,7 +133,7 @@ pub plain_value : (o : Option Form) → option_and_then (λ f. literal_in (Ok f)
 plain_value None = refl
 plain_value (Some f) = sym (literal_plain f)
 
-plain_twice : (f : Form) → option_and_then plain (plain f) ≡ plain f
+pub plain_twice : (f : Form) → option_and_then plain (plain f) ≡ plain f
 plain_twice (lit v) = refl
 plain_twice (sec k a) = refl
 plain_twice (imp k) = refl

@@ -1,3 +1,4 @@
+pub mod Evaluations
 pub mod Internal
 pub mod Measuring
 pub mod Resolving

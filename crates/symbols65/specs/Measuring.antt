@@ -5,7 +5,7 @@ use Rattle.semantics65.specs.Layout as layout
 use Rattle.std.specs.List.{AllByRecursion}
 use Rattle.std.specs.Option.{unwrap_or}
 use Rattle.object65.specs.Objects.{section_limit}
-use Rattle.semantics65.specs.Layout.{context_of, current_after, kept_after, opens_scope, scope_after, segments_after, multiple_of, own_size, size_stated, defined_twice, file_limit, first_fault, is_open, is_part, left_from, line_fault, lost_scopes, opened_twice, operand_fault, optional_tree, or_then, placing_faults, scope_name, stands_outside, trees_of, when, unless_fault}
+use Rattle.semantics65.specs.Layout.{context_of, current_after, kept_after, opens_scope, scope_after, segments_after, multiple_of, own_size, size_stated, defined_twice, file_limit, first_fault, is_byte_value, is_open, is_part, left_from, line_fault, lost_scopes, opened_twice, operand_fault, optional_tree, or_then, placing_faults, scope_name, stands_outside, trees_of, when, unless_fault}
 use Rattle.ast65.specs.declared.language.Statement.{Statement}
 use Rattle.ast65.specs.declared.language.Statement.TheVariants as statement
 use Rattle.ast65.specs.declared.language.Statement.TheVariants.{Label, OpenProc, OpenScope, UnnamedLabel, Incbin}
@@ -16,7 +16,8 @@ use Rattle.ast65.specs.declared.fault.AsmFault.{AsmFault}
 use Rattle.ast65.specs.declared.fault.AsmFault.TheVariants.{BadOperand, BadPart, NotUnderstood, SectionTooLarge}
 use Rattle.ast65.specs.Faults.{is_memory}
 use Rattle.semantics65.specs.declared.laid.Context.{Context}
-use Rattle.semantics65.specs.Norms.{byte_count, length_of, settled_of}
+use Rattle.semantics65.specs.declared.laid.EncodingChoice.{EncodingChoice}
+use Rattle.semantics65.specs.Norms.{byte_count, fill_settled, length_of, optional_value, settled_of}
 use Rattle.symbols65.specs.declared.measuring.LineState.{LineState}
 use Rattle.symbols65.specs.declared.measuring.StatementLayout.{StatementLayout}
 use Rattle.symbols65.specs.Views.{table_of}
@@ -107,6 +108,12 @@ ChecksStatement result fault = Refines is_memory (λ u. u) result (unless_fault 
 abbrev pub LaysOutStatement : LineState → Result StatementLayout AsmFault → Statement → Type 0
 LaysOutStatement before result x =
     Refines is_memory (λ m. m) result (layout_or_error (table_of before.symbols.now) before.cursor.now x)
+
+-- what fills room, where that is a byte
+abbrev pub FillsRoom : Symbols → Context → Option Tree → Result EncodingChoice AsmFault → Type 0
+FillsRoom y s v result =
+    Refines is_memory (λ st. st) result
+    (unless_fault (when (not (is_byte_value (optional_value y s v (pos 0)))) BadOperand) (fill_settled y s v))
 
 -- this many bytes, if the section has room for them
 abbrev pub count_if_it_fits : layout.Cursor → ℕ → Result ℕ AsmFault

@@ -278,7 +278,3 @@ MeansAlways y s e j = (j < length y.definitions) × ((z : Symbols) → Extends y
 -- an operand means the same definition whatever statements follow
 abbrev pub MeansFinally : Symbols → Context → Tree → Type 0
 MeansFinally y s e = (j : ℕ) × MeansAlways y s e j
-
--- an expression has this value by any table, and needs no other expression for it
-abbrev pub IsNumber : Tree → ℤ → Type 0
-IsNumber e v = (n : ℕ) (y : Symbols) (s : Context) → norm (suc n) y s e ≡ Ok (lit v)

@@ -1,25 +1,34 @@
-//! Expressions at a line: their values if they are constant there, their sizes, and the addressing
+//! Evaluates expressions at a line: forms, address sizes, constant values, and the addressing
 //! modes of instructions.
 
-ghost use Rattle.std.specs.Prelude.{◌≡◌, Ok, OnOk, IfOk, IfSome, length, if◌then◌else◌};
+ghost use Rattle.std.specs.Prelude.{◌≡◌, Ok, OnOk, IfOk, IfSome, Option, Some, length, if◌then◌else◌};
+ghost use Rattle.syntax65.specs.Trees.{Tree, binary, name, unary};
+ghost use Rattle.semantics65.specs.Contents.{operand_tree};
+ghost use Rattle.semantics65.specs.Layout.{context_of, lost_scope, own_size};
 ghost use Rattle.semantics65.specs.Norms.{literal_in, constant_in, norm_of, larger, size_by, size_of, size_of_meaning, size_of_value, form_of_meaning, norm, takes_byte, address_mode, first_of, is_branch, mode_for, mode_of};
+ghost use Rattle.symbols65.specs.Evaluations.{EvaluatesTree, HasFinal, IsEvaluated, IsEvaluation};
+ghost use Rattle.symbols65.specs.Measuring.{ChecksStatement};
 ghost use Rattle.symbols65.specs.Resolving.{IsReference, IsTable, meaning_in, plain, plain_in};
 ghost use Rattle.symbols65.specs.Views.{table_of};
 ghost use Rattle.std.specs.Option.{option_and_then};
-ghost use Rattle.semantics65.specs.Symbols.{binding_of};
+ghost use Rattle.semantics65.specs.Symbols.{Symbols as Table, binding_of};
+ghost use Rattle.syntax65.specs.declared.lexing.tokens.AddressSize.{AddressSize};
 ghost use Rattle.syntax65.specs.declared.lexing.tokens.AddressSize.TheVariants.{ZeroPage};
+ghost use Rattle.semantics65.specs.declared.laid.Context.{Context};
 
+use crate::measuring::LineState;
 use crate::resolving::{
-    AttemptError, Binding, NormCache, State, address, binary_form, binding_of, norm, number_of,
-    pass_on_memory, prefix_form, settled,
+    AttemptError, Binding, FormSource, NormCache, State, address, binary_form, defined,
+    final_place, meaning_at, norm, pass_on_memory, plain_part, prefix_form, scope_of, scopes_in,
+    settled, shown,
 };
 use crate::table::Symbols;
 use ast65::{AsmFault, Index, Operand};
-use base65::Op1;
+use base65::{Op1, Op2};
 use object65::{Node, Norm};
 use semantics65::Context;
 use std::alloc::{AllocError, Global};
-use syntax65::{AddressSize, Expr, ExprKind, Mnemonic, Mode, opcode};
+use syntax65::{AddressSize, Expr, ExprKind, Mnemonic, Mode, Name, opcode};
 
 /// The value of a form that is a number.
 fn literal(form: &Norm) -> Option<i64>
@@ -121,13 +130,15 @@ fn size_of_meaning(symbols: &Symbols, meaning: Binding) -> AddressSize
     }
 }
 
-/// What one walk over an expression finds.
+/// What one walk over an expression finds, by the symbol table of the statements so far.
 #[derive(Drop)]
-struct FormAndSize {
-    /// Its normal form, if that is a number or an address. Only from these does folding make a number, so no other form is
-    /// copied here, however large it is.
-    form: Option<Norm>,
-    size: AddressSize,
+pub struct Evaluation {
+    /// Its normal form, if that is final, or is a number or an address. Only from these does folding make a number, so no
+    /// other form that may change is copied, however large it is.
+    pub form: Option<Norm>,
+    /// Whether the form stays whatever statements follow.
+    pub is_final: bool,
+    pub size: AddressSize,
 }
 
 /// A form again, if it is a number or an address.
@@ -143,14 +154,16 @@ fn plain(form: &Norm) -> Option<Norm>
     }
 }
 
-/// Combines the form of an expression and the size that it has without a value.
-fn sized_by_value(form: Option<Norm>, other: AddressSize) -> FormAndSize
-    ensures form { result.form ≡ option_and_then plain form }
+/// An evaluation by a form, which may be final, and by the size that the expression has without a value.
+fn evaluation_of(form: Option<Norm>, is_final: bool, other: AddressSize) -> Evaluation
+    ensures form { result.form ≡ (if is_final then form else option_and_then plain form) }
+    ensures stays { result.is_final ≡ is_final }
     ensures size { result.size ≡ size_by other (option_and_then (λ f. literal_in (Ok f)) form) }
 {
     let Some(form) = form else {
-        return FormAndSize {
+        return Evaluation {
             form: None,
+            is_final,
             size: other,
         };
     };
@@ -158,8 +171,10 @@ fn sized_by_value(form: Option<Norm>, other: AddressSize) -> FormAndSize
         Some(value) => size_of_value(value),
         None => other,
     };
-    FormAndSize {
-        form: plain(&form),
+    let form = if is_final { Some(form) } else { plain(&form) };
+    Evaluation {
+        form,
+        is_final,
         size,
     }
 }
@@ -215,110 +230,158 @@ fn meant_plain(
     }
 }
 
-/// What is found of a reference.
-fn reference_form_and_size(
+/// The evaluation of a reference whose form is final, if that is evident already.
+fn evaluate_final(
     alloc: Global,
     symbols: &Symbols,
-    known: &mut NormCache,
     context: Context,
     operand: &Expr,
-) -> Result<FormAndSize, AllocError>
-    requires table { IsTable (table_of symbols.now) known.old.states.items }
-    requires reference { IsReference operand.now }
-    ensures form { IfOk result (λ r. r.form ≡ plain_in
-        (norm_of (table_of symbols.now) context operand.now)) }
-    ensures size { IfOk result (λ r. r.size ≡ size_by
-        (size_of_meaning (table_of symbols.now)
-        (binding_of (table_of symbols.now) context operand.now))
-        (constant_in (table_of symbols.now) context operand.now)) }
-    ensures table { OnOk result (IsTable (table_of symbols.now) known.new.states.items) }
+) -> Result<Option<Evaluation>, AllocError>
+    requires { IsReference operand.now }
+    ensures { IfOk result (λ o. IfSome o (λ v. (own : AddressSize) →
+        IsEvaluation (table_of symbols.now) context own operand.now v)) }
 {
-    match binding_of(alloc, symbols, context, operand) {
-        Ok(meaning) => {
-            let other = size_of_meaning(symbols, meaning);
-            let form = meant_plain(alloc, symbols, known, context, operand, meaning)?;
-            Ok(sized_by_value(form, other))
+    let Some(place) = final_place(symbols, context, operand) else {
+        return Ok(None);
+    };
+    match defined(alloc, symbols, FormSource::Finals, place) {
+        Ok(form) => {
+            let size = size_of_meaning(symbols, Binding::Defined(place));
+            Ok(Some(evaluation_of(Some(form), true, size)))
         }
-        Err(fault) => {
+        Err(AttemptError::Needs(_)) => Ok(None),
+        Err(AttemptError::Fault(fault)) => {
             pass_on_memory(&fault)?;
-            // A name without a meaning may be defined anywhere.
-            Ok(sized_by_value(None, AddressSize::Absolute))
+            Ok(None)
         }
     }
 }
 
-/// The form, if it is a number or an address, and the size of an expression by a symbol table, where the segment has this
-/// size, in one walk.
-fn form_and_size(
+/// The evaluation of a reference.
+fn evaluate_reference(
+    alloc: Global,
+    before: LineState<'_>,
+    known: &mut NormCache,
+    operand: &Expr,
+) -> Result<Evaluation, AllocError>
+    requires table { IsTable (table_of before.symbols.now) known.old.states.items }
+    requires reference { IsReference operand.now }
+    ensures found { IfOk result (IsEvaluation (table_of before.entry.symbols.now)
+        (context_of before.entry.cursor.now) (own_size before.entry.cursor.now) operand.now) }
+    ensures table { OnOk result
+        (IsTable (table_of before.entry.symbols.now) known.new.states.items) }
+{
+    let context = before.cursor.context();
+    if let Some(found) = evaluate_final(alloc, before.symbols, context, operand)? {
+        return Ok(found);
+    }
+    let Some(meaning) = meaning_at(before.symbols, context, operand) else {
+        // A name without a meaning may be defined anywhere.
+        return Ok(evaluation_of(None, false, AddressSize::Absolute));
+    };
+    let other = size_of_meaning(before.symbols, meaning);
+    let form = meant_plain(alloc, before.symbols, known, context, operand, meaning)?;
+    Ok(evaluation_of(form, false, other))
+}
+
+/// The evaluation of a prefix operation by that of its part.
+fn evaluate_prefix(alloc: Global, op: Op1, part: Evaluation) -> Result<Evaluation, AllocError>
+    ensures { (y : Table) (s : Context) (own : AddressSize) (e : Tree) →
+        IsEvaluation y s own e part → IfOk result (IsEvaluation y s own (unary op e)) }
+{
+    let other = prefix_size(op, part.size);
+    let is_final = part.is_final;
+    let form = prefix_form(alloc, op, part.form)?;
+    Ok(evaluation_of(form, is_final, other))
+}
+
+/// The evaluation of an operation by those of its parts.
+fn evaluate_binary(
+    alloc: Global,
+    op: Op2,
+    left: Evaluation,
+    right: Evaluation,
+) -> Result<Evaluation, AllocError>
+    ensures { (y : Table) (s : Context) (own : AddressSize) (e g : Tree) →
+        IsEvaluation y s own e left → IsEvaluation y s own g right →
+        IfOk result (IsEvaluation y s own (binary op e g)) }
+{
+    let other = larger(left.size, right.size);
+    let is_final = left.is_final && right.is_final;
+    let form = binary_form(alloc, op, left.form, right.form)?;
+    Ok(evaluation_of(form, is_final, other))
+}
+
+/// Refuses a name with `::` whose scope isn't there.
+#[inline(never)]
+fn check_name(
     alloc: Global,
     symbols: &Symbols,
+    scope: usize,
+    written: &Name,
+) -> Result<(), AsmFault>
+    ensures { ChecksStatement result (lost_scope (table_of symbols.now).scopes scope
+        (name written.now.is_global written.now.parts)) }
+{
+    if plain_part(written).is_some() {
+        return Ok(());
+    }
+    let parts = written.parts.as_slice();
+    let opened = symbols.scope_count();
+    match scope_of(symbols, opened, scope, written.is_global, scopes_in(parts)) {
+        Some(_) => Ok(()),
+        None => {
+            let name = shown(alloc, written.is_global, parts)?;
+            Err(AsmFault::NoSuchScope(name))
+        }
+    }
+}
+
+/// Evaluates an expression in the context of a statement, in one walk; the error is its first
+/// name with `::` whose scope doesn't exist.
+pub fn evaluate(
+    alloc: Global,
+    before: LineState<'_>,
     known: &mut NormCache,
-    context: Context,
-    own: AddressSize,
     value: &Expr,
-) -> Result<FormAndSize, AllocError>
-    requires { IsTable (table_of symbols.now) known.old.states.items }
-    ensures form { IfOk result (λ r. r.form ≡ plain_in
-        (norm_of (table_of symbols.now) context value.now)) }
-    ensures size { IfOk result (λ r.
-        r.size ≡ size_of (table_of symbols.now) context own value.now) }
-    ensures table { OnOk result (IsTable (table_of symbols.now) known.new.states.items) }
+) -> Result<Evaluation, AsmFault>
+    requires { IsTable (table_of before.symbols.now) known.old.states.items }
+    ensures found { EvaluatesTree (table_of before.entry.symbols.now)
+        (context_of before.entry.cursor.now) (own_size before.entry.cursor.now) value.now result }
+    ensures table { OnOk result
+        (IsTable (table_of before.entry.symbols.now) known.new.states.items) }
 {
     match value.kind() {
         ExprKind::Number(number) => {
             let value = i64::from(*number);
-            Ok(FormAndSize {
+            Ok(Evaluation {
                 form: Some(Norm::new(Node::NumberNode(value))),
+                is_final: true,
                 size: size_of_value(value),
             })
         }
-        ExprKind::Here => Ok(FormAndSize {
-            form: Some(address(context)),
-            size: own,
+        ExprKind::Here => Ok(Evaluation {
+            form: Some(address(before.cursor.context())),
+            is_final: true,
+            size: before.cursor.segment().size,
         }),
         ExprKind::Prefix(op, part) => {
-            let part = form_and_size(alloc, symbols, known, context, own, part)?;
-            let other = prefix_size(*op, part.size);
-            let form = prefix_form(alloc, *op, part.form)?;
-            Ok(sized_by_value(form, other))
+            let part = evaluate(alloc, before, known, part)?;
+            Ok(evaluate_prefix(alloc, *op, part)?)
         }
         ExprKind::Binary(op, operands) => {
-            let left = form_and_size(alloc, symbols, known, context, own, &operands.left)?;
-            let right = form_and_size(alloc, symbols, known, context, own, &operands.right)?;
-            let other = larger(left.size, right.size);
-            let form = binary_form(alloc, *op, left.form, right.form)?;
-            Ok(sized_by_value(form, other))
+            let left = evaluate(alloc, before, known, &operands.left)?;
+            let right = evaluate(alloc, before, known, &operands.right)?;
+            Ok(evaluate_binary(alloc, *op, left, right)?)
         }
-        ExprKind::Plain(_)
-        | ExprKind::Scoped(_)
-        | ExprKind::Cheap(_)
-        | ExprKind::Forward(_)
-        | ExprKind::Backward(_) => {
-            reference_form_and_size(alloc, symbols, known, context, value)
+        ExprKind::Scoped(name) => {
+            check_name(alloc, before.symbols, before.cursor.scope() as usize, name)?;
+            Ok(evaluate_reference(alloc, before, known, value)?)
+        }
+        ExprKind::Plain(_) | ExprKind::Cheap(_) | ExprKind::Forward(_) | ExprKind::Backward(_) => {
+            Ok(evaluate_reference(alloc, before, known, value)?)
         }
     }
-}
-
-/// The size of an expression by a symbol table, where the segment has this size.
-#[inline(never)]
-pub fn size(
-    alloc: Global,
-    symbols: &Symbols,
-    known: &mut NormCache,
-    context: Context,
-    own: AddressSize,
-    value: &Expr,
-) -> Result<AddressSize, AllocError>
-    requires { IsTable (table_of symbols.now) known.old.states.items }
-    ensures size { IfOk result (λ s.
-        s ≡ size_of (table_of symbols.now) context own value.now) }
-    ensures table { OnOk result (IsTable (table_of symbols.now) known.new.states.items) }
-{
-    if let Some(number) = number_of(value) {
-        return Ok(size_of_value(number));
-    }
-    let found = form_and_size(alloc, symbols, known, context, own, value)?;
-    Ok(found.size)
 }
 
 /// The form of an address of a size.
@@ -373,44 +436,64 @@ fn address_mode(
     }
 }
 
-/// The addressing form of an instruction by a symbol table, if it has that form.
-pub fn mode(
-    alloc: Global,
-    symbols: &Symbols,
-    known: &mut NormCache,
-    context: Context,
-    own: AddressSize,
-    mnemonic: Mnemonic,
-    operand: &Operand,
-) -> Result<Option<Mode>, AllocError>
-    requires { IsTable (table_of symbols.now) known.old.states.items }
-    ensures mode { IfOk result (λ m. m ≡ mode_of (table_of symbols.now) context own mnemonic operand.now) }
-    ensures table { OnOk result (IsTable (table_of symbols.now) known.new.states.items) }
+/// The value of an expression that was evaluated, if it is constant.
+pub fn number(found: &Option<Evaluation>) -> Option<i64>
+    ensures { (y : Table) (s : Context) (own : AddressSize) (e : Tree) →
+        IsEvaluated y s own (Some e) found.now → result ≡ constant_in y s e }
+{
+    match found {
+        Some(found) => match &found.form {
+            Some(form) => literal(form),
+            None => None,
+        },
+        None => None,
+    }
+}
+
+/// The size of an expression that was evaluated.
+pub fn size_found(found: &Option<Evaluation>) -> AddressSize
+    ensures { (y : Table) (s : Context) (own : AddressSize) (e : Tree) →
+        IsEvaluated y s own (Some e) found.now → result ≡ size_of y s own e }
+{
+    match found {
+        Some(found) => found.size,
+        None => AddressSize::Absolute,
+    }
+}
+
+/// The final form of an expression that was evaluated, if that is evident already.
+pub fn final_form(found: Option<Evaluation>) -> Option<Norm>
+    ensures { (y : Table) (s : Context) (own : AddressSize) (e : Option Tree) →
+        IsEvaluated y s own e found → HasFinal y s e result }
+{
+    match found {
+        Some(found) if found.is_final => found.form,
+        _ => None,
+    }
+}
+
+/// The addressing form of an instruction by the evaluation of its operand, if it has that form.
+pub fn mode(mnemonic: Mnemonic, operand: &Operand, found: &Option<Evaluation>) -> Option<Mode>
+    ensures { (y : Table) (s : Context) (own : AddressSize) →
+        IsEvaluated y s own (operand_tree operand.now) found.now →
+        result ≡ mode_of y s own mnemonic operand.now }
 {
     match operand {
-        Operand::Absent => Ok(first_of(mnemonic, Mode::Implied, Mode::Accumulator)),
-        Operand::Accumulator => Ok(first_of(mnemonic, Mode::Accumulator, Mode::Accumulator)),
-        Operand::Immediate(_) => Ok(first_of(mnemonic, Mode::Immediate, Mode::Immediate)),
-        Operand::Address {
-            prefix,
-            value,
-            index,
-        } => {
+        Operand::Absent => first_of(mnemonic, Mode::Implied, Mode::Accumulator),
+        Operand::Accumulator => first_of(mnemonic, Mode::Accumulator, Mode::Accumulator),
+        Operand::Immediate(_) => first_of(mnemonic, Mode::Immediate, Mode::Immediate),
+        Operand::Address { prefix, index, .. } => {
             if is_branch(mnemonic) {
                 // A branch takes a target alone, without a prefix.
                 return match (prefix, index) {
-                    (None, None) => Ok(Some(Mode::Relative)),
-                    _ => Ok(None),
+                    (None, None) => Some(Mode::Relative),
+                    _ => None,
                 };
             }
-            let size = match prefix {
-                Some(forced) => *forced,
-                None => size(alloc, symbols, known, context, own, value)?,
-            };
-            Ok(address_mode(mnemonic, *prefix, size, *index))
+            address_mode(mnemonic, *prefix, size_found(found), *index)
         }
-        Operand::Indirect(_) => Ok(first_of(mnemonic, Mode::Indirect, Mode::Indirect)),
-        Operand::IndirectX(_) => Ok(first_of(mnemonic, Mode::IndirectX, Mode::IndirectX)),
-        Operand::IndirectY(_) => Ok(first_of(mnemonic, Mode::IndirectY, Mode::IndirectY)),
+        Operand::Indirect(_) => first_of(mnemonic, Mode::Indirect, Mode::Indirect),
+        Operand::IndirectX(_) => first_of(mnemonic, Mode::IndirectX, Mode::IndirectX),
+        Operand::IndirectY(_) => first_of(mnemonic, Mode::IndirectY, Mode::IndirectY),
     }
 }

@@ -11,10 +11,11 @@ mod table;
 
 pub use cursor::Cursor;
 pub use measuring::{
-    LineState, StatementLayout, check_unread, lay_out_statement, measure_instruction, needs_section,
+    Analysis, LineState, StatementLayout, check_unread, lay_out_statement, measure_instruction,
+    needs_section,
 };
 pub use resolving::{
     Binding, NormCache, State, binding_of, defined_norm, definition_of, norm, operand_form,
-    plain_part, scope_of, scopes_in, shown, stable_form,
+    plain_part, scope_of, scopes_in, shown,
 };
 pub use table::{Definition, InternedKey, Key, ScopeKey, Symbols, define};

@@ -11,21 +11,25 @@ ghost use Rattle.object65.specs.Objects.{section_limit};
 ghost use Rattle.ast65.specs.Faults.{is_memory};
 ghost use Rattle.semantics65.specs.declared.laid.EncodingChoice.TheVariants.{Undecided};
 ghost use Rattle.ast65.specs.declared.language.Statement.TheVariants.{Instruction};
-ghost use Rattle.semantics65.specs.Layout.{own_size, context_of};
+ghost use Rattle.semantics65.specs.Contents.{operand_tree};
+ghost use Rattle.semantics65.specs.Layout.{own_size, context_of, unless_fault};
 ghost use Rattle.symbols65.specs.Resolving.{IsTable};
 ghost use Rattle.symbols65.specs.Views.{table_of};
-ghost use Rattle.symbols65.specs.Measuring.{ChecksStatement, count_if_it_fits, layout_result, naming_fault};
+ghost use Rattle.symbols65.specs.Evaluations.{AreEvaluations, HasFinal, HaveFinals, first_tree, items_in};
+ghost use Rattle.symbols65.specs.Measuring.{count_if_it_fits, layout_result, naming_fault};
 
 pub use self::bytes::check_unread;
 use self::bytes::instruction;
 pub use self::kinds::needs_section;
 use self::kinds::{check_defined, check_opened, check_outside, place};
-use self::trees::{check_operand, check_trees};
+use self::trees::{Evaluations, evaluate_optional, evaluate_trees, operand_value};
+use crate::constants::final_form;
 use crate::cursor::Cursor;
 use crate::resolving::NormCache;
 use crate::table::Symbols;
 use ast65::{AsmFault, Operand, Statement};
-use semantics65::{Context, EncodingChoice};
+use object65::Norm;
+use semantics65::EncodingChoice;
 use std::alloc::Global;
 use syntax65::{AddressSize, Mnemonic};
 
@@ -48,20 +52,40 @@ pub struct StatementLayout {
     pub settled: EncodingChoice,
 }
 
-/// Refuses a statement for the names and scopes in it.
+/// What is known of a statement at its line.
+#[derive(Drop)]
+pub struct Analysis {
+    pub measured: StatementLayout,
+    /// The final form of the expression of an instruction, a constant or an assertion, if that is evident already.
+    pub form: Option<Norm>,
+    /// The final forms of the elements of a list, each at the place of its element; none of numbers alone.
+    pub forms: Vec<Option<Norm>>,
+}
+
+/// The evaluations of the expressions of a statement; or the statement is refused for the names and scopes in it.
 fn check_naming(
     alloc: Global,
-    symbols: &Symbols,
-    context: Context,
+    before: LineState<'_>,
+    known: &mut NormCache,
     statement: &Statement,
-) -> Result<(), AsmFault>
-    ensures { ChecksStatement result (naming_fault (table_of symbols.now) context statement.now) }
+) -> Result<Evaluations, AsmFault>
+    requires { IsTable (table_of before.symbols.now) known.old.states.items }
+    ensures naming { Refines is_memory (λ _. tt {0}) result (unless_fault (naming_fault
+        (table_of before.entry.symbols.now) (context_of before.entry.cursor.now)
+        statement.now) tt) }
+    ensures found { IfOk result (AreEvaluations (table_of before.entry.symbols.now)
+        (context_of before.entry.cursor.now) (own_size before.entry.cursor.now)
+        statement.now) }
+    ensures table { OnOk result
+        (IsTable (table_of before.entry.symbols.now) known.new.states.items) }
 {
+    let context = before.cursor.context();
     let scope = context.scope as usize;
     check_outside(scope, statement)?;
-    check_trees(alloc, symbols, scope, statement)?;
-    check_opened(alloc, symbols, scope, statement)?;
-    check_defined(alloc, symbols, context, statement)
+    let found = evaluate_trees(alloc, before, known, statement)?;
+    check_opened(alloc, before.symbols, scope, statement)?;
+    check_defined(alloc, before.symbols, context, statement)?;
+    Ok(found)
 }
 
 /// So many bytes, if the section has room for them.
@@ -99,18 +123,29 @@ pub fn lay_out_statement(
     before: LineState<'_>,
     known: &mut NormCache,
     statement: &Statement,
-) -> Result<StatementLayout, AsmFault>
+) -> Result<Analysis, AsmFault>
     requires table { IsTable (table_of before.symbols.now) known.old.states.items }
-    ensures measured { Refines is_memory (λ m. m) result (layout_result
+    ensures measured { Refines is_memory (λ a. a.measured) result (layout_result
         (table_of before.entry.symbols.now) before.entry.cursor.now
         statement.now) }
-    ensures room { IfOk result (λ m.
-        (context_of before.entry.cursor.now).offset + m.length ≤ section_limit) }
+    ensures room { IfOk result (λ a.
+        (context_of before.entry.cursor.now).offset + a.measured.length ≤ section_limit) }
+    ensures form { IfOk result (λ a. HasFinal (table_of before.entry.symbols.now)
+        (context_of before.entry.cursor.now) (first_tree statement.now) a.form) }
+    ensures forms { IfOk result (λ a. HaveFinals (table_of before.entry.symbols.now)
+        (context_of before.entry.cursor.now) (items_in statement.now) a.forms.items) }
     ensures table { OnOk result
         (IsTable (table_of before.entry.symbols.now) known.new.states.items) }
 {
-    check_naming(alloc, before.symbols, before.cursor.context(), statement)?;
-    place(alloc, before, known, statement)
+    let found = check_naming(alloc, before, known, statement)?;
+    let measured = place(before, statement, &found)?;
+    let Evaluations { first, forms, .. } = found;
+    let form = final_form(first);
+    Ok(Analysis {
+        measured,
+        form,
+        forms,
+    })
 }
 
 /// The same of an instruction, which most statements are.
@@ -120,17 +155,24 @@ pub fn measure_instruction(
     known: &mut NormCache,
     mnemonic: Mnemonic,
     operand: &Operand,
-) -> Result<StatementLayout, AsmFault>
+) -> Result<Analysis, AsmFault>
     requires table { IsTable (table_of before.symbols.now) known.old.states.items }
-    ensures measured { Refines is_memory (λ m. m) result (layout_result
+    ensures measured { Refines is_memory (λ a. a.measured) result (layout_result
         (table_of before.entry.symbols.now) before.entry.cursor.now
         (Instruction mnemonic operand.now)) }
-    ensures room { IfOk result (λ m.
-        (context_of before.entry.cursor.now).offset + m.length ≤ section_limit) }
+    ensures room { IfOk result (λ a.
+        (context_of before.entry.cursor.now).offset + a.measured.length ≤ section_limit) }
+    ensures form { IfOk result (λ a. HasFinal (table_of before.entry.symbols.now)
+        (context_of before.entry.cursor.now) (operand_tree operand.now) a.form) }
     ensures table { OnOk result
         (IsTable (table_of before.entry.symbols.now) known.new.states.items) }
 {
-    let scope = before.cursor.context().scope as usize;
-    check_operand(alloc, before.symbols, scope, operand)?;
-    instruction(alloc, before, known, mnemonic, operand)
+    let found = evaluate_optional(alloc, before, known, operand_value(operand))?;
+    let measured = instruction(before.cursor, mnemonic, operand, &found)?;
+    let form = final_form(found);
+    Ok(Analysis {
+        measured,
+        form,
+        forms: Vec::new(alloc),
+    })
 }

@@ -1,5 +1,5 @@
 -- What the assembler holds between two statements, and what taking one leaves.
-use Rattle.std.specs.Prelude.{◌≡◌, ℕ, ◌<◌, ⊤, false, List, [], ◌∷◌, Some, ℤ, Bool, true, pos, None, Result, Ok, Err, ◌++◌, if◌then◌else◌}
+use Rattle.std.specs.Prelude.{◌≡◌, ℕ, ◌<◌, ⊤, false, List, [], ◌∷◌, Option, Some, Bool, true, pos, None, Result, Ok, Err, ◌++◌, if◌then◌else◌}
 use Rattle.std.specs.List.{AllByRecursion, flat_map, list_all}
 use Rattle.syntax65.specs.Trees.{Tree, name}
 use Rattle.syntax65.specs.declared.source_location.SourceLocation.{SourceLocation}
@@ -15,13 +15,15 @@ use Rattle.symbols65.specs.Views.{table_of}
 use Rattle.asm65.specs.declared.assembler.Assembler.{Assembler}
 use Rattle.symbols65.specs.Measuring.{AreInside, IsCounted, measure_of, opening_limit}
 use Rattle.expand65.specs.State.{EnvironmentView}
-use Rattle.semantics65.specs.Norms.{constant_in, IsFinal}
+use Rattle.semantics65.specs.Norms.{constant_in}
 use Rattle.sources65.specs.Reading.{is_definition}
 use Rattle.base65.specs.Outcome.{◌>>=◌, Unless}
-use Rattle.object65.specs.Form.{Form, lit}
+use Rattle.object65.specs.Form.{Form}
 use Rattle.object65.specs.Objects.{fits_width, value_bytes}
 use Rattle.object65.specs.declared.object.Width.{Width}
 use Rattle.ast65.specs.declared.fault.AsmFault.{AsmFault}
+use Rattle.emit65.specs.declared.fixups.FixupKind.{FixupKind}
+use Rattle.emit65.specs.declared.fixups.FixupKind.TheVariants.{Datum, Operand, Constant, Assertion}
 use Rattle.emit65.specs.declared.sections.Sections.{Sections}
 use Rattle.syntax65.specs.declared.lexing.tokens.AddressSize.{AddressSize}
 use Rattle.syntax65.specs.declared.lexing.tokens.AddressSize.TheVariants as size
@@ -116,11 +118,18 @@ abbrev pub EmitsIfResolved : SourceLocation → Context → piece.Piece → Asse
 EmitsIfResolved place s p old new false = new ≡ old
 EmitsIfResolved place s p old new true = EmitsPieces place s (p ∷ []) old new
 
--- an expression whose value is a number other than 0, whatever statements follow
-pub record IsKnownTrue (y : Symbols) (s : Context) (e : Tree) : Type 0 where
-  pub value : ℤ
-  pub other : value ≡ pos 0 → ⊥
-  pub final : IsFinal y s e (lit value)
+-- the expression of a piece, if it has one
+abbrev pub tree_in : FixupKind → Option Tree
+tree_in (Datum width e) = Some e
+tree_in (Operand width e) = Some e
+tree_in (Constant e) = Some e
+tree_in (Assertion act words e) = Some e
+tree_in _ = None
+
+-- the form of the next element, if the list has one, and the rest of the list
+abbrev pub IsNext : List (Option Form) → Option Form → List (Option Form) → Type 0
+IsNext [] o rest = (o ≡ None) × (rest ≡ [])
+IsNext (f ∷ fs) o rest = (o ≡ f) × (rest ≡ fs)
 
 -- ---- What a statement adds to what an assembler holds.
 

@@ -1,24 +1,27 @@
 //! What statements that define no name put into sections.
 
-ghost use Rattle.std.specs.Prelude.{◌≡◌, IfOk, true, ◌∷◌, [], OnOk, map};
+ghost use Rattle.std.specs.Prelude.{◌≡◌, ◌∷◌, [], OnOk, map};
 ghost use Rattle.semantics65.specs.Contents.{operand_tree, file_bytes, opcode_part, room_part, Known};
 ghost use Rattle.semantics65.specs.Norms.{width_of};
 ghost use Rattle.symbols65.specs.Views.{table_of};
-ghost use Rattle.asm65.specs.Internal.AssemblerState.{IsKnownTrue, EmitsPieces};
+ghost use Rattle.symbols65.specs.Evaluations.{HasFinal, HaveFinals};
+ghost use Rattle.std.specs.Vec.Iter.{into_iter_items};
+ghost use Rattle.asm65.specs.Internal.AssemblerState.{EmitsPieces, IsNext, KeepsTables};
 ghost use Rattle.syntax65.specs.declared.source_location.SourceLocation.{SourceLocation};
 ghost use Rattle.semantics65.specs.Views.{place_at};
 ghost use Rattle.semantics65.specs.Module.{given, item_piece, operand_pieces};
 ghost use Rattle.ast65.specs.Items.{literal_item};
 
 use super::PieceContext;
-use super::values::{bytes_of, emit_datum, emit_operand, file_bytes, items_of, literal_of};
+use super::values::{bytes_of, enter_value, file_bytes, items_of};
 use crate::assembler::Assembler;
 use ast65::{Item, Items, ItemsKind, Operand};
 use base65::ListVec;
-use object65::Width;
+use emit65::FixupKind;
+use object65::{Norm, Width};
 use semantics65::{Context, EncodingChoice};
 use std::alloc::{AllocError, Global};
-use symbols65::{Symbols, stable_form};
+use std::vec::IntoIter;
 use syntax65::{Expr, Mode};
 
 /// How wide the operand of an instruction of a form is stored, if it has a value.
@@ -34,7 +37,7 @@ pub fn width_of(mode: Mode) -> Option<Width>
 }
 
 /// The expression of an operand, if it has one.
-pub fn operand_value(operand: Operand) -> Option<Expr>
+fn operand_value(operand: Operand) -> Option<Expr>
     ensures { result ≡ operand_tree operand }
 {
     match operand {
@@ -47,24 +50,6 @@ pub fn operand_value(operand: Operand) -> Option<Expr>
     }
 }
 
-/// Returns whether a value is another one than 0, whatever statements follow.
-pub fn is_known_true(
-    alloc: Global,
-    symbols: &Symbols,
-    context: Context,
-    value: &Expr,
-) -> Result<bool, AllocError>
-    ensures { IfOk result (λ so. so ≡ true → IsKnownTrue (table_of symbols.now) context value.now) }
-{
-    match stable_form(alloc, symbols, context, value)? {
-        Some(form) => match literal_of(&form) {
-            Some(value) => Ok(value != 0),
-            None => Ok(false),
-        },
-        None => Ok(false),
-    }
-}
-
 /// Enters the code of an instruction.
 #[inline(always)]
 pub fn emit_opcode(
@@ -72,8 +57,9 @@ pub fn emit_opcode(
     context: Context,
     code: Option<u8>,
 ) -> Result<(), AllocError>
-    ensures { OnOk result ((place : SourceLocation) → EmitsPieces place context
+    ensures entered { OnOk result ((place : SourceLocation) → EmitsPieces place context
         (given (opcode_part code) ∷ []) assembler.old assembler.new) }
+    ensures tables { KeepsTables assembler.old assembler.new }
 {
     match code {
         Some(code) => assembler.sections.append(context.segment, &[code]),
@@ -83,20 +69,40 @@ pub fn emit_opcode(
 
 /// Enters the value of an operand, if there is one.
 #[inline(always)]
-pub fn enter_operand_of(
+pub fn enter_operand(
     alloc: Global,
     assembler: &mut Assembler,
     site: PieceContext<'_>,
     width: Option<Width>,
-    value: Option<Expr>,
+    operand: Operand,
+    form: Option<Norm>,
 ) -> Result<(), AllocError>
+    requires { HasFinal (table_of assembler.old.symbols) site.context (operand_tree operand) form }
     ensures { OnOk result (EmitsPieces
         (place_at site.entry.at) site.entry.context
-        (operand_pieces width value) assembler.old assembler.new) }
+        (operand_pieces width (operand_tree operand)) assembler.old assembler.new) }
 {
-    match (width, value) {
-        (Some(width), Some(value)) => emit_operand(alloc, assembler, site, width, value),
+    match (width, operand_value(operand)) {
+        (Some(width), Some(value)) => {
+            enter_value(
+                alloc,
+                assembler,
+                site,
+                form,
+                FixupKind::Operand { width, value },
+            )
+        }
         _ => Ok(()),
+    }
+}
+
+/// The form of the next element of a list, if one was handed on.
+fn next_form(forms: &mut IntoIter<Option<Norm>>) -> Option<Norm>
+    ensures { IsNext (into_iter_items forms.old) result (into_iter_items forms.new) }
+{
+    match forms.next() {
+        Some(form) => form,
+        None => None,
     }
 }
 
@@ -107,14 +113,26 @@ fn enter_mixed(
     site: PieceContext<'_>,
     width: Width,
     items: ListVec<Item>,
+    forms: Vec<Option<Norm>>,
 ) -> Result<(), AllocError>
+    requires { HaveFinals (table_of assembler.old.symbols) site.context items forms.items }
     ensures { OnOk result (EmitsPieces
         (place_at site.entry.at) site.entry.context
         (map (item_piece width) items) assembler.old assembler.new) }
 {
+    let mut forms = forms.into_iter();
     for item in items.into_vec() {
+        let form = next_form(&mut forms);
         match item {
-            Item::Value(value) => emit_datum(alloc, assembler, site, width, value)?,
+            Item::Value(value) => {
+                enter_value(
+                    alloc,
+                    assembler,
+                    site,
+                    form,
+                    FixupKind::Datum { width, value },
+                )?
+            }
             Item::StringLiteral(bytes) => {
                 assembler
                     .sections
@@ -141,7 +159,10 @@ fn enter_numbers(
         Some(bytes) => assembler
             .sections
             .append(site.context.segment, bytes.as_slice()),
-        None => enter_mixed(alloc, assembler, site, width, items_of(alloc, numbers)?),
+        None => {
+            let items = items_of(alloc, numbers)?;
+            enter_mixed(alloc, assembler, site, width, items, Vec::new(alloc))
+        }
     }
 }
 
@@ -153,7 +174,9 @@ pub fn emit_values(
     site: PieceContext<'_>,
     width: Width,
     items: Items,
+    forms: Vec<Option<Norm>>,
 ) -> Result<(), AllocError>
+    requires { HaveFinals (table_of assembler.old.symbols) site.context items forms.items }
     ensures { OnOk result (EmitsPieces
         (place_at site.entry.at) site.entry.context
         (map (item_piece width) items) assembler.old assembler.new) }
@@ -162,7 +185,7 @@ pub fn emit_values(
         ItemsKind::Numbers(numbers) => {
             enter_numbers(alloc, assembler, site, width, numbers.as_slice())
         }
-        ItemsKind::Mixed(items) => enter_mixed(alloc, assembler, site, width, items),
+        ItemsKind::Mixed(items) => enter_mixed(alloc, assembler, site, width, items, forms),
     }
 }
 

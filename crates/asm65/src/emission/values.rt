@@ -1,17 +1,19 @@
 //! Emits values and other parts of statements at once if they are settled without an error, or
 //! defers them.
 
-ghost use Rattle.std.specs.Prelude.{◌≡◌, drop, IfOk, IfSome, map, Ok, OnOk, take, ◌∷◌, []};
+ghost use Rattle.std.specs.Prelude.{◌≡◌, drop, IfOk, IfSome, map, Ok, OnOk, Some, take, ◌∷◌, []};
 ghost use Rattle.semantics65.specs.Norms.{literal_in};
-ghost use Rattle.semantics65.specs.Contents.{file_bytes, operand_form, section_part, value_part, Known};
+ghost use Rattle.semantics65.specs.Contents.{file_bytes, section_part, value_part, Known};
 ghost use Rattle.ast65.specs.Items.{literal_item};
 ghost use Rattle.semantics65.specs.Views.{place_at};
-ghost use Rattle.asm65.specs.Internal.AssemblerState.{AreStored, IsPut, operand_stored, KeepsTables, DefersPiece, EmitsIfResolved, EmitsPieces};
+ghost use Rattle.symbols65.specs.Evaluations.{HasFinal};
+ghost use Rattle.symbols65.specs.Views.{table_of};
+ghost use Rattle.asm65.specs.Internal.AssemblerState.{AreStored, IsPut, operand_stored, KeepsTables, DefersPiece, EmitsIfResolved, EmitsPieces, tree_in};
 ghost use Rattle.base65.specs.Outcome.{Refines};
 ghost use Rattle.ast65.specs.Faults.{is_memory};
 ghost use Rattle.object65.specs.Objects.{is_file_name};
 ghost use Rattle.emit65.specs.SectionContents.{piece_of};
-ghost use Rattle.semantics65.specs.Module.{datum, operand, valued};
+ghost use Rattle.semantics65.specs.Module.{datum, valued};
 
 use super::PieceContext;
 use crate::assembler::Assembler;
@@ -22,7 +24,7 @@ use object65::format::FILE_NAME_LIMIT;
 use object65::{Node, Norm, Width, fits, put};
 use semantics65::{Context, EncodingChoice, LocationRef};
 use std::alloc::{AllocError, Global};
-use symbols65::{operand_form, stable_form};
+use symbols65::operand_form;
 use syntax65::{Expr, ExprKind};
 
 /// Returns the bytes of numbers, in order, if each is in range.
@@ -82,28 +84,8 @@ pub fn put_form(
     }
 }
 
-/// The form that is stored of an operand, if it has no fault.
-fn faultless_form(
-    alloc: Global,
-    width: Width,
-    context: Context,
-    form: Norm,
-) -> Result<Option<Norm>, AllocError>
-    ensures { IfOk result (λ found. IfSome found (λ f. operand_form width context form ≡ Ok f)) }
-{
-    match operand_form(alloc, width, context, form) {
-        Ok(form) => Ok(Some(form)),
-        Err(fault) => {
-            if fault.is_memory() {
-                return Err(AllocError);
-            }
-            Ok(None)
-        }
-    }
-}
-
 /// Emits the stored form of an operand, if it has no error.
-pub fn put_operand(
+fn put_operand(
     alloc: Global,
     sections: &mut Sections,
     site: PieceContext<'_>,
@@ -114,9 +96,11 @@ pub fn put_operand(
         (operand_stored width site.entry.context
         (place_at site.entry.at) form)) }
 {
-    match faultless_form(alloc, width, site.context, form)? {
-        Some(form) => put_form(sections, site.context.segment, width, site.at, form),
-        None => Ok(false),
+    match operand_form(alloc, width, site.context, form) {
+        Ok(form) => put_form(sections, site.context.segment, width, site.at, form),
+        Err(fault) if fault.is_memory() => Err(AllocError),
+        // A fault is reported after the last line.
+        Err(_) => Ok(false),
     }
 }
 
@@ -167,76 +151,57 @@ pub fn defer(
     assembler.sections.defer(site.at, site.context, piece)
 }
 
-/// Puts a value of a list, if it is settled without a fault.
-fn try_datum(
+/// Emits the value of a piece, whose form is final, if it has no fault.
+fn put_value(
     alloc: Global,
     assembler: &mut Assembler,
     site: PieceContext<'_>,
-    width: Width,
-    value: &Expr,
+    form: Norm,
+    piece: &FixupKind,
 ) -> Result<bool, AllocError>
-    ensures { IfOk result (EmitsIfResolved
+    requires { HasFinal (table_of assembler.old.symbols) site.context
+        (tree_in piece.now) (Some form) }
+    ensures tried { IfOk result (EmitsIfResolved
         (place_at site.entry.at) site.entry.context
-        (valued (datum width) value.now) assembler.old assembler.new) }
+        (piece_of piece.now) assembler.old assembler.new) }
+    ensures tables { KeepsTables assembler.old assembler.new }
 {
     let segment = site.context.segment;
-    match stable_form(alloc, &assembler.symbols, site.context, value)? {
-        Some(form) => put_form(&mut assembler.sections, segment, width, site.at, form),
-        None => Ok(false),
+    let sections = &mut assembler.sections;
+    match piece {
+        FixupKind::Datum { width, .. } => put_form(sections, segment, *width, site.at, form),
+        FixupKind::Operand { width, .. } => put_operand(alloc, sections, site, *width, form),
+        // An assertion that holds puts nothing.
+        FixupKind::Assertion { .. } => match literal_of(&form) {
+            Some(value) => Ok(value != 0),
+            None => Ok(false),
+        },
+        _ => Ok(false),
     }
 }
 
-/// Puts the value of an operand, if it is settled without a fault.
-fn try_operand(
-    alloc: Global,
-    assembler: &mut Assembler,
-    site: PieceContext<'_>,
-    width: Width,
-    value: &Expr,
-) -> Result<bool, AllocError>
-    ensures { IfOk result (EmitsIfResolved
-        (place_at site.entry.at) site.entry.context
-        (valued (operand width) value.now) assembler.old assembler.new) }
-{
-    match stable_form(alloc, &assembler.symbols, site.context, value)? {
-        Some(form) => put_operand(alloc, &mut assembler.sections, site, width, form),
-        None => Ok(false),
-    }
-}
-
-/// Enters a value of a list.
-pub fn emit_datum(
-    alloc: Global,
-    assembler: &mut Assembler,
-    site: PieceContext<'_>,
-    width: Width,
-    value: Expr,
-) -> Result<(), AllocError>
-    ensures { OnOk result (EmitsPieces
-        (place_at site.entry.at) site.entry.context
-        (valued (datum width) value ∷ []) assembler.old assembler.new) }
-{
-    if try_datum(alloc, assembler, site, width, &value)? {
-        return Ok(());
-    }
-    defer(assembler, site, FixupKind::Datum { width, value })
-}
-
-/// Enters the value of an operand.
+/// Emits a value at once if its form is final and has no fault, else defers it.
 #[inline(never)]
-pub fn emit_operand(
+pub fn enter_value(
     alloc: Global,
     assembler: &mut Assembler,
     site: PieceContext<'_>,
-    width: Width,
-    value: Expr,
+    form: Option<Norm>,
+    piece: FixupKind,
 ) -> Result<(), AllocError>
-    ensures { OnOk result (EmitsPieces
+    requires { HasFinal (table_of assembler.old.symbols) site.context (tree_in piece) form }
+    ensures entered { OnOk result (EmitsPieces
         (place_at site.entry.at) site.entry.context
-        (valued (operand width) value ∷ []) assembler.old assembler.new) }
+        (piece_of piece ∷ []) assembler.old assembler.new) }
+    ensures tables { KeepsTables assembler.old assembler.new }
 {
-    if try_operand(alloc, assembler, site, width, &value)? {
-        return Ok(());
+    match form {
+        Some(form) => {
+            if put_value(alloc, assembler, site, form, &piece)? {
+                return Ok(());
+            }
+            defer(assembler, site, piece)
+        }
+        None => defer(assembler, site, piece),
     }
-    defer(assembler, site, FixupKind::Operand { width, value })
 }

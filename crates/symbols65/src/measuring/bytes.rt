@@ -1,48 +1,44 @@
 //! Statements that place bytes which they name, or a part of a file.
 
-ghost use Rattle.std.specs.Prelude.{◌≡◌, ◌≤◌, IfOk, not, OnOk, Some, ◌+◌, ◌<◌, MatchOption, sum_by};
+ghost use Rattle.std.specs.Prelude.{◌≡◌, ◌≤◌, IfOk, not, OnOk, Option, Some, ◌+◌, ◌<◌, MatchOption, sum_by};
 ghost use Rattle.base65.specs.Outcome.{Refines};
 ghost use Rattle.ast65.specs.declared.fault.AsmFault.TheVariants.{BadPart};
 ghost use Rattle.ast65.specs.Faults.{is_memory};
 ghost use Rattle.ast65.specs.declared.language.Statement.TheVariants.{Incbin, Instruction, Values};
-ghost use Rattle.semantics65.specs.Layout.{when, unless_fault};
+ghost use Rattle.semantics65.specs.Contents.{operand_tree};
+ghost use Rattle.semantics65.specs.Layout.{context_of, own_size, when, unless_fault};
 ghost use Rattle.semantics65.specs.Norms.{byte_count, optional_value, item_len, mode_len};
+ghost use Rattle.symbols65.specs.Evaluations.{AreEvaluations, IsEvaluated};
 ghost use Rattle.symbols65.specs.Resolving.{IsTable};
 ghost use Rattle.symbols65.specs.Views.{table_of};
-ghost use Rattle.symbols65.specs.Measuring.{IsFound, is_within, LaysOutStatement, layout_or_error, range_in_file, unread_fault};
+ghost use Rattle.symbols65.specs.Measuring.{IsFound, is_within, layout_or_error, range_in_file, unread_fault};
 ghost use Rattle.object65.specs.Objects.{width_len};
 ghost use Rattle.semantics65.specs.Symbols.{Symbols as Table};
+ghost use Rattle.semantics65.specs.declared.laid.Context.{Context};
+ghost use Rattle.syntax65.specs.Trees.{Tree};
+ghost use Rattle.syntax65.specs.declared.lexing.tokens.AddressSize.{AddressSize};
 
-use super::trees::check_range;
-use crate::constants;
+use super::trees::{Evaluations, evaluate_two};
+use crate::constants::{Evaluation, mode, number};
 use crate::cursor::Cursor;
 use crate::measuring::{LineState, StatementLayout, fit, nothing};
 use crate::resolving::NormCache;
-use crate::table::Symbols;
-use ast65::{AsmFault, IncbinRange, Item, Items, ItemsKind, Operand, OptionalExpr};
+use ast65::{AsmFault, IncbinRange, Item, Items, ItemsKind, Operand};
 use base65::ListVec;
 use object65::Width;
-use semantics65::{Context, EncodingChoice};
+use semantics65::EncodingChoice;
 use std::alloc::Global;
 use syntax65::{MAX_FILE, Mnemonic, Mode};
 
 /// The value of an expression that has to be constant, if there is one.
-fn named(
-    alloc: Global,
-    symbols: &Symbols,
-    known: &mut NormCache,
-    context: Context,
-    value: &OptionalExpr,
-) -> Result<Option<i64>, AsmFault>
-    requires { IsTable (table_of symbols.now) known.old.states.items }
-    ensures found { IsFound (optional_value (table_of symbols.now) context
-        value.now) result }
-    ensures table { OnOk result (IsTable (table_of symbols.now) known.new.states.items) }
+fn named(found: &Option<Evaluation>) -> Result<Option<i64>, AsmFault>
+    ensures { (y : Table) (s : Context) (own : AddressSize) (e : Option Tree) →
+        IsEvaluated y s own e found.now → IsFound (optional_value y s e) result }
 {
-    let Some(value) = value.get() else {
+    if found.is_none() {
         return Ok(None);
-    };
-    match constants::constant(alloc, symbols, known, context, value)? {
+    }
+    match number(found) {
         Some(value) => Ok(Some(value)),
         None => Err(AsmFault::BadOperand),
     }
@@ -64,10 +60,9 @@ pub fn check_unread(
     ensures table { OnOk result
         (IsTable (table_of before.entry.symbols.now) known.new.states.items) }
 {
-    let context = before.cursor.context();
-    check_range(alloc, before.symbols, context.scope as usize, range)?;
-    named(alloc, before.symbols, known, context, range.start)?;
-    named(alloc, before.symbols, known, context, range.len)?;
+    let found = evaluate_two(alloc, before, known, range.start.get(), range.len.get())?;
+    named(&found.first)?;
+    named(&found.second)?;
     Ok(())
 }
 
@@ -98,33 +93,29 @@ fn ranged(count: usize, start: Option<i64>, len: Option<i64>) -> Result<(usize, 
     Ok((start, len))
 }
 
-/// What a part of a file places.
+/// Lays out a part of a file, from the evaluations of its start and its length.
 #[inline(never)]
 pub fn file_part(
-    alloc: Global,
-    before: LineState<'_>,
-    known: &mut NormCache,
+    cursor: &Cursor,
     bytes: &Option<ListVec<u8>>,
-    range: IncbinRange<'_>,
+    found: &Evaluations,
 ) -> Result<StatementLayout, AsmFault>
-    requires table { IsTable (table_of before.symbols.now) known.old.states.items }
-    ensures placed { LaysOutStatement before.entry result
-        (Incbin bytes.now range.entry.start.now range.entry.len.now) }
-    ensures table { OnOk result
-        (IsTable (table_of before.entry.symbols.now) known.new.states.items) }
+    ensures { (y : Table) (start len : Option Tree) →
+        AreEvaluations y (context_of cursor.now) (own_size cursor.now)
+        (Incbin bytes.now start len) found.now →
+        Refines is_memory (λ m. m) result (layout_or_error y cursor.now (Incbin bytes.now start len)) }
 {
-    let context = before.cursor.context();
-    let start = named(alloc, before.symbols, known, context, range.start)?;
-    let len = named(alloc, before.symbols, known, context, range.len)?;
+    let start = named(&found.first)?;
+    let len = named(&found.second)?;
     let Some(bytes) = bytes else {
         return Err(AsmFault::FileNotFound);
     };
     let (start, len) = ranged(bytes.len(), start, len)?;
-    let length = fit(before.cursor, len)?;
+    let length = fit(cursor, len)?;
     Ok(StatementLayout {
         length,
         settled: EncodingChoice::FileOffset(start as u32),
-        ..nothing(before.cursor)
+        ..nothing(cursor)
     })
 }
 
@@ -139,37 +130,24 @@ fn mode_len(mode: Mode) -> usize
     }
 }
 
-/// What an instruction places.
+/// What an instruction places, by the evaluation of its operand.
 pub fn instruction(
-    alloc: Global,
-    before: LineState<'_>,
-    known: &mut NormCache,
+    cursor: &Cursor,
     mnemonic: Mnemonic,
     operand: &Operand,
+    found: &Option<Evaluation>,
 ) -> Result<StatementLayout, AsmFault>
-    requires table { IsTable (table_of before.symbols.now) known.old.states.items }
-    ensures placed { LaysOutStatement before.entry result (Instruction mnemonic operand.now) }
-    ensures table { OnOk result
-        (IsTable (table_of before.entry.symbols.now) known.new.states.items) }
+    ensures { (y : Table) → IsEvaluated y (context_of cursor.now) (own_size cursor.now)
+        (operand_tree operand.now) found.now →
+        Refines is_memory (λ m. m) result (layout_or_error y cursor.now (Instruction mnemonic operand.now)) }
 {
-    let own = before.cursor.segment().size;
-    let context = before.cursor.context();
-    let mode = constants::mode(
-        alloc,
-        before.symbols,
-        known,
-        context,
-        own,
-        mnemonic,
-        operand,
-    )?;
-    let Some(mode) = mode else {
+    let Some(mode) = mode(mnemonic, operand, found) else {
         return Err(AsmFault::NoSuchForm);
     };
-    let length = fit(before.cursor, mode_len(mode))?;
+    let length = fit(cursor, mode_len(mode))?;
     Ok(StatementLayout {
         length,
-        size: own,
+        size: cursor.segment().size,
         alignment: 1,
         settled: EncodingChoice::InMode(mode),
     })

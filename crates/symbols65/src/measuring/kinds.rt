@@ -1,22 +1,21 @@
 //! What is measured of each kind of statement, and its names.
 
-ghost use Rattle.std.specs.Prelude.{◌≡◌, ◌&&◌, ℕ, List, OnOk, true};
+ghost use Rattle.std.specs.Prelude.{◌≡◌, ◌&&◌, true};
 ghost use Rattle.ast65.specs.declared.fault.AsmFault.TheVariants.{DefinedTwice, NotUnderstood, ScopeTwice};
-ghost use Rattle.semantics65.specs.Layout.{defined_twice, is_open, opened_twice, scope_name, stands_outside, when, where_there};
+ghost use Rattle.semantics65.specs.Layout.{context_of, defined_twice, is_open, opened_twice, own_size, scope_name, stands_outside, when, where_there};
 ghost use Rattle.semantics65.specs.Symbols.{scope_in, definition_index, key_defined, needs_section, has_here};
 ghost use Rattle.symbols65.specs.Tables.{key_of};
 ghost use Rattle.symbols65.specs.Views.{table_of};
-ghost use Rattle.ast65.specs.declared.language.Statement.TheVariants.{Constant};
-ghost use Rattle.symbols65.specs.Resolving.{IsTable};
+ghost use Rattle.symbols65.specs.Evaluations.{AreEvaluations};
 ghost use Rattle.symbols65.specs.Measuring.{ChecksStatement, LaysOutStatement};
 
 use super::bytes::{file_part, instruction, values};
 use super::rooms::{align, check_segment, is_scope, reserve};
-use crate::constants;
+use super::trees::Evaluations;
+use crate::constants::size_found;
 use crate::measuring::{LineState, StatementLayout, nothing};
-use crate::resolving::NormCache;
 use crate::table::{Key, Symbols};
-use ast65::{AsmFault, IncbinRange, Statement};
+use ast65::{AsmFault, Statement};
 use base65::ListVec;
 use semantics65::Context;
 use std::alloc::Global;
@@ -147,60 +146,44 @@ pub fn needs_section(statement: &Statement) -> bool
     }
 }
 
-/// What a constant places and defines.
-#[inline(never)]
-fn constant(
-    alloc: Global,
-    before: LineState<'_>,
-    known: &mut NormCache,
-    value: &Expr,
-) -> Result<StatementLayout, AsmFault>
-    requires table { IsTable (table_of before.symbols.now) known.old.states.items }
-    ensures placed { (name : List ℕ) → LaysOutStatement before.entry result (Constant name value.now) }
-    ensures table { OnOk result
-        (IsTable (table_of before.entry.symbols.now) known.new.states.items) }
-{
-    let measure = nothing(before.cursor);
-    let context = before.cursor.context();
-    let size = constants::size(alloc, before.symbols, known, context, measure.size, value)?;
-    Ok(StatementLayout { size, ..measure })
-}
-
-/// Returns the length of a statement whose names are understood, or its first error.
+/// What a statement whose names are understood places, by the evaluations of its expressions, or its first fault.
 pub fn place(
-    alloc: Global,
     before: LineState<'_>,
-    known: &mut NormCache,
     statement: &Statement,
+    found: &Evaluations,
 ) -> Result<StatementLayout, AsmFault>
-    requires table { IsTable (table_of before.symbols.now) known.old.states.items }
-    ensures placed { LaysOutStatement before.entry result statement.now }
-    ensures table { OnOk result
-        (IsTable (table_of before.entry.symbols.now) known.new.states.items) }
+    requires { AreEvaluations (table_of before.symbols.now) (context_of before.cursor.now)
+        (own_size before.cursor.now) statement.now found.now }
+    ensures { LaysOutStatement before.entry result statement.now }
 {
     let scope = before.cursor.scope() as usize;
+    let cursor = before.cursor;
     match statement {
         Statement::Instruction { mnemonic, operand } => {
-            instruction(alloc, before, known, *mnemonic, operand)
+            instruction(cursor, *mnemonic, operand, &found.first)
         }
-        Statement::Values { width, items } => values(before.cursor, *width, items),
-        Statement::Reserve { count, value } => reserve(alloc, before, known, count, value),
-        Statement::Align { alignment, value } => align(alloc, before, known, alignment, value),
-        Statement::Incbin { bytes, start, len } => {
-            file_part(alloc, before, known, bytes, IncbinRange { start, len })
+        Statement::Values { width, items } => values(cursor, *width, items),
+        Statement::Reserve { .. } => reserve(cursor, found),
+        Statement::Align { .. } => align(cursor, found),
+        Statement::Incbin { bytes, .. } => file_part(cursor, bytes, found),
+        Statement::Constant { .. } => {
+            let size = size_found(&found.first);
+            Ok(StatementLayout {
+                size,
+                ..nothing(cursor)
+            })
         }
-        Statement::Constant { name: _, value } => constant(alloc, before, known, value),
         Statement::Segment { name, size } => {
-            check_segment(before.cursor, name.as_slice(), *size)?;
-            Ok(nothing(before.cursor))
+            check_segment(cursor, name.as_slice(), *size)?;
+            Ok(nothing(cursor))
         }
-        Statement::PopSegment if !before.cursor.has_pushed() => Err(AsmFault::PopWithoutPush),
+        Statement::PopSegment if !cursor.has_pushed() => Err(AsmFault::PopWithoutPush),
         Statement::CloseScope if scope == 0 || !is_scope(before.symbols, scope) => {
             Err(AsmFault::BadScope)
         }
         Statement::CloseProc if scope == 0 || is_scope(before.symbols, scope) => {
             Err(AsmFault::BadScope)
         }
-        _ => Ok(nothing(before.cursor)),
+        _ => Ok(nothing(cursor)),
     }
 }

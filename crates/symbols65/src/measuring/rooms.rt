@@ -1,25 +1,28 @@
 //! Segments and blocks, and statements that place room.
 
-ghost use Rattle.std.specs.Prelude.{◌≡◌, not, slice_get, ◌<◌, ◌≤◌, IfOk, OnOk, pos, Some};
-ghost use Rattle.semantics65.specs.Layout.{place_of, segment_at, context_of as cursor_context, changed_size, is_scope, opened_as, same_size, when, unless_fault, is_byte_value, is_count, multiple_fault};
+ghost use Rattle.std.specs.Prelude.{◌≡◌, not, slice_get, ◌<◌, ◌≤◌, IfOk, Option, pos, Some};
+ghost use Rattle.semantics65.specs.Layout.{place_of, segment_at, context_of as cursor_context, changed_size, is_scope, opened_as, own_size, same_size, when, unless_fault, is_count, multiple_fault};
 ghost use Rattle.ast65.specs.declared.fault.AsmFault.TheVariants.{BadOperand};
 ghost use Rattle.symbols65.specs.Views.{table_of};
-ghost use Rattle.symbols65.specs.Measuring.{LaysOutStatement};
+ghost use Rattle.symbols65.specs.Evaluations.{AreEvaluations, IsEvaluated};
+ghost use Rattle.symbols65.specs.Measuring.{FillsRoom, layout_or_error};
 ghost use Rattle.base65.specs.Outcome.{Refines};
 ghost use Rattle.ast65.specs.Faults.{is_memory};
 ghost use Rattle.ast65.specs.declared.language.Statement.TheVariants.{Align, Reserve};
-ghost use Rattle.semantics65.specs.Norms.{byte_count, fill_settled, gap, optional_value};
-ghost use Rattle.symbols65.specs.Resolving.{IsTable};
+ghost use Rattle.semantics65.specs.Norms.{byte_count, gap};
+ghost use Rattle.semantics65.specs.Symbols.{Symbols as Table};
+ghost use Rattle.semantics65.specs.declared.laid.Context.{Context};
+ghost use Rattle.syntax65.specs.Trees.{Tree};
+ghost use Rattle.syntax65.specs.declared.lexing.tokens.AddressSize.{AddressSize};
 
-use crate::constants;
+use super::trees::Evaluations;
+use crate::constants::{Evaluation, number};
 use crate::cursor::Cursor;
-use crate::measuring::{LineState, StatementLayout, fit, nothing};
-use crate::resolving::NormCache;
+use crate::measuring::{StatementLayout, fit, nothing};
 use crate::table::Symbols;
-use ast65::{AsmFault, OptionalExpr};
-use semantics65::{Context, EncodingChoice, Segment};
-use std::alloc::Global;
-use syntax65::{AddressSize, Expr};
+use ast65::AsmFault;
+use semantics65::{EncodingChoice, Segment};
+use syntax65::AddressSize;
 
 /// Returns whether the scope at a place was opened by `.scope`.
 fn is_scope_at(symbols: &Symbols, place: usize) -> bool
@@ -83,25 +86,14 @@ pub fn check_segment(
 }
 
 /// What fills room.
-fn fill(
-    alloc: Global,
-    symbols: &Symbols,
-    known: &mut NormCache,
-    context: Context,
-    value: &OptionalExpr,
-) -> Result<EncodingChoice, AsmFault>
-    requires { IsTable (table_of symbols.now) known.old.states.items }
-    ensures byte { Refines is_memory (λ _. tt {0}) result (unless_fault
-        (when (not (is_byte_value (optional_value (table_of symbols.now) context
-        value.now (pos 0)))) BadOperand) tt) }
-    ensures settled { IfOk result (λ s. s
-        ≡ fill_settled (table_of symbols.now) context value.now) }
-    ensures table { OnOk result (IsTable (table_of symbols.now) known.new.states.items) }
+fn fill(found: &Option<Evaluation>) -> Result<EncodingChoice, AsmFault>
+    ensures { (y : Table) (s : Context) (own : AddressSize) (e : Option Tree) →
+        IsEvaluated y s own e found.now → FillsRoom y s e result }
 {
-    let Some(value) = value.get() else {
+    if found.is_none() {
         return Ok(EncodingChoice::Undecided);
-    };
-    match constants::constant(alloc, symbols, known, context, value)? {
+    }
+    match number(found) {
         Some(value) if 0 <= value && value < 256 => Ok(EncodingChoice::FillByte(value as u8)),
         _ => Err(AsmFault::BadOperand),
     }
@@ -118,28 +110,20 @@ fn count_of(value: Option<i64>) -> Result<usize, AsmFault>
     }
 }
 
-/// What `.res` places.
+/// What `.res` places, by the evaluations of its number and of what fills it.
 #[inline(never)]
-pub fn reserve(
-    alloc: Global,
-    before: LineState<'_>,
-    known: &mut NormCache,
-    count: &Expr,
-    value: &OptionalExpr,
-) -> Result<StatementLayout, AsmFault>
-    requires table { IsTable (table_of before.symbols.now) known.old.states.items }
-    ensures placed { LaysOutStatement before.entry result (Reserve count.now value.now) }
-    ensures table { OnOk result
-        (IsTable (table_of before.entry.symbols.now) known.new.states.items) }
+pub fn reserve(cursor: &Cursor, found: &Evaluations) -> Result<StatementLayout, AsmFault>
+    ensures { (y : Table) (n : Tree) (v : Option Tree) →
+        AreEvaluations y (cursor_context cursor.now) (own_size cursor.now) (Reserve n v) found.now →
+        Refines is_memory (λ m. m) result (layout_or_error y cursor.now (Reserve n v)) }
 {
-    let context = before.cursor.context();
-    let count = count_of(constants::constant(alloc, before.symbols, known, context, count)?)?;
-    let settled = fill(alloc, before.symbols, known, context, value)?;
-    let length = fit(before.cursor, count)?;
+    let count = count_of(number(&found.first))?;
+    let settled = fill(&found.second)?;
+    let length = fit(cursor, count)?;
     Ok(StatementLayout {
         length,
         settled,
-        ..nothing(before.cursor)
+        ..nothing(cursor)
     })
 }
 
@@ -183,32 +167,24 @@ fn gap(cursor: &Cursor, alignment: u32) -> u32
     offset.next_multiple_of(alignment) - offset
 }
 
-/// What `.align` places.
+/// What `.align` places, by the evaluations of its multiple and of what fills it.
 #[inline(never)]
-pub fn align(
-    alloc: Global,
-    before: LineState<'_>,
-    known: &mut NormCache,
-    alignment: &Expr,
-    value: &OptionalExpr,
-) -> Result<StatementLayout, AsmFault>
-    requires table { IsTable (table_of before.symbols.now) known.old.states.items }
-    ensures placed { LaysOutStatement before.entry result (Align alignment.now value.now) }
-    ensures table { OnOk result
-        (IsTable (table_of before.entry.symbols.now) known.new.states.items) }
+pub fn align(cursor: &Cursor, found: &Evaluations) -> Result<StatementLayout, AsmFault>
+    ensures { (y : Table) (n : Tree) (v : Option Tree) →
+        AreEvaluations y (cursor_context cursor.now) (own_size cursor.now) (Align n v) found.now →
+        Refines is_memory (λ m. m) result (layout_or_error y cursor.now (Align n v)) }
 {
-    let context = before.cursor.context();
-    let alignment = constants::constant(alloc, before.symbols, known, context, alignment)?;
-    let Some(_) = alignment else {
+    let alignment = number(&found.first);
+    if alignment.is_none() {
         return Err(AsmFault::BadOperand);
-    };
-    let settled = fill(alloc, before.symbols, known, context, value)?;
+    }
+    let settled = fill(&found.second)?;
     let alignment = multiple_of(alignment)?;
-    let length = fit(before.cursor, gap(before.cursor, alignment) as usize)?;
+    let length = fit(cursor, gap(cursor, alignment) as usize)?;
     Ok(StatementLayout {
         length,
         alignment,
         settled,
-        ..nothing(before.cursor)
+        ..nothing(cursor)
     })
 }

@@ -1,205 +1,234 @@
-//! The expressions of statements, and names whose scope isn't there.
+//! The expressions of statements, each of which is evaluated once.
 
-ghost use Rattle.std.specs.Prelude.{◌≡◌, List, None, false, ℕ, [], ◌∷◌, ◌++◌};
-ghost use Rattle.syntax65.specs.Trees.{name};
-ghost use Rattle.semantics65.specs.Layout.{lost_scope, item_trees, lost_scopes, operand_trees, optional_tree, trees_of};
-ghost use Rattle.semantics65.specs.Symbols.{Scope};
+ghost use Rattle.std.specs.Prelude.{◌≡◌, IfOk, OnOk, Option, Some, [], ◌∷◌, ◌++◌};
+ghost use Rattle.std.specs.Option.{option_map};
+ghost use Rattle.base65.specs.Outcome.{Refines};
+ghost use Rattle.ast65.specs.Faults.{is_memory};
+ghost use Rattle.semantics65.specs.Contents.{operand_tree};
+ghost use Rattle.semantics65.specs.Layout.{context_of, lost_scopes, item_trees, optional_tree, own_size, trees_of, unless_fault};
+ghost use Rattle.symbols65.specs.Evaluations.{AreEvaluations, HasFinal, HaveFinals, IsEvaluated, first_tree, item_tree, second_tree};
+ghost use Rattle.symbols65.specs.Resolving.{IsTable};
 ghost use Rattle.symbols65.specs.Views.{table_of};
-ghost use Rattle.symbols65.specs.Measuring.{ChecksStatement};
 
-use crate::resolving::{plain_part, scope_of, scopes_in, shown};
-use crate::table::Symbols;
-use ast65::{AsmFault, IncbinRange, Item, ItemsKind, Operand, OptionalExpr, Statement};
+use crate::constants::{Evaluation, evaluate, final_form};
+use crate::measuring::LineState;
+use crate::resolving::NormCache;
+use ast65::{AsmFault, Item, Items, ItemsKind, Operand, Statement};
+use object65::Norm;
 use std::alloc::Global;
-use syntax65::{Expr, ExprKind, Name};
+use syntax65::Expr;
 
-/// Refuses a name with `::` whose scope isn't there.
-#[inline(never)]
-fn check_name(
+/// What is found of the expressions of a statement.
+#[derive(Drop)]
+pub struct Evaluations {
+    /// Of the first of one or two expressions.
+    pub first: Option<Evaluation>,
+    pub second: Option<Evaluation>,
+    /// The final forms of the elements of a list, each at the place of its element; none of numbers alone.
+    pub forms: Vec<Option<Norm>>,
+}
+
+/// The evaluation of an expression that may be left out.
+pub fn evaluate_optional(
     alloc: Global,
-    symbols: &Symbols,
-    scope: usize,
-    written: &Name,
-) -> Result<(), AsmFault>
-    ensures { ChecksStatement result (lost_scope (table_of symbols.now).scopes scope
-        (name written.now.is_global written.now.parts)) }
+    before: LineState<'_>,
+    known: &mut NormCache,
+    value: Option<&Expr>,
+) -> Result<Option<Evaluation>, AsmFault>
+    requires { IsTable (table_of before.symbols.now) known.old.states.items }
+    ensures scopes { Refines is_memory (λ _. tt {0}) result (unless_fault
+        (lost_scopes (table_of before.entry.symbols.now).scopes
+        (context_of before.entry.cursor.now).scope
+        (optional_tree (option_map (λ e. e.now) value.entry))) tt) }
+    ensures found { IfOk result (IsEvaluated (table_of before.entry.symbols.now)
+        (context_of before.entry.cursor.now) (own_size before.entry.cursor.now)
+        (option_map (λ e. e.now) value.entry)) }
+    ensures table { OnOk result
+        (IsTable (table_of before.entry.symbols.now) known.new.states.items) }
 {
-    if plain_part(written).is_some() {
-        return Ok(());
-    }
-    let parts = written.parts.as_slice();
-    let opened = symbols.scope_count();
-    match scope_of(symbols, opened, scope, written.is_global, scopes_in(parts)) {
-        Some(_) => Ok(()),
-        None => {
-            let name = shown(alloc, written.is_global, parts)?;
-            Err(AsmFault::NoSuchScope(name))
+    match value {
+        Some(value) => {
+            let found = evaluate(alloc, before, known, value)?;
+            Ok(Some(found))
         }
+        None => Ok(None),
     }
 }
 
-/// Returns whether an expression has names with `::`. What has none names no scope.
-pub fn names_scopes(value: &Expr) -> bool
-    ensures { result ≡ false → (cs : List Scope) (scope : ℕ) →
-        lost_scope cs scope value.now ≡ None }
-{
-    match value.kind() {
-        ExprKind::Scoped(_) => true,
-        ExprKind::Prefix(_, part) => names_scopes(part),
-        ExprKind::Binary(_, operands) => {
-            names_scopes(&operands.left) || names_scopes(&operands.right)
-        }
-        _ => false,
-    }
-}
-
-/// Refuses an expression with a name whose scope isn't there.
-pub fn check_scopes(
-    alloc: Global,
-    symbols: &Symbols,
-    scope: usize,
-    value: &Expr,
-) -> Result<(), AsmFault>
-    ensures { ChecksStatement result (lost_scope (table_of symbols.now).scopes scope value.now) }
-{
-    match value.kind() {
-        ExprKind::Scoped(name) => check_name(alloc, symbols, scope, name),
-        ExprKind::Prefix(_, part) => check_scopes(alloc, symbols, scope, part),
-        ExprKind::Binary(_, operands) => {
-            check_scopes(alloc, symbols, scope, &operands.left)?;
-            check_scopes(alloc, symbols, scope, &operands.right)
-        }
-        _ => Ok(()),
-    }
-}
-
-fn check_one(alloc: Global, symbols: &Symbols, scope: usize, value: &Expr) -> Result<(), AsmFault>
-    ensures { ChecksStatement result (lost_scopes (table_of symbols.now).scopes scope (value.now ∷ [])) }
-{
-    if !names_scopes(value) {
-        return Ok(());
-    }
-    check_scopes(alloc, symbols, scope, value)
-}
-
-fn check_optional(
-    alloc: Global,
-    symbols: &Symbols,
-    scope: usize,
-    value: &OptionalExpr,
-) -> Result<(), AsmFault>
-    ensures { ChecksStatement result (lost_scopes (table_of symbols.now).scopes scope
-        (optional_tree value.now)) }
-{
-    match value.get() {
-        Some(value) => check_one(alloc, symbols, scope, value),
-        None => Ok(()),
-    }
-}
-
-#[inline(never)]
-fn check_two(
-    alloc: Global,
-    symbols: &Symbols,
-    scope: usize,
-    value: &Expr,
-    other: &OptionalExpr,
-) -> Result<(), AsmFault>
-    ensures { ChecksStatement result (lost_scopes (table_of symbols.now).scopes scope
-        (value.now ∷ optional_tree other.now)) }
-{
-    check_scopes(alloc, symbols, scope, value)?;
-    check_optional(alloc, symbols, scope, other)
-}
-
-#[inline(never)]
-pub fn check_range(
-    alloc: Global,
-    symbols: &Symbols,
-    scope: usize,
-    range: IncbinRange<'_>,
-) -> Result<(), AsmFault>
-    ensures { ChecksStatement result (lost_scopes (table_of symbols.now).scopes scope
-        (optional_tree range.entry.start.now ++ optional_tree range.entry.len.now)) }
-{
-    match range.start.get() {
-        Some(start) => check_two(alloc, symbols, scope, start, range.len),
-        None => check_optional(alloc, symbols, scope, range.len),
-    }
-}
-
-pub fn check_operand(
-    alloc: Global,
-    symbols: &Symbols,
-    scope: usize,
-    operand: &Operand,
-) -> Result<(), AsmFault>
-    ensures { ChecksStatement result (lost_scopes (table_of symbols.now).scopes scope
-        (operand_trees operand.now)) }
+/// The expression of an operand, if it has one.
+pub fn operand_value(operand: &Operand) -> Option<&Expr>
+    ensures { option_map (λ e. e.now) result ≡ operand_tree operand.now }
 {
     match operand {
-        Operand::Absent | Operand::Accumulator => Ok(()),
+        Operand::Absent | Operand::Accumulator => None,
         Operand::Immediate(value)
         | Operand::Indirect(value)
         | Operand::IndirectX(value)
         | Operand::IndirectY(value)
-        | Operand::Address { value, .. } => check_one(alloc, symbols, scope, value),
+        | Operand::Address { value, .. } => Some(value),
     }
 }
 
-fn check_item(alloc: Global, symbols: &Symbols, scope: usize, item: &Item) -> Result<(), AsmFault>
-    ensures { ChecksStatement result (lost_scopes (table_of symbols.now).scopes scope
-        (item_trees (item.now ∷ []))) }
-{
-    match item {
-        Item::Value(value) => match value.kind() {
-            ExprKind::Number(_) => Ok(()),
-            _ => check_one(alloc, symbols, scope, value),
-        },
-        Item::StringLiteral(_) => Ok(()),
-    }
-}
-
-#[inline(never)]
-fn check_mixed(
-    alloc: Global,
-    symbols: &Symbols,
-    scope: usize,
-    items: &[Item],
-) -> Result<(), AsmFault>
-    ensures { ChecksStatement result (lost_scopes (table_of symbols.now).scopes scope
-        (item_trees items.now)) }
-{
-    for item in items {
-        check_item(alloc, symbols, scope, item)?;
-    }
-    Ok(())
-}
-
-/// Refuses a statement with a name whose scope isn't there.
-pub fn check_trees(
-    alloc: Global,
-    symbols: &Symbols,
-    scope: usize,
-    statement: &Statement,
-) -> Result<(), AsmFault>
-    ensures { ChecksStatement result (lost_scopes (table_of symbols.now).scopes scope
-        (trees_of statement.now)) }
+/// The first of the one or two expressions of a statement other than a list.
+fn first_value(statement: &Statement) -> Option<&Expr>
+    ensures { option_map (λ e. e.now) result ≡ first_tree statement.now }
 {
     match statement {
-        Statement::Constant { value, .. } | Statement::Assert { value, .. } => {
-            check_one(alloc, symbols, scope, value)
+        Statement::Constant { value, .. } | Statement::Assert { value, .. } => Some(value),
+        Statement::Instruction { operand, .. } => operand_value(operand),
+        Statement::Reserve { count, .. } => Some(count),
+        Statement::Align { alignment, .. } => Some(alignment),
+        Statement::Incbin { start, .. } => start.get(),
+        _ => None,
+    }
+}
+
+/// The second one.
+fn second_value(statement: &Statement) -> Option<&Expr>
+    ensures { option_map (λ e. e.now) result ≡ second_tree statement.now }
+{
+    match statement {
+        Statement::Reserve { value, .. } | Statement::Align { value, .. } => value.get(),
+        Statement::Incbin { len, .. } => len.get(),
+        _ => None,
+    }
+}
+
+/// The final form of an element of a list, if it has one that is evident already.
+fn evaluate_item(
+    alloc: Global,
+    before: LineState<'_>,
+    known: &mut NormCache,
+    item: &Item,
+) -> Result<Option<Norm>, AsmFault>
+    requires { IsTable (table_of before.symbols.now) known.old.states.items }
+    ensures scopes { Refines is_memory (λ _. tt {0}) result (unless_fault
+        (lost_scopes (table_of before.entry.symbols.now).scopes
+        (context_of before.entry.cursor.now).scope (item_trees (item.now ∷ []))) tt) }
+    ensures form { IfOk result (HasFinal (table_of before.entry.symbols.now)
+        (context_of before.entry.cursor.now) (item_tree item.now)) }
+    ensures table { OnOk result
+        (IsTable (table_of before.entry.symbols.now) known.new.states.items) }
+{
+    match item {
+        Item::Value(value) => {
+            let found = evaluate_optional(alloc, before, known, Some(value))?;
+            Ok(final_form(found))
         }
-        Statement::Instruction { operand, .. } => check_operand(alloc, symbols, scope, operand),
-        Statement::Values { items, .. } => match items.kind() {
-            ItemsKind::Numbers(_) => Ok(()),
-            ItemsKind::Mixed(items) => check_mixed(alloc, symbols, scope, items.as_slice()),
-        },
-        Statement::Reserve { count, value } => check_two(alloc, symbols, scope, count, value),
-        Statement::Align { alignment, value } => check_two(alloc, symbols, scope, alignment, value),
-        Statement::Incbin { start, len, .. } => {
-            check_range(alloc, symbols, scope, IncbinRange { start, len })
+        Item::StringLiteral(_) => Ok(None),
+    }
+}
+
+/// The final forms of the elements of a list, one for each.
+#[inline(never)]
+fn evaluate_items(
+    alloc: Global,
+    before: LineState<'_>,
+    known: &mut NormCache,
+    items: &[Item],
+) -> Result<Vec<Option<Norm>>, AsmFault>
+    requires { IsTable (table_of before.symbols.now) known.old.states.items }
+    ensures scopes { Refines is_memory (λ _. tt {0}) result (unless_fault
+        (lost_scopes (table_of before.entry.symbols.now).scopes
+        (context_of before.entry.cursor.now).scope (item_trees items.now)) tt) }
+    ensures forms { IfOk result (λ forms. HaveFinals (table_of before.entry.symbols.now)
+        (context_of before.entry.cursor.now) items.now forms.items) }
+    ensures table { OnOk result
+        (IsTable (table_of before.entry.symbols.now) known.new.states.items) }
+{
+    let mut forms = Vec::with_capacity(alloc, items.len())?;
+    for item in items {
+        let form = evaluate_item(alloc, before, known, item)?;
+        forms.push(form)?;
+    }
+    Ok(forms)
+}
+
+/// The final forms of the elements of a list; none of numbers alone.
+fn evaluate_list(
+    alloc: Global,
+    before: LineState<'_>,
+    known: &mut NormCache,
+    items: &Items,
+) -> Result<Vec<Option<Norm>>, AsmFault>
+    requires { IsTable (table_of before.symbols.now) known.old.states.items }
+    ensures scopes { Refines is_memory (λ _. tt {0}) result (unless_fault
+        (lost_scopes (table_of before.entry.symbols.now).scopes
+        (context_of before.entry.cursor.now).scope (item_trees items.now)) tt) }
+    ensures forms { IfOk result (λ forms. HaveFinals (table_of before.entry.symbols.now)
+        (context_of before.entry.cursor.now) items.now forms.items) }
+    ensures table { OnOk result
+        (IsTable (table_of before.entry.symbols.now) known.new.states.items) }
+{
+    match items.kind() {
+        ItemsKind::Numbers(_) => Ok(Vec::new(alloc)),
+        ItemsKind::Mixed(items) => evaluate_items(alloc, before, known, items.as_slice()),
+    }
+}
+
+/// The evaluations of one expression or two.
+pub fn evaluate_two(
+    alloc: Global,
+    before: LineState<'_>,
+    known: &mut NormCache,
+    first: Option<&Expr>,
+    second: Option<&Expr>,
+) -> Result<Evaluations, AsmFault>
+    requires { IsTable (table_of before.symbols.now) known.old.states.items }
+    ensures scopes { Refines is_memory (λ _. tt {0}) result (unless_fault
+        (lost_scopes (table_of before.entry.symbols.now).scopes
+        (context_of before.entry.cursor.now).scope
+        (optional_tree (option_map (λ e. e.now) first.entry)
+        ++ optional_tree (option_map (λ e. e.now) second.entry))) tt) }
+    ensures first { IfOk result (λ found. IsEvaluated (table_of before.entry.symbols.now)
+        (context_of before.entry.cursor.now) (own_size before.entry.cursor.now)
+        (option_map (λ e. e.now) first.entry) found.first) }
+    ensures second { IfOk result (λ found. IsEvaluated (table_of before.entry.symbols.now)
+        (context_of before.entry.cursor.now) (own_size before.entry.cursor.now)
+        (option_map (λ e. e.now) second.entry) found.second) }
+    ensures forms { IfOk result (λ found. found.forms.items ≡ []) }
+    ensures table { OnOk result
+        (IsTable (table_of before.entry.symbols.now) known.new.states.items) }
+{
+    let first = evaluate_optional(alloc, before, known, first)?;
+    let second = evaluate_optional(alloc, before, known, second)?;
+    Ok(Evaluations {
+        first,
+        second,
+        forms: Vec::new(alloc),
+    })
+}
+
+/// The evaluations of the expressions of a statement; or the first name in it whose scope isn't there.
+pub fn evaluate_trees(
+    alloc: Global,
+    before: LineState<'_>,
+    known: &mut NormCache,
+    statement: &Statement,
+) -> Result<Evaluations, AsmFault>
+    requires { IsTable (table_of before.symbols.now) known.old.states.items }
+    ensures scopes { Refines is_memory (λ _. tt {0}) result (unless_fault
+        (lost_scopes (table_of before.entry.symbols.now).scopes
+        (context_of before.entry.cursor.now).scope (trees_of statement.now)) tt) }
+    ensures found { IfOk result (AreEvaluations (table_of before.entry.symbols.now)
+        (context_of before.entry.cursor.now) (own_size before.entry.cursor.now)
+        statement.now) }
+    ensures table { OnOk result
+        (IsTable (table_of before.entry.symbols.now) known.new.states.items) }
+{
+    match statement {
+        Statement::Values { items, .. } => {
+            let forms = evaluate_list(alloc, before, known, items)?;
+            Ok(Evaluations {
+                first: None,
+                second: None,
+                forms,
+            })
         }
-        _ => Ok(()),
+        _ => {
+            let first = first_value(statement);
+            let second = second_value(statement);
+            evaluate_two(alloc, before, known, first, second)
+        }
     }
 }

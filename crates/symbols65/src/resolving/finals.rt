@@ -1,44 +1,23 @@
-//! Forms that are final: that stay whatever statements follow; and those of numbers alone.
+//! Operands that mean the same whatever statements follow; and folding forms of which some may be missing.
 
-ghost use Rattle.std.specs.Prelude.{IfSome, ◌≡◌, IfOk, Result, ◌∷◌, [], None, Some, false, length, true};
-ghost use Rattle.symbols65.specs.Resolving.{IsNumber, MeansAlways, MeansFinally, EachOperand, binary_form, prefix_form, IsFinalWithin, plain_part};
+ghost use Rattle.std.specs.Prelude.{IfSome, ◌≡◌, IfOk, Result, ◌∷◌, [], None, false, true};
+ghost use Rattle.symbols65.specs.Resolving.{MeansAlways, MeansFinally, EachOperand, binary_form, prefix_form, plain_part};
 ghost use Rattle.std.specs.Result.{result_ok};
 ghost use Rattle.base65.specs.Outcome.{Refines};
 ghost use Rattle.object65.specs.Form.{Form};
 ghost use Rattle.object65.specs.Folding.{lacks_memory};
 ghost use Rattle.object65.specs.declared.folding.FormFault.{FormFault};
 ghost use Rattle.syntax65.specs.Trees.{name as name_tree};
-ghost use Rattle.semantics65.specs.Norms.{IsFinal};
 ghost use Rattle.symbols65.specs.Views.{table_of};
 
-use super::attempt::{AttemptError, FormSource, address, defined, pass_on_memory};
 use super::meaning::{last_in, plain_part, scopes_in};
 use super::scopes::scope_of;
 use crate::table::{Key, Symbols};
-use base65::{Op1, Op2, apply1, apply2};
-use object65::{FormFault, Node, Norm};
+use base65::{Op1, Op2};
+use object65::{FormFault, Norm};
 use semantics65::Context;
 use std::alloc::{AllocError, Global};
 use syntax65::{Expr, ExprKind, Name};
-
-/// The value of an expression of numbers alone, which no symbol table changes, if it has one.
-pub fn number_of(value: &Expr) -> Option<i64>
-    ensures { IfSome result (IsNumber value.now) }
-{
-    match value.kind() {
-        ExprKind::Number(number) => Some(i64::from(*number)),
-        ExprKind::Prefix(op, part) => {
-            let part = number_of(part)?;
-            Some(apply1(*op, part))
-        }
-        ExprKind::Binary(op, operands) => {
-            let left = number_of(&operands.left)?;
-            let right = number_of(&operands.right)?;
-            apply2(*op, left, right)
-        }
-        _ => None,
-    }
-}
 
 /// What folding gives, if anything.
 fn folded(form: Result<Norm, FormFault>) -> Result<Option<Norm>, AllocError>
@@ -110,7 +89,7 @@ fn opened_member(symbols: &Symbols, context: Context, name: &Name) -> Option<usi
 
 /// The place of the definition that an operand means whatever statements follow, where that is evident already: never
 /// of an import, of a reference further on, or of a name without `::` that is only defined further out.
-fn final_place(symbols: &Symbols, context: Context, operand: &Expr) -> Option<usize>
+pub fn final_place(symbols: &Symbols, context: Context, operand: &Expr) -> Option<usize>
     ensures { IfSome result
         (MeansAlways (table_of symbols.now) context operand.now) }
 {
@@ -151,83 +130,4 @@ pub fn are_final(symbols: &Symbols, context: Context, value: &Expr) -> bool
         | ExprKind::Forward(_)
         | ExprKind::Backward(_) => { final_place(symbols, context, value).is_some() }
     }
-}
-
-/// The form that an operand keeps, if it has one.
-fn final_operand(
-    alloc: Global,
-    symbols: &Symbols,
-    context: Context,
-    operand: &Expr,
-) -> Result<Option<Norm>, AllocError>
-    ensures { IfOk result (λ o. (f : Form) → o ≡ Some f → IsFinalWithin
-        (length (table_of symbols.now).definitions)
-        (table_of symbols.now) context operand.now f) }
-{
-    let Some(place) = final_place(symbols, context, operand) else {
-        return Ok(None);
-    };
-    match defined(alloc, symbols, FormSource::Finals, place) {
-        Ok(form) => Ok(Some(form)),
-        Err(AttemptError::Needs(_)) => Ok(None),
-        Err(AttemptError::Fault(fault)) => {
-            pass_on_memory(&fault)?;
-            // An error is found after the last line.
-            Ok(None)
-        }
-    }
-}
-
-/// The form that an expression keeps whatever statements follow, where that is evident already, in one walk.
-fn lasting_form(
-    alloc: Global,
-    symbols: &Symbols,
-    context: Context,
-    value: &Expr,
-) -> Result<Option<Norm>, AllocError>
-    ensures { IfOk result (λ o. (f : Form) → o ≡ Some f → IsFinalWithin
-        (length (table_of symbols.now).definitions)
-        (table_of symbols.now) context value.now f) }
-{
-    match value.kind() {
-        ExprKind::Number(number) => Ok(Some(Norm::new(Node::NumberNode(i64::from(*number))))),
-        ExprKind::Here => Ok(Some(address(context))),
-        ExprKind::Prefix(op, part) => {
-            let part = lasting_form(alloc, symbols, context, part)?;
-            prefix_form(alloc, *op, part)
-        }
-        ExprKind::Binary(op, operands) => {
-            let left = lasting_form(alloc, symbols, context, &operands.left)?;
-            if left.is_none() {
-                return Ok(None);
-            }
-            let right = lasting_form(alloc, symbols, context, &operands.right)?;
-            binary_form(alloc, *op, left, right)
-        }
-        ExprKind::Plain(_)
-        | ExprKind::Scoped(_)
-        | ExprKind::Cheap(_)
-        | ExprKind::Forward(_)
-        | ExprKind::Backward(_) => { final_operand(alloc, symbols, context, value) }
-    }
-}
-
-/// The form that an expression keeps whatever statements follow, where that is evident already. An import never has one,
-/// nor has a reference further on, or a name without `::` that is only defined further out.
-pub fn stable_form(
-    alloc: Global,
-    symbols: &Symbols,
-    context: Context,
-    value: &Expr,
-) -> Result<Option<Norm>, AllocError>
-    ensures stays { IfOk result (λ o. (f : Form) → o ≡ Some f →
-        IsFinal (table_of symbols.now) context value.now f) }
-    ensures within { IfOk result (λ o. (f : Form) → o ≡ Some f → IsFinalWithin
-        (length (table_of symbols.now).definitions)
-        (table_of symbols.now) context value.now f) }
-{
-    if let Some(number) = number_of(value) {
-        return Ok(Some(Norm::new(Node::NumberNode(number))));
-    }
-    lasting_form(alloc, symbols, context, value)
 }

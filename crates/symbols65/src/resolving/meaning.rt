@@ -7,9 +7,10 @@ ghost use Rattle.object65.specs.declared.folding.FormFault.{FormFault};
 ghost use Rattle.semantics65.specs.Contents.{operand_form};
 ghost use Rattle.ast65.specs.Faults.{is_memory};
 ghost use Rattle.semantics65.specs.Norms.{fold_result};
-ghost use Rattle.std.specs.Prelude.{◌≡◌, ◌+◌, ◌-◌, Result, Some};
+ghost use Rattle.std.specs.Prelude.{◌≡◌, ◌+◌, ◌-◌, IfOk, None, Result, Some};
 ghost use Rattle.syntax65.specs.Trees.{name as name_tree};
 ghost use Rattle.semantics65.specs.Symbols.{binding_of, scoped_meaning, backward_meaning, last_of, member_meaning, or_fault, plain_meaning, scopes_of, unnamed_meaning, import_index};
+ghost use Rattle.symbols65.specs.Internal.Absences.{absence, name_absence};
 ghost use Rattle.symbols65.specs.Resolving.{defined_place, meaning_in, plain_part};
 ghost use Rattle.symbols65.specs.Views.{table_of};
 ghost use Rattle.std.specs.Option.{ok_or, option_map};
@@ -22,7 +23,7 @@ use ast65::AsmFault;
 use base65::{ListVec, Op2};
 use object65::{FormFault, Node, Norm, Width};
 use semantics65::Context;
-use std::alloc::Global;
+use std::alloc::{AllocError, Global};
 use syntax65::{Expr, ExprKind, Name};
 
 /// What folding gives, or its fault.
@@ -113,56 +114,24 @@ fn member(symbols: &Symbols, scope: usize, name: &[u8]) -> Option<Binding>
     }
 }
 
-/// A meaning of a name that was looked for.
-fn named(alloc: Global, meaning: Option<Binding>, name: &[u8]) -> Result<Binding, AsmFault>
-    ensures { Refines is_memory meaning_in result (ok_or (option_map meaning_in meaning) (Undefined name.now)) }
-{
-    match meaning {
-        Some(meaning) => Ok(meaning),
-        None => {
-            let name = Vec::from_slice(alloc, name)?;
-            Err(AsmFault::Undefined(ListVec::from_vec(name)))
-        }
-    }
-}
-
-/// What a plain name means: what the innermost scope that defines it says, from the use outward.
-fn plain_meaning(
-    alloc: Global,
-    symbols: &Symbols,
-    scope: usize,
-    name: &[u8],
-) -> Result<Binding, AsmFault>
-    ensures { Refines is_memory meaning_in result (plain_meaning (table_of symbols.now) scope name.now) }
+/// What a plain name means, if anything: what the innermost scope that defines it says, from the use outward.
+fn plain_meaning(symbols: &Symbols, scope: usize, name: &[u8]) -> Option<Binding>
+    ensures { plain_meaning (table_of symbols.now) scope name.now ≡ ok_or (option_map meaning_in result) (Undefined name.now) }
 {
     let defined = defined_outward(symbols, scope, name);
-    named(alloc, defined_or_imported(symbols, defined, name), name)
+    defined_or_imported(symbols, defined, name)
 }
 
-/// What a name with `::` means, the scopes being those that were opened before its place.
-fn scoped_meaning(
-    alloc: Global,
-    symbols: &Symbols,
-    context: Context,
-    name: &Name,
-) -> Result<Binding, AsmFault>
-    ensures { Refines is_memory meaning_in result (scoped_meaning (table_of symbols.now) context name.now.is_global name.now.parts) }
+/// What a name with `::` means, if anything, the scopes being those that were opened before its place.
+fn scoped_meaning(symbols: &Symbols, context: Context, name: &Name) -> Option<Binding>
+    ensures { scoped_meaning (table_of symbols.now) context name.now.is_global name.now.parts ≡ ok_or (option_map meaning_in result) (name_absence (table_of symbols.now) context name.now.is_global name.now.parts None) }
 {
     let parts = name.parts.as_slice();
     let opened = context.opened as usize;
     let scope = context.scope as usize;
     match scope_of(symbols, opened, scope, name.is_global, scopes_in(parts)) {
-        None => {
-            let name = shown(alloc, name.is_global, parts)?;
-            Err(AsmFault::NoSuchScope(name))
-        }
-        Some(inner) => match member(symbols, inner, last_in(parts)) {
-            Some(meaning) => Ok(meaning),
-            None => {
-                let name = shown(alloc, name.is_global, parts)?;
-                Err(AsmFault::Undefined(name))
-            }
-        },
+        None => None,
+        Some(inner) => member(symbols, inner, last_in(parts)),
     }
 }
 
@@ -223,7 +192,79 @@ fn label_before(symbols: &Symbols, before: u32, steps: usize) -> Option<Binding>
     unnamed_label(symbols, count)
 }
 
-/// Returns the meaning of an operand in its context. Allocates only for an error.
+/// Returns the meaning of an operand in its context, if it has one.
+pub fn meaning_at(symbols: &Symbols, context: Context, operand: &Expr) -> Option<Binding>
+    ensures { binding_of (table_of symbols.now) context operand.now ≡ ok_or (option_map meaning_in result) (absence (table_of symbols.now) context operand.now) }
+{
+    match operand.kind() {
+        ExprKind::Plain(name) => plain_meaning(symbols, context.scope as usize, name.as_slice()),
+        ExprKind::Scoped(name) => match plain_part(name) {
+            Some(part) => plain_meaning(symbols, context.scope as usize, part),
+            None => scoped_meaning(symbols, context, name),
+        },
+        ExprKind::Cheap(name) => {
+            let region = context.region as usize;
+            let name = name.as_slice();
+            match symbols.defined(Key::Cheap { region, name }) {
+                Some(place) => Some(Binding::Defined(place)),
+                None => None,
+            }
+        }
+        ExprKind::Forward(steps) => label_after(symbols, context.unnamed, *steps),
+        ExprKind::Backward(steps) => label_before(symbols, context.unnamed, *steps),
+        _ => None,
+    }
+}
+
+/// The fault of a name that means nothing.
+fn undefined(alloc: Global, name: &[u8]) -> Result<AsmFault, AllocError>
+    ensures { IfOk result (λ e. e ≡ Undefined name.now) }
+{
+    let name = Vec::from_slice(alloc, name)?;
+    Ok(AsmFault::Undefined(ListVec::from_vec(name)))
+}
+
+/// The fault of a name with `::` that means nothing.
+fn scoped_absence(
+    alloc: Global,
+    symbols: &Symbols,
+    context: Context,
+    name: &Name,
+) -> Result<AsmFault, AllocError>
+    ensures { IfOk result (λ e. e ≡ name_absence (table_of symbols.now) context name.now.is_global name.now.parts None) }
+{
+    let parts = name.parts.as_slice();
+    let opened = context.opened as usize;
+    let scope = context.scope as usize;
+    let text = shown(alloc, name.is_global, parts)?;
+    match scope_of(symbols, opened, scope, name.is_global, scopes_in(parts)) {
+        None => Ok(AsmFault::NoSuchScope(text)),
+        Some(_) => Ok(AsmFault::Undefined(text)),
+    }
+}
+
+/// The fault of an operand that means nothing.
+#[inline(never)]
+fn absence(
+    alloc: Global,
+    symbols: &Symbols,
+    context: Context,
+    operand: &Expr,
+) -> Result<AsmFault, AllocError>
+    ensures { IfOk result (λ e. e ≡ absence (table_of symbols.now) context operand.now) }
+{
+    match operand.kind() {
+        ExprKind::Plain(name) => undefined(alloc, name.as_slice()),
+        ExprKind::Scoped(name) => match plain_part(name) {
+            Some(part) => undefined(alloc, part),
+            None => scoped_absence(alloc, symbols, context, name),
+        },
+        ExprKind::Cheap(name) => undefined(alloc, name.as_slice()),
+        _ => Ok(AsmFault::NoSuchLabel),
+    }
+}
+
+/// Returns the meaning of an operand in its context, or its error.
 pub fn binding_of(
     alloc: Global,
     symbols: &Symbols,
@@ -232,28 +273,8 @@ pub fn binding_of(
 ) -> Result<Binding, AsmFault>
     ensures { Refines is_memory meaning_in result (binding_of (table_of symbols.now) context operand.now) }
 {
-    match operand.kind() {
-        ExprKind::Plain(name) => {
-            plain_meaning(alloc, symbols, context.scope as usize, name.as_slice())
-        }
-        ExprKind::Scoped(name) => match plain_part(name) {
-            Some(part) => plain_meaning(alloc, symbols, context.scope as usize, part),
-            None => scoped_meaning(alloc, symbols, context, name),
-        },
-        ExprKind::Cheap(name) => {
-            let region = context.region as usize;
-            let name = name.as_slice();
-            match symbols.defined(Key::Cheap { region, name }) {
-                Some(place) => Ok(Binding::Defined(place)),
-                None => named(alloc, None, name),
-            }
-        }
-        ExprKind::Forward(steps) => {
-            label_after(symbols, context.unnamed, *steps).ok_or(AsmFault::NoSuchLabel)
-        }
-        ExprKind::Backward(steps) => {
-            label_before(symbols, context.unnamed, *steps).ok_or(AsmFault::NoSuchLabel)
-        }
-        _ => Err(AsmFault::NoSuchLabel),
+    match meaning_at(symbols, context, operand) {
+        Some(meaning) => Ok(meaning),
+        None => Err(absence(alloc, symbols, context, operand)?),
     }
 }

@@ -21,5 +21,5 @@ returns-in_ok-enter_settled-in-Ok-clause-taken c = λ count t h few.
     let x : Statement = Instruction c.args.mnemonic c.args.operand in
     let mid = c.place_instruction.new.self in
     let new = c.enter_settled.new.self in
-    takes_entered count t place x found.context found.measured c.args.self.now mid new h (c.in-Ok.ensures.placed count t h) (c.in-Ok.ensures.holds place count t h)
-    (adds_pieces place found.context found.measured mid new x (λ y. nothing_follows y) c.in_ok-enter_settled-in-Ok.ensures))
+    takes_entered count t place x found.context found.analysis.measured c.args.self.now mid new h (c.in-Ok.ensures.placed count t h) (c.in-Ok.ensures.holds place count t h)
+    (adds_pieces place found.context found.analysis.measured mid new x (λ y. nothing_follows y) c.in_ok-enter_settled-in-Ok.ensures))

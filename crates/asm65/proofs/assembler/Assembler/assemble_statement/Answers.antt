@@ -13,4 +13,4 @@ returns-in-Err-clause-taken c = λ count t h few.
 pub returns-in_ok-emit_statement-in-Ok-clause-taken : goal.returns-in_ok-emit_statement-in-Ok-clause-taken
 returns-in_ok-emit_statement-in-Ok-clause-taken c = λ count t h few.
     (let found = c.in-Ok.field-0 in
-    takes_entered count t (place_in c.args.at.file.now c.args.at.line) c.args.statement found.context found.measured c.args.self.now c.lay_out.new.self c.emit_statement.new.self h (c.in-Ok.ensures.placed count t h) (c.in-Ok.ensures.holds count t h) c.in_ok-emit_statement-in-Ok.ensures)
+    takes_entered count t (place_in c.args.at.file.now c.args.at.line) c.args.statement found.context found.analysis.measured c.args.self.now c.lay_out.new.self c.emit_statement.new.self h (c.in-Ok.ensures.placed count t h) (c.in-Ok.ensures.holds count t h) c.in_ok-emit_statement-in-Ok.ensures)

@@ -1,10 +1,13 @@
-use Rattle.std.proofs.Common.{[], ◌∷◌, Some, length, subst, sym, ap}
+use Rattle.std.proofs.Common.{◌≡◌, [], ◌∷◌, Option, None, Some, length, subst, sym, ap}
 use Rattle.syntax65.specs.declared.source_location.SourceLocation.{SourceLocation}
 use Rattle.semantics65.specs.declared.laid.Context.{Context}
-use Rattle.semantics65.specs.Symbols.{Definition, named}
+use Rattle.object65.specs.Form.{Form}
+use Rattle.syntax65.specs.Trees.{Tree}
+use Rattle.semantics65.specs.Symbols.{Definition, Symbols, named}
 use Rattle.semantics65.specs.Views.{place_in}
 use Rattle.semantics65.specs.Module.{equated, valued}
 use Rattle.std.specs.Result.{result_ok}
+use Rattle.symbols65.specs.Evaluations.{HasFinal}
 use Rattle.symbols65.specs.Resolving.{IsFinalWithin}
 use Rattle.symbols65.specs.declared.table.symbols.Symbols as held
 use Rattle.symbols65.specs.Views.{table_of, with_definition}
@@ -12,11 +15,15 @@ use Rattle.asm65.specs.declared.assembler.Assembler.{Assembler}
 use Rattle.asm65.proofs.Namings.{on_both, turns_after}
 use Rattle.asm65.proofs.assembler.Assembler.define_constant.Goals as goal
 
+held_final : (y : Symbols) (s : Context) (e : Tree) (o : Option Form) (f : Form) → o ≡ Some f → HasFinal y s (Some e) o → IsFinalWithin (length y.definitions) y s e f
+held_final y s e None f is h = absurd cc
+held_final y s e (Some g) f is h = (let same : g ≡ f = cc in subst (IsFinalWithin (length y.definitions) y s e) same h)
+
 pub define-requires-clause-form : goal.define-requires-clause-form
 define-requires-clause-form c = λ f e z more.
     ap result_ok
     (subst (λ (y : held.Symbols). IsFinalWithin (length (table_of y).definitions) (table_of y) c.args.site.context c.args.value f) (sym c.in_ok-enter_constant.ensures.tables.symbols)
-    (c.in_ok-form.ensures.within f e) z more)
+    (held_final (table_of c.args.self.now.symbols) c.args.site.context c.args.value c.args.form f e c.requires.form) z more)
 
 pub returns : goal.returns
 returns c =

@@ -8,6 +8,10 @@ use Rattle.semantics65.specs.declared.laid.Context.{Context}
 use Rattle.semantics65.specs.Views.{place_in}
 use Rattle.semantics65.specs.Module.{equated, valued}
 use Rattle.sources65.proofs.Resolving.{final_settles}
+use Rattle.semantics65.specs.Norms.{IsFinal}
+use Rattle.semantics65.specs.Symbols.{Symbols}
+use Rattle.symbols65.specs.Evaluations.{HasFinal}
+use Rattle.symbols65.proofs.Finals.{within_final}
 use Rattle.symbols65.specs.Views.{table_of}
 use Rattle.symbols65.proofs.Measures.{ok_then}
 use Rattle.asm65.specs.declared.assembler.Assembler.{Assembler}
@@ -16,9 +20,10 @@ use Rattle.asm65.proofs.Enterings.{fed_enters, says_nothing}
 use Rattle.asm65.proofs.Waitings.{waits_enters}
 use Rattle.asm65.proofs.assembler.Assembler.enter_constant.Goals as goal
 
-formed_there : (o : Option Form) → is_some o ≡ true → (f : Form) × (o ≡ Some f)
-formed_there None e = absurd cc
-formed_there (Some f) e = (f, refl)
+-- a form that is held is final
+final_there : (y : Symbols) (s : Context) (e : Tree) (o : Option Form) → is_some o ≡ true → HasFinal y s (Some e) o → (f : Form) × IsFinal y s e f
+final_there y s e None q h = absurd cc
+final_there y s e (Some f) q h = (f, within_final y s e f h)
 
 pub returns-then-is_some-clause-entered : goal.returns-then-is_some-clause-entered
 returns-then-is_some-clause-entered c =
@@ -26,8 +31,8 @@ returns-then-is_some-clause-entered c =
     let place : SourceLocation = place_in c.args.site.at.file.now c.args.site.at.line in
     let s : Context = c.args.site.context in
     let e : Tree = c.args.value.now in
-    let found = formed_there c.args.form.now (sym c.is_some.ensures ∙ c.if-is_some.true) in
-    fed_enters old old.sections place s (valued equated e) (declaration_content []) refl (says_nothing old.sections) (final_settles (table_of old.symbols) place s equated e found.0 (declaration_content []) (c.requires found.0 found.1) refl)
+    let found = final_there (table_of old.symbols) s e c.args.form.now (sym c.is_some.ensures ∙ c.if-is_some.true) c.requires in
+    fed_enters old old.sections place s (valued equated e) (declaration_content []) refl (says_nothing old.sections) (final_settles (table_of old.symbols) place s equated e found.0 (declaration_content []) found.1 refl)
 
 pub returns-clause-entered : goal.returns-clause-entered
 returns-clause-entered c =

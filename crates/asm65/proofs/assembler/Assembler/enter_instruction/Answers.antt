@@ -1,6 +1,5 @@
-use Rattle.std.proofs.Common.{Option, ◌∷◌, [], subst}
+use Rattle.std.proofs.Common.{◌∷◌, [], subst}
 use Rattle.syntax65.specs.Opcodes.{opcode_of}
-use Rattle.syntax65.specs.Trees.{Tree}
 use Rattle.semantics65.specs.Contents.{opcode_part, operand_tree}
 use Rattle.semantics65.specs.Norms.{width_of}
 use Rattle.semantics65.specs.Views.{place_in}
@@ -16,10 +15,9 @@ returns c =
     let s = c.args.site.context in
     let old = c.args.self.now in
     let mid = c.emit_opcode.new.assembler in
-    let new = c.enter_operand_of.new.assembler in
-    let code = subst (λ code. EmitsPieces place s (given (opcode_part code) ∷ []) old mid) c.opcode.ensures (c.in_ok-emit_opcode.ensures place) in
-    ok_then c.enter_operand_of.result
+    let new = c.enter_operand.new.assembler in
+    let code = subst (λ code. EmitsPieces place s (given (opcode_part code) ∷ []) old mid) c.opcode.ensures (c.in_ok-emit_opcode.ensures.entered place) in
+    ok_then c.enter_operand.result
     (λ value. enters_both place s (given (opcode_part (opcode_of c.args.mnemonic c.args.mode)) ∷ []) (operand_pieces (width_of c.args.mode) (operand_tree c.args.operand)) old mid new code
-    (subst (λ (e : Option Tree). EmitsPieces place s (operand_pieces (width_of c.args.mode) e) mid new) c.operand_value.ensures
-    (subst (λ width. EmitsPieces place s (operand_pieces width c.operand_value.result) mid new) c.width_of.ensures value)))
-    c.enter_operand_of.ensures
+    (subst (λ width. EmitsPieces place s (operand_pieces width (operand_tree c.args.operand)) mid new) c.width_of.ensures value))
+    c.enter_operand.ensures

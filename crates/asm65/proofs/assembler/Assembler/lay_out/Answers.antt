@@ -11,7 +11,7 @@ use Rattle.semantics65.specs.Symbols.{Symbols}
 use Rattle.semantics65.specs.Views.{place_in}
 use Rattle.symbols65.specs.Measuring.{cursor_with_bytes, HasNumbers}
 use Rattle.symbols65.specs.declared.measuring.StatementLayout.{StatementLayout}
-use Rattle.symbols65.specs.declared.measuring.StatementLayout as found
+use Rattle.symbols65.specs.declared.measuring.Analysis.{Analysis}
 use Rattle.symbols65.proofs.Following.{has_numbers, without_fault}
 use Rattle.symbols65.specs.Views.{table_of}
 use Rattle.asm65.specs.declared.assembler.Assembler.{Assembler}
@@ -32,7 +32,7 @@ advance-requires-clause-numbers c =
 
 pub returns-clause-placed : goal.returns-clause-placed
 returns-clause-placed c = λ count t h.
-    placed_is count t c.args.self.now h c.args.statement.now c.in_ok-measured.measured c.context-context.result c.in_ok-measured.ensures.measured c.context-context.ensures
+    placed_is count t c.args.self.now h c.args.statement.now c.in_ok-analysis.analysis.measured c.context-context.result c.in_ok-analysis.ensures.measured c.context-context.ensures
 
 pub returns-clause-new : goal.returns-clause-new
 returns-clause-new c =
@@ -43,7 +43,7 @@ returns-clause-new c =
     let w : Cursor = old.cursor in
     let (count, t, h, few) = c.requires in
     let before : AreBefore w.unnamed y.definitions = subst (λ (z : Symbols). AreBefore w.unnamed z.definitions) (sym h.symbols) (subst (λ (v : Cursor). AreBefore v.unnamed t.symbols.definitions) (sym h.cursor) h.unnamed) in
-    let new : IsNew y (layout.context_of w) x = is_new y w x (without_fault y w x c.in_ok-measured.measured c.in_ok-measured.ensures.measured) before in
+    let new : IsNew y (layout.context_of w) x = is_new y w x (without_fault y w x c.in_ok-analysis.analysis.measured c.in_ok-analysis.ensures.measured) before in
     subst (λ (z : Symbols). IsNew z (c.context-context.result) x) (ap table_of (sym c.in_ok-request_section.ensures.tables.symbols))
     (subst (λ (s : Context). IsNew y s x) (sym c.context-context.ensures) new)
 
@@ -53,28 +53,28 @@ returns-clause-holds c = λ count t h.
     let mid : Assembler = c.request_section.new.self in
     let x : Statement = c.args.statement.now in
     let place : SourceLocation = place_in c.args.at.file.now c.args.at.line in
-    let m : StatementLayout = c.in_ok-measured.measured in
+    let m : StatementLayout = c.in_ok-analysis.analysis.measured in
     let y : Symbols = table_of old.symbols in
     let w : Cursor = old.cursor in
     let same : table_of mid.symbols ≡ y = ap table_of c.in_ok-request_section.ensures.tables.symbols in
     let site : mid.cursor ≡ w = c.in_ok-request_section.ensures.tables.cursor in
     let segment = ap (λ (s : Context). s.segment) c.context-context.ensures ∙ ap (λ (v : Cursor). (layout.context_of v).segment) h.cursor in
-    let knows = holds_known count t old c.lay_out_statement.new.known h c.in_ok-measured.ensures.table in
+    let knows = holds_known count t old c.lay_out_statement.new.known h c.in_ok-analysis.ensures.table in
     let held : Represents count (asked_of (layout.context_of t.cursor).segment x t) mid = subst (λ (g : ℕ). Represents count (asked_of g x t) mid) segment (c.in_ok-request_section.ensures.asked count t knows) in
     let moved : c.advance.new.self ≡ layout.cursor_after t.symbols t.cursor x =
     c.in_ok-advance.ensures
     ∙ ap (λ (z : Symbols). cursor_with_bytes z mid.cursor x m.length m.alignment) same
     ∙ ap (λ (v : Cursor). cursor_with_bytes y v x m.length m.alignment) site
-    ∙ moved_after count t old h x m c.in_ok-measured.ensures.measured in
-    holds_stepped count t place x mid c.advance.new.self c.record_output.new.self held moved (more_counted count t old h x m c.in_ok-measured.ensures.measured) c.in_ok-record_output.ensures.out c.in_ok-record_output.ensures.err)
+    ∙ moved_after count t old h x m c.in_ok-analysis.ensures.measured in
+    holds_stepped count t place x mid c.advance.new.self c.record_output.new.self held moved (more_counted count t old h x m c.in_ok-analysis.ensures.measured) c.in_ok-record_output.ensures.out c.in_ok-record_output.ensures.err)
 
-pub returns-in_err-measured-clause-refused : goal.returns-in_err-measured-clause-refused
-returns-in_err-measured-clause-refused c = λ count t h.
+pub returns-in_err-analysis-clause-refused : goal.returns-in_err-analysis-clause-refused
+returns-in_err-analysis-clause-refused c = λ count t h.
     (let p = err_from_is_err_and c.from_residual.result c.from_residual.ensures.1 in
-    rw (p.1, p.2) (refused_is count t c.args.self.now h c.args.statement.now c.in_err-measured.field-0.0 c.in_err-measured.ensures.measured))
+    rw (p.1, p.2) (refused_is count t c.args.self.now h c.args.statement.now c.in_err-analysis.field-0.0 c.in_err-analysis.ensures.measured))
 
-pub returns-in_err-measured-clause-inside : goal.returns-in_err-measured-clause-inside
-returns-in_err-measured-clause-inside c =
+pub returns-in_err-analysis-clause-inside : goal.returns-in_err-analysis-clause-inside
+returns-in_err-analysis-clause-inside c =
     let p = err_from_is_err_and c.from_residual.result c.from_residual.ensures.1 in
-    let answer : Result found.StatementLayout AsmFault = Err c.in_err-measured.field-0.0 in
-    rw (p.1, p.2) (measured_inside answer (λ m. m) (table_of c.args.self.now.symbols) c.args.self.now.cursor c.args.statement.now c.in_err-measured.ensures.measured)
+    let answer : Result Analysis AsmFault = Err c.in_err-analysis.field-0.0 in
+    rw (p.1, p.2) (measured_inside answer (λ a. a.measured) (table_of c.args.self.now.symbols) c.args.self.now.cursor c.args.statement.now c.in_err-analysis.ensures.measured)

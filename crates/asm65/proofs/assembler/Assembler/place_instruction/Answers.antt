@@ -12,7 +12,7 @@ use Rattle.semantics65.specs.Layout.{Cursor}
 use Rattle.semantics65.specs.Symbols.{Symbols}
 use Rattle.symbols65.specs.Measuring.{cursor_with_bytes}
 use Rattle.symbols65.specs.declared.measuring.StatementLayout.{StatementLayout}
-use Rattle.symbols65.specs.declared.measuring.StatementLayout as found
+use Rattle.symbols65.specs.declared.measuring.Analysis.{Analysis}
 use Rattle.symbols65.proofs.Following.{is_measured}
 use Rattle.sources65.specs.Machine.{with_content}
 use Rattle.symbols65.specs.Views.{table_of}
@@ -26,35 +26,35 @@ use Rattle.asm65.proofs.assembler.Assembler.place_instruction.Goals as goal
 
 pub returns-clause-placed : goal.returns-clause-placed
 returns-clause-placed c = λ count t h.
-    placed_is count t c.args.self.now h (Instruction c.args.mnemonic c.args.operand.now) c.in_ok-measured.measured c.context-context.result c.in_ok-measured.ensures.measured c.context-context.ensures
+    placed_is count t c.args.self.now h (Instruction c.args.mnemonic c.args.operand.now) c.in_ok-analysis.analysis.measured c.context-context.result c.in_ok-analysis.ensures.measured c.context-context.ensures
 
 pub returns-clause-holds : goal.returns-clause-holds
 returns-clause-holds c = λ place count t h.
     (let old : Assembler = c.args.self.now in
     let x : Statement = Instruction c.args.mnemonic c.args.operand.now in
-    let m : StatementLayout = c.in_ok-measured.measured in
+    let m : StatementLayout = c.in_ok-analysis.analysis.measured in
     let y : Symbols = table_of old.symbols in
     let w : Cursor = old.cursor in
     let known : Assembler = record old { known = c.measure_instruction.new.known } in
     let mid : Assembler = record known { sections = c.request_section.new.self } in
     let segment = ap (λ (s : Context). s.segment) c.context-context.ensures ∙ ap (λ (v : Cursor). (layout.context_of v).segment) h.cursor in
-    let knows : Represents count t known = holds_known count t old c.measure_instruction.new.known h c.in_ok-measured.ensures.table in
+    let knows : Represents count t known = holds_known count t old c.measure_instruction.new.known h c.in_ok-analysis.ensures.table in
     let asked : Represents count (with_content t (section_request c.context-context.result.segment)) mid = holds_entered count t known mid knows (record { symbols = refl; known = refl; cursor = refl; texts = refl }) (section_request c.context-context.result.segment) refl c.in_ok-request_section.ensures in
     let held : Represents count (asked_of (layout.context_of t.cursor).segment x t) mid = subst (λ (g : ℕ). Represents count (with_content t (section_request g)) mid) segment asked in
-    let one : 1 ≡ m.alignment = ap (λ (k : StatementLayout). k.alignment) (is_measured y w x m c.in_ok-measured.ensures.measured) in
+    let one : 1 ≡ m.alignment = ap (λ (k : StatementLayout). k.alignment) (is_measured y w x m c.in_ok-analysis.ensures.measured) in
     let moved : c.advance_by.new.self ≡ layout.cursor_after t.symbols t.cursor x =
     c.advance_by.ensures y c.args.mnemonic c.args.operand.now
     ∙ ap (λ (k : ℕ). cursor_with_bytes y w x m.length k) one
-    ∙ moved_after count t old h x m c.in_ok-measured.ensures.measured in
-    holds_stepped count t place x mid c.advance_by.new.self old.texts held moved (more_counted count t old h x m c.in_ok-measured.ensures.measured) (sym (append-nil old.texts.out)) (sym (append-nil old.texts.err)))
+    ∙ moved_after count t old h x m c.in_ok-analysis.ensures.measured in
+    holds_stepped count t place x mid c.advance_by.new.self old.texts held moved (more_counted count t old h x m c.in_ok-analysis.ensures.measured) (sym (append-nil old.texts.out)) (sym (append-nil old.texts.err)))
 
-pub returns-in_err-measured-clause-refused : goal.returns-in_err-measured-clause-refused
-returns-in_err-measured-clause-refused c = λ count t h.
+pub returns-in_err-analysis-clause-refused : goal.returns-in_err-analysis-clause-refused
+returns-in_err-analysis-clause-refused c = λ count t h.
     (let p = err_from_is_err_and c.from_residual.result c.from_residual.ensures.1 in
-    rw (p.1, p.2) (refused_is count t c.args.self.now h (Instruction c.args.mnemonic c.args.operand.now) c.in_err-measured.field-0.0 c.in_err-measured.ensures.measured))
+    rw (p.1, p.2) (refused_is count t c.args.self.now h (Instruction c.args.mnemonic c.args.operand.now) c.in_err-analysis.field-0.0 c.in_err-analysis.ensures.measured))
 
-pub returns-in_err-measured-clause-inside : goal.returns-in_err-measured-clause-inside
-returns-in_err-measured-clause-inside c =
+pub returns-in_err-analysis-clause-inside : goal.returns-in_err-analysis-clause-inside
+returns-in_err-analysis-clause-inside c =
     let p = err_from_is_err_and c.from_residual.result c.from_residual.ensures.1 in
-    let answer : Result found.StatementLayout AsmFault = Err c.in_err-measured.field-0.0 in
-    rw (p.1, p.2) (measured_inside answer (λ m. m) (table_of c.args.self.now.symbols) c.args.self.now.cursor (Instruction c.args.mnemonic c.args.operand.now) c.in_err-measured.ensures.measured)
+    let answer : Result Analysis AsmFault = Err c.in_err-analysis.field-0.0 in
+    rw (p.1, p.2) (measured_inside answer (λ a. a.measured) (table_of c.args.self.now.symbols) c.args.self.now.cursor (Instruction c.args.mnemonic c.args.operand.now) c.in_err-analysis.ensures.measured)

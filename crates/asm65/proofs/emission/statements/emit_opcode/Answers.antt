@@ -4,8 +4,8 @@ use Rattle.asm65.proofs.Enterings.{given_enters}
 use Rattle.symbols65.proofs.Measures.{ok_then}
 use Rattle.asm65.proofs.emission.statements.emit_opcode.Goals as goal
 
-pub returns-in-Some : goal.returns-in-Some
-returns-in-Some c = rw c.in-Some.is (ok_then c.append.result (λ feeds place. given_enters c.args.assembler.now c.append.new.self place c.args.context (opcode_part (Some c.in-Some.code)) feeds) c.append.ensures)
+pub returns-in-Some-clause-entered : goal.returns-in-Some-clause-entered
+returns-in-Some-clause-entered c = rw c.in-Some.is (ok_then c.append.result (λ feeds place. given_enters c.args.assembler.now c.append.new.self place c.args.context (opcode_part (Some c.in-Some.code)) feeds) c.append.ensures)
 
-pub returns-in-None : goal.returns-in-None
-returns-in-None c = rw c.in-None.is (ok_then c.append-in-None.result (λ feeds place. given_enters c.args.assembler.now c.append-in-None.new.self place c.args.context (opcode_part None) feeds) c.append-in-None.ensures)
+pub returns-in-None-clause-entered : goal.returns-in-None-clause-entered
+returns-in-None-clause-entered c = rw c.in-None.is (ok_then c.append-in-None.result (λ feeds place. given_enters c.args.assembler.now c.append-in-None.new.self place c.args.context (opcode_part None) feeds) c.append-in-None.ensures)

@@ -4,6 +4,8 @@ use Rattle.ast65.specs.Items.{items_of, literal_item}
 use Rattle.semantics65.specs.Views.{place_in}
 use Rattle.ast65.specs.declared.language.Item.{Item}
 use Rattle.semantics65.specs.Module.{item_piece}
+use Rattle.symbols65.specs.Evaluations.{HaveFinals}
+use Rattle.symbols65.specs.Views.{table_of}
 use Rattle.asm65.specs.Internal.AssemblerState.{EmitsPieces}
 use Rattle.asm65.proofs.emission.statements.emit_values.Goals as goal
 
@@ -16,3 +18,7 @@ pub returns-in-Mixed : goal.returns-in-Mixed
 returns-in-Mixed c =
     subst (λ (items : List Item). OnOk c.enter_mixed.result (EmitsPieces (place_in c.args.site.at.file.now c.args.site.at.line) c.args.site.context (map (item_piece c.args.width) items) c.args.assembler.now c.enter_mixed.new.assembler))
     (sym (ap items_of c.in-Mixed.is) ∙ c.into_kind.ensures) c.enter_mixed.ensures
+
+pub enter_mixed-requires : goal.enter_mixed-requires
+enter_mixed-requires c =
+    subst (λ (items : List Item). HaveFinals (table_of c.args.assembler.now.symbols) c.args.site.context items c.args.forms.items) (sym c.into_kind.ensures ∙ ap items_of c.in-Mixed.is) c.requires

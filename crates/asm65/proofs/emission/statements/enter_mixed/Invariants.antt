@@ -2,6 +2,8 @@ use Rattle.std.proofs.Common.{map}
 use Rattle.std.specs.Vec.Iter.{into_iter_items}
 use Rattle.semantics65.specs.Views.{place_in}
 use Rattle.semantics65.specs.Module.{item_piece}
+use Rattle.symbols65.specs.Evaluations.{HaveFinals}
+use Rattle.symbols65.specs.Views.{table_of}
 use Rattle.asm65.specs.declared.assembler.Assembler.{Assembler}
 use Rattle.asm65.specs.Internal.AssemblerState.{EmitsPieces}
 use Rattle.asm65.proofs.emission.statements.enter_mixed.Given as goal
@@ -11,5 +13,8 @@ abbrev pub invariant-loop-item : goal.invariant-loop-item
 invariant-loop-item l =
     let place = place_in l.site.at.file.now l.site.at.line in
     let s = l.site.context in
-    (b : Assembler) → EmitsPieces place s (map (item_piece l.width) (into_iter_items l.item-iterator)) l.assembler b →
-    EmitsPieces place s (map (item_piece l.width) l.fn.items) l.fn.assembler b
+    record {
+      entered : (b : Assembler) → EmitsPieces place s (map (item_piece l.width) (into_iter_items l.item-iterator)) l.assembler b →
+          EmitsPieces place s (map (item_piece l.width) l.fn.items) l.fn.assembler b;
+      finals : HaveFinals (table_of l.assembler.symbols) s (into_iter_items l.item-iterator) (into_iter_items l.forms);
+    }

@@ -20,7 +20,7 @@ returns-in-Some c =
     (subst (λ (bytes : List ℕ). AppendsSlot old.sections c.append.new.self (resolved (section_part s.segment (Known bytes)))) c.as_slice.ensures feeds))
     c.append.ensures
 
-pub returns-in_ok-items_of-in-None : goal.returns-in_ok-items_of-in-None
-returns-in_ok-items_of-in-None c =
+pub returns-in_ok-items-in-None : goal.returns-in_ok-items-in-None
+returns-in_ok-items-in-None c =
     subst (λ (items : List Item). OnOk c.enter_mixed.result (EmitsPieces (place_in c.args.site.at.file.now c.args.site.at.line) c.args.site.context (map (item_piece c.args.width) items) c.args.assembler.now c.enter_mixed.new.assembler))
-    c.in_ok-items_of-in-None.ensures c.enter_mixed.ensures
+    c.in_ok-items-in-None.ensures c.enter_mixed.ensures

@@ -1,33 +1,65 @@
-use Rattle.std.proofs.Common.{ap}
+use Rattle.std.proofs.Common.{◌≡◌, ◌∙◌, Option, Err, Ok, ap, refl, subst, sym}
+use Rattle.std.specs.Prelude.{◌++◌, ℕ, Result}
 use Rattle.std.proofs.lemmas.Result.{err_from_is_err_and}
-use Rattle.semantics65.specs.declared.laid.Context.{Context}
+use Rattle.syntax65.specs.Trees.{Tree}
+use Rattle.syntax65.specs.declared.lexing.tokens.AddressSize.{AddressSize}
+use Rattle.ast65.specs.declared.fault.AsmFault.{AsmFault}
+use Rattle.semantics65.specs.Layout.{Cursor, context_of, lost_scopes, optional_tree, own_size, unless_fault}
+use Rattle.semantics65.specs.Symbols.{Symbols}
+use Rattle.symbols65.specs.Evaluations.{IsEvaluated}
 use Rattle.symbols65.specs.Views.{table_of}
+use Rattle.symbols65.specs.declared.constants.Evaluation.{Evaluation}
+use Rattle.symbols65.proofs.Measures.{refused_same}
 use Rattle.symbols65.proofs.Parts.{unread_len, unread_lost, unread_start, unread_well}
 use Rattle.symbols65.proofs.measuring.bytes.check_unread.Goals as goal
 
-pub returns-in_err-check_range-clause-checked : goal.returns-in_err-check_range-clause-checked
-returns-in_err-check_range-clause-checked c =
+abbrev checks : Symbols → Cursor → Option Tree → Option Tree → Result (Unit {0}) AsmFault
+checks y w start len = unless_fault (lost_scopes y.scopes w.scope (optional_tree start ++ optional_tree len)) tt
+
+same_checks : (y : Symbols) (w : Cursor) (a start b len : Option Tree) → a ≡ start → b ≡ len → checks y w start len ≡ checks y w a b
+same_checks y w a start b len p q = sym (ap (λ x. checks y w x b) p ∙ ap (checks y w start) q)
+
+same_found : (y : Symbols) (w : Cursor) (a start : Option Tree) (o : Option Evaluation) → a ≡ start → IsEvaluated y (context_of w) (own_size w) a o → IsEvaluated y (context_of w) (own_size w) start o
+same_found y w a start o p h = subst (λ (x : Option Tree). IsEvaluated y (context_of w) (own_size w) x o) p h
+
+pub returns-in_err-found-clause-checked : goal.returns-in_err-found-clause-checked
+returns-in_err-found-clause-checked c =
     let p = err_from_is_err_and c.from_residual.result c.from_residual.ensures.1 in
+    let e = c.in_err-found.field-0.0 in
+    let y = table_of c.args.before.symbols.now in
+    let w = c.args.before.cursor.now in
     let range = c.args.range in
-    let s = c.context-context.result in
-    rw (p.1, p.2) (unread_lost (table_of c.args.before.symbols.now) c.args.before.cursor.now range.start.now range.len.now s c.context-context.ensures s.scope c.in_err-check_range.field-0.0 (ap (λ (q : Context). q.scope) c.context-context.ensures) c.in_err-check_range.ensures)
+    rw (p.1, p.2) (unread_lost y w range.start.now range.len.now (context_of w) refl w.scope e refl (refused_same e _ _ (same_checks y w _ range.start.now _ range.len.now c.get.ensures c.get-2.ensures) c.in_err-found.ensures.scopes))
 
 pub returns-in_err-named-clause-checked : goal.returns-in_err-named-clause-checked
 returns-in_err-named-clause-checked c =
     let p = err_from_is_err_and c.from_residual-in_err-named.result c.from_residual-in_err-named.ensures.1 in
+    let e = c.in_err-named.field-0.0 in
+    let y = table_of c.args.before.symbols.now in
+    let w = c.args.before.cursor.now in
     let range = c.args.range in
-    let s = c.context-context.result in
-    rw (p.1, p.2) (unread_start (table_of c.args.before.symbols.now) c.args.before.cursor.now range.start.now range.len.now s c.context-context.ensures s.scope (ap (λ (q : Context). q.scope) c.context-context.ensures) c.in_ok-check_range.ensures c.in_err-named.field-0.0 c.in_err-named.ensures.found)
+    let none = same_checks y w _ range.start.now _ range.len.now c.get.ensures c.get-2.ensures ∙ c.in_ok-found.ensures.scopes in
+    rw (p.1, p.2) (unread_start y w range.start.now range.len.now (context_of w) refl w.scope refl none e
+    (c.in_err-named.ensures y (context_of w) (own_size w) range.start.now (same_found y w _ range.start.now c.in_ok-found.found.first c.get.ensures c.in_ok-found.ensures.first)))
 
 pub returns-in_err-named-2-clause-checked : goal.returns-in_err-named-2-clause-checked
 returns-in_err-named-2-clause-checked c =
     let p = err_from_is_err_and c.from_residual-in_err-named-2.result c.from_residual-in_err-named-2.ensures.1 in
+    let e = c.in_err-named-2.field-0.0 in
+    let y = table_of c.args.before.symbols.now in
+    let w = c.args.before.cursor.now in
     let range = c.args.range in
-    let s = c.context-context.result in
-    rw (p.1, p.2) (unread_len (table_of c.args.before.symbols.now) c.args.before.cursor.now range.start.now range.len.now s c.context-context.ensures s.scope (ap (λ (q : Context). q.scope) c.context-context.ensures) c.in_ok-check_range.ensures c.in_err-named-2.field-0.0 c.in_err-named-2.ensures.found)
+    let none = same_checks y w _ range.start.now _ range.len.now c.get.ensures c.get-2.ensures ∙ c.in_ok-found.ensures.scopes in
+    rw (p.1, p.2) (unread_len y w range.start.now range.len.now (context_of w) refl w.scope refl none e
+    (c.in_err-named-2.ensures y (context_of w) (own_size w) range.len.now (same_found y w _ range.len.now c.in_ok-found.found.second c.get-2.ensures c.in_ok-found.ensures.second)))
 
 pub returns-clause-checked : goal.returns-clause-checked
 returns-clause-checked c =
+    let y = table_of c.args.before.symbols.now in
+    let w = c.args.before.cursor.now in
+    let s = context_of w in
     let range = c.args.range in
-    let s = c.context-context.result in
-    unread_well (table_of c.args.before.symbols.now) c.args.before.cursor.now range.start.now range.len.now s c.context-context.ensures s.scope (ap (λ (q : Context). q.scope) c.context-context.ensures) c.in_ok-check_range.ensures c.in_ok-named.field-0 c.in_ok-named-2.field-0 c.in_ok-named.ensures.found c.in_ok-named-2.ensures.found
+    let none = same_checks y w _ range.start.now _ range.len.now c.get.ensures c.get-2.ensures ∙ c.in_ok-found.ensures.scopes in
+    unread_well y w range.start.now range.len.now s refl w.scope refl none c.in_ok-named.field-0 c.in_ok-named-2.field-0
+    (c.in_ok-named.ensures y s (own_size w) range.start.now (same_found y w _ range.start.now c.in_ok-found.found.first c.get.ensures c.in_ok-found.ensures.first))
+    (c.in_ok-named-2.ensures y s (own_size w) range.len.now (same_found y w _ range.len.now c.in_ok-found.found.second c.get-2.ensures c.in_ok-found.ensures.second))

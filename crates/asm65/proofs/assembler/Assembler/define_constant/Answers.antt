@@ -12,7 +12,7 @@ use Rattle.symbols65.specs.Resolving.{IsFinalWithin}
 use Rattle.symbols65.specs.declared.table.symbols.Symbols as held
 use Rattle.symbols65.specs.Views.{table_of, with_definition}
 use Rattle.asm65.specs.declared.assembler.Assembler.{Assembler}
-use Rattle.asm65.proofs.Namings.{on_both, turns_after}
+use Rattle.asm65.proofs.Namings.{where_ok, turns_after}
 use Rattle.asm65.proofs.assembler.Assembler.define_constant.Goals as goal
 
 held_final : (y : Symbols) (s : Context) (e : Tree) (o : Option Form) (f : Form) → o ≡ Some f → HasFinal y s (Some e) o → IsFinalWithin (length y.definitions) y s e f
@@ -32,6 +32,6 @@ returns c =
     let place : SourceLocation = place_in c.args.site.at.file.now c.args.site.at.line in
     let s : Context = c.args.site.context in
     let d : Definition = record { key = named s.scope c.args.name.now; value = Some c.args.value; context = s; size = c.args.size } in
-    on_both c.define.result (λ table known.
-    turns_after place s (valued equated c.args.value ∷ []) (λ y. with_definition y d) old mid c.define.new.self c.in_ok-enter_constant.ensures.entered c.define.ensures.keeps table known)
-    c.define.ensures.table c.define.ensures.known
+    where_ok c.define.result (λ table.
+    turns_after place s (valued equated c.args.value ∷ []) (λ y. with_definition y d) old mid c.define.new.self c.in_ok-enter_constant.ensures.entered c.define.ensures.keeps table)
+    c.define.ensures.table

@@ -57,11 +57,7 @@ fn bytes_beside<S: Store>(
 
 /// Refuses a part of a file for what is wrong with it whatever the file has.
 #[inline(never)]
-fn check_range(
-    alloc: Global,
-    assembler: &Assembler,
-    range: IncbinRange<'_>,
-) -> Result<(), AsmFault>
+fn check_range(alloc: Global, assembler: &Assembler, range: IncbinRange<'_>) -> Result<(), AsmFault>
     ensures checked { (count : ℕ) (t : State) → Represents count t assembler.now →
         Refines is_memory (λ u. u) result (unless_fault (unread_fault t.symbols t.cursor
         range.entry.start.now range.entry.len.now) tt) }

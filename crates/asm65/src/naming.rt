@@ -1,6 +1,6 @@
 //! Names that statements define, open, import and export.
 
-ghost use Rattle.std.specs.Prelude.{◌≡◌, None, OnOk, length, IfOk, map, ◌∷◌, [], Some, ◌++◌, false, true};
+ghost use Rattle.std.specs.Prelude.{◌≡◌, None, OnOk, length, IfOk, IfSome, map, ◌∷◌, [], Some, ◌++◌, false, true};
 ghost use Rattle.semantics65.specs.Symbols.{definition_index, Key as DefinedKey, named};
 ghost use Rattle.symbols65.specs.Tables.{KeepsFinal, definition_seen, key_of};
 ghost use Rattle.symbols65.specs.Views.{table_of, with_definition, with_names, with_scope};
@@ -8,6 +8,7 @@ ghost use Rattle.std.specs.Option.{option_map};
 ghost use Rattle.semantics65.specs.Layout.{opened_twice};
 ghost use Rattle.asm65.specs.Internal.AssemblerState.{EmitsPieces, KeepsPut, IsNew, is_put, laid_as, KeepsTables, name_use_piece, is_for_zero_page, label_at, DefersMentions, EmitsThenDefines};
 ghost use Rattle.symbols65.specs.Evaluations.{HasFinal, first_tree};
+ghost use Rattle.symbols65.specs.Resolving.{IsBlocked};
 ghost use Rattle.emit65.specs.SectionContents.{piece_of};
 ghost use Rattle.sources65.specs.Machine.{symbols_after};
 ghost use Rattle.semantics65.specs.Views.{place_at};
@@ -24,7 +25,7 @@ use emit65::FixupKind;
 use object65::Norm;
 use semantics65::Context;
 use std::alloc::{AllocError, Global};
-use symbols65::{Definition, Key, StatementLayout, blocker_of, define};
+use symbols65::{Definition, Key, StatementLayout, Symbols, blocker_of, define};
 use syntax65::{AddressSize, Expr};
 
 /// How a statement mentions a name.
@@ -46,6 +47,16 @@ fn piece_of(alloc: Global, mention: NameUse, name: &[u8]) -> Result<FixupKind, A
         NameUse::Imported => Ok(FixupKind::Import(name)),
         NameUse::ForcedImport => Ok(FixupKind::ForcedImport(name)),
         NameUse::Exported { must } => Ok(FixupKind::Export { must, name }),
+    }
+}
+
+/// Returns the blocker of a constant. A constant with a final form has none.
+fn blocker(symbols: &Symbols, context: Context, value: &Expr, form: &Option<Norm>) -> Option<usize>
+    ensures { IfSome result (IsBlocked (table_of symbols.now) context value.now) }
+{
+    match form {
+        Some(_) => None,
+        None => blocker_of(symbols, context, value),
     }
 }
 
@@ -172,10 +183,7 @@ impl Assembler {
         let context = site.context;
         self.enter_constant(alloc, site, &value, &form)?;
         let scope = context.scope as usize;
-        let blocker = match form {
-            Some(_) => None,
-            None => blocker_of(&self.symbols, context, &value),
-        };
+        let blocker = blocker(&self.symbols, context, &value, &form);
         let definition = Definition {
             value: Some(value),
             context,

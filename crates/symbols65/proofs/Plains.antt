@@ -117,10 +117,14 @@ module _ (c : ℕ) (table : Symbols) (known : ℕ → Option Form) (h : FoundBy 
       by : (r : Result (Option Form) AttemptError) → Says (expression_course table s e) r → Says (expression_course table s g) (plain_attempt known table s g) →
           Says (expression_course table s (binary op e g)) (r >>= (λ f. plain_attempt known table s g >>= (λ x. Ok (option_and_then plain (binary_form op f x)))))
       by (Ok o) q other = right o q (plain_attempt known table s g) other
-      by (Err (Needs j)) (n, u, lt) other = (record {
-        none = λ k q. whole k ∙ ap (λ a. option_and_then plain (binary_form op a (plain_in (norm (suc k) table s g)))) (n.none k q);
-        starts = n.starts;
-      }, u, lt)
+      by (Err (Needs j)) (n, u, lt) other = (
+        record {
+          none = λ k q. whole k ∙ ap (λ a. option_and_then plain (binary_form op a (plain_in (norm (suc k) table s g)))) (n.none k q);
+          starts = n.starts;
+        },
+        u,
+        lt,
+      )
       by (Err (Fault z)) q other = absurd q
 
   pub plain_at : (j : ℕ) → IsPlainAttempt c table known (constant_course table j) (plain_tried known table j)

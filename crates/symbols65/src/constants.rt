@@ -18,8 +18,8 @@ ghost use Rattle.semantics65.specs.declared.laid.Context.{Context};
 
 use crate::measuring::LineState;
 use crate::resolving::{
-    Binding, address, binary_form, defined_final, final_place, find_plain, meaning_at, meant_plain,
-    plain, plain_part, prefix_form, scope_of, scopes_in, shown,
+    Binding, address, binary_form, final_meaning, find_plain, meaning_at, meant_plain, plain,
+    plain_part, prefix_form, scope_of, scopes_in, shown,
 };
 use crate::table::Symbols;
 use ast65::{AsmFault, Index, Operand};
@@ -135,29 +135,6 @@ fn evaluation_of(form: Option<Norm>, is_final: bool, other: AddressSize) -> Eval
     }
 }
 
-/// Evaluates a reference whose form is final, if that is evident already.
-fn evaluate_final(
-    alloc: Global,
-    symbols: &Symbols,
-    context: Context,
-    operand: &Expr,
-) -> Result<Option<Evaluation>, AllocError>
-    requires { IsReference operand.now }
-    ensures { IfOk result (λ o. IfSome o (λ v. (own : AddressSize) →
-        IsEvaluation (table_of symbols.now) context own operand.now v)) }
-{
-    let Some(index) = final_place(symbols, context, operand) else {
-        return Ok(None);
-    };
-    match defined_final(alloc, symbols, index)? {
-        Some(form) => {
-            let size = size_of_meaning(symbols, Binding::Defined(index));
-            Ok(Some(evaluation_of(Some(form), true, size)))
-        }
-        None => Ok(None),
-    }
-}
-
 /// Evaluates a reference.
 fn evaluate_reference(
     alloc: Global,
@@ -169,14 +146,14 @@ fn evaluate_reference(
         (context_of before.entry.cursor.now) (own_size before.entry.cursor.now) operand.now) }
 {
     let context = before.cursor.context();
-    if let Some(found) = evaluate_final(alloc, before.symbols, context, operand)? {
-        return Ok(found);
-    }
     let Some(meaning) = meaning_at(before.symbols, context, operand) else {
         // A name without a meaning may be defined anywhere.
         return Ok(evaluation_of(None, false, AddressSize::Absolute));
     };
     let other = size_of_meaning(before.symbols, meaning);
+    if let Some(form) = final_meaning(alloc, before.symbols, context, operand, meaning)? {
+        return Ok(evaluation_of(Some(form), true, other));
+    }
     let form = meant_plain(alloc, before.symbols, meaning)?;
     Ok(evaluation_of(form, false, other))
 }

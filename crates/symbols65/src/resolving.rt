@@ -9,7 +9,7 @@ mod scopes;
 
 pub use attempt::address;
 pub use cache::{NormCache, defined_norm, norm};
-pub use finals::{binary_form, blocker_of, defined_final, final_place, prefix_form};
+pub use finals::{binary_form, blocker_of, final_meaning, prefix_form};
 pub use meaning::{
     Binding, binding_of, definition_of, meaning_at, operand_form, plain_part, scopes_in,
 };

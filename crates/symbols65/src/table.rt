@@ -188,6 +188,16 @@ impl Symbols {
         }
     }
 
+    /// Returns whether the definition at an index is that of a name directly in a scope.
+    pub fn is_in(&self, index: usize, scope: usize) -> bool
+        ensures { result ≡ true → (n : List ℕ) × (key_at self.now index ≡ named scope n) }
+    {
+        match self.definitions.get_index(index) {
+            Some((InternedKey::Named { scope: own, .. }, _)) => *own == scope,
+            _ => false,
+        }
+    }
+
     /// The place of a name among the imports.
     pub fn imported(&self, name: &[u8]) -> Option<usize>
         ensures { result ≡ import_index (table_of self.now) name.now }

@@ -1,7 +1,10 @@
-use Rattle.std.proofs.Common.{◌≡◌, ◌∙◌, ℕ, IfSome, Option, None, Some, ap, subst, sym}
+use Rattle.std.proofs.Common.{◌≡◌, ◌∙◌, IfSome, Ok, ap, subst, sym}
 use Rattle.syntax65.specs.Kinds.{tree_of}
 use Rattle.syntax65.specs.Trees.{Tree, binary}
-use Rattle.symbols65.specs.Resolving.{IsBlocked}
+use Rattle.std.specs.Option.{ok_or, option_map}
+use Rattle.semantics65.specs.Symbols.{binding_of, defined_at}
+use Rattle.symbols65.specs.Internal.Absences.{absence}
+use Rattle.symbols65.specs.Resolving.{IsBlocked, meaning_in}
 use Rattle.symbols65.specs.Views.{table_of}
 use Rattle.symbols65.proofs.Blockers.{if_some, operand_blocked, right_blocked}
 use Rattle.symbols65.proofs.resolving.finals.+blocker_of.Goals as goal
@@ -17,7 +20,14 @@ returns-in-None t c =
     subst (λ (v : Tree). IfSome c.blocker_of-in-None.result (IsBlocked y s v)) whole
     (if_some c.blocker_of-in-None.result (λ r h. right_blocked y s c.in-Binary.field-0 e g r h) right)
 
-pub returns-in_ok-index-in-Plain : goal.returns-in_ok-index-in-Plain
-returns-in_ok-index-in-Plain t c =
+pub returns-else-not-is_final : goal.returns-else-not-is_final
+returns-else-not-is_final t c =
     let y = table_of c.args.symbols.now in
-    if_some c.blocker_at.result (λ r h. operand_blocked y c.args.context c.args.value.now c.in_ok-index-in-Plain.index r c.in_ok-index-in-Plain.ensures h) c.blocker_at.ensures
+    let s = c.args.context in
+    let e = c.args.value.now in
+    let j = c.in-Defined.index in
+    let means : binding_of y s e ≡ Ok (defined_at j) =
+    c.meaning_at.ensures
+    ∙ ap (λ o. ok_or (option_map meaning_in o) (absence y s e)) c.in_ok-index-in-Plain.was
+    ∙ ap (λ m. Ok (meaning_in m)) c.in-Defined.is in
+    if_some c.blocker_at.result (λ r h. operand_blocked y s e j r (c.is_final.ensures c.if-not-is_final.false means) h) c.blocker_at.ensures

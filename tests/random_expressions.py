@@ -1,6 +1,6 @@
 """Random names, expressions and operands that ca65 and bin65 accept with the same meaning: for random_modules.py.
 
-Left out is what docs/MIGRATING.md lists under "What is taken and gives other bytes". Values of constants are computed here, so
+Left out is what docs/MIGRATING.md lists under "What is accepted but gives other bytes". Values of constants are computed here, so
 that they are in range where they are used."""
 import random
 from dataclasses import dataclass, field

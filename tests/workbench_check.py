@@ -134,7 +134,7 @@ def page_parts(tries):
 
 def pairs(tries, folder):
     """Each text that the page changes is found, and its replacement isn't."""
-    text = pages.read("docs/MIGRATING.md").split("## What is taken and gives other bytes")[0]
+    text = pages.read("docs/MIGRATING.md").split("## What is accepted but gives other bytes")[0]
     for kind, is_found in (("cc65", True), ("asm", False)):
         for number, block in enumerate(re.findall(f"^```{kind}\n(.*?)^```$", text, re.M | re.S)):
             pages.put(f"{folder}/a.s", block)
@@ -256,7 +256,7 @@ def bad_input(tries):
         found = json.loads(ran.stdout)
         tries.check("JSON", [(it["file"], it["line"], it["habit"]) for it in found] == [("a.s", 1, "colon")], found)
         ran = tries.work65("a.s", folder=folder)
-        tries.check("a line", ran.stdout == f"a.s:1: start: a label has its colon (MIGRATING: {found[0]['heading']})\n", ran.stdout)
+        tries.check("a line", ran.stdout == f"a.s:1: start: write a colon after the label (MIGRATING: {found[0]['heading']})\n", ran.stdout)
         tries.check("help", tries.work65("--help").returncode == 0)
 
 

@@ -156,7 +156,7 @@ def scripts(tries):
     with tempfile.TemporaryDirectory() as folder:
         ran = tries.work65("port", stock.SCRIPTS, "-o", "out", "--no-verify", folder=folder)
         said = set(re.findall(r"([\w-]+\.cfg):\d+:", ran.stdout))
-        brought = re.search(r"brings (\d+) of them over; the other (\d+)", pages.read("docs/MIGRATING.md"))
+        brought = re.search(r"converts (\d+) of them; the other (\d+)", pages.read("docs/MIGRATING.md"))
         counts = (len(os.listdir(stock.SCRIPTS)) - len(said), len(said))
         tries.check("the page's numbers of scripts", counts == (int(brought[1]), int(brought[2])), counts)
         for name in sorted(set(os.listdir(f"{folder}/out")) - {".work65"}):

@@ -271,6 +271,6 @@ def _refused_calls(found: List[Tuple[Optional[str], Finding]], calls: List[Tuple
         if caller is None and name in first and (path, name) not in seen:
             seen.add((path, name))
             it = first[name]
-            note = f"its lines are refused, as {it.path}:{it.line}: {it.word}"
+            note = f"bin65 rejects its line {it.path}:{it.line}: {it.word}"
             refused.append(Finding(path, line, name, BY_NAME["macro-call"], note, it.heading))
     return refused

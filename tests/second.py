@@ -167,7 +167,7 @@ def images(tries):
     said = "the image differs from byte 1 on (cc65 and bin65: 06 and 05): area M, segment CODE, module i.s, i.s:2\n"
     tries.says("another image", tries.second(*words, "--image", "old/game.bin", path=empty), 1, said)
     ran = tries.second(*words, path=empty)
-    good = "work65: cc65's ca65 isn't on the path: --image names an image to compare with\n"
+    good = "work65: cc65's ca65 isn't on the path; give an image to compare with by --image\n"
     tries.check("no cc65 and no image", (ran.returncode, ran.stderr) == (2, good), ran)
 
 

@@ -89,7 +89,7 @@ def line_of(command: str, *words: str) -> List[str]:
 def wrong_words(trial: Trial) -> None:
     """What may be wrong with the files and the line."""
     for command in COMMANDS:
-        trial.refused("no bin65", line_of(command, "a.s"), "bin65 isn't there: /nowhere/bin65", BIN65="/nowhere/bin65")
+        trial.refused("no bin65", line_of(command, "a.s"), "bin65 not found: /nowhere/bin65", BIN65="/nowhere/bin65")
         trial.refused("no source", line_of(command, "none.s"), "none.s: No such file or directory")
         trial.refused("a folder", line_of(command, "sub"), "sub: Is a directory")
         trial.refused("no option of it", line_of(command, "--bogus", "a.s"), "--bogus", 2)
@@ -109,7 +109,7 @@ def wrong_words(trial: Trial) -> None:
     trial.refused("no such form", line_of("labels", "--format", "vise", "a.s"), "vise", 2)
     trial.refused("no library", line_of("list", "--library", "x.lib", "a.s"), "NAME=FOLDER", 2)
     trial.refused("no source of a list", line_of("list", "--library", "x.lib=a.s,none.s", "a.s"), "none.s: no such source")
-    trial.refused("no folder of a library", line_of("list", "--library", "x.lib=none", "a.s"), "none is no folder of sources")
+    trial.refused("no folder of a library", line_of("list", "--library", "x.lib=none", "a.s"), "none: not a folder of sources")
     trial.refused("another program", line_of("list", "a.s"), "ended with status 1", BIN65="/bin/false")
 
 

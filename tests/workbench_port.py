@@ -345,11 +345,11 @@ def copies(tries):
         pages.put(f"{folder}/src/a.s", " iny\n")
         port("a copy once more", 0, last, "src", "-o", "out")
         pages.put(f"{folder}/out/a.s", " nop ; by hand\n")
-        port("a copy with an edit", 1, "work65: out/a.s: port didn't write it as it is now: --force overwrites it\n", "src", "-o", "out")
+        port("a copy with an edit", 1, "work65: out/a.s: changed since port wrote it; --force overwrites it\n", "src", "-o", "out")
         with open(f"{folder}/out/a.s", encoding="utf-8") as it:
             tries.check("the edit stays", it.read() == " nop ; by hand\n")
         port("a copy that is forced", 0, last, "src", "-o", "out", "--force")
-        over = "the copy would lie over what it is made of\n"
+        over = "the copy would overwrite the original\n"
         port("a folder into itself", 1, f"work65: src: {over}", "src", "-o", "src")
         port("a file over itself", 1, f"work65: src/a.s: {over}", "src/a.s", "-o", "src")
         port("a copy within", 0, last, "src", "-o", "src/one")

@@ -12,14 +12,14 @@ from work65.problem import Problem
 from work65.program import Program
 from work65.signals import folder_for_a_while
 
-HELP = "rules for make: the files that a source takes in by .include and .incbin"
+HELP = "write rules for make: the files that a source reads by .include and .incbin"
 
 
 def add_arguments(parser: argparse.ArgumentParser) -> None:
     """Adds the arguments of this subcommand."""
     add_assembler_arguments(parser)
-    parser.add_argument("-o", dest="output", metavar="FILE", help="the file for the rules (standard output)")
-    parser.add_argument("--object", metavar="FILE", help="the target of the rule, for one source (the source's name with .o)")
+    parser.add_argument("-o", dest="output", metavar="FILE", help="the file for the rules (default: standard output)")
+    parser.add_argument("--object", metavar="FILE", help="the target of the rule, for one source (default: the source's name with .o)")
     parser.add_argument("sources", nargs="+", metavar="SOURCE", help="a source")
 
 
@@ -54,7 +54,7 @@ def complain(found: List[Dependencies]) -> int:
 def run(arguments: argparse.Namespace) -> int:
     """Runs the subcommand. Returns the exit status."""
     if arguments.object is not None and len(arguments.sources) > 1:
-        raise Problem("--object goes with one source", 2)
+        raise Problem("--object requires exactly one source", 2)
     program = Program.find(arguments.bin65)
     closures = [Closure(it, arguments.folders) for it in arguments.sources]
     with folder_for_a_while() as folder:

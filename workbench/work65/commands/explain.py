@@ -19,13 +19,13 @@ from work65.habits import sources
 from work65.habits.table import BY_WORD
 from work65.problem import Problem
 
-HELP = "adds the source line and the page's paragraph to each message"
+HELP = "add the source line and an explanation to each message"
 FIRST = "        "
 
 
 def add_arguments(parser: argparse.ArgumentParser) -> None:
     """Adds the arguments of this subcommand."""
-    said = "behind --: a command whose messages are read, in place of standard input"
+    said = "after --: the command whose messages to explain (default: read standard input)"
     parser.add_argument("words", nargs="*", metavar="COMMAND", help=said)
 
 

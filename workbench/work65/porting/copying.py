@@ -91,11 +91,11 @@ def write(files: Files, folder: str, originals: Sequence[str], is_forced: bool) 
     own = {os.path.realpath(it) for it in originals}
     over = next((it for it in places.values() if os.path.realpath(it) in own), None)
     if over is not None:
-        raise Problem(f"{over}: the copy would lie over what it is made of")
+        raise Problem(f"{over}: the copy would overwrite the original")
     changed = [] if is_forced else list(_changed(files, places, folder))
     if changed:
         more = f" (and {len(changed) - 1} more)" if len(changed) > 1 else ""
-        raise Problem(f"{changed[0]}{more}: port didn't write it as it is now: --force overwrites it")
+        raise Problem(f"{changed[0]}{more}: changed since port wrote it; --force overwrites it")
     sums = "".join(f"{hashlib.sha256(data).hexdigest()}  {path}\n" for path, data in sorted(files.items()))
     above = os.path.dirname(os.path.abspath(folder))
     try:

@@ -20,7 +20,7 @@ def ported(text: Text, usage: Usage, symbols: Dict[str, int]) -> Tuple[List[str]
     said, more = list(rows.said), dict(symbols)
     for name, number, word in rows.offsets(_sizes(blocks)):
         if number is None:
-            said.append((word, f"{name}: what stands before it in the file has no fixed size"))
+            said.append((word, f"{name}: the part of the file before it has no fixed size"))
         else:
             more[name] = number
     edits = _without_overlaps([*_given(blocks, more), *rows.edits, *_edits(whole, blocks)])

@@ -232,7 +232,7 @@ class Walk:
         if context.structures and statement.head in structures.ASKING and context.blocks and context.blocks[-1].is_live is None:
             if statement.head in words.CONDITIONS:
                 context.blocks.pop()  # recover() opens it
-            raise Unportable(statement.head, context.structures[-1].word[1:], "whether it holds isn't known here: write the constants out")
+            raise Unportable(statement.head, context.structures[-1].word[1:], "its condition can't be decided: write the constants out")
         return self.rewriter.finished(found, has_escapes, statement)
 
     def is_left(self, facts: Facts, has_escapes: bool) -> bool:

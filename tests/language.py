@@ -78,7 +78,7 @@ def why_wrong(program, source, files, said):
 
 def directives(page):
     """Returns the directives in the page's tables of statements and of macros."""
-    tables = page.split("| Statement | What it says |")[1].split("\n\n")[0] + page.split("| Directive | What it does |")[1].split("\n\n")[0]
+    tables = page.split("| Statement | Meaning |")[1].split("\n\n")[0] + page.split("| Directive | What it does |")[1].split("\n\n")[0]
     rows = re.findall(r"^\| (`[^|]*?) \|", tables, re.M)
     return {it for row in rows for it in re.findall(r"(?<![\w.])\.[a-z]\w+", row)} | {".paramcount"}
 

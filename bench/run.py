@@ -2,8 +2,8 @@
 """Times bin65 beside cc65's own tools (Debian's package cc65) on one machine, and says as it goes what it does and how long the rest
 will take. Linking: an object of 4,096 full literal records, and 1,000 runs of the smallest object. Assembling and linking: 100,000,
 200,000 and 400,000 lines `nop`, as many of data with expressions and of instructions in procs, 1 MB of plain data, 20,000 lines that use
-constants over an import, and 1,000 scopes one inside the other; with valgrind also how many instructions a line or a byte takes. The two
-are run in turn, and the least of each is shown.
+constants whose expressions contain an import, and 1,000 nested scopes; with valgrind also the number of instructions per line or byte. The
+two are run in turn, and the minimum of each is shown.
 
 usage: run.py BIN65 [FOLDER [DIVISOR]]    FOLDER is bench-out; a DIVISOR makes all sizes so much smaller."""
 import os

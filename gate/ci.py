@@ -18,7 +18,7 @@ import reasons
 # A check takes up to 3 GB, and a proof that starts meanwhile as much.
 MEMORY = 6_000_000_000
 COUNTS = re.compile(r"(\d+) passed, (\d+) failed")
-# What `rt ci` says of an edit, a test or a run that failed.
+# The lines of `rt ci` about an edit, a test or a run that failed.
 FAILED = re.compile(r"rt: (?!FAILED).*(FAILED|NOT REFUSED|NOT TRIED|BAD EDIT|was stopped by|ended with status|had not ended|differ first at)")
 
 

@@ -15,7 +15,7 @@ from concurrent.futures import ThreadPoolExecutor
 ROOT = os.path.dirname(os.path.dirname(os.path.realpath(__file__)))
 PROGRAM = f"{ROOT}/crates/bin65/out/bin65"
 COUNTS = re.compile(r"(\d+) passed, (\d+) failed")
-# What a line of a failed part says of its failure.
+# The lines of a failed part that describe its failure.
 FAILURE = re.compile(r"FAILED|failed:|NOT |not proved|Error|error|: expected", re.I)
 
 # Before the proofs: texts alone, in seconds.

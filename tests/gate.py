@@ -70,7 +70,7 @@ PLACES = {NEXT: "src/counts.rt:6:1: it is not proved", TWICE: "note: src/counts.
 
 
 def said(crate, **states):
-    """What a check prints: of each function its state, with a finding where it isn't proved."""
+    """Returns the output of a check: the state of each function, with a finding if it isn't proved."""
     lines = []
     for name, state in zip((NEXT, TWICE, FMT), states.values()):
         lines += [PLACES[name]] if state == "not proved" else []
@@ -169,7 +169,7 @@ def turns():
     }
 
 
-# What `rt ci` prints of a crate that isn't proved, and of other failures.
+# The output of `rt ci` for a crate that isn't proved, and for other failures.
 NOT_PROVED = """== link65
 so far: 3 of 145 functions checked
 src/linker.rt:12:5: warning: a name that nothing uses

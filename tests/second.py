@@ -1,7 +1,7 @@
 #!/usr/bin/env python3
 """Tries `work65 second`: follows example/second/README.md, changes the image of cc65's linker in each kind of place, gives it
-options, libraries, images and places that can't be brought over, and runs the steps of workflow.yml. Where cc65 isn't installed
-only what is said of that is tried.
+options, libraries, images and constructs that can't be converted, and runs the steps of workflow.yml. If cc65 isn't installed,
+only the message about that is tested.
 
 usage: second.py BIN65. The last line is 'N passed, M failed'."""
 import os
@@ -58,7 +58,7 @@ TWO = """.code
 .segment "TAIL"
  .byte $31, $32
 """
-# A byte of the image, and where it lies: reckoned by hand. HEAD has 4 bytes, LOW those of CODE (3, a gap, 1) in the image, and
+# A byte of the image and its location, computed by hand. HEAD has 4 bytes, LOW those of CODE (3, a gap, 1) in the image, and
 # HIGH those of DATA (3), which is loaded at $1012, and of TAIL, from $1018 on.
 PLACES = (
     (0, "area HEAD, segment HEAD, module one.s, one.s:3"),
@@ -198,7 +198,7 @@ def exports_without_use(tries):
 
 
 def others(tries):
-    """Included files, names and data given, libraries in their order, and what is refused."""
+    """Included files, `-D` names, data, libraries in their order, and rejected constructs."""
     for folder in ("inc/deep", "gfx", "lib"):
         os.makedirs(f"{tries.top}/{folder}")
     texts = {
@@ -269,7 +269,7 @@ def steps_of_the_workflow():
 
 
 def alone(tries):
-    """What can be tried without cc65."""
+    """Tests that need no cc65."""
     steps = [it[0] for it in steps_of_the_workflow()]
     tries.check("the steps", steps == ["install cc65", "install bin65", "compare"], steps)
 

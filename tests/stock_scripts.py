@@ -26,7 +26,7 @@ SOURCES = {
     "apple2": ALL + NAMED + '.segment "EXEHDR"\n .res 58, 5\n.segment "ONCE"\n rts\n',
     "atari-xex": ALL + " .export start, __SYSTEM_CHECK__\n__SYSTEM_CHECK__ = $2E00\n",
 }
-# What cc65's linker writes around an Atari program: a mark, the first and the last address, and after it the start.
+# The parts that cc65's linker writes around an Atari program: a mark, the first and the last address, and after the program the start address.
 XEX = """ .import start, __MAIN_START__, __BSS_RUN__
 .segment "MARK"
  .word $FFFF

@@ -1,6 +1,6 @@
 #!/usr/bin/env python3
-"""Tries `work65 port`: sources in the everyday idiom, the pairs of docs/MIGRATING.md and cc65's own scripts are brought over; what
-comes out has the image that cc65's tools make of the source as it was, or a place is said that can't be brought over.
+"""Tests `work65 port`: it converts sources with common idioms, the pairs of docs/MIGRATING.md and cc65's own scripts. The result has the
+image that cc65's tools make of the original source, or the construct that can't be converted is reported.
 
 usage: workbench_port.py BIN65. The last line is 'N passed, M failed'."""
 import contextlib
@@ -55,7 +55,7 @@ ALONE = "compared: each source alone at two placements: the same 1 of 1\n"
 
 
 class Tries:
-    """What passed and failed."""
+    """Counts of passed and failed checks."""
 
     def __init__(self, program):
         self.program = os.environ["BIN65"] = os.path.abspath(program)
@@ -67,7 +67,7 @@ class Tries:
             print(f"{name}: {found}")
 
     def inside(self, *words, folder):
-        """What work65 says, run within this process: its status, and what it writes."""
+        """Runs work65 within this process. Returns its status and its output."""
         said, here = io.TextIOWrapper(io.BytesIO(), encoding="utf-8", write_through=True), os.getcwd()
         os.chdir(folder)
         try:
@@ -127,12 +127,12 @@ def ported(tries, name, target, text, has_cc65):
                 copy = it.read()
             tries.check(f"{name}, to the byte", copy == text, copy)
         left = tries.inside("check", "out", folder=folder)
-        # What a condition on the processor leaves out only port knows.
+        # Only port knows the lines that a condition on the processor skips
         tries.check(f"{name}, nothing left", left.returncode == 0 or name == "apple-cpu", left.stdout)
 
 
 def pairs(tries, has_cc65):
-    """Each text before of the page MIGRATING gives its image, or is said."""
+    """Tests that each first block of a pair of MIGRATING gives its image, or is reported."""
     text = pages.read("docs/MIGRATING.md").split("\n### A row with `align`")[0]
     rows = re.findall(r"^\| (`[^|]+`) \| `[^|]+` \| `[0-9A-F ]+` \|$", text, re.M)
     found = re.findall(r"^```cc65\n(.*?)^```$", text, re.M | re.S)
@@ -152,7 +152,7 @@ def pairs(tries, has_cc65):
 
 
 def scripts(tries):
-    """cc65's own scripts are taken once they are ported, or what is left is said."""
+    """Tests that bin65 accepts cc65's own scripts after `port`, or that the remaining constructs are reported."""
     with tempfile.TemporaryDirectory() as folder:
         ran = tries.work65("port", stock.SCRIPTS, "-o", "out", "--no-verify", folder=folder)
         said = set(re.findall(r"([\w-]+\.cfg):\d+:", ran.stdout))
@@ -272,7 +272,7 @@ def wrapped(chance, body, name):
 
 
 def mixed(tries):
-    """Sources put together by chance, each within something: the same image, or a place is said."""
+    """Tests random sources, each within a block: the same image, or a reported construct."""
     chance, count = random.Random(6502), {"the same": 0, "said": 0}
     for number in range(MIXED):
         chosen = chance.sample(cases(), chance.randint(1, 3))
@@ -296,7 +296,7 @@ def mixed(tries):
 
 
 def examples(tries):
-    """What bin65 takes comes out as it was."""
+    """Tests that sources which bin65 accepts are unchanged."""
     with tempfile.TemporaryDirectory() as folder:
         shutil.copytree(f"{pages.ROOT}/example", f"{folder}/example", ignore=shutil.ignore_patterns("out", "second"))
         ran = tries.work65("port", "example", "-o", "out", "--no-verify", folder=folder)
@@ -358,7 +358,7 @@ def copies(tries):
 
 
 def names(tries, has_cc65):
-    """Names outside of ASCII, data that lies elsewhere, and files that include each other deep."""
+    """Tests names outside ASCII, data in other folders, and deeply nested includes."""
     with tempfile.TemporaryDirectory() as folder:
         for name in ("src", "gfx", "deep"):
             os.makedirs(f"{folder}/{name}")
@@ -482,7 +482,7 @@ def several_scripts(tries):
             tries.check(name, ran.returncode == status and said in ran.stdout, ran)
 
 
-# What a Makefile passes to ca65 besides, and sources that need it.
+# Other options that a Makefile passes to ca65, and sources that need them
 OPTIONS = (
     (("--cpu", "6502X"), " lax $20\n sax $1234\n"), (("--cpu", "6502"), ".ifp02\n .byte 1\n.endif\n"),
     (("--feature", "string_escapes"), ' .byte "a\\n"\n'), (("--feature", "labels_without_colons", "--feature", "dollar_is_pc"), "one nop\n jmp $\n"),
@@ -514,7 +514,7 @@ ENDLESS = (
 
 
 def endless(tries):
-    """Sources that would go on without an end are said, or left to bin65, in a few seconds."""
+    """Tests that endless sources are reported, or left to bin65, within a few seconds."""
     for text in ENDLESS:
         with tempfile.TemporaryDirectory() as folder:
             pages.put(f"{folder}/a.s", text)

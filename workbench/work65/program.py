@@ -10,7 +10,7 @@ from work65.problem import Problem
 
 @dataclass(frozen=True)
 class Ran:
-    """What came of a run of bin65."""
+    """The result of a run of bin65."""
 
     status: int
     out: bytes

@@ -35,7 +35,7 @@ def object_of(source: str) -> str:
 
 
 def rule(found: Dependencies, target: str) -> str:
-    """Returns the rule of a source. An existing file has an empty rule of its own, so that make goes on after it is removed."""
+    """Returns the rule of a source. An existing file has an empty rule of its own, so that make continues after it is removed."""
     files = [it for it in found.files if it not in found.missing]
     text = f"{escaped(target)}: {' '.join(map(escaped, [found.source, *found.files]))}\n"
     return text + "".join(f"{escaped(it)}:\n" for it in files)

@@ -226,7 +226,7 @@ class Search:
             self.write(file)
         return bool(left)
 
-    # What follows from another fault.
+    # Errors that follow from others.
 
     def said(self, fault: Fault) -> str:
         """Formats an error for output."""

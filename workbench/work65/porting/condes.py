@@ -21,7 +21,7 @@ Entries = Dict[Tuple[int, str], int]
 
 @dataclass(frozen=True)
 class Table:
-    """A table as a script asks for it: its number, the names of the table and of its count, and where it lies."""
+    """A table that a script requests: its number, the names of the table and of its count, and its location."""
 
     number: int
     label: str

@@ -158,7 +158,7 @@ class Expander:
         self.host.emit(text, following)
 
     def leave(self) -> None:
-        """Ends the innermost call; a repeat that is open in it goes on to its end, as in cc65."""
+        """Ends the innermost call; a repeat that is open in it continues to its end, as in cc65."""
         for frame in reversed(self.frames):
             if not frame.is_decided:
                 raise Unportable(".exitmacro", "macro-call", "whether it is reached can't be determined: write the call out")

@@ -45,8 +45,8 @@ def _directives(names: Names) -> List[str]:
 
 
 def read(text: str, statement: Statement, context: Context, own: Sequence[str]) -> Names:
-    """Returns the names of a list with the size or value after each. While a segment of the zero page is open, an import is short where nothing
-    else is said; a name of the module's own isn't."""
+    """Returns the names of a list with the size or value after each. While a segment of the zero page is open, an import without a size is
+    short; a name of the module's own isn't."""
     found = Names()
     is_short = context.segments.is_zero_page and context.macro is None
     for part in parts_of(statement.rest):

@@ -24,7 +24,7 @@ UNLABELLED = frozenset((".else", ".elseif", ".endif", ".local", ".exitmacro", ".
 
 
 class Rewriter:
-    """What each statement becomes."""
+    """Rewrites each kind of statement."""
 
     def __init__(self, state: ModuleState, names: Renaming) -> None:
         self.state, self.context, self.project = state, state.context, state.project
@@ -92,7 +92,7 @@ class Rewriter:
         return self.screen_codes(text, statement) if first.text == "scrcode" and self.state.screen else None
 
     def all_handlers(self) -> Dict[str, Handler]:
-        """Returns what is done for each directive."""
+        """Returns the function that rewrites each directive."""
         context = self.context
         found: Dict[str, Handler] = {
             ".define": lambda at, text, it: defines.defined(text, it, context, self.project.is_single(it)),

@@ -1,4 +1,4 @@
-"""Rows of a script that cc65's linker and bin65 place otherwise: what makes both images equal, or what is said."""
+"""Rows of a script that cc65's linker and bin65 place differently: edits that make both images equal, or reports."""
 from dataclasses import dataclass, field, replace
 from typing import Dict, Iterator, List, Optional, Set, Tuple
 
@@ -143,7 +143,7 @@ class Rows:
         return None
 
     def take_over(self, row: Row, waiting: Dict[str, int]) -> None:
-        """Gives a row the place that unused rows before it asked for."""
+        """Gives a row the alignment or start of the unused rows before it."""
         own = _placing(row)
         if "START" in own or "OFFSET" in own:
             return
@@ -237,7 +237,7 @@ def _text(entry: Entry, name: str) -> str:
 
 
 def _joined(one: int, other: int) -> Dict[str, int]:
-    """Returns what is aligned to one number and then to another."""
+    """Returns the alignment that satisfies two alignments."""
     align = max(one, other) if max(one, other) % min(one, other) == 0 else one * other
     return {"ALIGN": align} if align > 1 else {}
 

@@ -13,7 +13,7 @@ SWITCHES = {"TRUE": "yes", "1": "yes", "FALSE": "no", "0": "no"}
 
 
 def ported(text: Text, usage: Usage, symbols: Dict[str, int]) -> Tuple[List[str], List[Said]]:
-    """Returns the lines of a script for bin65, with symbols more, and what is said of its rows; what can't be converted stays as it is."""
+    """Returns the lines of a script for bin65, with additional symbols, and the reports on its rows. Constructs that can't be converted are kept."""
     whole = "\n".join(text.lines)
     blocks = blocks_of(words_of(whole))
     rows = Rows(whole, blocks, usage).all()

@@ -39,7 +39,7 @@ def opened(text: str, statement: Statement, context: Context) -> List[str]:
 
 
 def _begin(it: Structure) -> Tuple[str, Optional[int]]:
-    """Returns where the next member of a structure lies."""
+    """Returns the offset of the next member of a structure."""
     return (it.base, it.base_value) if it.word == ".union" else (it.offset, it.value)
 
 
@@ -139,7 +139,7 @@ def member(text: str, statement: Statement, context: Context) -> List[str]:
 
 
 def _moved(text: str, tokens: Sequence[Token], it: Structure, context: Context) -> List[str]:
-    """Returns a .org in a structure: the next member lies there."""
+    """Returns a .org in a structure, which sets the offset of the next member."""
     found = value(tokens[1:], context.value)
     if found is None:
         raise Unportable(".org", "struct", "its value can't be determined: write the offsets out")

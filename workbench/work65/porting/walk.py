@@ -27,7 +27,7 @@ from work65.porting.rewriter import UNLABELLED, Rewriter
 DEEPEST = 256
 BANK = re.compile(r"\.bank\s*\([^()]*\)", re.I)
 ASKED = frozenset((".if", ".elseif"))
-# Features for which each line is looked at.
+# Features for which each line is examined.
 ALL_LINES = frozenset(("bracket_as_indirect", "force_range"))
 
 

@@ -224,7 +224,7 @@ def others(tries):
     tries.check("a place that can't be brought over", ran.returncode == 2 and re.search(r"^bad\.s:3: stz: ", ran.stdout, re.M), ran)
     shutil.copy("/usr/share/cc65/lib/none.lib", f"{tries.top}/none.lib")
     ran = tries.second("-C", "b.cfg", "diff.s", "none.lib")
-    tries.check("a library of cc65's", ran.returncode == 2 and "none.lib: is an object or a library of cc65's" in ran.stderr, ran)
+    tries.check("a library of cc65's", ran.returncode == 2 and "none.lib: an object or a library of cc65's" in ran.stderr, ran)
     ran = tries.second("-C", "b.cfg", "diff.s", "none.s")
     tries.check("no source", ran.returncode == 2 and ran.stderr == "work65: none.s: no such file\n", ran)
     ran = tries.second("-C", "b.cfg")
@@ -247,7 +247,7 @@ def documented(tries):
     note = "e.cfg: DATA has no bytes: bin65's file is filled up to it (MIGRATING: A row with `align`, `start` or `offset` whose segment nobody uses)\n"
     tries.says("a row without bytes", tries.second("-C", "e.cfg", "e.s"), 0, f"the same image: a.out, 16 bytes\n{note}")
     ran = tries.second("-C", "b.cfg", "diff.s")
-    good = "\ndiff.s:4: n: cc65 takes it for not defined in a scope that has used it: " in ran.stdout
+    good = "\ndiff.s:4: n: in a scope that has used it cc65 treats it as undefined: " in ran.stdout
     tries.check("a place that was said", ran.returncode == 1 and good, ran)
     pages.put(f"{tries.top}/k.s", " .export k\nk = -1\n")
     pages.put(f"{tries.top}/l.s", " .import k\n .byte k < 0\n")

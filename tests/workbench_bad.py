@@ -105,7 +105,7 @@ def wrong_words(trial: Trial) -> None:
             trial.refused("a folder that isn't there", line_of(command, "-o", "no/out", "a.s"), "no/out: No such file or directory")
             trial.refused("a folder in the file's place", line_of(command, "-o", "sub", "a.s"), "sub: Is a directory")
     for command in ("list", "labels", "debug", "size"):
-        trial.refused("a source that takes itself in", line_of(command, "self.s"), "self.s: a copy that says where its lines are isn't the same program")
+        trial.refused("a source that takes itself in", line_of(command, "self.s"), "self.s: the instrumented copy isn't the same program")
     trial.refused("no such form", line_of("labels", "--format", "vise", "a.s"), "vise", 2)
     trial.refused("no library", line_of("list", "--library", "x.lib", "a.s"), "NAME=FOLDER", 2)
     trial.refused("no source of a list", line_of("list", "--library", "x.lib=a.s,none.s", "a.s"), "none.s: no such source")

@@ -466,7 +466,7 @@ def several_scripts(tries):
     linked = {"one.cfg": row.format("1000", "CODE"), "two.cfg": row.format("2000", "CODE")}
     others = {name: text.replace("CODE", "OTHER") for name, text in linked.items()}
     same = "compared: the program by one.cfg: the same (the image, 1 bytes); {}\n"
-    sign = "an exported constant below 0 is one above 0 where cc65 imports it"
+    sign = "cc65 imports a negative constant as a positive number"
     for name, files, status, said in (
         ("two scripts", {**good, **linked}, 0, same.format("by two.cfg: the same (the image, 1 bytes)")),
         ("one script of two", {**good, **linked, "two.cfg": others["two.cfg"]}, 0, same.format("not by two.cfg: ld65 doesn't link it as a whole: ")[:-1]),

@@ -23,7 +23,7 @@ TEXTS = [
     ("texts and layout", ["python3", "gate/texts.py"]),
     ("what the code keeps", ["python3", "tests/kept.py"]),
     ("the tools of the gate", ["python3", "tests/gate.py"]),
-    ("texts of others", ["python3", "tests/others.py"]),
+    ("texts of others", ["python3", "tests/provenance.py"]),
     ("the renaming tool", ["python3", "tests/rename.py"]),
     ("links of pages", ["python3", "tests/links.py"]),
     ("types of work65", ["python3", "tests/workbench_types.py"]),
@@ -32,9 +32,9 @@ TEXTS = [
 ]
 # With the program that `rt ci` builds, the longest first.
 SCRIPTS = [
-    "hostile", "large", "workbench_port", "workbench_random", "workbench_trees", "workbench_idioms", "failing_disk", "memory", "trial",
+    "hostile", "large", "workbench_port", "workbench_random", "workbench_trees", "workbench_idioms", "io_faults", "alloc_faults", "fuzz",
     "measured", "one_program", "cases", "disk", "sums", "version1",
-    "migrating", "differences", "stock_scripts", "tutorial", "language", "messages", "editors", "trying", "makefile", "machines", "second", "labels",
+    "migrating", "differences", "cc65_scripts", "tutorial", "language", "messages", "editors", "make_try", "makefile", "machines", "second", "labels",
     "workbench_list", "workbench_labels", "workbench_debug", "workbench_deps", "workbench_size", "workbench_bad", "workbench_check",
     "workbench_faults", "workbench_lexer", "packaging", "release", "bench",
 ]

@@ -14,7 +14,7 @@ import pages
 
 sys.path.insert(0, f"{pages.ROOT}/gate")
 sys.dont_write_bytecode = True
-import cited
+import check_docs
 
 EXAMPLE = re.compile(r"^```asm\n(.*?)^```\n(.*)", re.M | re.S)
 FILE = re.compile(r"^\*\*([\w.]+)\*\*\n```\n(.*?)^```$", re.M | re.S)
@@ -109,10 +109,10 @@ def main():
     faults = {f"example {number}: {source}": why_wrong(program, source, *rest) for number, (source, *rest) in enumerate(found)}
     faults["the headings of directives"] = why_headings(page)
     for name in PAGES:
-        long = [it for it in cited.paragraphs(cited.without_code(pages.read(f"{name}.md"))) if len(it) > LONGEST]
+        long = [it for it in check_docs.paragraphs(check_docs.without_code(pages.read(f"{name}.md"))) if len(it) > LONGEST]
         faults[name] = "; ".join(f"a paragraph of {len(it)} characters: {it[:60]}" for it in long) or None
     for name in CITING:
-        faults[f"what {name} cites"] = "; ".join(cited.why_cited(pages.ROOT, cited.without_code(pages.read(f"{name}.md")))) or None
+        faults[f"what {name} cites"] = "; ".join(check_docs.why_cited(pages.ROOT, check_docs.without_code(pages.read(f"{name}.md")))) or None
     for name, why in faults.items():
         if why:
             print(f"{name}: {why}")

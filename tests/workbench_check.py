@@ -13,7 +13,7 @@ import sys
 import tempfile
 
 import pages
-import stock
+import cc65_files
 
 sys.path.insert(0, f"{pages.ROOT}/workbench")
 from work65.commands import check  # noqa: E402
@@ -170,7 +170,7 @@ def over(tries, files):
     """Tests files of the machine: nothing is found in files that bin65 accepts, and the line is found in those that it rejects."""
     wrong, count = [], 0
     for file in files:
-        line = told(tries, file, [stock.INCLUDES])
+        line = told(tries, file, [cc65_files.INCLUDES])
         if line is not None:
             lines = {it.line for it in check.findings([file]) if it.path == file}
             count += 1
@@ -180,8 +180,8 @@ def over(tries, files):
 
 def scripts(tries):
     """Tests that in each of cc65's scripts the line that bin65 reports is found."""
-    for name in sorted(os.listdir(stock.SCRIPTS)):
-        file = f"{stock.SCRIPTS}/{name}"
+    for name in sorted(os.listdir(cc65_files.SCRIPTS)):
+        file = f"{cc65_files.SCRIPTS}/{name}"
         ran = subprocess.run([tries.program, "ld65", "-C", file, "-o", "/dev/null", "/dev/null"], capture_output=True, text=True, check=False)
         match = re.match(rf"{re.escape(file)}:(\d+): ", ran.stderr)
         lines = {it.line for it in check.findings([file])}
@@ -282,8 +282,8 @@ def main():
         pairs(tries, folder)
     with tempfile.TemporaryDirectory() as folder:
         searched(tries, folder)
-    if stock.is_there():
-        over(tries, [f"{stock.INCLUDES}/{it}" for it in sorted(os.listdir(stock.INCLUDES))])
+    if cc65_files.is_there():
+        over(tries, [f"{cc65_files.INCLUDES}/{it}" for it in sorted(os.listdir(cc65_files.INCLUDES))])
         scripts(tries)
     else:
         print("cc65 isn't installed: its files aren't looked at")

@@ -15,7 +15,7 @@ import tempfile
 import time
 
 import pages
-import stock
+import cc65_files
 
 sys.path.insert(0, f"{pages.ROOT}/workbench")
 from work65.main import main as work65  # noqa: E402
@@ -102,7 +102,7 @@ def cases():
 def ported(tries, name, target, text, has_cc65):
     """Ports one source, and compares the image with that of cc65's tools. One that includes a file of cc65's is left out where
     that isn't there."""
-    if ".include " in text and not stock.is_there():
+    if ".include " in text and not cc65_files.is_there():
         print(f"cc65 isn't installed: {name} isn't tried, which includes a file of its own")
         return
     with tempfile.TemporaryDirectory() as folder:
@@ -154,10 +154,10 @@ def pairs(tries, has_cc65):
 def scripts(tries):
     """Tests that bin65 accepts cc65's own scripts after `port`, or that the remaining constructs are reported."""
     with tempfile.TemporaryDirectory() as folder:
-        ran = tries.work65("port", stock.SCRIPTS, "-o", "out", "--no-verify", folder=folder)
+        ran = tries.work65("port", cc65_files.SCRIPTS, "-o", "out", "--no-verify", folder=folder)
         said = set(re.findall(r"([\w-]+\.cfg):\d+:", ran.stdout))
         brought = re.search(r"converts (\d+) of them; the other (\d+)", pages.read("docs/MIGRATING.md"))
-        counts = (len(os.listdir(stock.SCRIPTS)) - len(said), len(said))
+        counts = (len(os.listdir(cc65_files.SCRIPTS)) - len(said), len(said))
         tries.check("the page's numbers of scripts", counts == (int(brought[1]), int(brought[2])), counts)
         for name in sorted(set(os.listdir(f"{folder}/out")) - {".work65"}):
             link = subprocess.run([tries.program, "ld65", "-C", f"{folder}/out/{name}", "-o", "/dev/null", "/dev/null"],
@@ -237,7 +237,7 @@ def tree(tries):
         for name, text in TREE.items():
             os.makedirs(os.path.dirname(f"{folder}/{name}"), exist_ok=True)
             pages.put(f"{folder}/{name}", text)
-        shutil.copy(f"{stock.SCRIPTS}/nes.cfg", f"{folder}/src/nes.cfg")
+        shutil.copy(f"{cc65_files.SCRIPTS}/nes.cfg", f"{folder}/src/nes.cfg")
         before = {it: pages.read(os.path.relpath(f"{folder}/{it}", pages.ROOT)) for it in TREE}
         ran = tries.work65("port", "src", "-o", "out", "--target", "nes", folder=folder)
         good = "compared: the program by nes.cfg: the same (the image, 40976 bytes)\n"
@@ -550,9 +550,9 @@ def main():
     for name, target, text in cases():
         ported(tries, name, target, text, has_cc65)
     pairs(tries, has_cc65)
-    if stock.is_there():
+    if cc65_files.is_there():
         scripts(tries)
-    if stock.is_there() and has_cc65:
+    if cc65_files.is_there() and has_cc65:
         tree(tries)
     if has_cc65:
         mixed(tries)

@@ -1,7 +1,7 @@
 """Several modules as one program: the image by the definition, without objects."""
 
-from whole.modules import LENGTHS, WIDTHS, next_multiple
-from whole.sources import OPCODES, Refused, value1, value2, wrapped
+from reference.modules import LENGTHS, WIDTHS, next_multiple
+from reference.sources import OPCODES, Refused, value1, value2, wrapped
 
 RANGES = {"byte": (0, 255), "word": (0, 65535), "dbyt": (0, 65535), "dword": (0, 2**32 - 1), "branch": (-128, 127)}
 

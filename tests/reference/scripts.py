@@ -2,7 +2,7 @@
 
 import re
 
-from whole.sources import Refused
+from reference.sources import Refused
 
 TOKEN = re.compile(
     r"[ \t\r\n]+|#.*|(?P<name>[A-Za-z_]\w*)|(?P<number>\d+|\$[0-9A-Fa-f]+)|\"(?P<string>[^\"\n%]*)\"|(?P<output>%O)"

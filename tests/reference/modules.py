@@ -1,6 +1,6 @@
 """The statements of a module, each with its scope, region and segment, and with its length as known at its line."""
 
-from whole.sources import OPCODES, Refused, statements, value1, value2, wrapped
+from reference.sources import OPCODES, Refused, statements, value1, value2, wrapped
 
 LENGTHS = {"byte": 1, "word": 2, "dbyt": 2, "dword": 4, "branch": 1}
 WIDTHS = {"implied": None, "accumulator": None, "absolute": "word", "absolute_x": "word", "absolute_y": "word",

@@ -5,7 +5,7 @@ edited script: the images must be the same. If cc65 isn't installed, only the ru
 The rules: FEATURES, FILES and FORMATS are removed; `%S` becomes the start address; a weak symbol that an area needs becomes an export. What
 FORMATS makes cc65's linker write around an Atari program gets areas of its own, and its bytes are in the source.
 
-usage: stock_scripts.py BIN65. The last line is 'N passed, M failed'."""
+usage: cc65_scripts.py BIN65. The last line is 'N passed, M failed'."""
 import os
 import re
 import shutil

@@ -155,11 +155,11 @@ def why_row(root, crates, crate, cells):
     if lost := sorted({*TICKED.findall(named)} - {clause for clause, _, _ in there}):
         return f"no call of the row has the clause {lost[0]}"
     if idle := [it for it in found if it not in {call for _, call, _ in there}]:
-        return f"no clause of the row stands in {idle[0]}"
+        return f"no clause of the row is one of {idle[0]}"
     text, files = " ".join(it for _, _, it in there), {file for where in found.values() for file, _ in where}
     for other, module in MODULE.findall(modules):
         if not is_near(root, other or crate, module, text, files):
-            return f"{other or crate} {module} isn't there, or defines nothing that these clauses say"
+            return f"{other or crate} {module} doesn't exist, or defines no term of these clauses"
     return None
 
 

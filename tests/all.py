@@ -120,7 +120,7 @@ def main():
         os.environ.pop(it, None)
     begun, lanes = time.monotonic(), int(os.environ.get("ALL_LANES", 0)) or len(os.sched_getaffinity(0))
     parts = side_by_side([Part(*it) for it in TEXTS], lanes)
-    print("rt ci, and mutants beside it:", flush=True)
+    print("rt ci, with mutants in parallel:", flush=True)
     proofs = Part("rt ci and mutants", ["python3", "gate/ci.py"]).run(is_shown=True)
     proofs.lines = [it for it in proofs.lines if it.startswith("FAILED")] or proofs.lines[-20:]
     proofs.told()

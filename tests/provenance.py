@@ -31,7 +31,7 @@ def said(ours, *theirs, is_clone=True):
 
 
 def main():
-    refused = ["a.cfg: 6 of its lines stand in /theirs/cfg/0.cfg"]
+    refused = ["a.cfg: 6 of its lines are in /theirs/cfg/0.cfg"]
     checks = {
         "six lines": said(LINES[:6], LINES) == refused,
         "six lines where there is no clone": said(LINES[:6], LINES, is_clone=False) == refused,

@@ -110,7 +110,7 @@ def main():
             reported |= set(re.findall(r"^(/[^:\n]+):\d+: ", port.stdout.decode("latin-1"), re.M))
         with ThreadPoolExecutor(2) as pool:
             found = list(pool.map(lambda it: compared(src, program, ported, reported, it), files))
-    for name, kinds in zip(("as it stands", "after port"), zip(*found)):
+    for name, kinds in zip(("unchanged", "after port"), zip(*found)):
         print(f"{len(files)} sources, {name}:")
         for kind, count in collections.Counter(kinds).most_common():
             print(f"  {count:5} {kind}")

@@ -29,8 +29,8 @@ def main(program, folder="bench-out", divisor="1"):
     program, folder, divisor = os.path.abspath(program), os.path.abspath(folder), int(divisor)
     parts = [*link.parts(program, folder, divisor), *assemble.parts(program, folder, divisor)]
     whole, done, begun = sum(seconds for _, seconds, _ in parts), 0, time.monotonic()
-    beside = "cc65's tools beside it" if shutil.which("ca65") and shutil.which("ld65") else "cc65 isn't here, so bin65 alone"
-    say(f"{len(parts)} parts, {beside}: {in_minutes(whole / divisor)} where nothing else runs.")
+    beside = "with cc65's tools" if shutil.which("ca65") and shutil.which("ld65") else "without cc65's tools, which aren't installed"
+    say(f"{len(parts)} parts, {beside}: {in_minutes(whole / divisor)} on an idle machine.")
     for number, (what, seconds, run) in enumerate(parts, 1):
         left = (whole - done) * (time.monotonic() - begun) / done if done else whole / divisor
         say(f"part {number} of {len(parts)}: {what}; {in_minutes(left)} left")

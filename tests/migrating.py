@@ -130,7 +130,7 @@ class Tries:
         listed = sorted(re.findall(r"`([^`]+)`", " ".join(named)))
         taken = sorted(cc65_files.taken(program))
         self.check("cc65's include and macro files", taken == listed, taken)
-        said = re.search(r"^Of its 63 scripts (.*?) accepted unchanged", text, re.M)[1]
+        said = re.search(r"^Of cc65's 63 scripts (.*?) accepted unchanged", text, re.M)[1]
         scripts = list(cc65_files.scripts(program))
         self.check("cc65's scripts", scripts == re.findall(r"`([^`]+)`", said) and (bool(scripts) or said == "none is"), scripts)
 

@@ -65,7 +65,7 @@ ARGUMENTS = (
 
 # The output of `explain` for lines of a source, if the page's paragraph has a list after it, or the line shows the cause.
 TOLD = (
-    (1, "bad character", "quote. - a cheap label whose name begins with a digit, as @1: write @loop; - a '"),
+    (1, "bad character", "these: - a cheap label whose name begins with a digit, as @1: write @loop; - a '"),
     (2, "statement not understood", "It is: a number or a name where a string is wanted."),
     (6, "too many arguments", "The macro m has 1 parameter, and the call has 2 arguments. ca65. A macro call has more"),
     (10, "too many arguments", "It is in the lines of the macro n, which is called here. ca65. A macro call has more"),

@@ -136,7 +136,7 @@ HABITS: Tuple[Habit, ...] = (
     Habit("script-sign", "parentheses, `*`, `/` or a sign in a script", SCRIPTS, "write its value as a number"),
     Habit("script-weak", "a `weak` symbol in a sum", SCRIPTS, "change its type to export"),
     Habit("script-name", "a name in a sum that the script doesn't define", SCRIPTS, "define it in SYMBOLS with type = export, or write its value as a number"),
-    Habit("script-overwrite", "`type = overwrite`", SCRIPTS, "put the bytes into the segment whose bytes they replace"),
+    Habit("script-overwrite", "`type = overwrite`", SCRIPTS, "write the new bytes into the overwritten segment, in place of the old ones"),
     Habit("script-areas", "a row of type `bss` or `zp` with two areas", SCRIPTS, "name only the area in which it runs"),
     Habit("script-form", "anything else that bin65 doesn't accept in a script", SCRIPTS, "docs/SCRIPTS.md describes what a script can contain"),
 )

@@ -28,14 +28,13 @@ use Rattle.object65.specs.declared.object.Width.{Width}
 use Rattle.semantics65.specs.Contents.{operand_tree}
 use Rattle.symbols65.specs.Evaluations.{AreEvaluations, EvaluatesTree, HasFinal, HaveFinals, IsEvaluated, IsEvaluation, first_tree, item_tree, items_in, second_tree}
 use Rattle.symbols65.specs.Resolving.{IsFinalWithin, IsReference, MeansAlways, attempt_definition, binary_form, known_form, plain, plain_in, prefix_form}
-use Rattle.symbols65.specs.Views.{known_by, table_of}
+use Rattle.symbols65.specs.Views.{final_form, table_of}
 use Rattle.symbols65.specs.declared.constants.Evaluation.{Evaluation}
 use Rattle.symbols65.specs.declared.measuring.trees.Evaluations.{Evaluations}
-use Rattle.symbols65.specs.declared.resolving.attempt.FormSource.TheVariants.{Finals}
 use Rattle.symbols65.specs.declared.table.symbols.Symbols as code
 use Rattle.symbols65.proofs.Finals.{binary_stays, operand_stays, prefix_stays}
-use Rattle.symbols65.proofs.Hanging.{extends_itself}
 use Rattle.symbols65.proofs.Measures.{left_after, refused_first, refused_same, unless_then}
+use Rattle.symbols65.proofs.Turns.{extends_itself}
 use Rattle.symbols65.proofs.Words.{get_more}
 use Rattle.symbols65.proofs.Sizing.{binary_plain, folded_plain, plain_again, plain_known, plain_twice, plain_value, prefix_plain}
 
@@ -174,7 +173,7 @@ module _ (y : Symbols) (s : Context) (own : AddressSize) where
 
 -- what means the same whatever statements follow, and has a final form
 pub final_found : (t : code.Symbols) (s : Context) (own : AddressSize) (e : Tree) (j : ℕ) (f : Form) (r : Evaluation) (other : AddressSize) → IsReference e → MeansAlways (table_of t) s e j →
-    attempt_definition (λ q v. known_form j (known_by t Finals j)) (slice_get (table_of t).definitions j) ≡ Ok f → other ≡ size_of_meaning (table_of t) (Ok (defined_at j)) →
+    attempt_definition (λ q v. known_form j (final_form t j)) (slice_get (table_of t).definitions j) ≡ Ok f → other ≡ size_of_meaning (table_of t) (Ok (defined_at j)) →
     IsMadeOf r (Some f) true other → IsEvaluation (table_of t) s own e r
 final_found t s own e j f r other h means at sized m =
     let y : Symbols = table_of t in

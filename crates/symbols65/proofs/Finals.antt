@@ -16,17 +16,13 @@ use Rattle.ast65.specs.declared.fault.AsmFault.TheVariants.{NoSuchLabel, NoSuchS
 use Rattle.semantics65.specs.declared.laid.Context.{Context}
 use Rattle.semantics65.specs.Symbols.{defined_at, enclosing, first_found, last_of, binding_of, member_meaning, or_else, or_fault, outward_from, scope_from, scopes_of, display_name, unnamed_meaning, Definition, Key, Symbols, cheap_in, definition_index, import_index, named, same_key, unnamed_at}
 use Rattle.semantics65.specs.Norms.{fold_result, form_of_definition, form_of_meaning, norm, norm_of, Extends}
-use Rattle.symbols65.specs.declared.resolving.attempt.FormSource.TheVariants.{Finals}
-use Rattle.symbols65.specs.declared.resolving.attempt.State.{State}
-use Rattle.symbols65.specs.declared.resolving.attempt.State.TheVariants.{Found}
 use Rattle.symbols65.specs.declared.table.symbols.Symbols as code
-use Rattle.symbols65.specs.Resolving.{IsFinalWithin, IsReference, binary_form, prefix_form, attempt_definition, attempt_value, known_form, plain_part, MeansAlways, MeansFinally, EachOperand}
-use Rattle.symbols65.specs.Views.{known_by, table_of}
+use Rattle.symbols65.specs.Resolving.{IsFinalWithin, IsReference, binary_form, prefix_form, attempt_definition, attempt_value, known_form, plain_part, MeansAlways}
+use Rattle.symbols65.specs.Views.{final_form, table_of}
 use Rattle.symbols65.proofs.Scopes.{name_is, name_meaning}
 use Rattle.symbols65.proofs.Words.{first_within, get_stays, position_stays}
-use Rattle.symbols65.proofs.Hanging.{extends_itself}
 use Rattle.symbols65.proofs.Settling.{final_among}
-use Rattle.symbols65.proofs.Turns.{expression_course, expression_is, ok_later}
+use Rattle.symbols65.proofs.Turns.{extends_itself, expression_course, expression_is, ok_later}
 
 -- ---- Definitions.
 
@@ -85,28 +81,28 @@ binary_stays n y s op e g (Some x) (Some w) h k f q = λ z more.
     ∙ ap (λ r. r >>= (λ v. fold_result (fold2 op x v))) (k w refl z more)
     ∙ folds (fold2 op x w) f q
 
-value_ok : (n : ℕ) (z : Symbols) (j : ℕ) (k : Option State) (d : Definition) (f : Form) → ((g : Form) → k ≡ Some (Found g) → form_of_definition (norm n z) (Some d) ≡ Ok g) → (v : Option Tree) → d.value ≡ v → attempt_value (λ q e. known_form j k) d.context v ≡ Ok f → form_of_definition (norm n z) (Some d) ≡ Ok f
+value_ok : (n : ℕ) (z : Symbols) (j : ℕ) (k : Option Form) (d : Definition) (f : Form) → ((g : Form) → k ≡ Some g → form_of_definition (norm n z) (Some d) ≡ Ok g) → (v : Option Tree) → d.value ≡ v → attempt_value (λ q e. known_form j k) d.context v ≡ Ok f → form_of_definition (norm n z) (Some d) ≡ Ok f
 value_ok n z j k d f h x w q = grind (arith, common_steps)
 
 module _ (t : code.Symbols) (s : Context) where
   abbrev pub y : Symbols
   y = table_of t
 
-  meant_ok : (z : Symbols) → Extends y z → (u : Tree) (j : ℕ) → MeansAlways y s u j → (f : Form) → attempt_definition (λ q e. known_form j (known_by t Finals j)) (slice_get y.definitions j) ≡ Ok f → (binding_of z s u >>= form_of_meaning (norm (length y.definitions) z) z) ≡ Ok f
+  meant_ok : (z : Symbols) → Extends y z → (u : Tree) (j : ℕ) → MeansAlways y s u j → (f : Form) → attempt_definition (λ q e. known_form j (final_form t j)) (slice_get y.definitions j) ≡ Ok f → (binding_of z s u >>= form_of_meaning (norm (length y.definitions) z) z) ≡ Ok f
   meant_ok z more u j (lt, means) f h =
       ap (λ m. m >>= form_of_meaning (norm (length y.definitions) z) z) (means z more)
       ∙ ap (λ ds. form_of_definition (norm (length y.definitions) z) (slice_get ds j)) more.definitions
       ∙ ap (form_of_definition (norm (length y.definitions) z)) (get_stays y.definitions more.later_definitions j lt)
       ∙ by (slice_get y.definitions j) refl h
     where
-      by : (o : Option Definition) → slice_get y.definitions j ≡ o → attempt_definition (λ q e. known_form j (known_by t Finals j)) o ≡ Ok f → form_of_definition (norm (length y.definitions) z) o ≡ Ok f
+      by : (o : Option Definition) → slice_get y.definitions j ≡ o → attempt_definition (λ q e. known_form j (final_form t j)) o ≡ Ok f → form_of_definition (norm (length y.definitions) z) o ≡ Ok f
       by None is e = absurd cc
       by (Some d) is e =
           let at : slice_get z.definitions j ≡ Some d = ap (λ ds. slice_get ds j) more.definitions ∙ get_stays y.definitions more.later_definitions j lt ∙ is in
-          value_ok (length y.definitions) z j (known_by t Finals j) d f (λ g k. ap (form_of_definition (norm (length y.definitions) z)) (sym at) ∙ final_among t z more (length y.definitions) j g lt k) d.value refl e
+          value_ok (length y.definitions) z j (final_form t j) d f (λ g k. ap (form_of_definition (norm (length y.definitions) z)) (sym at) ∙ final_among t z more (length y.definitions) j g lt k) d.value refl e
 
   -- so an operand that means the same keeps the form that is final
-  pub operand_stays : (e : Tree) (j : ℕ) (f : Form) → MeansAlways y s e j → attempt_definition (λ q v. known_form j (known_by t Finals j)) (slice_get y.definitions j) ≡ Ok f → IsFinalWithin (length y.definitions) y s e f
+  pub operand_stays : (e : Tree) (j : ℕ) (f : Form) → MeansAlways y s e j → attempt_definition (λ q v. known_form j (final_form t j)) (slice_get y.definitions j) ≡ Ok f → IsFinalWithin (length y.definitions) y s e f
   operand_stays (number v) j f m h = absurd (let no = m.1 y (extends_itself y) in cc)
   operand_stays here j f m h = absurd (let no = m.1 y (extends_itself y) in cc)
   operand_stays (unary op e) j f m h = absurd (let no = m.1 y (extends_itself y) in cc)
@@ -126,13 +122,6 @@ within_final y s e f h z more =
 
 pub by_place : (P : ℕ → Type 0) (o : Option ℕ) → ((j : ℕ) → o ≡ Some j → P j) → IfSome o P
 by_place x y h = grind (arith, common_steps)
-
-pub some_place : (y : Symbols) (s : Context) (e : Tree) (o : Option ℕ) → IfSome o (MeansAlways y s e) → is_some o ≡ true → MeansFinally y s e
-some_place y s e None h q = absurd cc
-some_place y s e (Some j) h q = (j, h)
-
-pub operands_of : (P : Tree → Type 0) (e : Tree) → IsReference e → P e → EachOperand P e
-operands_of x y r p = grind (arith, common_steps)
 
 pub more_ok : {A E : Type 0} (P Q : A → Type 0) (r : Result A E) → ((x : A) → P x → Q x) → IfOk r P → IfOk r Q
 more_ok x y z h p = grind (arith, common_steps)

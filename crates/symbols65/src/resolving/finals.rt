@@ -1,15 +1,16 @@
 //! Operands that mean the same whatever statements follow; and folding forms of which some may be missing.
 
-ghost use Rattle.std.specs.Prelude.{IfSome, ◌≡◌, IfOk, Result, ◌∷◌, [], None, false, true};
-ghost use Rattle.symbols65.specs.Resolving.{MeansAlways, MeansFinally, EachOperand, binary_form, prefix_form, plain_part};
+ghost use Rattle.std.specs.Prelude.{IfSome, ◌≡◌, IfOk, Ok, Result, ◌∷◌, [], None, false, slice_get};
+ghost use Rattle.symbols65.specs.Resolving.{IsBlocked, IsBlockedAt, MeansAlways, attempt_definition, binary_form, known_form, prefix_form, plain_part};
 ghost use Rattle.std.specs.Result.{result_ok};
 ghost use Rattle.base65.specs.Outcome.{Refines};
 ghost use Rattle.object65.specs.Form.{Form};
 ghost use Rattle.object65.specs.Folding.{lacks_memory};
 ghost use Rattle.object65.specs.declared.folding.FormFault.{FormFault};
 ghost use Rattle.syntax65.specs.Trees.{name as name_tree};
-ghost use Rattle.symbols65.specs.Views.{table_of};
+ghost use Rattle.symbols65.specs.Views.{final_form, table_of};
 
+use super::attempt::address;
 use super::meaning::{last_in, plain_part, scopes_in};
 use super::scopes::scope_of;
 use crate::table::{Key, Symbols};
@@ -112,22 +113,57 @@ pub fn final_place(symbols: &Symbols, context: Context, operand: &Expr) -> Optio
     }
 }
 
-/// Returns whether each operand of an expression means the same whatever statements follow.
-pub fn are_final(symbols: &Symbols, context: Context, value: &Expr) -> bool
-    ensures { result ≡ true →
-        EachOperand (MeansFinally (table_of symbols.now) context) value.now }
+/// Returns the blocker of the definition at an index, or the definition itself, if it is a constant
+/// without a final form.
+fn blocker_at(symbols: &Symbols, index: usize) -> Option<usize>
+    ensures { IfSome result (IsBlockedAt (table_of symbols.now) index) }
+{
+    let definition = symbols.definition(index)?;
+    match (&definition.value, &definition.form) {
+        (Some(_), None) => Some(definition.blocker.unwrap_or(index)),
+        _ => None,
+    }
+}
+
+/// Returns a constant without whose number or address an expression has none, whatever statements
+/// follow, if one is evident already.
+pub fn blocker_of(symbols: &Symbols, context: Context, value: &Expr) -> Option<usize>
+    ensures { IfSome result (IsBlocked (table_of symbols.now) context value.now) }
 {
     match value.kind() {
-        ExprKind::Number(_) | ExprKind::Here => true,
-        ExprKind::Prefix(_, part) => are_final(symbols, context, part),
-        ExprKind::Binary(_, operands) => {
-            are_final(symbols, context, &operands.left)
-                && are_final(symbols, context, &operands.right)
-        }
+        ExprKind::Number(_) | ExprKind::Here => None,
+        ExprKind::Prefix(_, part) => blocker_of(symbols, context, part),
+        ExprKind::Binary(_, operands) => match blocker_of(symbols, context, &operands.left) {
+            Some(index) => Some(index),
+            None => blocker_of(symbols, context, &operands.right),
+        },
         ExprKind::Plain(_)
         | ExprKind::Scoped(_)
         | ExprKind::Cheap(_)
         | ExprKind::Forward(_)
-        | ExprKind::Backward(_) => { final_place(symbols, context, value).is_some() }
+        | ExprKind::Backward(_) => {
+            let index = final_place(symbols, context, value)?;
+            blocker_at(symbols, index)
+        }
+    }
+}
+
+/// Returns the final form of the definition at an index, if it has one.
+pub fn defined_final(
+    alloc: Global,
+    symbols: &Symbols,
+    index: usize,
+) -> Result<Option<Norm>, AllocError>
+    ensures { IfOk result (λ o. IfSome o (λ f.
+        attempt_definition (λ s e. known_form index (final_form symbols.now index))
+        (slice_get (table_of symbols.now).definitions index) ≡ Ok f)) }
+{
+    let Some(definition) = symbols.definition(index) else {
+        return Ok(None);
+    };
+    match (&definition.value, &definition.form) {
+        (None, _) => Ok(Some(address(definition.context))),
+        (Some(_), Some(form)) => Ok(Some(Norm::copy_of(alloc, form)?)),
+        (Some(_), None) => Ok(None),
     }
 }

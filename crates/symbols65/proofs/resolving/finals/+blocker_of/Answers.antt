@@ -1,0 +1,23 @@
+use Rattle.std.proofs.Common.{◌≡◌, ◌∙◌, ℕ, IfSome, Option, None, Some, ap, subst, sym}
+use Rattle.syntax65.specs.Kinds.{tree_of}
+use Rattle.syntax65.specs.Trees.{Tree, binary}
+use Rattle.symbols65.specs.Resolving.{IsBlocked}
+use Rattle.symbols65.specs.Views.{table_of}
+use Rattle.symbols65.proofs.Blockers.{if_some, operand_blocked, right_blocked}
+use Rattle.symbols65.proofs.resolving.finals.+blocker_of.Goals as goal
+
+pub returns-in-None : goal.returns-in-None
+returns-in-None t c =
+    let y = table_of c.args.symbols.now in
+    let s = c.args.context in
+    let e = c.in-Binary.operands.value.left in
+    let g = c.in-Binary.operands.value.right in
+    let whole : binary c.in-Binary.field-0 e g ≡ c.args.value.now = sym (ap tree_of c.in-Binary.is) ∙ c.kind.ensures in
+    let right : IfSome c.blocker_of-in-None.result (IsBlocked y s g) = subst (λ (v : Tree). IfSome c.blocker_of-in-None.result (IsBlocked y s v)) (ap (λ v. v.right) c.deref-in-None.ensures) c.blocker_of-in-None.ensures in
+    subst (λ (v : Tree). IfSome c.blocker_of-in-None.result (IsBlocked y s v)) whole
+    (if_some c.blocker_of-in-None.result (λ r h. right_blocked y s c.in-Binary.field-0 e g r h) right)
+
+pub returns-in_ok-index-in-Plain : goal.returns-in_ok-index-in-Plain
+returns-in_ok-index-in-Plain t c =
+    let y = table_of c.args.symbols.now in
+    if_some c.blocker_at.result (λ r h. operand_blocked y c.args.context c.args.value.now c.in_ok-index-in-Plain.index r c.in_ok-index-in-Plain.ensures h) c.blocker_at.ensures

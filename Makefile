@@ -1,15 +1,15 @@
-# bin65: make try gives a first look, unproved; make example proves and builds the program, and assembles and links a first
-# source and three programs with it; make test is the merge gate.
+# bin65: `make try` gives a first look, unproved; `make example` proves and builds the program, and assembles and links a first
+# source and three programs with it; `make test` is the merge gate.
 PREFIX ?= /usr/local
 PROGRAM := crates/bin65/out/bin65
 
 .PHONY: try example test program wrong-bodies install uninstall release bench clean
 
-# The program is built only once every function below it is proved; nothing is done where no source changed.
+# Builds the program after every function below it is proved; does nothing if no source changed.
 program:
 	@python3 gate/prove.py
 
-# A first link within two minutes, of the program as the toolchain runs it unproved: of a source of example/, or of yours.
+# A first link within two minutes, with the unproved program: of a source of example/, or of yours.
 #     make try
 #     make try SOURCE=my.s SCRIPT=my.cfg [IMAGE=my.bin]
 try:
@@ -20,20 +20,20 @@ example: program
 	@sh example/programs.sh $(abspath $(PROGRAM))
 	@sh example/library.sh $(abspath $(PROGRAM))
 	@sh example/sizes.sh $(abspath $(PROGRAM))
-	@echo 'The program is $(PROGRAM); make install puts it on the path, and docs/TUTORIAL.md goes on.'
+	@echo 'The program is $(PROGRAM); make install puts it on the path, and docs/TUTORIAL.md continues from here.'
 
 test:
 	@python3 tests/all.py
 
-# The wrong bodies that the gate leaves out or tries by turns: all, those of a crate (CRATE=asm65), or one (CRATE=asm65/NAME). Where the kit
-# keeps what came of an edit, those that an earlier run on this machine tried aren't tried again.
+# Tries the mutants of wrong-bodies/: all, those of a crate (CRATE=asm65), or one (CRATE=asm65/NAME). If the kit keeps results of mutants,
+# those that an earlier run on this machine tried aren't tried again.
 wrong-bodies:
 	@python3 gate/wrong_bodies.py $(CRATE)
 
 bench: program
 	@python3 bench/run.py $(abspath $(PROGRAM))
 
-# The program, work65, the man pages, the pages with their examples, and what scripts there are for users: gate/install.sh has where.
+# Installs the program, work65, the man pages, the pages with their examples, and the scripts for users; gate/install.sh has the folders.
 install: program
 	@stage=$$(mktemp -d) && trap 'rm -rf "$$stage"' EXIT && python3 gate/release.py stage $(abspath $(PROGRAM)) "$$stage" && \
 	    sh gate/install.sh install "$$stage" '$(DESTDIR)' '$(PREFIX)'
@@ -41,7 +41,7 @@ install: program
 uninstall:
 	@sh gate/install.sh uninstall '$(DESTDIR)' '$(PREFIX)'
 
-# An archive that is installed without the toolchain: docs/RELEASE.md says what is in it and what one trusts with it.
+# Packs an archive that can be installed without the toolchain; docs/RELEASE.md describes it.
 release: program
 	@python3 gate/release.py pack $(abspath $(PROGRAM)) release
 

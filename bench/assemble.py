@@ -1,5 +1,5 @@
-"""Times of assembling and linking: lines of `nop`, of data with expressions and of instructions in procs, plain data, and lines that use
-constants over an import or a name of the global scope."""
+"""Measures assembling and linking: lines of `nop`, of data with expressions and of instructions in procs, plain data, and lines that use
+constants whose expressions contain an import, or a name of the global scope."""
 import os
 import random
 import shutil
@@ -76,11 +76,11 @@ def over_import(count):
 
 
 def nested(count):
-    """Scopes one inside the other, each with a use of a name of the global one."""
+    """Returns nested scopes, each with a use of a global name."""
     return ["g = $1234", *(line for k in range(count) for line in (f".scope s{k}", "    lda g")), *[".endscope"] * count]
 
 
-# By their names: what it is, its lines or bytes, the lines of so many, and the seconds that it takes on README's machine with cc65.
+# The cases by name: description, number of lines or bytes, the function that makes them, and seconds with cc65 on README's machine.
 CASES = {
     "1": ("lines of nop", 100_000, lambda count: ["    nop"] * count, 6),
     "2": ("lines of nop", 200_000, lambda count: ["    nop"] * count, 8),
@@ -153,7 +153,7 @@ def timed(program, folder, name, what, lines, units):
 
 
 def parts(program, folder, divisor):
-    """What is timed, as (what, seconds that it takes on README's machine with cc65, how)."""
+    """Yields the measurements as (description, seconds with cc65 on README's machine, function)."""
     for name, (what, units, lines, seconds) in CASES.items():
         units = max(100, units // divisor)
         whole = f"{units:,} {what}"

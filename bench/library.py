@@ -1,5 +1,5 @@
 #!/usr/bin/env python3
-"""Counts how much of cc65's own library bin65 assembles: as it stands, and after `work65 port`.
+"""Counts how much of cc65's own library bin65 assembles: unchanged, and after `work65 port`.
 
 A source of SRC/libsrc counts if its image is the one that cc65's tools make. Each source is assembled for the target of its
 folder (`ca65 -t`, `work65 port --target`; bin65 has no such option) and linked alone, by a script whose SYMBOLS give each of
@@ -76,7 +76,7 @@ def image(linker, module, folder):
 
 
 def compared(src, program, ported, reported, path):
-    """What becomes of one source: (as it stands, after port). `reported` are the files in which port left something."""
+    """Returns the results of one source: (unchanged, after port). `reported` are the files of which port reported a construct."""
     rel = os.path.relpath(path, f"{src}/libsrc")
     top = rel.split("/", maxsplit=1)[0]
     target = target_of(top)
@@ -110,7 +110,7 @@ def main():
             reported |= set(re.findall(r"^(/[^:\n]+):\d+: ", port.stdout.decode("latin-1"), re.M))
         with ThreadPoolExecutor(2) as pool:
             found = list(pool.map(lambda it: compared(src, program, ported, reported, it), files))
-    for name, kinds in zip(("as it stands", "after port"), zip(*found)):
+    for name, kinds in zip(("unchanged", "after port"), zip(*found)):
         print(f"{len(files)} sources, {name}:")
         for kind, count in collections.Counter(kinds).most_common():
             print(f"  {count:5} {kind}")

@@ -55,7 +55,7 @@ def timed(program, folder, name, what, made, size, source, runs, times):
 
 
 def parts(program, folder, divisor):
-    """What is timed, as (what, seconds that it takes on README's machine with cc65, how)."""
+    """Yields the measurements as (description, seconds with cc65 on README's machine, function)."""
     records, runs = max(1, 4096 // divisor), max(1, 1000 // divisor)
     line = ".byte " + ",".join(str(b) for b in PIECE[:256]) + "\n"
     size = records * len(PIECE)

@@ -18,7 +18,7 @@ import reasons
 # A check takes up to 3 GB, and a proof that starts meanwhile as much.
 MEMORY = 6_000_000_000
 COUNTS = re.compile(r"(\d+) passed, (\d+) failed")
-# What `rt ci` says of an edit, a test or a run that failed.
+# The lines of `rt ci` about an edit, a test or a run that failed.
 FAILED = re.compile(r"rt: (?!FAILED).*(FAILED|NOT REFUSED|NOT TRIED|BAD EDIT|was stopped by|ended with status|had not ended|differ first at)")
 
 
@@ -149,7 +149,7 @@ def main():
     # (what earlier checks built is put back when `rt ci` ends, so mutants that use it wait until then)
     waits = any(os.path.isdir(f"{it.folder}/out/rlib") for it in crates)
     beside, reader, starts, passed, failed = Beside(rt, crates), Reader(), {}, 0, 1
-    kit.say("mutants beside the proofs: {} of every gate, {} of changed functions, {} in turn".format(*beside.kinds))
+    kit.say("mutants during the proofs: {} of every gate, {} of changed functions, {} in rotation".format(*beside.kinds))
     threading.Thread(target=tell, args=(begun, ended), daemon=True).start()
     environment = {"RT_JOBS": str(kit.lanes(rt)), **os.environ}
     with subprocess.Popen(["rt", "ci"], cwd=kit.ROOT, env=environment, stdout=subprocess.PIPE, stderr=subprocess.STDOUT, errors="replace") as ran:

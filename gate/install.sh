@@ -48,7 +48,7 @@ mkdir -p "$to/share/bin65"
 echo share/bin65/FILES > "$files"
 put 755 "$from/bin65" bin/bin65
 for it in VERSION COMMIT example/labels.sh; do put 644 "$from/$it" "share/bin65/${it##*/}"; done
-# The pages of docs/ stand beside README.md where they are installed, so links from the one to the other lose a folder.
+# The pages of docs/ are installed beside README.md, so links between them lose a folder.
 for it in README.md CHANGELOG.md CONTRIBUTING.md; do page 's|](docs/|](|g' "$from/$it" "share/doc/bin65/$it"; done
 for it in "$from"/docs/*.md; do page 's|](\.\./|](|g' "$it" "share/doc/bin65/${it##*/}"; done
 for it in png svg; do tree docs "*.$it" share/doc/bin65; done
@@ -60,7 +60,7 @@ tree completions '*' share
 tree workbench/work65 '*.py' share/bin65/work65
 cat > "$files.work65" <<'END'
 #!/bin/sh
-# Runs work65, which is installed beside this, with the bin65 that is installed with it.
+# Runs the work65 and the bin65 that are installed with this script.
 here=$(cd "$(dirname "$(readlink -f "$0")")" && pwd)
 # Until Python has loaded work65, Ctrl-C waits, if this env can hold it back.
 held='env --block-signal=INT'

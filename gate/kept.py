@@ -1,16 +1,16 @@
-"""Looks at the code for what no contract can say, since a contract sees contents alone: that the linker makes no object of a module and that none of its
-types holds a record, and that the assembler has no list of statements. What their memory shows is measured (tests/measured.py)."""
+"""Checks in the code what no contract can state, since contracts describe contents only: the linker builds no object of a module, none of its types
+keeps a record, and the assembler has no list of statements. tests/measured.py measures their memory."""
 import re
 
-# A linker that is fed record by record makes no object of a module, and keeps none of its records or items.
+# A linker that receives records one by one builds no object of a module, and keeps none of its records or items.
 LINKER = ("link65",)
-# An assembler in one pass keeps of a statement what waits for names, and no list of statements.
+# A one-pass assembler keeps the deferred parts of a statement, but no list of statements.
 ASSEMBLER = ("asm65", "symbols65", "emit65")
 TOKEN = re.compile(r"'\w+\b(?!')|\w+|::|->|=>|\S")
 GHOST_USE = re.compile(r"\bghost use\b[^;]*;")
 TYPES = ("struct", "enum", "union", "type")
 CLOSED_BY = {"{": "}", "(": ")", "[": "]"}
-# What a name may stand within and still be one value: a reference, an option or a result of it, a path, a call, a block.
+# Types that contain a single value of a named type: a reference, an option or a result of it, a path, a call, a block.
 ONE = {"Option", "Result"}
 
 

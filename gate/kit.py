@@ -1,4 +1,4 @@
-"""The toolchain's command `rt` as a module, so that what is tried here is tried by the gate's own functions."""
+"""The toolchain's command `rt` as a module, so that mutants are tried with the functions of `rt ci` itself."""
 import importlib.machinery
 import importlib.util
 import os

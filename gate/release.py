@@ -1,10 +1,10 @@
 #!/usr/bin/env python3
-"""Packs a release: the program, its version, the commit and the kit that it is built of, what its proofs said, the pages, the
+"""Packs a release: the program, its version, the commit and the kit from which it was built, the logs of its proofs, the pages, the
 examples, man pages, the workbench, completions of command lines, and checksums of all. The same program and logs give the same archive.
 
 usage: release.py pack PROGRAM FOLDER [CRATES]    puts bin65-VERSION.tar.gz into the folder; the logs of proofs are those in CRATES,
                                                   and each crate of the program has to have one
-       release.py stage PROGRAM FOLDER            puts what is installed into the folder, without logs
+       release.py stage PROGRAM FOLDER            puts the installed files into the folder, without logs
        release.py version                         prints the version: it is CHANGELOG's first heading"""
 import gzip
 import hashlib
@@ -96,7 +96,7 @@ def crates_of_the_program():
 
 
 def logs(crates):
-    """What the proofs of the program's crates said, by their names in the archive."""
+    """Returns the logs of the proofs of the program's crates, by their names in the archive."""
     found = {it: f"{crates}/{it}/out/prove.log" for it in crates_of_the_program()}
     missing = [it for it, file in found.items() if not os.path.isfile(file) or not os.path.getsize(file)]
     if missing:

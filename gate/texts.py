@@ -9,11 +9,11 @@ import os
 import re
 import sys
 
-import cited
+import check_docs
 import kept
 import kit
 import mutants
-import others
+import provenance
 import wording
 
 FOLDERS = ("must-fail", "wrong-bodies")
@@ -40,7 +40,7 @@ def main():
     rt = kit.load()
     rt.rtlib.guarded()
     crates = kit.crates(rt)
-    faults = [*cited.looked_at(kit.ROOT), *others.looked_at(kit.ROOT), *wording.looked_at(kit.ROOT)]
+    faults = [*check_docs.looked_at(kit.ROOT), *provenance.looked_at(kit.ROOT), *wording.looked_at(kit.ROOT)]
     for crate in crates:
         faults.append((crate.name, why_stopped(rt, crate, crates) or kept.why_kept(crate.name, rt.rtlib.code_of(crate.folder))))
         for folder in FOLDERS:

@@ -59,7 +59,7 @@ def is_sound(rt, crate):
     """Returns whether the unchanged crate is proved over its kept proofs; if not, a rejection over them would mean nothing."""
     found = not over(rt, kept_by(crate), lambda kept: rt.checked(crate, {}, ["--jobs", "1"], kept).returncode)
     if not found:
-        kit.say(f"{crate.name}: what was kept doesn't prove the crate as it is, so its wrong bodies are tried from nothing")
+        kit.say(f"{crate.name}: the kept results don't prove the crate in its present state, so its mutants are tried without them")
     return found
 
 
@@ -120,7 +120,7 @@ def tried_together(rt, crate, edits, kept, jobs):
     """Tries edits of a crate, many in one check, and returns the rejected ones, each with an error."""
     begun, tries = time.time(), [batches.Try(rt, crate, it) for it in edits]
     found = batches.refused(rt, crate, tries, lambda call: over(rt, kept, call), jobs)
-    kit.say(f"{crate.name}: {len(found)} of {len(tries)} wrong bodies were refused in checks of many ({kit.minutes(time.time() - begun)})")
+    kit.say(f"{crate.name}: {len(found)} of {len(tries)} mutants were rejected in shared checks ({kit.minutes(time.time() - begun)})")
     return {it.edit: f"{crate.name}/{os.path.basename(it.edit)}: refused, as it must be: {said[:160]}" for it, said in found.items()}
 
 
@@ -145,7 +145,7 @@ def means_refused(rt, kind):
 def try_all(rt, crates, tries, earlier):
     """Tries these edits, and returns for each whether it is rejected."""
     lanes, begun = int(os.environ.get("WRONG_BODIES_JOBS", 0)) or kit.lanes(rt), time.time()
-    kit.say(f"{len(tries)} wrong bodies of {len(crates)} crates, on {lanes} processors")
+    kit.say(f"{len(tries)} mutants of {len(crates)} crates, on {lanes} processors")
     before = listings(rt, crates)
 
     at_once = max(1, min(len(crates), lanes // 2))
@@ -176,16 +176,16 @@ def main(words):
     for word in words:
         crate, _, edit = word.partition("/")
         if not any(it.name == crate and edits_of(it, [word], folders) for it in crates):
-            sys.exit(f"no wrong body is called {word}")
+            sys.exit(f"no mutant is called {word}")
     if not crates:
-        sys.exit("there is no wrong body")
+        sys.exit("there is no mutant")
     earlier = Earlier(rt, crates, anew)
     every = [(crate, edit) for crate in crates for edit in edits_of(crate, words, folders)]
     told = {edit: found for crate, edit in every for found in [earlier.told(crate, edit)] if found}
     tries = [it for it in every if it[1] not in told]
     crates = [it for it in crates if any(it is crate for crate, _ in tries)]
     if told:
-        kit.say(f"{len(told)} of {len(every)} wrong bodies were tried by earlier runs on this machine, and nothing that they stand on has changed")
+        kit.say(f"{len(told)} of {len(every)} mutants were tried by earlier runs on this machine, and their code and proofs have not changed")
     if crates and prove.main([it.name for it in crates]):
         return 1
     found = try_all(rt, crates, tries, earlier) | {edit: means_refused(rt, kind) for edit, (kind, _) in told.items()}

@@ -15,7 +15,7 @@ from concurrent.futures import ThreadPoolExecutor
 ROOT = os.path.dirname(os.path.dirname(os.path.realpath(__file__)))
 PROGRAM = f"{ROOT}/crates/bin65/out/bin65"
 COUNTS = re.compile(r"(\d+) passed, (\d+) failed")
-# What a line of a failed part says of its failure.
+# The lines of a failed part that describe its failure.
 FAILURE = re.compile(r"FAILED|failed:|NOT |not proved|Error|error|: expected", re.I)
 
 # Before the proofs: texts alone, in seconds.
@@ -23,7 +23,7 @@ TEXTS = [
     ("texts and layout", ["python3", "gate/texts.py"]),
     ("what the code keeps", ["python3", "tests/kept.py"]),
     ("the tools of the gate", ["python3", "tests/gate.py"]),
-    ("texts of others", ["python3", "tests/others.py"]),
+    ("texts of others", ["python3", "tests/provenance.py"]),
     ("the renaming tool", ["python3", "tests/rename.py"]),
     ("links of pages", ["python3", "tests/links.py"]),
     ("types of work65", ["python3", "tests/workbench_types.py"]),
@@ -32,9 +32,9 @@ TEXTS = [
 ]
 # With the program that `rt ci` builds, the longest first.
 SCRIPTS = [
-    "hostile", "large", "workbench_port", "workbench_random", "workbench_trees", "workbench_idioms", "failing_disk", "memory", "trial",
+    "hostile", "large", "workbench_port", "workbench_random", "workbench_trees", "workbench_idioms", "io_faults", "alloc_faults", "fuzz",
     "measured", "one_program", "cases", "disk", "sums", "version1",
-    "migrating", "differences", "stock_scripts", "tutorial", "language", "messages", "editors", "trying", "makefile", "machines", "second", "labels",
+    "migrating", "differences", "cc65_scripts", "tutorial", "language", "messages", "editors", "make_try", "makefile", "machines", "second", "labels",
     "workbench_list", "workbench_labels", "workbench_debug", "workbench_deps", "workbench_size", "workbench_bad", "workbench_check",
     "workbench_faults", "workbench_lexer", "packaging", "release", "bench",
 ]
@@ -120,7 +120,7 @@ def main():
         os.environ.pop(it, None)
     begun, lanes = time.monotonic(), int(os.environ.get("ALL_LANES", 0)) or len(os.sched_getaffinity(0))
     parts = side_by_side([Part(*it) for it in TEXTS], lanes)
-    print("rt ci, and mutants beside it:", flush=True)
+    print("rt ci, with mutants in parallel:", flush=True)
     proofs = Part("rt ci and mutants", ["python3", "gate/ci.py"]).run(is_shown=True)
     proofs.lines = [it for it in proofs.lines if it.startswith("FAILED")] or proofs.lines[-20:]
     proofs.told()

@@ -14,7 +14,7 @@ import time
 import pages
 import results
 
-FIRST = re.compile(r"\d\d:\d\d:\d\d (\d+) parts, (.*): (a minute|some \d+ minutes) where nothing else runs\.\n")
+FIRST = re.compile(r"\d\d:\d\d:\d\d (\d+) parts, (.*): (a minute|some \d+ minutes) on an idle machine\.\n")
 PART = re.compile(r"\d\d:\d\d:\d\d part (\d+) of (\d+): (.*); (a minute|some \d+ minutes) left\n")
 LAST = re.compile(r"\d\d:\d\d:\d\d That took a minute\.\n")
 
@@ -46,10 +46,10 @@ def main():
     times = [line for line in text if re.search(r"bin65 +\d+\.\d{4} s", line)]
     checks["each has its times"] = len(times) == 2 + 2 * 12
     if shutil.which("ca65") and shutil.which("ld65"):
-        checks["cc65 beside it"] = "cc65's tools beside it" in text[0] and all("bin65 / cc65" in it for it in times)
+        checks["cc65 beside it"] = "with cc65's tools" in text[0] and all("bin65 / cc65" in it for it in times)
         checks["the images"] = sum("images the same" in it for it in text) == 14 and not any("DIFFER" in it for it in text)
     else:
-        checks["bin65 alone"] = "bin65 alone" in text[0] and not any("cc65 /" in it for it in times)
+        checks["bin65 alone"] = "without cc65's tools" in text[0] and not any("cc65 /" in it for it in times)
     sys.exit(results.report(checks))
 
 

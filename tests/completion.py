@@ -1,8 +1,8 @@
 #!/usr/bin/env python3
 """Completes lines of work65 and of bin65 in bash, by the scripts that `work65 completion` writes: subcommands, options, their
 choices, scripts, folders and files. The options are those of each `--help`, and bin65's lines are those of docs/LANGUAGE.md and of
-the crate that reads them. zsh and fish read their scripts where they are installed, without completing anything; where they aren't,
-only their quotes are looked at.
+the crate that reads them. If zsh and fish are installed, they read their scripts without completing anything; otherwise only the
+scripts' quotes are checked.
 
 usage: completion.py. The last line is 'N passed, M failed'."""
 import argparse

@@ -1,6 +1,6 @@
 #!/usr/bin/env python3
 """Builds random programs of two modules with bin65 and with cc65's tools: if both link, they must write the same files. docs/MIGRATING.md lists
-what differs in other programs.
+the constructs for which the files differ.
 
 usage: differences.py BIN65 [PROGRAMS [SEED]]    PROGRAMS random programs (150). The last line is 'N passed, M failed'."""
 import collections
@@ -32,9 +32,9 @@ SEGMENTS {{
 }}
 SYMBOLS {{ top: type = export, value = $FFF0; soft: type = weak, value = {soft}; }}
 """
-# What is linked: both modules in any order, or the second one from a library, if the first one needs it.
+# The inputs of a link: both modules in any order, or the second one from a library, if the first one needs it.
 LINKS = (("m0.o", "m1.o"), ("m1.o", "m0.o"), ("m0.o", "l.lib"))
-# What bin65 alone refuses of these programs, and MIGRATING says so.
+# Errors of these programs that only bin65 reports, as MIGRATING states.
 LISTED = ()
 Built = Union[str, Dict[str, bytes]]
 
@@ -69,7 +69,7 @@ def script(chance: random.Random) -> str:
 
 
 def program(seed: str) -> Tuple[Dict[str, str], Sequence[str]]:
-    """Returns the files of a program by name, and what is linked."""
+    """Returns the files of a program by name, and the inputs of its link."""
     chance = random.Random(seed)
     shared = Shared()
     for kind, begin, most in ((shared.code, "f", 4), (shared.short, "z", 3), (shared.room, "b", 3), (shared.numbers, "k", 3)):

@@ -192,7 +192,7 @@ def unread(tests):
     tests.check("a source that can't be read", ran, refused(b"folder: Error: file error"))
 
 
-# What is at a name, its message if the file is read, and if it is written; docs/MESSAGES.md has the table.
+# The kind of a file, the message if it is read, and the message if it is written; docs/MESSAGES.md has the table.
 FAULTS = (
     ("nothing", "none.s", b"file not found", None),
     ("a name without bytes", "", b"file not found", None),

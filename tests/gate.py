@@ -3,8 +3,8 @@
 
 Mutants in one check (gate/batches.py) are tried on a crate that is made up, with what a prover prints written down here: which ones can be tried
 together, and that one counts as refused only if something is found in a function that it changes. Then: which mutants a gate tries
-(gate/mutants.py), what a failed gate says (gate/reasons.py, gate/ci.py, tests/all.py), what runs beside the proofs, and which words are refused
-(gate/wording.py).
+(gate/mutants.py), what a failed gate says (gate/reasons.py, gate/ci.py, tests/all.py), what runs beside the proofs, which words are refused
+(gate/wording.py), and which names in pages (gate/check_docs.py).
 
 usage: gate.py. The last line is 'N passed, M failed'."""
 import contextlib
@@ -17,6 +17,7 @@ import tempfile
 sys.path.insert(0, f"{os.path.dirname(os.path.dirname(os.path.abspath(__file__)))}/gate")
 import all as gate  # noqa: E402
 import batches  # noqa: E402
+import check_docs  # noqa: E402
 import ci  # noqa: E402
 import kit  # noqa: E402
 import mutants  # noqa: E402
@@ -70,7 +71,7 @@ PLACES = {NEXT: "src/counts.rt:6:1: it is not proved", TWICE: "note: src/counts.
 
 
 def said(crate, **states):
-    """What a check prints: of each function its state, with a finding where it isn't proved."""
+    """Returns the output of a check: the state of each function, with a finding if it isn't proved."""
     lines = []
     for name, state in zip((NEXT, TWICE, FMT), states.values()):
         lines += [PLACES[name]] if state == "not proved" else []
@@ -169,7 +170,7 @@ def turns():
     }
 
 
-# What `rt ci` prints of a crate that isn't proved, and of other failures.
+# The output of `rt ci` for a crate that isn't proved, and for other failures.
 NOT_PROVED = """== link65
 so far: 3 of 145 functions checked
 src/linker.rt:12:5: warning: a name that nothing uses
@@ -273,8 +274,14 @@ def words():
     }
 
 
+def names():
+    """Checks which names in a page are refused: those of the code that occur nowhere in it."""
+    found = list(check_docs.why_named({"read_index", "Store", "files"}, "`read_index`, `read_list`, `Store::files`, `Store::last_call`, `StoreFrame`, `two words_here`"))
+    return {"names in a page": found == ["no such name: last_call", "no such name: StoreFrame", "no such name: read_list"]}
+
+
 def main():
-    checks = {**together(kit.load()), **turns(), **failures(), **listed(), **beside(), **words()}
+    checks = {**together(kit.load()), **turns(), **failures(), **listed(), **beside(), **words(), **names()}
     return results.report(checks)
 
 

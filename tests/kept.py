@@ -11,7 +11,7 @@ import kept  # noqa: E402
 import kit  # noqa: E402
 import results  # noqa: E402
 
-# What is added to the linker's code, each of which keeps records or items, or makes a module.
+# Additions to the linker's code, each of which keeps records or items, or builds a module.
 LINKERS = {
     "a name for a list, and a field of it": "type Kept = Vec<Record>; struct Holder { kept: Kept }",
     "a list of any items, used at items": "struct Held<T> { items: Vec<T> } fn fill(held: &mut Held<Item>) {}",
@@ -36,7 +36,7 @@ LINKERS = {
     "a function's result": "fn all(scan: &mut Scan) -> Result<base65::Sequence<Item>, LinkFault> { todo() }",
 }
 
-# What is added to the assembler's code, each of which keeps statements.
+# Additions to the assembler's code, each of which keeps statements.
 ASSEMBLERS = {
     "a field": "struct Held { statement: Statement }",
     "a list in a field": "struct Held { statements: Vec<Statement> }",

@@ -14,7 +14,7 @@ import pages
 
 sys.path.insert(0, f"{pages.ROOT}/gate")
 sys.dont_write_bytecode = True
-import cited
+import check_docs
 
 EXAMPLE = re.compile(r"^```asm\n(.*?)^```\n(.*)", re.M | re.S)
 FILE = re.compile(r"^\*\*([\w.]+)\*\*\n```\n(.*?)^```$", re.M | re.S)
@@ -78,7 +78,7 @@ def why_wrong(program, source, files, said):
 
 def directives(page):
     """Returns the directives in the page's tables of statements and of macros."""
-    tables = page.split("| Statement | What it says |")[1].split("\n\n")[0] + page.split("| Directive | What it does |")[1].split("\n\n")[0]
+    tables = page.split("| Statement | Meaning |")[1].split("\n\n")[0] + page.split("| Directive | What it does |")[1].split("\n\n")[0]
     rows = re.findall(r"^\| (`[^|]*?) \|", tables, re.M)
     return {it for row in rows for it in re.findall(r"(?<![\w.])\.[a-z]\w+", row)} | {".paramcount"}
 
@@ -109,10 +109,10 @@ def main():
     faults = {f"example {number}: {source}": why_wrong(program, source, *rest) for number, (source, *rest) in enumerate(found)}
     faults["the headings of directives"] = why_headings(page)
     for name in PAGES:
-        long = [it for it in cited.paragraphs(cited.without_code(pages.read(f"{name}.md"))) if len(it) > LONGEST]
+        long = [it for it in check_docs.paragraphs(check_docs.without_code(pages.read(f"{name}.md"))) if len(it) > LONGEST]
         faults[name] = "; ".join(f"a paragraph of {len(it)} characters: {it[:60]}" for it in long) or None
     for name in CITING:
-        faults[f"what {name} cites"] = "; ".join(cited.why_cited(pages.ROOT, cited.without_code(pages.read(f"{name}.md")))) or None
+        faults[f"what {name} cites"] = "; ".join(check_docs.why_cited(pages.ROOT, check_docs.without_code(pages.read(f"{name}.md")))) or None
     for name, why in faults.items():
         if why:
             print(f"{name}: {why}")

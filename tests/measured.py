@@ -12,7 +12,7 @@ import subprocess
 import sys
 import tempfile
 
-import failing
+import fault_injection
 import results
 
 CALLS = os.path.join(os.path.dirname(os.path.abspath(__file__)), "..", "crates", "tests_calls65", "out", "tests_calls65")
@@ -81,7 +81,7 @@ def main():
     program, checks = os.path.abspath(sys.argv[1]), {}
     # (not in the folder of the runs, from which no code may come on some machines)
     with tempfile.TemporaryDirectory() as folder, tempfile.TemporaryDirectory() as room:
-        library = failing.build(room)
+        library = fault_injection.build(room)
         for measure in (calls, links, sources):
             measure(library, program, folder, checks)
     return results.report(checks)

@@ -12,7 +12,7 @@ import sys
 import tempfile
 
 import pages
-import stock
+import cc65_files
 
 SCRIPT = """MEMORY {
     Z: file = "", start = $0002, size = $FE;
@@ -128,10 +128,10 @@ class Tries:
         """Checks that the lists of cc65's files are those of the files that give the same bytes in both."""
         program, named = self.ours[0][0], set(re.findall(r"^(?:`[\w-]+\.(?:inc|mac)`(?:, )?)+$", text, re.M))
         listed = sorted(re.findall(r"`([^`]+)`", " ".join(named)))
-        taken = sorted(stock.taken(program))
+        taken = sorted(cc65_files.taken(program))
         self.check("cc65's include and macro files", taken == listed, taken)
-        said = re.search(r"^Of its 63 scripts (.*?) taken as", text, re.M)[1]
-        scripts = list(stock.scripts(program))
+        said = re.search(r"^Of cc65's 63 scripts (.*?) accepted unchanged", text, re.M)[1]
+        scripts = list(cc65_files.scripts(program))
         self.check("cc65's scripts", scripts == re.findall(r"`([^`]+)`", said) and (bool(scripts) or said == "none is"), scripts)
 
 
@@ -151,7 +151,7 @@ def main():
         tries.script(*it)
     tries.search(re.search(r"```sh\n(grep.*?)```", page, re.S)[1], pairs + rows)
     tries.opcodes(page)
-    if tries.cc65 and stock.is_there():
+    if tries.cc65 and cc65_files.is_there():
         tries.files(page)
     tries.failed += page.count("```cc65\n") != len(pairs) + len(others) or not rows or not sums
     print(f"{tries.passed} passed, {tries.failed} failed")

@@ -16,11 +16,11 @@ import tempfile
 import threading
 
 import cases
-from whole.generated import random_program
-from whole.modules import Module
-from whole.program import Program, selected
-from whole.scripts import Script
-from whole.sources import NotRead, Refused
+from reference.generated import random_program
+from reference.modules import Module
+from reference.program import Program, selected
+from reference.scripts import Script
+from reference.sources import NotRead, Refused
 
 RANDOM_PROGRAMS = 200
 # The file of cases that are made for this script.

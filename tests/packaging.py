@@ -1,6 +1,6 @@
 #!/usr/bin/env python3
 """Installs work65 alone, as `pipx install ./workbench` does: by pip, without a network and without any other package, in a new
-environment, from what a release has of it. The tree is away when the installed command runs. Then what is in the wheel, and
+environment, from the files in a release. The tree is removed before the installed command runs. Also tests the content of the wheel, and
 `python3 -m work65`.
 
 usage: packaging.py BIN65. The last line is 'N passed, M failed'."""

@@ -1,6 +1,6 @@
 """Random names, expressions and operands that ca65 and bin65 accept with the same meaning: for random_modules.py.
 
-Left out is what docs/MIGRATING.md lists under "What is taken and gives other bytes". Values of constants are computed here, so
+Left out is what docs/MIGRATING.md lists under "What is accepted but gives other bytes". Values of constants are computed here, so
 that they are in range where they are used."""
 import random
 from dataclasses import dataclass, field
@@ -86,7 +86,7 @@ class Expressions:
 
     def constants(self) -> Dict[str, int]:
         """Returns the constants that may be used here. Where ca65 needs the value at the line, it knows names of the innermost scope and
-        names behind `::`."""
+        names after `::`."""
         if self.is_strict and len(self.scopes) > 1:
             return {**{f"::{name}": value for name, value in self.scopes[0].constants.items()}, **self.scopes[-1].constants}
         return {name: value for it in self.scopes for name, value in it.constants.items() if not self.is_in_doubt(name)}

@@ -130,7 +130,7 @@ class Module(Expressions):
         if kind == "proc":
             self.scopes[-1].labels.append(name)
         self.write(f".end{kind}")
-        # What the scope used, the lines of scopes around it have used, too: their names may be in doubt in later scopes.
+        # Names used in this scope count as used in the scopes around it, too: they may be ambiguous in later scopes.
         self.scopes[-1].used += closed.used
         if len(self.scopes) == 1:
             self.closed += [(f"{name}::{it}", value) for it, value in closed.constants.items()]

@@ -1,7 +1,7 @@
 #!/usr/bin/env python3
 """Tries `work65 second`: follows example/second/README.md, changes the image of cc65's linker in each kind of place, gives it
-options, libraries, images and places that can't be brought over, and runs the steps of workflow.yml. Where cc65 isn't installed
-only what is said of that is tried.
+options, libraries, images and constructs that can't be converted, and runs the steps of workflow.yml. If cc65 isn't installed,
+only the message about that is tested.
 
 usage: second.py BIN65. The last line is 'N passed, M failed'."""
 import os
@@ -58,7 +58,7 @@ TWO = """.code
 .segment "TAIL"
  .byte $31, $32
 """
-# A byte of the image, and where it lies: reckoned by hand. HEAD has 4 bytes, LOW those of CODE (3, a gap, 1) in the image, and
+# A byte of the image and its location, computed by hand. HEAD has 4 bytes, LOW those of CODE (3, a gap, 1) in the image, and
 # HIGH those of DATA (3), which is loaded at $1012, and of TAIL, from $1018 on.
 PLACES = (
     (0, "area HEAD, segment HEAD, module one.s, one.s:3"),
@@ -167,7 +167,7 @@ def images(tries):
     said = "the image differs from byte 1 on (cc65 and bin65: 06 and 05): area M, segment CODE, module i.s, i.s:2\n"
     tries.says("another image", tries.second(*words, "--image", "old/game.bin", path=empty), 1, said)
     ran = tries.second(*words, path=empty)
-    good = "work65: cc65's ca65 isn't on the path: --image names an image to compare with\n"
+    good = "work65: cc65's ca65 isn't on the path; give an image to compare with by --image\n"
     tries.check("no cc65 and no image", (ran.returncode, ran.stderr) == (2, good), ran)
 
 
@@ -198,7 +198,7 @@ def exports_without_use(tries):
 
 
 def others(tries):
-    """Included files, names and data given, libraries in their order, and what is refused."""
+    """Included files, `-D` names, data, libraries in their order, and rejected constructs."""
     for folder in ("inc/deep", "gfx", "lib"):
         os.makedirs(f"{tries.top}/{folder}")
     texts = {
@@ -224,7 +224,7 @@ def others(tries):
     tries.check("a place that can't be brought over", ran.returncode == 2 and re.search(r"^bad\.s:3: stz: ", ran.stdout, re.M), ran)
     shutil.copy("/usr/share/cc65/lib/none.lib", f"{tries.top}/none.lib")
     ran = tries.second("-C", "b.cfg", "diff.s", "none.lib")
-    tries.check("a library of cc65's", ran.returncode == 2 and "none.lib: is an object or a library of cc65's" in ran.stderr, ran)
+    tries.check("a library of cc65's", ran.returncode == 2 and "none.lib: an object or a library of cc65's" in ran.stderr, ran)
     ran = tries.second("-C", "b.cfg", "diff.s", "none.s")
     tries.check("no source", ran.returncode == 2 and ran.stderr == "work65: none.s: no such file\n", ran)
     ran = tries.second("-C", "b.cfg")
@@ -247,7 +247,7 @@ def documented(tries):
     note = "e.cfg: DATA has no bytes: bin65's file is filled up to it (MIGRATING: A row with `align`, `start` or `offset` whose segment nobody uses)\n"
     tries.says("a row without bytes", tries.second("-C", "e.cfg", "e.s"), 0, f"the same image: a.out, 16 bytes\n{note}")
     ran = tries.second("-C", "b.cfg", "diff.s")
-    good = "\ndiff.s:4: n: cc65 takes it for not defined in a scope that has used it: " in ran.stdout
+    good = "\ndiff.s:4: n: in a scope that has used it cc65 treats it as undefined: " in ran.stdout
     tries.check("a place that was said", ran.returncode == 1 and good, ran)
     pages.put(f"{tries.top}/k.s", " .export k\nk = -1\n")
     pages.put(f"{tries.top}/l.s", " .import k\n .byte k < 0\n")
@@ -269,7 +269,7 @@ def steps_of_the_workflow():
 
 
 def alone(tries):
-    """What can be tried without cc65."""
+    """Tests that need no cc65."""
     steps = [it[0] for it in steps_of_the_workflow()]
     tries.check("the steps", steps == ["install cc65", "install bin65", "compare"], steps)
 

@@ -10,8 +10,8 @@ import subprocess
 import sys
 import tempfile
 
-from whole.scripts import Script
-from whole.sources import Refused
+from reference.scripts import Script
+from reference.sources import Refused
 
 SCRIPTS = 300
 # The segments that the object has, with their sizes; no module has T.

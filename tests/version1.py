@@ -1,6 +1,6 @@
 #!/usr/bin/env python3
-"""Links objects and a library of version 1, as the first release wrote them, alone and beside objects of today: they must always give the same
-image. tests/version1 has them beside their sources (`bin65 ca65 -o F.o F.s` for each, `bin65 ar65 r runtime.lib wait.o tick.o helper.o`, at
+"""Links objects and a library of version 1, as the first release wrote them, alone and together with new objects: they must always give the same
+image. tests/version1 has them with their sources (`bin65 ca65 -o F.o F.s` for each, `bin65 ar65 r runtime.lib wait.o tick.o helper.o`, at
 commit 76cb2b88), the script, the image, which cc65 also makes of these sources, and the map.
 
 usage: version1.py BIN65    The last line is 'N passed, M failed'.

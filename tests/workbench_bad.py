@@ -1,6 +1,6 @@
 #!/usr/bin/env python3
 """work65's list, labels, debug, deps and size with invalid input: one clear message, no file left, no traceback. Also
-sources whose lines were changed by chance, folders behind links, and how often bin65 is run.
+sources with random changes, folders reached by links, and how often bin65 is run.
 
 usage: workbench_bad.py BIN65 [SOURCES]    SOURCES changed sources (40). The last line is 'N passed, M failed'."""
 import os
@@ -40,7 +40,7 @@ TOKEN = re.compile(r'"[^"\n]*"|\.?[A-Za-z_@][A-Za-z0-9_]*|\$?[0-9A-F]+|[^\sA-Za-
 
 
 class Trial:
-    """A folder of sources, and one for what is there for a while."""
+    """A folder of sources, and one for temporary files."""
 
     def __init__(self, program: str, results: builds.Results, top: str) -> None:
         self.program, self.results = program, results
@@ -70,7 +70,7 @@ class Trial:
         return found
 
     def refused(self, name: str, words: Sequence[str], said: str, status: int = 1, **more: str) -> None:
-        """A line that has to be refused with one message, and leaves all as it was."""
+        """Tests a command line that must fail with one message and change no file."""
         before = self.files()
         ran = self.run(words, **more)
         lines = ran.stderr.strip().splitlines()
@@ -87,9 +87,9 @@ def line_of(command: str, *words: str) -> List[str]:
 
 
 def wrong_words(trial: Trial) -> None:
-    """What may be wrong with the files and the line."""
+    """Tests errors in the files and the command line."""
     for command in COMMANDS:
-        trial.refused("no bin65", line_of(command, "a.s"), "bin65 isn't there: /nowhere/bin65", BIN65="/nowhere/bin65")
+        trial.refused("no bin65", line_of(command, "a.s"), "bin65 not found: /nowhere/bin65", BIN65="/nowhere/bin65")
         trial.refused("no source", line_of(command, "none.s"), "none.s: No such file or directory")
         trial.refused("a folder", line_of(command, "sub"), "sub: Is a directory")
         trial.refused("no option of it", line_of(command, "--bogus", "a.s"), "--bogus", 2)
@@ -105,11 +105,11 @@ def wrong_words(trial: Trial) -> None:
             trial.refused("a folder that isn't there", line_of(command, "-o", "no/out", "a.s"), "no/out: No such file or directory")
             trial.refused("a folder in the file's place", line_of(command, "-o", "sub", "a.s"), "sub: Is a directory")
     for command in ("list", "labels", "debug", "size"):
-        trial.refused("a source that takes itself in", line_of(command, "self.s"), "self.s: a copy that says where its lines are isn't the same program")
+        trial.refused("a source that takes itself in", line_of(command, "self.s"), "self.s: the instrumented copy isn't the same program")
     trial.refused("no such form", line_of("labels", "--format", "vise", "a.s"), "vise", 2)
     trial.refused("no library", line_of("list", "--library", "x.lib", "a.s"), "NAME=FOLDER", 2)
     trial.refused("no source of a list", line_of("list", "--library", "x.lib=a.s,none.s", "a.s"), "none.s: no such source")
-    trial.refused("no folder of a library", line_of("list", "--library", "x.lib=none", "a.s"), "none is no folder of sources")
+    trial.refused("no folder of a library", line_of("list", "--library", "x.lib=none", "a.s"), "none: not a folder of sources")
     trial.refused("another program", line_of("list", "a.s"), "ended with status 1", BIN65="/bin/false")
 
 
@@ -202,7 +202,7 @@ def pipes(trial: Trial) -> None:
 
 
 def early(trial: Trial) -> None:
-    """Ctrl-C while Python starts and loads work65: nothing is said, and nothing is left."""
+    """Tests Ctrl-C while Python starts and loads work65: no output, and no files are left."""
     before = trial.files()
     for command in (["check", "."], ["list", "-C", "a.cfg", "a.s"]):
         for wait in (0, 0.005, 0.01, 0.02, 0.03, 0.05, 0.08, 0.12):
@@ -286,7 +286,7 @@ def mutated(text: str, chance: random.Random) -> str:
 
 
 def changed_sources(trial: Trial, times: int) -> None:
-    """Sources that were changed by chance: bin65's own answer, or what was asked for, and no traceback."""
+    """Tests randomly changed sources: bin65's own message, or the requested output, and no traceback."""
     chance = random.Random(65)
     it = builds.programs(f"{trial.folder}/programs")[0]
     trial.folder = f"{trial.folder}/programs/{it.folder}"

@@ -1,4 +1,4 @@
-"""What the tests of work65's list, labels, debug, deps and size share: programs, and what work65 and cc65's tools make of them.
+"""Shared by the tests of work65's list, labels, debug, deps and size: programs, and the results of work65 and of cc65's tools for them.
 
 The programs are those of example/, and one of four modules that has macros, repeats, files, scopes and conditions in one
 another, where bin65 and cc65 mean the same."""
@@ -235,7 +235,7 @@ def has_cc65() -> bool:
 
 @dataclass
 class Made:
-    """What cc65's tools made of a program: listings by source, the map, the label file and the debug file."""
+    """The results of cc65's tools for a program: listings by source, the map, the label file and the debug file."""
 
     listings: Dict[str, str]
     map: str

@@ -1,7 +1,7 @@
 #!/usr/bin/env python3
-"""Tries `work65 check`: each habit of its table is found at its line, each text of docs/MIGRATING.md that has to change is
-found and none that stands in its place, the page has its parts from the table, and over cc65's own files and other sources of the
-machine it finds the line that bin65 names, and nothing in files that bin65 takes.
+"""Tests `work65 check`: it finds each habit of its table at its line; it finds each text of docs/MIGRATING.md that must change, and nothing
+in the replacements; the page's generated parts are up to date; and in cc65's own files and other sources of the machine it finds the
+line that bin65 reports, and nothing in files that bin65 accepts.
 
 usage: workbench_check.py BIN65. The last line is 'N passed, M failed'."""
 import json
@@ -13,7 +13,7 @@ import sys
 import tempfile
 
 import pages
-import stock
+import cc65_files
 
 sys.path.insert(0, f"{pages.ROOT}/workbench")
 from work65.commands import check  # noqa: E402
@@ -52,7 +52,7 @@ CASES = {
     "script-overwrite": "MEMORY { M: start = 1, size = 1; }\nSEGMENTS { C: load = M, type = overwrite; } #<",
     "script-areas": "SEGMENTS { C: load = M, run = N, type = bss; } #<", "script-form": "NOTHING { } #<",
 }
-# A tree's files, what is checked of it, and what is found: the file, the line and the habit.
+# A tree's files, the arguments of `check`, and the expected findings: the file, the line and the habit.
 INIT = ".macro init\n sei\n.endmacro\n"
 TREES = {
     "a header beside the source": ({"a.s": ' .include "m.h"\n init\n', "m.h": f"{INIT} .org 16\n"}, "a.s", "m.h:4:org"),
@@ -93,7 +93,7 @@ OTHERS = 120
 
 
 class Tries:
-    """What passed and failed."""
+    """Counts of passed and failed checks."""
 
     def __init__(self, program):
         self.program = os.path.abspath(program)
@@ -112,7 +112,7 @@ class Tries:
 
 
 def habits(tries, folder):
-    """Each habit of the table is found at its line, and nothing is found before."""
+    """Tests that each habit of the table is found at its line, and nothing before it."""
     tries.check("each habit has a case", set(CASES) == set(table.BY_NAME), set(CASES) ^ set(table.BY_NAME))
     for name, text in CASES.items():
         lines = text.split("\n")
@@ -124,7 +124,7 @@ def habits(tries, folder):
 
 
 def page_parts(tries):
-    """The page has its contents, its search and its list from the table, and a heading for each habit."""
+    """Tests that the page's contents, search and list are those of the table, and that each habit has a heading."""
     text = pages.read("docs/MIGRATING.md")
     tries.check("parts of the page", page.made(text) == text, "run `python3 -m work65.habits.page docs/MIGRATING.md` in workbench/")
     headings = set(re.findall(r"^##+ (.*)$", text, re.M))
@@ -133,8 +133,8 @@ def page_parts(tries):
 
 
 def pairs(tries, folder):
-    """Each text that the page changes is found, and its replacement isn't."""
-    text = pages.read("docs/MIGRATING.md").split("## What is taken and gives other bytes")[0]
+    """Tests that each text that the page changes is found, and its replacement isn't."""
+    text = pages.read("docs/MIGRATING.md").split("## What is accepted but gives other bytes")[0]
     for kind, is_found in (("cc65", True), ("asm", False)):
         for number, block in enumerate(re.findall(f"^```{kind}\n(.*?)^```$", text, re.M | re.S)):
             pages.put(f"{folder}/a.s", block)
@@ -146,7 +146,7 @@ def pairs(tries, folder):
 
 
 def searched(tries, folder):
-    """The page's search finds what check's own words find."""
+    """Tests that the page's search finds what `check` finds."""
     command = re.search(r"```sh\n(grep.*?)```", pages.read("docs/MIGRATING.md"), re.S)[1]
     unseen = ("cheap-twice", "incbin-file", "include-file", "zero-page-import", "in-scope", "processor", "macro-call", "form", "undocumented", "text", "quote", "colons")
     for name, text in CASES.items():
@@ -156,7 +156,7 @@ def searched(tries, folder):
 
 
 def told(tries, file, include):
-    """The line that bin65 names, where it names a habit; 0 where it takes the file, None where it says something else."""
+    """Returns the line that bin65 reports for a habit, 0 if it accepts the file, None if it reports something else."""
     words = [it for folder in include for it in ("-I", folder)]
     ran = subprocess.run([tries.program, "ca65", *words, "-o", "/dev/null", file], capture_output=True, check=False)
     said = ran.stderr.decode("latin-1").strip().split("\n")[-1]
@@ -167,10 +167,10 @@ def told(tries, file, include):
 
 
 def over(tries, files):
-    """Over files of the machine: no file that bin65 takes is flagged, and of those refused the line is."""
+    """Tests files of the machine: nothing is found in files that bin65 accepts, and the line is found in those that it rejects."""
     wrong, count = [], 0
     for file in files:
-        line = told(tries, file, [stock.INCLUDES])
+        line = told(tries, file, [cc65_files.INCLUDES])
         if line is not None:
             lines = {it.line for it in check.findings([file]) if it.path == file}
             count += 1
@@ -179,9 +179,9 @@ def over(tries, files):
 
 
 def scripts(tries):
-    """Of each script of cc65's the line that bin65 names is found."""
-    for name in sorted(os.listdir(stock.SCRIPTS)):
-        file = f"{stock.SCRIPTS}/{name}"
+    """Tests that in each of cc65's scripts the line that bin65 reports is found."""
+    for name in sorted(os.listdir(cc65_files.SCRIPTS)):
+        file = f"{cc65_files.SCRIPTS}/{name}"
         ran = subprocess.run([tries.program, "ld65", "-C", file, "-o", "/dev/null", "/dev/null"], capture_output=True, text=True, check=False)
         match = re.match(rf"{re.escape(file)}:(\d+): ", ran.stderr)
         lines = {it.line for it in check.findings([file])}
@@ -189,7 +189,7 @@ def scripts(tries):
 
 
 def machine_sources():
-    """Sources and include files of the machine, whatever they are for."""
+    """Returns sources and include files of the machine, for any processor."""
     found = []
     for top in ("/usr/share", "/usr/include", "/usr/lib"):
         for folder, folders, names in os.walk(top):
@@ -201,7 +201,7 @@ def machine_sources():
 
 
 def trees(tries):
-    """What is found in small trees."""
+    """Tests the findings in small trees."""
     for name, (files, words, wanted) in TREES.items():
         with tempfile.TemporaryDirectory() as folder:
             for file, text in files.items():
@@ -213,7 +213,7 @@ def trees(tries):
 
 
 def no_files(tries):
-    """Pipes, devices, links that lead nowhere and folders that can't be read: a message or silence, and the rest is looked at."""
+    """Tests pipes, devices, dangling links and unreadable folders: a message or silence, and the other files are checked."""
     with tempfile.TemporaryDirectory() as folder:
         os.chmod(folder, 0o755)
         os.mkdir(f"{folder}/src")
@@ -236,7 +236,7 @@ def no_files(tries):
 
 
 def bad_input(tries):
-    """What can't be read is said in one line; what is no text is looked at."""
+    """Tests unreadable files, which are reported in one line, and files that are no text, which are checked."""
     with tempfile.TemporaryDirectory() as folder:
         os.mkdir(f"{folder}/empty")
         pages.put(f"{folder}/none.s", "")
@@ -256,12 +256,12 @@ def bad_input(tries):
         found = json.loads(ran.stdout)
         tries.check("JSON", [(it["file"], it["line"], it["habit"]) for it in found] == [("a.s", 1, "colon")], found)
         ran = tries.work65("a.s", folder=folder)
-        tries.check("a line", ran.stdout == f"a.s:1: start: a label has its colon (MIGRATING: {found[0]['heading']})\n", ran.stdout)
+        tries.check("a line", ran.stdout == f"a.s:1: start: write a colon after the label (MIGRATING: {found[0]['heading']})\n", ran.stdout)
         tries.check("help", tries.work65("--help").returncode == 0)
 
 
 def speed(tries):
-    """50,000 lines in two seconds of one processor; twice that is allowed, for other work of the machine."""
+    """Tests the speed: 50,000 lines in two CPU-seconds; twice that is allowed, since the machine may be busy."""
     lines = ["start:  lda     #1", "        sta     $2000,x         ; a comment", "        .byte   1, 2, 3", "n = 5", "", "; more"]
     text = "".join(f"{it.replace('1', str(at))}\n" for at in range(50000 // len(lines) + 1) for it in lines)
     with tempfile.TemporaryDirectory() as folder:
@@ -282,8 +282,8 @@ def main():
         pairs(tries, folder)
     with tempfile.TemporaryDirectory() as folder:
         searched(tries, folder)
-    if stock.is_there():
-        over(tries, [f"{stock.INCLUDES}/{it}" for it in sorted(os.listdir(stock.INCLUDES))])
+    if cc65_files.is_there():
+        over(tries, [f"{cc65_files.INCLUDES}/{it}" for it in sorted(os.listdir(cc65_files.INCLUDES))])
         scripts(tries)
     else:
         print("cc65 isn't installed: its files aren't looked at")

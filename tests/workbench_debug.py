@@ -1,7 +1,6 @@
 #!/usr/bin/env python3
-"""work65 debug: of each program, the pairs of a line and an address that it puts, the labels, and the scopes with their sizes
-are those of the debug file that cc65's linker writes with --dbgfile. Where cc65 isn't installed that is skipped, and what is
-written here is tried alone.
+"""Tests `work65 debug`: for each program, the pairs of line and address, the labels, and the scopes with their sizes are those of the debug
+file that cc65's linker writes with --dbgfile. If cc65 isn't installed, only the results recorded here are compared.
 
 usage: workbench_debug.py BIN65. The last line is 'N passed, M failed'."""
 import os
@@ -70,7 +69,7 @@ SEGMENTS { ZEROPAGE: load = Z, type = zp; CODE: load = M, type = ro; RODATA: loa
     BSS: load = R, type = bss; }
 """,
 }
-# What -D defines is a symbol in cc65's file alone.
+# A constant of -D is a symbol in cc65's file only
 DEFINED = ("LARGE", "NTSC")
 KINDS = ("file", "lib", "line", "mod", "scope", "seg", "span", "sym", "type")
 
@@ -159,7 +158,7 @@ class Debug:
 
 
 def written(debug: Debug) -> List[str]:
-    """What is wrong with a file by itself: its counts, and numbers that lead nowhere."""
+    """Returns errors in a file by itself: its counts, and numbers of entries that don't exist."""
     counts = debug.of("info").get("", {})
     wrong = [f"{kind}: {len(debug.of(kind))} aren't {counts.get(kind)}" for kind in KINDS if str(len(debug.of(kind))) != counts.get(kind)]
     leads = {"file": "file", "span": "span", "seg": "seg", "scope": "scope", "def": "line", "mod": "mod", "lib": "lib"}

@@ -1,6 +1,6 @@
 #!/usr/bin/env python3
-"""work65 deps: the files that it names are those that cc65's `ca65 --create-dep` names, and none is left out that is missing.
-Where cc65 isn't installed, the rules are compared with those that are written here alone.
+"""Tests `work65 deps`: it names the files that cc65's `ca65 --create-dep` names, and also files that are missing.
+If cc65 isn't installed, the rules are only compared with those recorded here.
 
 usage: workbench_deps.py BIN65. The last line is 'N passed, M failed'."""
 import os

@@ -1,7 +1,7 @@
 #!/usr/bin/env python3
-"""Tries `work65 faults` and `work65 explain`: each fault of a source is said as bin65 says it of a source that has this one alone; a
-fault that follows from a line left out is marked; each message of docs/MESSAGES.md is explained by its paragraph, and each line of
-its table of causes is told which it is.
+"""Tests `work65 faults` and `work65 explain`: each error of a source is reported as bin65 reports it for a source that has only this error;
+an error that follows from a removed line is marked; each message of docs/MESSAGES.md is explained by its paragraph; and for each line
+of its table of causes the right cause is named.
 
 usage: workbench_faults.py BIN65. The last line is 'N passed, M failed'."""
 import glob
@@ -63,9 +63,9 @@ ARGUMENTS = (
 )
 
 
-# What explain says of lines of a source, where the page's paragraph has a list after it, or the line shows the cause.
+# The output of `explain` for lines of a source, if the page's paragraph has a list after it, or the line shows the cause.
 TOLD = (
-    (1, "bad character", "quote. - a cheap label whose name begins with a digit, as @1: write @loop; - a '"),
+    (1, "bad character", "these: - a cheap label whose name begins with a digit, as @1: write @loop; - a '"),
     (2, "statement not understood", "It is: a number or a name where a string is wanted."),
     (6, "too many arguments", "The macro m has 1 parameter, and the call has 2 arguments. ca65. A macro call has more"),
     (10, "too many arguments", "It is in the lines of the macro n, which is called here. ca65. A macro call has more"),
@@ -73,7 +73,7 @@ TOLD = (
 
 
 class Tries:
-    """What passed and failed."""
+    """Counts of passed and failed checks."""
 
     def __init__(self, program):
         self.program = os.path.abspath(program)
@@ -89,7 +89,7 @@ class Tries:
         return subprocess.run(["sh", WORK65, *words], cwd=folder, env=how, input=given, capture_output=True, text=True, check=False)
 
     def alone(self, folder, text):
-        """What bin65 says of a source."""
+        """Returns bin65's messages for a source."""
         pages.put(f"{folder}/a.s", text)
         return subprocess.run([self.program, "ca65", "-o", "", "a.s"], cwd=folder, capture_output=True, text=True, check=False).stderr
 
@@ -128,7 +128,7 @@ FOLLOWING = (
     (".macro table name, what\nname: .byte .strlen(what)\n.endmacro\n table t1, \"ab\"\n lda t1\n lda t2\n", [None, 4, None]),
     (".define W 1\n lda #W\n.undefine W\n.define W 2\n", [None, 1, 1, None]),
 )
-# A name that is defined twice: the lines that are said, and the next ones are looked at.
+# Tests a name that is defined twice: the reported lines, and that the next lines are checked.
 TWICE = (
     ("lab: nop\nlab: rts\n lda nowhere\n foo\n", ["2 defined twice: lab", "3 undefined name: nowhere", "4 statement not understood"]),
     ("lab:\n nop\nlab:\n rts\n foo\n", ["3 defined twice: lab", "5 statement not understood"]),
@@ -151,7 +151,7 @@ def following(tries):
 
 
 def twice(tries):
-    """It goes on after a name that is defined twice; and what is judged alone is said where bin65 says it."""
+    """Tests that it continues after a name that is defined twice, and that lines judged separately are reported where bin65 reports them."""
     for text, wanted in (*TWICE, ALONE):
         with tempfile.TemporaryDirectory() as folder:
             pages.put(f"{folder}/a.s", text)

@@ -1,6 +1,6 @@
 #!/usr/bin/env python3
-"""Tries `work65 port` with one idiom of cc65's users at a time: the copy has the image recorded beside the idiom, which is
-cc65's own, or a place is said.
+"""Tests `work65 port` with one idiom of cc65's users at a time: the copy has the image recorded with the idiom, which is
+cc65's own, or the recorded construct is reported.
 
 usage: workbench_idioms.py BIN65. The last line is 'N passed, M failed'."""
 import os
@@ -16,7 +16,7 @@ ROW = re.compile(r"^=== (\S+) (\S+) (gives|says) (.*)\n", re.M)
 
 
 def rows():
-    """The idioms: name, target, files, what the image is (or how long) or what is said."""
+    """Reads the idioms: name, target, files, and the image (or its length) or the reported construct."""
     parts = ROW.split(pages.read("tests/workbench/idioms.txt"))[1:]
     for name, target, kind, expected, text in zip(*(parts[at::5] for at in range(5))):
         files = re.split(r"^--- (\S+)\n", text, flags=re.M)

@@ -1,6 +1,6 @@
 #!/usr/bin/env python3
-"""work65 labels: the labels of each program are those that cc65's `ld65 -Ln` writes of it with debug information, by name and
-address. Where cc65 isn't installed that is skipped. Other forms are compared with lines that are written here.
+"""Tests `work65 labels`: the labels of each program are those that cc65's `ld65 -Ln` writes with debug information, by name and
+address. If cc65 isn't installed, this is skipped. Other formats are compared with lines recorded here.
 
 usage: workbench_labels.py BIN65. The last line is 'N passed, M failed'."""
 import os
@@ -77,7 +77,7 @@ FORMS: Dict[str, List[str]] = {
     "nocash": "00000014 score|00000300 buffer|00002000 CONTROL|00006000 saved|00008010 table|0000C000 reset|0000C000 reset@loop".split("|"),
     "fceux": ["$0014#score#", "$0300#buffer#", "$2000#CONTROL#", "$6000#saved#", "$8010#table#", "$C000#reset#", "$C000#reset@loop#"],
 }
-# A constant of 255 operators and operands, as many as one may have: its value can't be asked for, and it has no label.
+# Tests a constant of 255 operators and operands, the maximum: a mark can't contain its value, so it has no label.
 LARGE = f"""        .import other
 large := {"+".join(["other"] * 128)}
         .word   large

@@ -1,10 +1,10 @@
 #!/usr/bin/env python3
-"""Compares work65's lexer with bin65's: each line of the sources here has to be split into the same tokens by both.
+"""Compares work65's lexer with bin65's: both must split each line of the sources here into the same tokens.
 
-bin65 doesn't print tokens; what it accepts shows them:
+bin65 doesn't print tokens, but its results show them:
 - a line has a lexical error in bin65 exactly if the lexer finds a token in it that bin65 doesn't have;
-- a source gives the same object with one blank between each two tokens, and without any blank that the lexer doesn't need;
-- a blank within a token gives another object, or an error.
+- a source gives the same object with one space between each two tokens, and without any space that the lexer doesn't need;
+- a space within a token gives another object, or an error.
 
 The lines are those of all texts of tests/ and example/, of cc65's own include files if they are there, and of each FOLDER.
 

@@ -1,6 +1,6 @@
 #!/usr/bin/env python3
-"""work65 list: each line that puts bytes has the address to which cc65's listing and map come for the same source, and its
-bytes. Where cc65 isn't installed that is skipped, and lines that are written here are tried alone.
+"""Tests `work65 list`: each line that emits bytes has the address and the bytes that cc65's listing and map give for the same source.
+If cc65 isn't installed, only lines recorded here are compared.
 
 usage: workbench_list.py BIN65. The last line is 'N passed, M failed'."""
 import os

@@ -1,6 +1,6 @@
 #!/usr/bin/env python3
-"""Tries `work65 port`: sources in the everyday idiom, the pairs of docs/MIGRATING.md and cc65's own scripts are brought over; what
-comes out has the image that cc65's tools make of the source as it was, or a place is said that can't be brought over.
+"""Tests `work65 port`: it converts sources with common idioms, the pairs of docs/MIGRATING.md and cc65's own scripts. The result has the
+image that cc65's tools make of the original source, or the construct that can't be converted is reported.
 
 usage: workbench_port.py BIN65. The last line is 'N passed, M failed'."""
 import contextlib
@@ -15,7 +15,7 @@ import tempfile
 import time
 
 import pages
-import stock
+import cc65_files
 
 sys.path.insert(0, f"{pages.ROOT}/workbench")
 from work65.main import main as work65  # noqa: E402
@@ -55,7 +55,7 @@ ALONE = "compared: each source alone at two placements: the same 1 of 1\n"
 
 
 class Tries:
-    """What passed and failed."""
+    """Counts of passed and failed checks."""
 
     def __init__(self, program):
         self.program = os.environ["BIN65"] = os.path.abspath(program)
@@ -67,7 +67,7 @@ class Tries:
             print(f"{name}: {found}")
 
     def inside(self, *words, folder):
-        """What work65 says, run within this process: its status, and what it writes."""
+        """Runs work65 within this process. Returns its status and its output."""
         said, here = io.TextIOWrapper(io.BytesIO(), encoding="utf-8", write_through=True), os.getcwd()
         os.chdir(folder)
         try:
@@ -102,7 +102,7 @@ def cases():
 def ported(tries, name, target, text, has_cc65):
     """Ports one source, and compares the image with that of cc65's tools. One that includes a file of cc65's is left out where
     that isn't there."""
-    if ".include " in text and not stock.is_there():
+    if ".include " in text and not cc65_files.is_there():
         print(f"cc65 isn't installed: {name} isn't tried, which includes a file of its own")
         return
     with tempfile.TemporaryDirectory() as folder:
@@ -127,12 +127,12 @@ def ported(tries, name, target, text, has_cc65):
                 copy = it.read()
             tries.check(f"{name}, to the byte", copy == text, copy)
         left = tries.inside("check", "out", folder=folder)
-        # What a condition on the processor leaves out only port knows.
+        # Only port knows the lines that a condition on the processor skips
         tries.check(f"{name}, nothing left", left.returncode == 0 or name == "apple-cpu", left.stdout)
 
 
 def pairs(tries, has_cc65):
-    """Each text before of the page MIGRATING gives its image, or is said."""
+    """Tests that each first block of a pair of MIGRATING gives its image, or is reported."""
     text = pages.read("docs/MIGRATING.md").split("\n### A row with `align`")[0]
     rows = re.findall(r"^\| (`[^|]+`) \| `[^|]+` \| `[0-9A-F ]+` \|$", text, re.M)
     found = re.findall(r"^```cc65\n(.*?)^```$", text, re.M | re.S)
@@ -152,12 +152,12 @@ def pairs(tries, has_cc65):
 
 
 def scripts(tries):
-    """cc65's own scripts are taken once they are ported, or what is left is said."""
+    """Tests that bin65 accepts cc65's own scripts after `port`, or that the remaining constructs are reported."""
     with tempfile.TemporaryDirectory() as folder:
-        ran = tries.work65("port", stock.SCRIPTS, "-o", "out", "--no-verify", folder=folder)
+        ran = tries.work65("port", cc65_files.SCRIPTS, "-o", "out", "--no-verify", folder=folder)
         said = set(re.findall(r"([\w-]+\.cfg):\d+:", ran.stdout))
-        brought = re.search(r"brings (\d+) of them over; the other (\d+)", pages.read("docs/MIGRATING.md"))
-        counts = (len(os.listdir(stock.SCRIPTS)) - len(said), len(said))
+        brought = re.search(r"converts (\d+) of them; the other (\d+)", pages.read("docs/MIGRATING.md"))
+        counts = (len(os.listdir(cc65_files.SCRIPTS)) - len(said), len(said))
         tries.check("the page's numbers of scripts", counts == (int(brought[1]), int(brought[2])), counts)
         for name in sorted(set(os.listdir(f"{folder}/out")) - {".work65"}):
             link = subprocess.run([tries.program, "ld65", "-C", f"{folder}/out/{name}", "-o", "/dev/null", "/dev/null"],
@@ -237,7 +237,7 @@ def tree(tries):
         for name, text in TREE.items():
             os.makedirs(os.path.dirname(f"{folder}/{name}"), exist_ok=True)
             pages.put(f"{folder}/{name}", text)
-        shutil.copy(f"{stock.SCRIPTS}/nes.cfg", f"{folder}/src/nes.cfg")
+        shutil.copy(f"{cc65_files.SCRIPTS}/nes.cfg", f"{folder}/src/nes.cfg")
         before = {it: pages.read(os.path.relpath(f"{folder}/{it}", pages.ROOT)) for it in TREE}
         ran = tries.work65("port", "src", "-o", "out", "--target", "nes", folder=folder)
         good = "compared: the program by nes.cfg: the same (the image, 40976 bytes)\n"
@@ -272,7 +272,7 @@ def wrapped(chance, body, name):
 
 
 def mixed(tries):
-    """Sources put together by chance, each within something: the same image, or a place is said."""
+    """Tests random sources, each within a block: the same image, or a reported construct."""
     chance, count = random.Random(6502), {"the same": 0, "said": 0}
     for number in range(MIXED):
         chosen = chance.sample(cases(), chance.randint(1, 3))
@@ -296,7 +296,7 @@ def mixed(tries):
 
 
 def examples(tries):
-    """What bin65 takes comes out as it was."""
+    """Tests that sources which bin65 accepts are unchanged."""
     with tempfile.TemporaryDirectory() as folder:
         shutil.copytree(f"{pages.ROOT}/example", f"{folder}/example", ignore=shutil.ignore_patterns("out", "second"))
         ran = tries.work65("port", "example", "-o", "out", "--no-verify", folder=folder)
@@ -345,11 +345,11 @@ def copies(tries):
         pages.put(f"{folder}/src/a.s", " iny\n")
         port("a copy once more", 0, last, "src", "-o", "out")
         pages.put(f"{folder}/out/a.s", " nop ; by hand\n")
-        port("a copy with an edit", 1, "work65: out/a.s: port didn't write it as it is now: --force overwrites it\n", "src", "-o", "out")
+        port("a copy with an edit", 1, "work65: out/a.s: changed since port wrote it; --force overwrites it\n", "src", "-o", "out")
         with open(f"{folder}/out/a.s", encoding="utf-8") as it:
             tries.check("the edit stays", it.read() == " nop ; by hand\n")
         port("a copy that is forced", 0, last, "src", "-o", "out", "--force")
-        over = "the copy would lie over what it is made of\n"
+        over = "the copy would overwrite the original\n"
         port("a folder into itself", 1, f"work65: src: {over}", "src", "-o", "src")
         port("a file over itself", 1, f"work65: src/a.s: {over}", "src/a.s", "-o", "src")
         port("a copy within", 0, last, "src", "-o", "src/one")
@@ -358,7 +358,7 @@ def copies(tries):
 
 
 def names(tries, has_cc65):
-    """Names outside of ASCII, data that lies elsewhere, and files that include each other deep."""
+    """Tests names outside ASCII, data in other folders, and deeply nested includes."""
     with tempfile.TemporaryDirectory() as folder:
         for name in ("src", "gfx", "deep"):
             os.makedirs(f"{folder}/{name}")
@@ -466,7 +466,7 @@ def several_scripts(tries):
     linked = {"one.cfg": row.format("1000", "CODE"), "two.cfg": row.format("2000", "CODE")}
     others = {name: text.replace("CODE", "OTHER") for name, text in linked.items()}
     same = "compared: the program by one.cfg: the same (the image, 1 bytes); {}\n"
-    sign = "an exported constant below 0 is one above 0 where cc65 imports it"
+    sign = "cc65 imports a negative constant as a positive number"
     for name, files, status, said in (
         ("two scripts", {**good, **linked}, 0, same.format("by two.cfg: the same (the image, 1 bytes)")),
         ("one script of two", {**good, **linked, "two.cfg": others["two.cfg"]}, 0, same.format("not by two.cfg: ld65 doesn't link it as a whole: ")[:-1]),
@@ -482,7 +482,7 @@ def several_scripts(tries):
             tries.check(name, ran.returncode == status and said in ran.stdout, ran)
 
 
-# What a Makefile passes to ca65 besides, and sources that need it.
+# Other options that a Makefile passes to ca65, and sources that need them
 OPTIONS = (
     (("--cpu", "6502X"), " lax $20\n sax $1234\n"), (("--cpu", "6502"), ".ifp02\n .byte 1\n.endif\n"),
     (("--feature", "string_escapes"), ' .byte "a\\n"\n'), (("--feature", "labels_without_colons", "--feature", "dollar_is_pc"), "one nop\n jmp $\n"),
@@ -514,7 +514,7 @@ ENDLESS = (
 
 
 def endless(tries):
-    """Sources that would go on without an end are said, or left to bin65, in a few seconds."""
+    """Tests that endless sources are reported, or left to bin65, within a few seconds."""
     for text in ENDLESS:
         with tempfile.TemporaryDirectory() as folder:
             pages.put(f"{folder}/a.s", text)
@@ -550,9 +550,9 @@ def main():
     for name, target, text in cases():
         ported(tries, name, target, text, has_cc65)
     pairs(tries, has_cc65)
-    if stock.is_there():
+    if cc65_files.is_there():
         scripts(tries)
-    if stock.is_there() and has_cc65:
+    if cc65_files.is_there() and has_cc65:
         tree(tries)
     if has_cc65:
         mixed(tries)

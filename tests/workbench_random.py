@@ -1,6 +1,6 @@
 #!/usr/bin/env python3
-"""Tries `work65 port` on random programs: each has cc65's image once it is brought over, or something is said of it. Where cc65
-isn't installed nothing is tried.
+"""Tests `work65 port` on random programs: after the conversion each has cc65's image, or a construct is reported. Without cc65
+nothing is tested.
 
 usage: workbench_random.py BIN65 [COUNT [SEED [KIND]]]: COUNT programs of each kind (30), or of one. The last line is 'N passed,
 M failed'."""
@@ -283,7 +283,7 @@ def image(assembler, linker, source, folder):
 
 
 def port(folder):
-    """What work65 port says of a.s: its status, and the lines."""
+    """Runs work65 port on a.s. Returns its status and its lines."""
     said, here = io.StringIO(), os.getcwd()
     os.chdir(folder)
     try:
@@ -295,7 +295,7 @@ def port(folder):
 
 
 def tried(program, text):
-    """What comes of a source: refused by cc65, the same, said, or silent; and what was said."""
+    """Returns the result for a source: rejected by cc65, the same image, reported, or silently different; and the report."""
     with tempfile.TemporaryDirectory() as folder:
         pages.put(f"{folder}/a.s", text)
         pages.put(f"{folder}/l.cfg", SCRIPT)

@@ -1,6 +1,6 @@
 #!/usr/bin/env python3
-"""work65 size: segments and modules have the sizes that cc65's map gives, procedures those of cc65's debug file, and areas
-what is written here. Where cc65 isn't installed that part is skipped.
+"""Tests `work65 size`: segments and modules have the sizes of cc65's map, procedures those of cc65's debug file, and areas
+those recorded here. If cc65 isn't installed, the comparison with it is skipped.
 
 usage: workbench_size.py BIN65. The last line is 'N passed, M failed'."""
 import json
@@ -72,7 +72,7 @@ outer::inner     1     a.o
 
 
 def written(results: builds.Results, program: str, folder: str) -> None:
-    """What is written here: of sources, and of a map."""
+    """Tests the results recorded here, from sources and from a map."""
     builds.pages.put(f"{folder}/a.cfg", SCRIPT)
     builds.pages.put(f"{folder}/a.s", SOURCE)
     for words in (("ca65", "-o", "a.o", "a.s"), ("ld65", "-C", "a.cfg", "-o", "a.bin", "-m", "a.map", "a.o")):
@@ -117,7 +117,7 @@ def pictured(results: builds.Results, program: str) -> None:
 
 
 def on_terminal(program: str, folder: str) -> str:
-    """What is said on a terminal."""
+    """Tests the output on a terminal."""
     reads, writes = pty.openpty()
     how = builds.environment(program)
     subprocess.run([sys.executable, "-m", "work65", "size", "-C", "a.cfg", "a.map"], cwd=folder, env=how, stdout=writes, check=True)

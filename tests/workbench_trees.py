@@ -1,6 +1,6 @@
 #!/usr/bin/env python3
-"""Tries `work65 port` with random trees of two kinds: macros that set, spell and match names, and scripts. Each copy has the image
-that cc65's tools make of the tree as it was, or a place is said.
+"""Tests `work65 port` with random trees of two kinds: macros that set, spell and match names, and scripts. Each copy has the image
+that cc65's tools make of the original tree, or a construct is reported.
 
 usage: workbench_trees.py BIN65 [COUNT [SEED [KIND]]]. The last line is 'N passed, M failed'."""
 import collections

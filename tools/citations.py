@@ -1,4 +1,4 @@
-"""What rename.py changes and lists beside the crates: the pages' citations, and the scripts that name code."""
+"""Changes and lists for rename.py outside the crates: the pages' citations, and the scripts that name code."""
 import glob
 import os
 import re

@@ -190,7 +190,7 @@ class File:
             self.host is not None and self.host.is_ghost(self.base_at(at)))
 
     def chain(self, at):
-        """Returns the segments before a word that stands behind a dot."""
+        """Returns the segments before a word that follows a dot."""
         return re.search(r"((?:[\w+-]+\.)*)(?:[\w+]+-)*$", self.code[max(0, at - 300): at])[1].split(".")[:-1]
 
     def is_part(self, at):
@@ -323,7 +323,7 @@ class File:
         return os.path.basename(os.path.dirname(self.path)).lstrip("+")
 
     def base_at(self, at):
-        """Returns where the text of an edit stands in its file."""
+        """Returns the position of an edit's text in its file."""
         return ([0] + [base for start, base in self.bases if start <= at])[-1]
 
     def sees(self, tree, path):

@@ -326,7 +326,7 @@ class Renaming:
                     self.refuse(row, f"{file.path} is or has {row.new}")
 
     def review(self):
-        """Returns what isn't changed and should be looked at: comments, and patterns of the gate and the tests."""
+        """Returns places to check by hand, which aren't changed: comments, and patterns of the gate and the tests."""
         lines, olds = list(self.notes), self.word
         for file in self.tree.files:
             names = {it[0] for it in self.edits[file].values()} | {it.old for it in self.rows if file.crate in it.crates}

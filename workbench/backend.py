@@ -1,7 +1,7 @@
 """Builds the wheel of work65, for pip and pipx: a build backend that needs nothing but Python, so that no network is needed.
 
-The wheel has the package and the pages that it reads. pip 21.3 or later builds it where it lies, in a clone or in an unpacked
-release; earlier versions copy this folder alone, without the pages, and are told so."""
+The wheel has the package and the pages that it reads. pip 21.3 or later builds it in place, in a clone or in an unpacked
+release; earlier versions copy only this folder, without the pages, and get an error message."""
 import base64
 import hashlib
 import os

@@ -22,7 +22,7 @@ COLUMNS = {
     "base65": 2, "object65": 2, "library65": 2, "whole65": 2.4, "link65": 2.5, "tools65": 2.5, "bin65": 2.5,
     "script65": 3, "ld65": 3.1, "cli65": 4.2, "output65": 4.2, "ar65": 5,
 }  # fmt: skip
-# What a source becomes, and the crate that makes the next thing of it.
+# The forms of a program from the source to the image, each with the crate that produces the next.
 FLOW = (
     ("source", "syntax65"), ("tokens", "expand65"), ("lines", "ast65"), ("statements", "symbols65"), ("sizes", "asm65"), ("entries", "emit65"),
     ("object", "library65"), ("modules", "script65"), ("addresses", "link65"), ("image", "output65"), ("file", None),
@@ -77,7 +77,7 @@ def arrow(start, end):
 
 
 def flow(y):
-    """What a source becomes, from left to right, with the crate that does each step."""
+    """Draws the forms of a program from left to right, with the crate that does each step."""
     yield text(WIDTH / 2, y - 28, "from a source to a file, and the crate that does each step", 13, ' fill="#555"')
     widths = [7.2 * len(words) + 6 for words, _ in FLOW]
     gap, x = (WIDTH - sum(widths)) / len(FLOW), 0

@@ -1,4 +1,4 @@
-"""What the unit tests of work65's front end share: tests as tables of rows, and tokens as texts.
+"""Shared by the unit tests of work65's front end: tests as tables of rows, and tokens as texts.
 
 Expected values follow from docs/LANGUAGE.md, docs/SCRIPTS.md and the manual of cc65's ca65; none was copied from what work65 prints."""
 import os

@@ -38,7 +38,7 @@ def left_out(text):
 
 
 def outer_of(conditions, statement):
-    """Whether the lines around a condition are left out, at a line that goes on with it or ends it."""
+    """Tests whether the lines around a condition are skipped, at a line that continues or ends it."""
     return conditions.is_dead if statement.head == ".endif" else False in conditions.open[:-1]
 
 

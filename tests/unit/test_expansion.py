@@ -1,4 +1,4 @@
-"""Macros and repeats: arguments, what stands for parameters, and the lines that come of a call, by docs/LANGUAGE.md."""
+"""Macros and repeats: arguments, the replacement of parameters, and the lines of a call, by docs/LANGUAGE.md."""
 import rows
 from work65.frontend.expression import value
 from work65.frontend.macros import arguments_of, given_by, substituted
@@ -24,7 +24,7 @@ ARGUMENTS = {
     "m {1},{2,3}": ["1", "2,3"],
     "m 1 {2,3} 4": ["1 {2,3} 4"],
 }
-# The arguments of a call of a macro with the parameters a1, b1 and c1, and what is given for each name.
+# The arguments of a call of a macro with the parameters a1, b1 and c1, and the replacement of each name.
 PARAMETERS = {
     (): {"a1": "", "b1": "", "c1": "", ".paramcount": "0"},
     ("1",): {"a1": "1", "b1": "", "c1": "", ".paramcount": "1"},
@@ -64,7 +64,7 @@ MACROS = {
     "labelled": ("", "l: plain 1"),
     "choice": ("n", ".if n = 1|inx|.elseif n = 2|iny|.else|dex|.endif"),
 }
-# Calls, and the lines that come of each. A local name has the number of its call; a repeat that is open at an `.exitmacro` goes on to
+# Calls and their lines. A local name has the number of its call; a repeat that is open at an `.exitmacro` continues to
 # its end, as in cc65.
 CALLS = {
     "plain 5": "lda #5|sta $10",

@@ -1,4 +1,4 @@
-"""What a line reads as within calls, repeats and files, by docs/LANGUAGE.md: marks as a copy reaches them, and the last mark's line."""
+"""The text of a line within calls, repeats and files, by docs/LANGUAGE.md: the marks in the order of the copy, and the last mark's line."""
 import os
 import tempfile
 
@@ -44,7 +44,7 @@ LINES = {
     f"{TWICE}|INCLUDE 24|CALL 2 part.inc|LOCAL 2|AT 3": "x?1: lda #7",
     f"{TWICE}|INCLUDE 24|CALL 2 part.inc|BACK 2 part.inc|INCLUDED 24|AT 21": " .word 1*0",
 }
-# Marks, and what is open after them: each frame's sign, with the line below which its lines are listed.
+# Marks, and the frames that are open after them: each frame's sign, with the line below which its lines are listed.
 OPEN = {
     "AT 16": "INCLUDE 0",
     f"{BOTH}|CALL 16": "INCLUDE 0, CALL 16",
@@ -91,7 +91,7 @@ class Replayed(rows.Rows):
         return frames.line(mark).text
 
     def opened(self, text):
-        """Returns what is open after the last mark."""
+        """Returns the frames that are open after the last mark."""
         frames, mark = self.followed(text)
         frames.follow(mark, 0)
         return ", ".join(f"{it.sign.name} {it.anchor}" for it in frames.open)

@@ -79,7 +79,7 @@ def refused(text):
     try:
         read_script(text, "a.cfg")
     except Problem as problem:
-        return str(problem) == "a.cfg is no script: see what bin65 ld65 says of it"
+        return str(problem) == "a.cfg is no valid script: run bin65 ld65 for the error"
     return False
 
 

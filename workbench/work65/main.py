@@ -22,13 +22,13 @@ class ShowVersion(argparse.Action):
 
 def parser_of(words: Sequence[str]) -> argparse.ArgumentParser:
     """Returns the parser of a command line. If the first word is a command, only that command's module is imported."""
-    parser = argparse.ArgumentParser(prog="work65", description="What a programmer does around a build with bin65.")
+    parser = argparse.ArgumentParser(prog="work65", description="Companion tools for bin65: check, convert and inspect 6502 programs.")
     parser.add_argument("--version", action=ShowVersion, nargs=0, help="print the version and exit")
     parts = parser.add_subparsers(dest="command", metavar="COMMAND", required=True)
     for name in words[:1] if words[:1] and words[0] in COMMANDS else COMMANDS:
         module = importlib.import_module(f"work65.commands.{name}")
         part = parts.add_parser(name, help=module.HELP, description=module.HELP)
-        part.add_argument("--bin65", metavar="PROGRAM", help="the program bin65 (else the variable BIN65, else the path)")
+        part.add_argument("--bin65", metavar="PROGRAM", help="the program bin65 (default: $BIN65, then PATH)")
         module.add_arguments(part)
         part.set_defaults(run=module.run)
     return parser

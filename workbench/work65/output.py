@@ -1,4 +1,4 @@
-"""Writing what was asked for: to standard output, or to a file, whole or not at all."""
+"""Writes a command's output to standard output, or to a file, completely or not at all."""
 import os
 import sys
 from typing import Optional

@@ -10,7 +10,7 @@ from work65.problem import Problem
 
 @dataclass(frozen=True)
 class Ran:
-    """What came of a run of bin65."""
+    """The result of a run of bin65."""
 
     status: int
     out: bytes
@@ -29,7 +29,7 @@ class Program:
         wanted = named or os.environ.get("BIN65") or "bin65"
         found = shutil.which(wanted)
         if found is None:
-            raise Problem(f"bin65 isn't there: {wanted} (name it by --bin65 or by the variable BIN65)")
+            raise Problem(f"bin65 not found: {wanted} (use --bin65 or set BIN65)")
         return Program(os.path.abspath(found))
 
     def run(self, words: Sequence[str], folder: Optional[str] = None) -> Ran:

@@ -15,16 +15,16 @@ from work65.output import write
 from work65.problem import Problem, complain
 from work65.progress import Progress
 
-HELP = "lists every place in sources and scripts that bin65 refuses, with what to write in its place"
+HELP = "list every construct in sources and scripts that bin65 rejects, and what to write instead"
 
 
 def add_arguments(parser: argparse.ArgumentParser) -> None:
     """Adds the arguments of this subcommand."""
     parser.add_argument("paths", nargs="+", metavar="PATH", help="a source, an include file, a script, or a folder of them")
-    parser.add_argument("-I", dest="include", action="append", default=[], metavar="DIR", help="where included files are looked for")
-    parser.add_argument("-D", dest="define", action="append", default=[], metavar="NAME[=NUMBER]", help="what -D gives to ca65")
-    parser.add_argument("--target", choices=sorted(words.TARGETS), metavar="T", help="what -t gives to ca65")
-    parser.add_argument("--json", action="store_true", help="write a list in JSON")
+    parser.add_argument("-I", dest="include", action="append", default=[], metavar="DIR", help="search for included files in DIR")
+    parser.add_argument("-D", dest="define", action="append", default=[], metavar="NAME[=NUMBER]", help="define a constant, as for ca65")
+    parser.add_argument("--target", choices=sorted(words.TARGETS), metavar="T", help="the target, as for ca65")
+    parser.add_argument("--json", action="store_true", help="write the list as JSON")
 
 
 def run(arguments: argparse.Namespace) -> int:

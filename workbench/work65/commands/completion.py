@@ -4,13 +4,13 @@ import argparse
 from work65.completing.scripts import PROGRAMS, SHELLS, script_of
 from work65.output import write
 
-HELP = "writes a script that completes command lines in bash, zsh or fish"
+HELP = "write a script that completes command lines in bash, zsh or fish"
 
 
 def add_arguments(parser: argparse.ArgumentParser) -> None:
     """Adds what this subcommand takes."""
     parser.add_argument("shell", metavar="SHELL", choices=tuple(SHELLS), help="bash, zsh or fish")
-    parser.add_argument("program", metavar="PROGRAM", choices=PROGRAMS, nargs="?", default=PROGRAMS[0], help="work65 or bin65 (work65)")
+    parser.add_argument("program", metavar="PROGRAM", choices=PROGRAMS, nargs="?", default=PROGRAMS[0], help="work65 or bin65 (default: work65)")
 
 
 def run(arguments: argparse.Namespace) -> int:

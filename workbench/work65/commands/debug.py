@@ -9,7 +9,7 @@ from work65.output import write
 from work65.program import Program
 from work65.signals import folder_for_a_while
 
-HELP = "the debug file that cc65's linker writes with --dbgfile, for stepping through sources"
+HELP = "write the debug file that cc65's linker writes with --dbgfile, for stepping through sources"
 
 
 def add_arguments(parser: argparse.ArgumentParser) -> None:

@@ -12,14 +12,14 @@ from work65.problem import Problem
 from work65.program import Program
 from work65.signals import folder_for_a_while
 
-HELP = "rules for make: the files that a source takes in by .include and .incbin"
+HELP = "write rules for make: the files that a source reads by .include and .incbin"
 
 
 def add_arguments(parser: argparse.ArgumentParser) -> None:
     """Adds the arguments of this subcommand."""
     add_assembler_arguments(parser)
-    parser.add_argument("-o", dest="output", metavar="FILE", help="the file for the rules (standard output)")
-    parser.add_argument("--object", metavar="FILE", help="the target of the rule, for one source (the source's name with .o)")
+    parser.add_argument("-o", dest="output", metavar="FILE", help="the file for the rules (default: standard output)")
+    parser.add_argument("--object", metavar="FILE", help="the target of the rule, for one source (default: the source's name with .o)")
     parser.add_argument("sources", nargs="+", metavar="SOURCE", help="a source")
 
 
@@ -35,7 +35,7 @@ def object_of(source: str) -> str:
 
 
 def rule(found: Dependencies, target: str) -> str:
-    """Returns the rule of a source. An existing file has an empty rule of its own, so that make goes on after it is removed."""
+    """Returns the rule of a source. An existing file has an empty rule of its own, so that make continues after it is removed."""
     files = [it for it in found.files if it not in found.missing]
     text = f"{escaped(target)}: {' '.join(map(escaped, [found.source, *found.files]))}\n"
     return text + "".join(f"{escaped(it)}:\n" for it in files)
@@ -54,7 +54,7 @@ def complain(found: List[Dependencies]) -> int:
 def run(arguments: argparse.Namespace) -> int:
     """Runs the subcommand. Returns the exit status."""
     if arguments.object is not None and len(arguments.sources) > 1:
-        raise Problem("--object goes with one source", 2)
+        raise Problem("--object requires exactly one source", 2)
     program = Program.find(arguments.bin65)
     closures = [Closure(it, arguments.folders) for it in arguments.sources]
     with folder_for_a_while() as folder:

@@ -8,7 +8,7 @@ from typing import IO, Iterator, List, Optional, Sequence, Tuple
 
 from work65 import pages
 from work65.diagnosing import bad_arguments
-from work65.diagnosing import causes, leaving_out
+from work65.diagnosing import causes, recovery
 from work65.diagnosing.message import Message, message_of
 from work65.frontend import words
 from work65.frontend.files import Text, text_of
@@ -19,13 +19,13 @@ from work65.habits import sources
 from work65.habits.table import BY_WORD
 from work65.problem import Problem
 
-HELP = "adds the source line and the page's paragraph to each message"
+HELP = "add the source line and an explanation to each message"
 FIRST = "        "
 
 
 def add_arguments(parser: argparse.ArgumentParser) -> None:
     """Adds the arguments of this subcommand."""
-    said = "behind --: a command whose messages are read, in place of standard input"
+    said = "after --: the command whose messages to explain (default: read standard input)"
     parser.add_argument("words", nargs="*", metavar="COMMAND", help=said)
 
 
@@ -92,7 +92,7 @@ def _causes(message: Message, entry: Optional[pages.PageEntry], text: Optional[T
             yield f"It is: {why}."
     if text is None or text.is_script or message.line is None or message.line > len(text.lines):
         return
-    begin = leaving_out.span_of(text.lines, message.line - 1)[0]
+    begin = recovery.span_of(text.lines, message.line - 1)[0]
     if begin < message.line - 1:
         yield f"It is in one of the lines {begin + 1} to {message.line}, which are repeated."
     elif called := _called(text.lines, message.line - 1):

@@ -10,7 +10,7 @@ from work65.problem import Problem, complain
 from work65.program import Program
 from work65.signals import folder_for_a_while
 
-HELP = "says all faults of a source in one go, each as bin65 says it"
+HELP = "report all errors of a source at once, in bin65's words"
 
 
 def add_arguments(parser: argparse.ArgumentParser) -> None:
@@ -18,7 +18,7 @@ def add_arguments(parser: argparse.ArgumentParser) -> None:
     parser.add_argument("source", metavar="SOURCE")
     parser.add_argument("-I", dest="include", action="append", default=[], metavar="DIR", help="as for ca65")
     parser.add_argument("-D", dest="define", action="append", default=[], metavar="NAME[=NUMBER]", help="as for ca65")
-    parser.add_argument("-g", action="store_true", help="as for ca65: nothing")
+    parser.add_argument("-g", action="store_true", help="accepted, as by ca65; without effect")
 
 
 def run(arguments: argparse.Namespace) -> int:

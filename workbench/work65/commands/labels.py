@@ -13,14 +13,14 @@ from work65.problem import Problem
 from work65.program import Program
 from work65.signals import folder_for_a_while
 
-HELP = "all labels of a program, also those that aren't exported, as emulators read them"
+HELP = "write all labels of a program, exported or not, in an emulator's format"
 
 
 def add_arguments(parser: argparse.ArgumentParser) -> None:
     """Adds the arguments of this subcommand."""
     add_build_arguments(parser)
-    parser.add_argument("--format", choices=tuple(FORMATS), default="vice", help="the form of the labels (vice)")
-    said = "the file for the labels (standard output); with fceux the cartridge's file, beside which they go"
+    parser.add_argument("--format", choices=tuple(FORMATS), default="vice", help="the format of the labels (default: vice)")
+    said = "the file for the labels (default: standard output); for fceux the cartridge, beside which they are written"
     parser.add_argument("-o", dest="output", metavar="FILE", help=said)
 
 

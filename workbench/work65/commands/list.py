@@ -10,15 +10,15 @@ from work65.output import words, write
 from work65.program import Program
 from work65.signals import folder_for_a_while
 
-HELP = "a listing: addresses as linked, bytes of the image, line numbers and lines"
+HELP = "write a listing: linked addresses, bytes of the image, line numbers and lines"
 WIDTH = 8
 
 
 def add_arguments(parser: argparse.ArgumentParser) -> None:
     """Adds the arguments of this subcommand."""
     add_build_arguments(parser)
-    parser.add_argument("-o", dest="output", metavar="FILE", help="the file for the listing (standard output)")
-    parser.add_argument("--bytes", type=int, default=24, metavar="N", help="how many bytes of a line are shown, 0 for all (24)")
+    parser.add_argument("-o", dest="output", metavar="FILE", help="the file for the listing (default: standard output)")
+    parser.add_argument("--bytes", type=int, default=24, metavar="N", help="show at most N bytes of a line, 0 for all (default: 24)")
 
 
 class Listing:

@@ -15,30 +15,30 @@ from work65.problem import Problem
 from work65.program import Program
 from work65.signals import folder_for_a_while
 
-HELP = "writes a copy of sources and scripts that bin65 takes, and says what can't be brought over"
+HELP = "convert a copy of sources and scripts for bin65, and report what can't be converted"
 
 
 def add_arguments(parser: argparse.ArgumentParser) -> None:
     """Adds the arguments of this subcommand."""
     parser.add_argument("paths", nargs="+", metavar="PATH", help="a source, an include file, a script, or a folder of them")
-    parser.add_argument("-o", dest="folder", required=True, metavar="FOLDER", help="where the copy goes")
+    parser.add_argument("-o", dest="folder", required=True, metavar="FOLDER", help="the folder for the copy")
     add_options(parser)
-    parser.add_argument("--force", action="store_true", help="overwrite what was changed by hand in an earlier copy")
-    parser.add_argument("--no-verify", action="store_true", help="don't build both with cc65's tools and with bin65 to compare them")
-    parser.add_argument("--verify", action="store_true", help="compare, or end with status 1 where cc65's tools aren't there")
+    parser.add_argument("--force", action="store_true", help="overwrite files of an earlier copy that were edited since")
+    parser.add_argument("--no-verify", action="store_true", help="don't compare cc65's build with bin65's")
+    parser.add_argument("--verify", action="store_true", help="compare; exit with status 1 if cc65's tools are missing")
 
 
 def add_options(parser: argparse.ArgumentParser) -> None:
     """Adds the options that a Makefile passes to ca65."""
     add = parser.add_argument
-    add("-I", dest="include", action="append", default=[], metavar="DIR", help="where included files are looked for")
-    add("--bin-include-dir", dest="data", action="append", default=[], metavar="DIR", help="where files of .incbin are looked for")
-    add("-D", dest="define", action="append", default=[], metavar="NAME[=NUMBER]", help="what -D gives to ca65")
-    add("--cpu", dest="processor", choices=("6502", "6502X"), default="6502", help="what --cpu gives to ca65 (6502)")
-    add("--feature", dest="features", choices=sorted(FEATURES), action="append", default=[], metavar="NAME", help="what --feature gives to ca65")
+    add("-I", dest="include", action="append", default=[], metavar="DIR", help="search for included files in DIR")
+    add("--bin-include-dir", dest="data", action="append", default=[], metavar="DIR", help="search for files of .incbin in DIR")
+    add("-D", dest="define", action="append", default=[], metavar="NAME[=NUMBER]", help="define a constant, as for ca65")
+    add("--cpu", dest="processor", choices=("6502", "6502X"), default="6502", help="the processor, as for ca65 (default: 6502)")
+    add("--feature", dest="features", choices=sorted(FEATURES), action="append", default=[], metavar="NAME", help="enable a feature, as for ca65")
     add("-g", action="store_true", help="accepted, as by ca65; without effect")
-    add("--symbol", dest="symbols", action="append", default=[], metavar="NAME=NUMBER", help="what -D gives to ld65")
-    add("-t", "--target", dest="target", choices=sorted(words.TARGETS), metavar="T", help="what -t gives to ca65")
+    add("--symbol", dest="symbols", action="append", default=[], metavar="NAME=NUMBER", help="define a symbol, as -D for ld65")
+    add("-t", "--target", dest="target", choices=sorted(words.TARGETS), metavar="T", help="the target, as for ca65")
 
 
 def options_of(arguments: argparse.Namespace) -> Options:
@@ -53,14 +53,14 @@ def _symbol(text: str) -> "Tuple[str, int]":
     name, _, number = text.partition("=")
     value = value_of(number)
     if not name.isidentifier() or value is None:
-        raise Problem(f"--symbol {text}: a name and a number belong there, as NAME=$20")
+        raise Problem(f"--symbol {text}: expected NAME=NUMBER, such as NAME=$20")
     return name, value
 
 
 def run(arguments: argparse.Namespace) -> int:
     """Converts a tree. Returns 1 if something couldn't be converted, or if images differ."""
     if os.path.lexists(arguments.folder) and not os.path.isdir(arguments.folder):
-        raise Problem(f"{arguments.folder}: is no folder")
+        raise Problem(f"{arguments.folder}: not a folder")
     options, paths = options_of(arguments), sources_of(arguments)
     program, reason = tools_of(arguments)
     if reason and arguments.verify:
@@ -100,7 +100,7 @@ def sources_of(arguments: argparse.Namespace) -> List[str]:
     folders = [it for it in arguments.paths if os.path.isdir(it)]
     same = next((it for it in folders if os.path.realpath(it) == inside), None)
     if same is not None:
-        raise Problem(f"{arguments.folder}: the copy would lie over what it is made of")
+        raise Problem(f"{arguments.folder}: the copy would overwrite the original")
     plain = [it for it in arguments.paths if it not in folders]
     found = [*walked(plain), *(it for it in walked(folders) if not os.path.realpath(it).startswith(inside + os.sep))]
     found = [it for it in found if it in plain or not copying.is_in_copy(it, folders)]

@@ -14,18 +14,18 @@ from work65.signals import folder_for_a_while
 
 # How objects and libraries of cc65's begin.
 MADE_BY_CC65 = (b"Uzna", b"naUz")
-HELP = "says whether bin65 makes the image that cc65's tools make of a project, as it stands"
+HELP = "report whether bin65 makes the same image of an unchanged cc65 project"
 
 
 def add_arguments(parser: argparse.ArgumentParser) -> None:
     """Adds the arguments of this subcommand."""
     add = parser.add_argument
-    add("-C", dest="script", metavar="SCRIPT", required=True, help="the linker script, as ld65 takes it")
+    add("-C", dest="script", metavar="SCRIPT", required=True, help="the linker script, as for ld65")
     add_options(parser)
     add("--library", dest="libraries", action="append", default=[], metavar="NAME=FOLDER|FILES",
         help="a library of the sources in FOLDER, or of FILE,FILE.. in this order, after all sources")
-    add("--image", metavar="FILE", help="the image to compare with, where cc65's tools aren't to make it")
-    add("sources", nargs="+", metavar="SOURCE", help="the sources, in the order of the link")
+    add("--image", metavar="FILE", help="the image to compare with, instead of cc65's build")
+    add("sources", nargs="+", metavar="SOURCE", help="the sources, in link order")
 
 
 def run(arguments: argparse.Namespace) -> int:
@@ -40,14 +40,14 @@ def compared(arguments: argparse.Namespace) -> int:
     """Compares, and prints the result."""
     lacking = missing()
     if lacking is not None and arguments.image is None:
-        raise Problem(f"cc65's {lacking} isn't on the path: --image names an image to compare with")
+        raise Problem(f"cc65's {lacking} isn't on the path; give an image to compare with by --image")
     program = Program.find(arguments.bin65)
     libraries = [Library(it.partition("=")[0], sources_of(it, program)) for it in arguments.libraries]
     for it in [arguments.script, *arguments.sources, *(member for library in libraries for member in library.members)]:
         if not os.path.isfile(it):
             raise Problem(f"{it}: no such file")
         if read_bytes(it)[:4] in MADE_BY_CC65:
-            raise Problem(f"{it}: is an object or a library of cc65's: give its sources, of a library by --library")
+            raise Problem(f"{it}: an object or a library of cc65's: give its sources instead, those of a library by --library")
     line = SecondOptions(arguments.script, arguments.sources, libraries, options_of(arguments), arguments.image)
     with folder_for_a_while() as room:
         answer = Comparison(program, line, room, lacking is None).answer()

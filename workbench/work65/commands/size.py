@@ -17,15 +17,15 @@ from work65.output import write
 from work65.program import Program
 from work65.signals import folder_for_a_while
 
-HELP = "bytes used and free: by area, segment, module and procedure; of a map, or of sources"
+HELP = "show used and free bytes by area, segment, module and procedure, from a map or from sources"
 BAR = 30
 
 
 def add_arguments(parser: argparse.ArgumentParser) -> None:
     """Adds the arguments of this subcommand."""
     add_build_arguments(parser)
-    parser.add_argument("--json", action="store_true", help="all of it as JSON")
-    parser.add_argument("--svg", metavar="FILE", help="a picture of memory, in place of the text")
+    parser.add_argument("--json", action="store_true", help="write JSON")
+    parser.add_argument("--svg", metavar="FILE", help="draw memory as a picture into FILE, instead of the text")
 
 
 def is_map(name: str) -> bool:

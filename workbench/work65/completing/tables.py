@@ -1,11 +1,11 @@
-"""What the words of a command line may be, read from argparse's tables; and bin65's own command lines as such tables."""
+"""The possible words of a command line, read from argparse's tables; and bin65's own command lines as such tables."""
 import argparse
 from enum import Enum
 from typing import Iterator, NamedTuple, Tuple
 
 
 class Takes(Enum):
-    """What is completed in a word's place."""
+    """The kind of word that is completed."""
 
     NOTHING = "nothing"
     TEXT = "text"

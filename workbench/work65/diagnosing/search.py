@@ -5,7 +5,7 @@ import re
 from dataclasses import dataclass, field, replace
 from typing import Dict, List, Optional, Set, Tuple
 
-from work65.diagnosing import leaving_out
+from work65.diagnosing import recovery
 from work65.diagnosing.message import Message, message_of
 from work65.diagnosing.suspects import LineChecker, Suspect, suspects_in
 from work65.frontend import words
@@ -117,9 +117,9 @@ class Search:
 
     def without_definition(self, message: Message, lines: List[str], at: int) -> bool:
         """Removes only the second definition of a name. Returns False if the message isn't about one."""
-        if not message.text.startswith(leaving_out.TWICE):
+        if not message.text.startswith(recovery.TWICE):
             return False
-        kept = leaving_out.without_definition(lines[at], message.name, f"w65_again_{len(self.faults)}")
+        kept = recovery.without_definition(lines[at], message.name, f"w65_again_{len(self.faults)}")
         if kept == lines[at]:
             return False
         lines[at] = kept
@@ -127,12 +127,12 @@ class Search:
 
     def leave_out(self, message: Message, lines: List[str], at: int) -> None:
         """Removes a line or a block: first all but its label, the second time the label, too."""
-        first, last = leaving_out.span_of(lines, at, message.text)
-        for name in leaving_out.names_of(lines, first, last) | self.names_of_call(lines[first]):
+        first, last = recovery.span_of(lines, at, message.text)
+        for name in recovery.names_of(lines, first, last) | self.names_of_call(lines[first]):
             self.names.setdefault(name, set()).add((message.file, first + 1))
         for it in range(first, last + 1):
             times = self.steps.get((message.file, it), 0)
-            lines[it] = leaving_out.left(lines[it]) if first == last and not times else ""
+            lines[it] = recovery.left(lines[it]) if first == last and not times else ""
             self.steps[(message.file, it)] = times + 1
 
     def names_of_call(self, line: str) -> Set[str]:
@@ -149,7 +149,7 @@ class Search:
         found = {it.text for it in statement.rest if it.kind is Kind.NAME}
         for path, number in places:
             body = text_of(path).lines
-            found |= leaving_out.names_of(body, *leaving_out.span_of(body, number - 1))
+            found |= recovery.names_of(body, *recovery.span_of(body, number - 1))
         return found
 
     def as_it_was(self, message: Message) -> Message:
@@ -175,7 +175,7 @@ class Search:
 
     def closed(self, message: Message, lines: List[str]) -> bool:
         """Closes the blocks that are open at the end of a file, and records the error. Returns False if none is open."""
-        closers = leaving_out.closers_of(lines, message.text.startswith("scope"))
+        closers = recovery.closers_of(lines, message.text.startswith("scope"))
         if not closers:
             return False
         lines += closers
@@ -198,7 +198,7 @@ class Search:
                     marked.add(it.at)
                     mark = f"w65 {len(self.suspects)} w65"
                     self.suspects[mark] = replace(it, said=said)
-                    lines[it.at] = f'{leaving_out.left(lines[it.at])} .out "{mark}"'
+                    lines[it.at] = f'{recovery.left(lines[it.at])} .out "{mark}"'
             self.write(file)
 
     def judged(self, ran: Ran, progress: Progress) -> None:
@@ -212,7 +212,7 @@ class Search:
                 break
             whole = f"{it.file}:{it.at + 1}: Error: {it.said}"
             self.faults.append(Fault(Message(whole, it.file, it.at + 1, True, it.said), it.line))
-            for name in leaving_out.names_of([it.line], 0, 0):
+            for name in recovery.names_of([it.line], 0, 0):
                 self.names.setdefault(name, set()).add((it.file, it.at + 1))
             progress.step()
 
@@ -226,7 +226,7 @@ class Search:
             self.write(file)
         return bool(left)
 
-    # What follows from another fault.
+    # Errors that follow from others.
 
     def said(self, fault: Fault) -> str:
         """Formats an error for output."""
@@ -240,7 +240,7 @@ class Search:
         kind = message.text.split(":")[0]
         if kind in FOLLOWING and kind != "undefined name":
             wanted |= {it.text for it in line_of(fault.line).tokens if it.kind in (Kind.NAME, Kind.CHEAP)}
-            wanted -= leaving_out.defined_by(statement_in(fault.line))
+            wanted -= recovery.defined_by(statement_in(fault.line))
         if kind.endswith(" twice"):
             return ""
         line = message.line or 0

@@ -3,7 +3,7 @@ import os
 from dataclasses import dataclass
 from typing import Callable, Dict, Iterator, List, NamedTuple, Optional, Sequence, Set, Tuple
 
-from work65.diagnosing.leaving_out import BLOCKS, defined_by
+from work65.diagnosing.recovery import BLOCKS, defined_by
 from work65.diagnosing.message import message_of
 from work65.frontend import grammar, words
 from work65.frontend.files import Text, text_of

@@ -64,5 +64,5 @@ def read_map(data: bytes, name: str) -> Map:
             symbol, value = line.split()
             found.symbols[symbol] = int(value, 16)
     except (ValueError, IndexError):
-        raise Problem(f"{name} is no map that ld65 -m wrote") from None
+        raise Problem(f"{name}: not a map written by ld65 -m") from None
     return found

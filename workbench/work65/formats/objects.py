@@ -95,7 +95,7 @@ class ObjectReader:
         """Reads the object."""
         data = self.data
         if data[:5] != b"R65o\x02":
-            raise Problem("an object isn't of version 2: another bin65 is needed")
+            raise Problem("an object isn't of version 2: use a newer bin65")
         at, end = 5, len(data)
         while at < end:
             kind, length = HEAD.unpack_from(data, at)

@@ -1,7 +1,7 @@
 """The grammar of bin65's statements, over the shapes of tokens.
 
-A shape is 'n' for a name, '@' for a cheap name, '0' for a number or a character, '"' for a string, 'bad' for what is no token of
-bin65, and else the token's text in small letters."""
+A shape is 'n' for a name, '@' for a cheap name, '0' for a number or a character, '"' for a string, 'bad' for a text that is no
+token of bin65, and otherwise the token's text in small letters."""
 from functools import lru_cache
 from typing import Optional, Sequence, Tuple
 

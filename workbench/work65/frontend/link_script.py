@@ -67,7 +67,7 @@ def read_script(text: str, name: str) -> Script:
         for block in blocks_of(words_of(text)):
             _read_block(block, found)
     except (IndexError, ValueError):
-        raise Problem(f"{name} is no script: see what bin65 ld65 says of it") from None
+        raise Problem(f"{name} is no valid script: run bin65 ld65 for the error") from None
     return found
 
 

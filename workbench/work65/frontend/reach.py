@@ -1,4 +1,4 @@
-"""What is reached from some items by following each."""
+"""Computes the items that are reachable from given ones."""
 from typing import Callable, Iterable, List, Set, TypeVar
 
 Item = TypeVar("Item")

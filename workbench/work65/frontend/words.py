@@ -36,7 +36,7 @@ def defined_by(target: Optional[str]) -> FrozenSet[str]:
     return frozenset((TARGETS[target], *SUPERSETS.get(target, ()), *commodore))
 
 
-# What an expression of bin65 may have of words.
+# The operators of bin65 that are words.
 PREFIX_WORDS = frozenset((".bitnot", ".lobyte", ".hibyte", ".bankbyte"))
 INFIX_WORDS = frozenset((".mod", ".bitand", ".bitxor", ".shl", ".shr", ".bitor", ".and", ".xor", ".or"))
 NOT_WORDS = frozenset((".not",))

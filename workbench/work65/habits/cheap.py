@@ -29,6 +29,6 @@ def twice(text: Text) -> Iterator[Tuple[int, str]]:
 
 
 def _keeps(tokens: Sequence[Token]) -> bool:
-    """Returns whether the region of cheap labels certainly goes on after a statement."""
+    """Returns whether the region of cheap labels certainly continues after a statement."""
     first = tokens[0]
     return first.lower in PLAIN or first.kind is Kind.NAME and len(tokens) > 1 and tokens[1].text in ("=", ":=")

@@ -44,7 +44,7 @@ class Files:
             return shown, "incbin-file", ""
         outer = self.beside_outer(word, text)
         if outer is not None:
-            return shown, "include-file", f'cc65 finds it beside {outer}: give its folder by -I, or name it from the folder of this file'
+            return shown, "include-file", f'cc65 finds it beside {outer}: give its folder by -I, or write the name relative to the folder of this file'
         if asminc_file(path_of_bytes(word) or word, self.folders) or os.path.basename(word) in self.names:
             return None
         return shown, "include-file", "not found in the folder of this file, nor in those of -I"

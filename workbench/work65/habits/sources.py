@@ -21,7 +21,7 @@ LOOKED_AT = TELLING | words.LISTS | words.MACRO_BEGINS | words.MACRO_ENDS | word
     (".else", ".elseif", ".endif", ".scope", ".proc", ".endscope", ".endproc", ".asciiz", ".include", ".incbin", ".align",
      ".assert", ".setcpu", ".end")
 )
-# What is refused also in lines that are skipped: they can't be split into tokens.
+# Habits that bin65 rejects even in skipped lines, since these can't be split into tokens.
 TOLD = frozenset(("digit", "comment", "bracket", "underline", "quote", "continuation", "long-line"))
 LONGEST = 4096
 CLOSERS = {".endstruct": "struct", ".endunion": "union", ".endenum": "enum"}
@@ -233,7 +233,7 @@ def _is_continued(line: LexedLine, text: str) -> bool:
 
 
 def found_in(texts: List[Text], tree: Survey, files: Optional[Files] = None, included: Sequence[Text] = ()) -> List[Finding]:
-    """Returns what is found in the sources, and in files that lines of them include; in lines of a macro only where something calls it.
+    """Returns the findings in the sources and in files that they include; in lines of a macro only if something calls it.
 
     With `files` it also finds the files that lines name and that bin65 doesn't find."""
     found: List[Tuple[Optional[str], Finding]] = []
@@ -271,6 +271,6 @@ def _refused_calls(found: List[Tuple[Optional[str], Finding]], calls: List[Tuple
         if caller is None and name in first and (path, name) not in seen:
             seen.add((path, name))
             it = first[name]
-            note = f"its lines are refused, as {it.path}:{it.line}: {it.word}"
+            note = f"bin65 rejects its line {it.path}:{it.line}: {it.word}"
             refused.append(Finding(path, line, name, BY_NAME["macro-call"], note, it.heading))
     return refused

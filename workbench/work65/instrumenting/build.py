@@ -62,18 +62,18 @@ def add_arguments(parser: argparse.ArgumentParser) -> None:
     parser.add_argument("-C", dest="script", metavar="SCRIPT", required=True, help="the linker script")
     add_assembler_arguments(parser)
     add = parser.add_argument
-    said = "a library of FOLDER's sources, or of the files of a list NAME=FILE,FILE, last in the link"
+    said = "a library of FOLDER's sources, or of the sources NAME=FILE,FILE, linked last"
     add("--library", dest="libraries", action="append", default=[], metavar="NAME=FOLDER", help=said)
-    add("--image", metavar="FILE", help="how the linker's output is named (a.out); if the file is there, it has to be the image")
-    add("sources", nargs="+", metavar="SOURCE", help="a source, or an object or library that is linked at its place")
+    add("--image", metavar="FILE", help="the name of the linked image (default: a.out); if the file exists, it must equal the image")
+    add("sources", nargs="+", metavar="SOURCE", help="a source, or an object or library, in link order")
 
 
 def add_assembler_arguments(parser: argparse.ArgumentParser) -> None:
     """Adds the arguments of an assembler run."""
     add = parser.add_argument
-    add("-I", dest="folders", action="append", default=[], metavar="DIR", help="a folder in which included files are searched for")
-    add("-D", dest="defines", action="append", default=[], metavar="NAME[=NUMBER]", help="a constant that is defined beforehand")
-    add("-g", action="store_true", help="accepted, as ca65 does; without effect")
+    add("-I", dest="folders", action="append", default=[], metavar="DIR", help="search for included files in DIR")
+    add("-D", dest="defines", action="append", default=[], metavar="NAME[=NUMBER]", help="define a constant")
+    add("-g", action="store_true", help="accepted, as by ca65; without effect")
 
 
 def wanted_of(arguments: argparse.Namespace) -> BuildOptions:
@@ -228,7 +228,7 @@ class Builder:
             copies = self.copy(unit, closure, tree, Constants.NONE)  # a constant's expression may be as large as one can be
         copy, plain = self.read(self.path("copy")), self.read(self.path(unit.object))
         if not plain.is_same_program(copy.without(copies.names.segment)):
-            raise Problem(f"{unit.source}: a copy that says where its lines are isn't the same program: nothing can be said of it")
+            raise Problem(f"{unit.source}: the instrumented copy isn't the same program, so its lines can't be located")
         return copies.marks.reached(copy, copies.names.segment, closure.main.name), {it.name: it.size for it in plain.sections}
 
     def copy(self, unit: Unit, closure: Closure, tree: LinkedTree, constants: Constants) -> Copies:
@@ -241,7 +241,7 @@ class Builder:
         try:
             self.run(words, tree.here)
         except Problem as problem:
-            said = f"{unit.source}: a copy that says where its lines are is refused: {problem}"
+            said = f"{unit.source}: bin65 rejects the instrumented copy: {problem}"
             raise Problem(said.replace(tree.root, "")) from problem
         finally:
             tree.restore()

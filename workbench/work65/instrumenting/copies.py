@@ -1,6 +1,6 @@
-"""The instrumented copy of a source, which records while it is assembled which lines are assembled and where they lie.
+"""The instrumented copy of a source, which records during assembly which lines are assembled, and their addresses.
 
-A constant `= *` stands before each line that emits something; its value goes into a segment of the copy's own, after the number
+There is a constant `= *` before each line that emits something; its value is stored in a segment of the copy's own, after the number
 of the line's mark. A constant emits no bytes, begins no region of cheap labels, and isn't counted among unnamed labels. In a file
 that is read once it has a name of its own. Elsewhere it is in a scope without a name, since the line may be read again."""
 import os

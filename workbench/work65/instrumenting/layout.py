@@ -76,9 +76,9 @@ class AreaPlacer:
         try:
             return evaluated(value, self.names)
         except UnknownName as name:
-            raise Problem(f"{self.name}: nothing gives the name {str(name)[:80]}") from None
+            raise Problem(f"{self.name}: undefined name: {str(name)[:80]}") from None
         except ValueError:
-            raise Problem(f"{self.name} is no script: see what bin65 ld65 says of it") from None
+            raise Problem(f"{self.name} is no valid script: run bin65 ld65 for the error") from None
 
     def build(self) -> Layout:
         """Returns the layout."""
@@ -99,7 +99,7 @@ class AreaPlacer:
             if name in (row.load, row.run):
                 placed = next((it for it in self.layout.map.rows if it.name == row.name), None)
                 if placed is None:
-                    raise Problem(f"{self.name}: the map has no row {row.name}: it is another script's")
+                    raise Problem(f"{self.name}: the map has no segment {row.name}: was it made with another script?")
                 room.rows.append(placed)
                 last = room.address(placed, row) + placed.size
         self.names.update({f"__{name}_START__": room.start, f"__{name}_SIZE__": room.size, f"__{name}_LAST__": last})

@@ -15,12 +15,12 @@ def sources_of(word: str, program: Program) -> List[str]:
     sorted by name. Raises a Problem if there are none."""
     name, _, given = word.partition("=")
     if not name or not given:
-        raise Problem(f"--library wants NAME=FOLDER or NAME=FILE,FILE: {word}", 2)
+        raise Problem(f"--library: expected NAME=FOLDER or NAME=FILE,FILE, not {word}", 2)
     if not os.path.isdir(given):
         return _listed(given)
     sources = sorted(it for it in os.listdir(given) if it.endswith((".s", ".asm")))
     if not sources:
-        raise Problem(f"{given} is no folder of sources")
+        raise Problem(f"{given}: not a folder of sources")
     members = _members(name, given, program)
     if members is not None:
         sources = _ordered(members, sources, name, given)
@@ -31,7 +31,7 @@ def _listed(given: str) -> List[str]:
     """Returns the files of a comma-separated list."""
     files = given.split(",")
     if len(files) == 1 and not given.endswith((".s", ".asm")):
-        raise Problem(f"{given} is no folder of sources")
+        raise Problem(f"{given}: not a folder of sources")
     for it in files:
         if not os.path.isfile(it):
             raise Problem(f"{it}: no such source")
@@ -70,7 +70,7 @@ def _members_of_cc65(place: str, data: bytes) -> List[str]:
             at += length + 14
         return found
     except (struct.error, IndexError):
-        raise Problem(f"{place} is no library that can be read") from None
+        raise Problem(f"{place}: not a library that can be read") from None
 
 
 def _variable(data: bytes, at: int) -> Tuple[int, int]:

@@ -1,4 +1,4 @@
-"""What the marks of a module say: its lines with their addresses, calls and repeats, scopes and symbols."""
+"""The information in a module's marks: its lines with their addresses, calls and repeats, scopes and symbols."""
 from dataclasses import dataclass, field
 from typing import Dict, List, Optional, Union
 

@@ -1,4 +1,4 @@
-"""What machines make of the characters of strings."""
+"""The character codes of machines."""
 from typing import Dict, List, Optional, Sequence
 
 from work65.frontend import words

@@ -21,7 +21,7 @@ Entries = Dict[Tuple[int, str], int]
 
 @dataclass(frozen=True)
 class Table:
-    """A table as a script asks for it: its number, the names of the table and of its count, and where it lies."""
+    """A table that a script requests: its number, the names of the table and of its count, and its location."""
 
     number: int
     label: str
@@ -34,7 +34,7 @@ def entry_of(statement: Statement, context: Context) -> Tuple[int, str, int]:
     """Returns the table, the name and the priority that a line gives."""
     parts = parts_of(statement.rest)
     if not parts or len(parts[0]) != 1 or parts[0][0].kind is not Kind.NAME:
-        raise Unportable(statement.head, "condes", "no name stands here")
+        raise Unportable(statement.head, "condes", "a name is missing")
     number = DIRECTIVES.get(statement.head)
     rest = parts[1:]
     if number is None and rest:
@@ -43,7 +43,7 @@ def entry_of(statement: Statement, context: Context) -> Tuple[int, str, int]:
         rest = rest[1:]
     priority = value(rest[0], context.value) if rest else MIDDLE
     if number is None or priority is None or not LEAST <= priority <= MOST or len(rest) > 1:
-        raise Unportable(statement.head, "condes", "its table or priority isn't known here")
+        raise Unportable(statement.head, "condes", "its table or priority can't be determined")
     return number, parts[0][0].text, priority
 
 

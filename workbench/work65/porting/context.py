@@ -46,8 +46,8 @@ class OpenScope:
 
 @dataclass
 class Structure:
-    """An open .struct, .union or .enum: its name, where the next member lies, and how large it is so
-    far: of a union its largest member, of a structure all of them."""
+    """An open .struct, .union or .enum: its name, the offset of the next member, and its size so far: for a
+    union that of its largest member, for a structure the sum of all."""
 
     word: str
     name: str

@@ -30,7 +30,7 @@ def files_of(ported: Ported, folders: Sequence[str]) -> Files:
 
 
 def _with_data(ported: Ported, path: str, folders: Sequence[str], moved: Dict[str, str], found: Files) -> Iterator[str]:
-    """Yields the lines of a file. The data that .incbin takes in is put where bin65 looks for it; what lies outside of the copy gets a
+    """Yields the lines of a file. Files of .incbin are put where bin65 looks for them; those outside the copy get a
     place within it."""
     original = ported.project.texts.get(ported.names.get(path, path))
     for line in ported.texts[path].lines:
@@ -53,7 +53,7 @@ def _with_data(ported: Ported, path: str, folders: Sequence[str], moved: Dict[st
 
 
 def _moved(here: str, moved: Dict[str, str]) -> str:
-    """Returns the place within the copy of a file that lies outside of it."""
+    """Returns the place within the copy for a file outside it."""
     if here not in moved:
         there = os.path.join(OWN, "data", os.path.basename(here))
         while there in moved.values():
@@ -91,11 +91,11 @@ def write(files: Files, folder: str, originals: Sequence[str], is_forced: bool) 
     own = {os.path.realpath(it) for it in originals}
     over = next((it for it in places.values() if os.path.realpath(it) in own), None)
     if over is not None:
-        raise Problem(f"{over}: the copy would lie over what it is made of")
+        raise Problem(f"{over}: the copy would overwrite the original")
     changed = [] if is_forced else list(_changed(files, places, folder))
     if changed:
         more = f" (and {len(changed) - 1} more)" if len(changed) > 1 else ""
-        raise Problem(f"{changed[0]}{more}: port didn't write it as it is now: --force overwrites it")
+        raise Problem(f"{changed[0]}{more}: changed since port wrote it; --force overwrites it")
     sums = "".join(f"{hashlib.sha256(data).hexdigest()}  {path}\n" for path, data in sorted(files.items()))
     above = os.path.dirname(os.path.abspath(folder))
     try:
@@ -123,7 +123,7 @@ def _changed(files: Files, places: Dict[str, str], folder: str) -> Iterator[str]
 
 
 def is_in_copy(path: str, folders: Sequence[str]) -> bool:
-    """Returns whether a file lies in an earlier copy within one of these folders."""
+    """Returns whether a file is in an earlier copy within one of these folders."""
     tops = {os.path.realpath(it) for it in folders}
     above = os.path.dirname(os.path.realpath(path))
     while above not in tops and above != os.path.dirname(above):

@@ -132,7 +132,7 @@ def defined(text: str, statement: Statement, context: Context, is_single: bool) 
         shown = define.text or "1"
         return [f"{text[: statement.body[0].start]}{name.text} = {shown}{'        ' + comment if comment else ''}"]
     if define.is_ambiguous:
-        raise Unportable(".define", "define-list", "one of several values: write what is meant where it is used")
+        raise Unportable(".define", "define-list", "it has several values: write what you mean at each use")
     return [commented_out(text)]
 
 

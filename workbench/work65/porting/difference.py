@@ -74,7 +74,7 @@ class Finder:
         return " in ".join(f"{self.ported.project.texts[one.path].path}:{one.number}" for one in reversed(lines))
 
     def told(self, file: str, at: int) -> str:
-        """Returns where a byte of a file lies, in words, and the line of the original before them where it is known."""
+        """Returns the location of a byte of a file, in words, after the line of the original if it is known."""
         found = self.segment(file, at)
         if found is None or self.layout is None:
             return "in no segment"

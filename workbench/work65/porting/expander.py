@@ -92,9 +92,9 @@ class Expander:
         self.calls += 1
         values = arguments_of(text, statement.rest)
         if len(text) > LONGEST or len(values) > len(macro.parameters) or self.calls > MOST_CALLS or len(self.frames) > DEEPEST:
-            raise Unportable(name, "macro-call", "it has too many arguments, or calls itself without an end")
+            raise Unportable(name, "macro-call", "it has too many arguments, or calls itself endlessly")
         if macro.is_ambiguous:
-            raise Unportable(name, "macro-call", "the macro has other lines where a condition holds: write the call out")
+            raise Unportable(name, "macro-call", "its lines depend on a condition that can't be decided: write the call out")
         self.frames.append(ExpansionFrame(macro.lines, given_by(macro.parameters, values)))
 
     def repeat(self, lines: Sequence[str], text: str, given: Dict[str, str]) -> None:
@@ -102,7 +102,7 @@ class Expander:
         parts = parts_of(self.statement(text).rest)
         count = self.host.counted(text)
         if count is None or not 0 <= count <= MOST_TURNS:
-            raise Unportable(".repeat", "match", "how often isn't known here: write the call out")
+            raise Unportable(".repeat", "match", "its count can't be determined: write the call out")
         counter = parts[1][0].text if len(parts) > 1 and parts[1] else ""
         if count > 0:
             self.frames.append(ExpansionFrame(lines, {**given, counter: "0"} if counter else dict(given), counter, count, True))
@@ -158,10 +158,10 @@ class Expander:
         self.host.emit(text, following)
 
     def leave(self) -> None:
-        """Ends the innermost call; a repeat that is open in it goes on to its end, as in cc65."""
+        """Ends the innermost call; a repeat that is open in it continues to its end, as in cc65."""
         for frame in reversed(self.frames):
             if not frame.is_decided:
-                raise Unportable(".exitmacro", "macro-call", "whether it is reached isn't known here: write the call out")
+                raise Unportable(".exitmacro", "macro-call", "whether it is reached can't be determined: write the call out")
             if not frame.is_repeat:
                 frame.at = len(frame.lines)
                 return
@@ -213,7 +213,7 @@ class Expander:
         elif head == ".elseif":
             known = None if one.is_done else self.host.decided(text)
             if known is None and not one.is_done:
-                raise Unportable(".elseif", "match", "whether it holds isn't known here: write the call out")
+                raise Unportable(".elseif", "match", "its condition can't be decided: write the call out")
             one.is_live = bool(known) and not one.is_done
             one.is_done = one.is_done or one.is_live
         elif head == ".else":

@@ -85,8 +85,8 @@ def _is_cheap_constant(text: str) -> bool:
 
 
 def hard_macros(macros: Dict[str, Macro], also: FrozenSet[str], spread: Optional[Set[str]]) -> FrozenSet[str]:
-    """Returns the macros that have to be expanded: for what is in their lines, or for a macro that they call. `spread` are those whose
-    lines take several forms, where forms are measured."""
+    """Returns the macros that must be expanded, because of their own lines or of a macro that they call. `spread` are those whose
+    lines have several sizes, if sizes are measured."""
     branches = BRANCHES.keys() - macros.keys()
     found = {name for name, it in macros.items() if _is_hard(it) or it.names & also}
     if spread is not None:

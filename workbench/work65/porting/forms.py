@@ -12,9 +12,9 @@ from work65.porting.facts import star_in
 SHIFTS = frozenset((">>", ".shr"))
 # Instructions whose operand is no address of a byte.
 OTHERS = words.BRANCHES | {"jmp", "jsr", "brk"}
-# What begins an expression of one byte.
+# The beginnings of an expression of one byte.
 BYTES = frozenset(("<", ">", "^", ".lobyte", ".hibyte", ".bankbyte"))
-# What begins an operand of one byte, or one that is no address.
+# The beginnings of an operand of one byte, or of one that is no address.
 NEVER = BYTES | {"#", "(", "a"}
 # Operators whose result is 0 or 1, those of sums, and what else a sum of numbers and one name has.
 TRUTHS = frozenset(("=", "<>", "<", "<=", ">", ">=", "&&", "||", ".and", ".or", ".xor", "!", ".not"))

@@ -37,7 +37,7 @@ class Folder:
         self.name = ""
 
     def folded(self, text: str, directives: "frozenset[str]", is_asked: bool) -> str:
-        """Returns a line with its functions replaced, as far as their values are known; a condition asks what is defined itself."""
+        """Returns a line with its functions replaced, if their values are known; a condition tests itself whether names are defined."""
         self.is_asked = is_asked
         if ".version" in directives or ".cpu" in directives:
             text = self.constants(text)
@@ -189,7 +189,7 @@ class Folder:
         return str(int(one == other))
 
     def bank_of(self, text: str, parts: List[Part]) -> Optional[str]:
-        """Returns the bank of the area in which an address lies."""
+        """Returns the bank of the area that contains an address."""
         part = parts[0] if len(parts) == 1 else ()
         names = [at for at, it in enumerate(part) if it.kind is Kind.NAME or it.text == "*"]
         if not names or self.has_open(parts):

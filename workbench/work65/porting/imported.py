@@ -11,9 +11,9 @@ IMPORTS = frozenset((".import", ".importzp", ".forceimport", ".global", ".global
 # Operators that tell -1 from $FFFFFFFF; the first ones are those only between two operands.
 INFIX = frozenset(("<", ">"))
 SIGNED = frozenset(("=", "<>", "<=", ">=", "/", ".mod", ">>", ".shr"))
-AUTOIMPORT = "the names aren't known without cc65's object: each in an .import"
+AUTOIMPORT = "the names are known only from cc65's object: write an .import for each"
 HABIT = Habit("imported-negative", "", "Numbers of more than 32 bits", "")
-NOTE = "an exported constant below 0 is one above 0 where cc65 imports it: export it with `& $FFFF`, or include its definition"
+NOTE = "cc65 imports a negative constant as a positive number: export it with `& $FFFF`, or include its definition"
 
 
 def found_in(project: Project, constants: Dict[str, Dict[str, int]]) -> Iterator[Finding]:

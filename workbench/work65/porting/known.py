@@ -18,7 +18,7 @@ from work65.porting.project import Project
 
 BYTES = words.MNEMONICS | words.DATA | {".asciiz", ".tag", ".faraddr", ".lobytes", ".hibytes", ".bankbytes"}
 PLACING = words.MNEMONICS | words.PLACING | words.UNDOCUMENTED | {".proc"}
-# What asks for names and uses none.
+# Directives that test names without using them.
 ASKING = frozenset((".ifdef", ".ifndef", ".ifblank", ".ifnblank"))
 
 
@@ -71,7 +71,7 @@ class ModuleState:
             self.deferred.append((self.context.macro, self.path, number, why))
 
     def bank(self, name: str) -> Optional[int]:
-        """Returns the bank that the script gives to the area in which a label lies."""
+        """Returns the bank that the script gives to the area of a label."""
         places, path = self.project.label_segments.get(self.module, {}), self.context.path
         parts = tuple(it for it in name.split("::") if it)
         segment = self.context.segment if name == "*" else None
@@ -166,7 +166,7 @@ class ModuleState:
                 self.note_label(name)
 
     def is_uncertain(self, name: str) -> bool:
-        """Returns whether what is defined here may not be, or be another thing, in another assembly. In its own .ifndef a name is sure."""
+        """Returns whether a name defined here may be undefined or mean something else in another assembly. In its own .ifndef a name is sure."""
         open_blocks = [it for it in self.context.blocks if it.is_live is None]
         return name in self.project.names or any(it.guarded != name for it in open_blocks)
 
@@ -230,5 +230,5 @@ class ModuleState:
 
 
 def _is_asked(tokens: Sequence[Token], at: int) -> bool:
-    """Returns whether a name is only asked for."""
+    """Returns whether a name is only tested for being defined."""
     return at > 1 and tokens[at - 1].text == "(" and tokens[at - 2].lower in (".defined", ".def")

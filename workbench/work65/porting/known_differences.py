@@ -14,7 +14,7 @@ from work65.porting.tools import Linked
 from work65.problem import Problem
 
 UNUSED = "A row with `align`, `start` or `offset` whose segment nobody uses"
-UNWRITTEN = "A row that takes room and isn't written, before rows that are"
+UNWRITTEN = "A row that takes space but isn't written, before rows that are"
 # The headings of single lines.
 SHIFT, STAR, TRUTH = "`>>` of a negative number", "`*` in a list", "`lda l > 3`: a comparison as an address"
 DIFFERENCE, SUM = "A difference of labels as an address", "`lda 260 - n`: a sum with a zero page name"

@@ -45,13 +45,13 @@ def _directives(names: Names) -> List[str]:
 
 
 def read(text: str, statement: Statement, context: Context, own: Sequence[str]) -> Names:
-    """Returns the names of a list with the size or value after each. While a segment of the zero page is open, an import is short where nothing
-    else is said; a name of the module's own isn't."""
+    """Returns the names of a list with the size or value after each. While a segment of the zero page is open, an import without a size is
+    short; a name of the module's own isn't."""
     found = Names()
     is_short = context.segments.is_zero_page and context.macro is None
     for part in parts_of(statement.rest):
         if not part or part[0].kind is not Kind.NAME:
-            raise Unportable(statement.body[0].text, "size-behind", "no name stands here")
+            raise Unportable(statement.body[0].text, "size-behind", "a name is missing")
         word = _word(text, statement.head, part, found)
         if is_short and len(part) == 1 and part[0].text not in own:
             if word == ".forceimport":
@@ -70,11 +70,11 @@ def _word(text: str, head: str, part: Sequence[Token], found: Names) -> str:
         if size.lower in SHORT:
             word = ZERO_PAGE.get(head, head)
         elif size.lower not in LONG:
-            raise Unportable(size.text, "size-behind", "an address of this size isn't here")
+            raise Unportable(size.text, "size-behind", "bin65 has no addresses of this size")
     if rest and rest[0].text in ("=", ":=") and len(rest) > 1:
         found.definitions.append(f"{part[0].text} = {text_of_tokens(text, rest[1:])}")
     elif rest:
-        raise Unportable(rest[0].text, "size-behind", "nothing else stands behind a name")
+        raise Unportable(rest[0].text, "size-behind", "only a size or a definition can follow a name")
     return word
 
 
@@ -93,13 +93,13 @@ def hoisted(text: str, statement: Statement, context: Context, is_global: Sequen
     names = read(text, statement, context, is_global)
     found = Hoisted(inside=list(names.definitions))
     if not all(it.name for it in context.scopes):
-        raise Unportable(statement.body[0].text, "in-scope", "a scope without a name is reached by nobody")
+        raise Unportable(statement.body[0].text, "in-scope", "names in a scope without a name can't be reached from outside")
     is_import = statement.head in (".import", ".importzp", ".forceimport")
     for word, it in names.by_word.items():
         for name in it:
             if is_import:
                 if name in is_global:
-                    raise Unportable(name, "in-scope", "the name is another one outside of the scope")
+                    raise Unportable(name, "in-scope", "outside the scope this name means something else")
                 found.before.append(f"{word} {name}")
                 found.imported.append(name)
             elif word in (".export", ".exportzp"):
@@ -112,5 +112,5 @@ def hoisted(text: str, statement: Statement, context: Context, is_global: Sequen
 def _exported(word: str, name: str, context: Context, is_global: Sequence[str]) -> List[str]:
     """Returns the lines after the outermost scope that export a name of an inner one."""
     if name in is_global:
-        raise Unportable(name, "in-scope", "the name is another one outside of the scope")
+        raise Unportable(name, "in-scope", "outside the scope this name means something else")
     return [f"{name} = {'::'.join([*context.path, name])}", f"{word} {name}"]

@@ -1,4 +1,4 @@
-"""The lines of a file as ca65 reads them: comments of C are comments, and a line that goes on is one."""
+"""The lines of a file as ca65 reads them: comments of C are comments, and a continued line is one line."""
 from typing import List, NamedTuple
 
 from work65.frontend import words

@@ -23,7 +23,7 @@ class Pair(NamedTuple):
 
 
 class Measure:
-    """The sizes of a copy's lines, of all modules that were looked at."""
+    """The sizes of a copy's lines, of all measured modules."""
 
     def __init__(self, ported: Ported) -> None:
         self.texts, self.origin, self.originals = ported.texts, ported.origin, ported.project.texts

@@ -43,8 +43,8 @@ def read_project(paths: Sequence[str], options: Options) -> Project:
 
 @dataclass
 class Ported:
-    """What each file becomes, which line each of its lines was, what can't be converted, and the imports whose sign counts, which only
-    a comparison of the whole program tests."""
+    """The converted files, the original line of each line, the constructs that can't be converted, and the imports whose sign matters, which
+    only a comparison of the whole program tests."""
 
     project: Project
     texts: Dict[str, Text]
@@ -111,7 +111,7 @@ def script_lines(project: Project, text: Text, findings: List[Finding]) -> "Tupl
 
 
 def _walk(project: Project) -> Dict[str, Dict[Tuple[str, ...], str]]:
-    """Walks all modules; answers in which segment each label of each lies."""
+    """Walks all modules. Returns the segment of each label of each module."""
     progress, found = Progress("sources", len(project.modules_walked)), {}
     for it in project.modules_walked:
         walk = Walk(project, it)

@@ -18,7 +18,7 @@ from work65.porting.verify import Library, Verifier, Whole, is_same
 from work65.program import Program
 
 SAME, OTHER, NOT_COMPARED = 0, 1, 2
-# The opcode of an absolute form is that of the short one and this; so many forms are mended by an image.
+# The difference between an absolute and a short opcode, and the maximum number of forms that are corrected by an image.
 SHORT_TO_FAR, MOST = 8, 200
 
 
@@ -65,7 +65,7 @@ class Comparison:
         self.whole = Whole(theirs, ours, keys(line.sources), libraries)
 
     def answer(self) -> Answer:
-        """Returns what is said of the program."""
+        """Returns the report on the program."""
         try:
             cc65 = self.theirs()
         except Refused as why:
@@ -94,7 +94,7 @@ class Comparison:
         return Answer([differs, *causes, *(said(it) for it in [*self.verifier.ported.findings, *self.left, *imports])], OTHER)
 
     def same(self, cc65: Linked, notes: List[str]) -> Answer:
-        """Returns what is said of files that are the same; where the script writes none, no image was compared."""
+        """Returns the report on files that are the same. If the script writes none, no image was compared."""
         written = known_differences.written_by(self.script)
         if not written:
             return Answer([f"{self.line.script}: no area is written to a file: there is no image to compare"], OTHER)
@@ -128,7 +128,7 @@ class Comparison:
         return measure.put(spot[0].lines[-1], Pair(spot[0].size ^ 1, spot[0]))
 
     def theirs(self) -> Linked:
-        """Returns what cc65's tools make, or what is there in its place."""
+        """Returns the result of cc65's tools, or the given image instead."""
         return self.verifier.linked_by_cc65(self.whole) if self.line.image is None else self.given(self.line.image)
 
     def given(self, image: str) -> Linked:

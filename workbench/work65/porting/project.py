@@ -28,7 +28,7 @@ ALL_TARGET_NAMES = frozenset().union(*map(words.defined_by, words.TARGETS))
 
 @dataclass
 class Spread:
-    """What only cc65's objects show: macros (by name) and repeats (by line) that must be expanded, since their lines take several forms;
+    """Facts that only cc65's objects show: macros (by name) and repeats (by line) that must be expanded, since their lines have several sizes;
     the sizes of lines that don't follow from their text; and the imports of modules with an .autoimport."""
 
     macros: Set[str] = field(default_factory=set)

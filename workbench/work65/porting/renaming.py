@@ -44,7 +44,7 @@ class Renaming:
         """Returns whether an expression is true, where it is the same in every assembly."""
         found = self.number_of(tokens)
         if found and not found & WIDTH:
-            raise Unportable(tokens[0].text, "form", "cc65 takes the lowest 32 bits of a condition, and they are 0: write what is meant")
+            raise Unportable(tokens[0].text, "form", "cc65 uses the lowest 32 bits of a condition, and they are 0: write what you mean")
         return None if found is None else found != 0
 
     def answer(self, statement: Statement) -> Optional[bool]:
@@ -99,9 +99,9 @@ class Renaming:
             key = path[:depth] + (it.text,)
             if key in context.variables:
                 if depth < len(path):
-                    raise Unportable(it.text, "set", "within a scope cc65 takes its last value: give it by a constant")
+                    raise Unportable(it.text, "set", "within a scope cc65 uses its last value: use a constant")
                 if tokens[0].lower in ASKED:
-                    raise Unportable(it.text, "set", "it is asked for: write what is meant")
+                    raise Unportable(it.text, "set", "a condition tests whether it is defined: write what you mean")
                 yield start, it.end, context.variables[key]
                 return
             if key in context.labels or key in context.constants:
@@ -141,11 +141,11 @@ class Renaming:
         name, word, *rest = statement.body[is_global:]
         key = (() if is_global else context.path) + (name.text,)
         if context.repeats or any(it.is_live is not True for it in context.blocks):
-            raise Unportable(".set", "set", "within a repeat or condition it can't be followed")
+            raise Unportable(".set", "set", "work65 can't follow it within a repeat or condition")
         if is_global and context.scopes:
-            raise Unportable(".set", "set", "it stands within a scope: move it out")
+            raise Unportable(".set", "set", "it is within a scope: move it out")
         if key not in context.variables and name.text in context.seen:
-            raise Unportable(name.text, "set", "it is used before its first line: cc65 takes its last value there")
+            raise Unportable(name.text, "set", "it is used before its first line: cc65 uses its last value there")
         sure, found = value(rest, context.certain), value(rest, context.value)
         self.state.end_part()
         context.changing.add(name.text)
@@ -174,9 +174,9 @@ class Renaming:
         if context.macro is not None:
             return [text]
         if context.repeats or any(it.is_live is not True for it in context.blocks):
-            raise Unportable(name.text, "cheap-constant", "within a repeat or condition: write a name")
+            raise Unportable(name.text, "cheap-constant", "within a repeat or condition: use a name without @")
         if name.text in context.cheap_used:
-            raise Unportable(name.text, "cheap-constant", "it is used before this line: write a name")
+            raise Unportable(name.text, "cheap-constant", "it is used before this line: use a name without @")
         new = self.free(f"{context.region}_{name.text[1:]}" if context.region else f"cheap_{name.text[1:]}")
         context.cheap_constants[name.text] = new
         key = context.path + (new,)

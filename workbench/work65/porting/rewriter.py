@@ -24,7 +24,7 @@ UNLABELLED = frozenset((".else", ".elseif", ".endif", ".local", ".exitmacro", ".
 
 
 class Rewriter:
-    """What each statement becomes."""
+    """Rewrites each kind of statement."""
 
     def __init__(self, state: ModuleState, names: Renaming) -> None:
         self.state, self.context, self.project = state, state.context, state.project
@@ -92,7 +92,7 @@ class Rewriter:
         return self.screen_codes(text, statement) if first.text == "scrcode" and self.state.screen else None
 
     def all_handlers(self) -> Dict[str, Handler]:
-        """Returns what is done for each directive."""
+        """Returns the function that rewrites each directive."""
         context = self.context
         found: Dict[str, Handler] = {
             ".define": lambda at, text, it: defines.defined(text, it, context, self.project.is_single(it)),
@@ -161,7 +161,7 @@ class Rewriter:
             it for at, it in enumerate(body) if at > 1 and body[at - 1].text == "(" and body[at - 2].lower in (".defined", ".def")]
         for it in asked:
             if it.kind is Kind.NAME and self.is_hidden(it.text):
-                raise Unportable(it.text, "defined", "cc65 takes it for not defined in a scope that has used it: write what is meant")
+                raise Unportable(it.text, "defined", "in a scope that has used it cc65 treats it as undefined: write what you mean")
 
     def is_hidden(self, name: str) -> bool:
         """Returns whether a scope has used a name that it doesn't define."""
@@ -206,7 +206,7 @@ class Rewriter:
         if statement.head in words.MACRO_BEGINS and statement.rest:
             context.macro = name = statement.rest[0].text
             if name.lower() in words.MNEMONICS:
-                raise Unportable(name, "form", "an instruction's name is no macro's here: write another name")
+                raise Unportable(name, "form", "a macro can't have the name of an instruction: rename it")
             context.parameters = [it.text for it in statement.rest[1:] if it.kind is Kind.NAME]
             self.other_macro = context.macros.get(name)
             context.macros[name] = Macro(context.parameters, codes=context.charmap.codes)
@@ -249,7 +249,7 @@ class Rewriter:
             return [plain]
         number = value(rest, context.value)
         if number is None or context.scopes[0].path != self.state.path or name in context.seen:
-            raise Unportable(name, "global-constant", "it stands within a scope: move it out")
+            raise Unportable(name, "global-constant", "it is within a scope: move it out")
         context.scopes[0].row.before.append(plain.strip())
         context.constants[(name,)] = number
         context.labels[(name,)] = ""
@@ -333,7 +333,7 @@ class Rewriter:
             return [text]
         number, name, priority = condes.entry_of(statement, context)
         if context.repeats or any(it.is_live is not True for it in context.blocks):
-            why = Unportable(statement.head, "condes", "within a repeat or condition it can't be followed")
+            why = Unportable(statement.head, "condes", "work65 can't follow it within a repeat or condition")
             self.project.doubtful.append((self.state.path, self.state.lines[at].number, why))
         else:
             self.project.entries[number, name] = priority
@@ -362,7 +362,7 @@ class Rewriter:
         if self.project.is_measured and context.macro is not None:
             return [text]
         if context.macro is not None and any(it.text in context.parameters for it in target):
-            raise Unportable(statement.head, "longbranch", "its target is a parameter: write the short or the long way")
+            raise Unportable(statement.head, "longbranch", "its target is a parameter: write the short or the long branch")
         first = statement.body[0]
         near = edited(text, [(first.start, first.end, f"{statement.head}{packages.NEAR}")])
         if len(target) == 1 and target[0].kind is Kind.CHEAP:
@@ -395,6 +395,6 @@ class Rewriter:
         """Rewrites a line that changes the codes of characters."""
         context = self.context
         if context.macro is not None or context.repeats or any(it.is_live is not True for it in context.blocks):
-            raise Unportable(statement.head, "charmap", "within a macro, repeat or condition it can't be followed")
+            raise Unportable(statement.head, "charmap", "work65 can't follow it within a macro, repeat or condition")
         spelling.change_charmap(statement, context)
         return [commented_out(self.original)]

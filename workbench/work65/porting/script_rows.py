@@ -1,4 +1,4 @@
-"""Rows of a script that cc65's linker and bin65 place otherwise: what makes both images equal, or what is said."""
+"""Rows of a script that cc65's linker and bin65 place differently: edits that make both images equal, or reports."""
 from dataclasses import dataclass, field, replace
 from typing import Dict, Iterator, List, Optional, Set, Tuple
 
@@ -9,7 +9,7 @@ Said = Tuple[Word, str]
 # The segments that each object of cc65's has.
 ALWAYS = frozenset(("CODE", "RODATA", "DATA", "BSS", "ZEROPAGE", "NULL"))
 UNWRITTEN = frozenset(("BSS", "ZP"))
-ROW_BEFORE = "a row before it that nobody uses has an alignment or start: give this row its place"
+ROW_BEFORE = "an unused row before it has an alignment or a start: give this row a start"
 NO = frozenset(("NO", "FALSE", "0"))
 
 
@@ -99,7 +99,7 @@ class Rows:
         for at, row in enumerate(rows):
             placing, is_used = _placing(row) if self.usage.is_placed(row.name) else {}, self.usage.is_used(row.name)
             if is_used is None and placing and self.moves_any(area, rows[at + 1 :]):
-                self.said.append((row.entry.name, "whether it is used isn't known: cc65 places it even where it isn't"))
+                self.said.append((row.entry.name, "whether it is used can't be determined: cc65 places it in any case"))
             elif is_used is False and placing and row.is_written:
                 waiting = {**waiting, **placing, **_joined(waiting.get("ALIGN", 1), placing.get("ALIGN", 1))}
             elif is_used is False and placing:
@@ -122,7 +122,7 @@ class Rows:
         is_cut = _text(area, "FILL").upper() in NO | {""} and _text(area, "FILE") != '""'
         late = self.ends_late(rows) if is_cut else None
         if late is not None:
-            self.said.append((late.entry.name, "it has no bytes: cc65's file goes on to where it would begin, bin65's doesn't"))
+            self.said.append((late.entry.name, "it has no bytes: cc65's file continues to where it would begin, bin65's doesn't"))
         if late is None and self.is_asked(area, "LAST"):
             unused = [it for it in rows if self.usage.is_placed(it.name) and self.usage.is_used(it.name) is False and _placing(it)]
             last = next((at for at in range(len(rows) - 1, -1, -1) if self.usage.is_used(rows[at].name) is not False), -1)
@@ -143,7 +143,7 @@ class Rows:
         return None
 
     def take_over(self, row: Row, waiting: Dict[str, int]) -> None:
-        """Gives a row the place that unused rows before it asked for."""
+        """Gives a row the alignment or start of the unused rows before it."""
         own = _placing(row)
         if "START" in own or "OFFSET" in own:
             return
@@ -175,12 +175,12 @@ class Rows:
                     return
                 begin = at
                 if not self.may_be_parted(area):
-                    self.said.append((row.entry.name, "a row before it takes room and isn't written: cc65 leaves its room out of the file"))
+                    self.said.append((row.entry.name, "a row before it takes space but isn't written: cc65 leaves that space out of the file"))
                     return
                 parts.append(self.next_part(area, name, number))
                 name = f"{area.name.text}_{number}"
             if number > 1 and not self.moved(area, row):
-                self.said.append((row.entry.name, "it counts its offset from an area that begins elsewhere: give it a start"))
+                self.said.append((row.entry.name, "its offset counts from an area that begins elsewhere: give it a start"))
             if number > 1:
                 self.edits += [(it.value[0].start, it.value[0].end, name) for it in row.entry.attributes
                                if it.name.upper in ("LOAD", "RUN") and it.value and it.value[0].text == area.name.text]
@@ -237,7 +237,7 @@ def _text(entry: Entry, name: str) -> str:
 
 
 def _joined(one: int, other: int) -> Dict[str, int]:
-    """Returns what is aligned to one number and then to another."""
+    """Returns the alignment that satisfies two alignments."""
     align = max(one, other) if max(one, other) % min(one, other) == 0 else one * other
     return {"ALIGN": align} if align > 1 else {}
 

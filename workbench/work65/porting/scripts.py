@@ -13,14 +13,14 @@ SWITCHES = {"TRUE": "yes", "1": "yes", "FALSE": "no", "0": "no"}
 
 
 def ported(text: Text, usage: Usage, symbols: Dict[str, int]) -> Tuple[List[str], List[Said]]:
-    """Returns the lines of a script for bin65, with symbols more, and what is said of its rows; what can't be converted stays as it is."""
+    """Returns the lines of a script for bin65, with additional symbols, and the reports on its rows. Constructs that can't be converted are kept."""
     whole = "\n".join(text.lines)
     blocks = blocks_of(words_of(whole))
     rows = Rows(whole, blocks, usage).all()
     said, more = list(rows.said), dict(symbols)
     for name, number, word in rows.offsets(_sizes(blocks)):
         if number is None:
-            said.append((word, f"{name}: what stands before it in the file has no fixed size"))
+            said.append((word, f"{name}: the part of the file before it has no fixed size"))
         else:
             more[name] = number
     edits = _without_overlaps([*_given(blocks, more), *rows.edits, *_edits(whole, blocks)])

@@ -10,7 +10,7 @@ from work65.porting.line import Unportable
 SHIFTS = frozenset((">>", ".shr"))
 LESS = frozenset(("-", "~", ".bitnot"))
 SAME_LEVEL = frozenset(("*", "/", "&", "^", "<<", ">>", ".mod", ".bitand", ".bitxor", ".shl", ".shr"))
-NOTE = "a shift of a negative number gives other bytes: divide where the remainder is 0"
+NOTE = "a shift of a negative number gives other bytes: divide if the remainder is 0"
 
 
 def refuse(tokens: Sequence[Token], context: Context) -> None:

@@ -187,6 +187,6 @@ def change_charmap(statement: Statement, context: Context) -> None:
         parts = parts_of(statement.rest)
         numbers = [value(it, context.value) for it in parts]
         if len(numbers) != 2 or numbers[0] is None or numbers[1] is None:
-            raise Unportable(".charmap", "charmap", "its numbers aren't known here: write the codes as numbers")
+            raise Unportable(".charmap", "charmap", "its numbers can't be determined: write the codes as numbers")
         context.charmap = context.charmap.copied()
         context.charmap.codes[numbers[0] & 255] = numbers[1] & 255

@@ -11,7 +11,7 @@ from work65.porting.line import Unportable, commented_out, in_parentheses, repla
 from work65.porting.undocumented import OPCODES
 
 Rewrite = Callable[[str, Statement, Context], List[str]]
-SIZE_UNKNOWN = "whether the operand is short isn't known here: write z: or a: before it"
+SIZE_UNKNOWN = "the operand's size can't be determined: write z: or a: before it"
 SIZES = {2: "zp", 3: "abs"}
 GOES = frozenset(
     (".fopt", ".smart", ".fileopt", ".dbg", ".list", ".listbytes", ".pagelength", ".pagelen", ".debuginfo", ".linecont", ".localchar")
@@ -33,7 +33,7 @@ def _gone(text: str, statement: Statement, context: Context) -> List[str]:
 
 def _case(text: str, statement: Statement, context: Context) -> List[str]:
     if statement.rest and statement.rest[0].lower in ("-", "off"):
-        raise Unportable(".case", "goes", "names are written alike: bin65 tells capitals from small letters")
+        raise Unportable(".case", "goes", "bin65 distinguishes capitals from small letters: spell each name in one way")
     return _gone(text, statement, context)
 
 
@@ -41,7 +41,7 @@ def _feature(text: str, statement: Statement, context: Context) -> List[str]:
     names = [it.lower for it in statement.rest if it.kind is Kind.NAME]
     wrong = next((it for it in names if it not in FEATURES), None)
     if wrong is not None:
-        raise Unportable(wrong, "feature", "what it allows can't be written for bin65")
+        raise Unportable(wrong, "feature", "bin65 has no counterpart of what it allows")
     context.features |= KEPT & set(names)
     return [commented_out(text)]
 
@@ -63,7 +63,7 @@ def _faraddr(text: str, statement: Statement, context: Context) -> List[str]:
     found = []
     for it in parts_of(statement.rest):
         if star_in(it):
-            raise Unportable(".faraddr", "low", "`*` isn't the same in both of its parts: write a label")
+            raise Unportable(".faraddr", "low", "`*` would differ in its two parts: use a label")
         inner = in_parentheses(text, it)
         found += [f".word {inner} & $FFFF", f".byte ^{inner}"]
     return replaced(text, statement, found)
@@ -103,7 +103,7 @@ def _segment(text: str, statement: Statement, context: Context) -> List[str]:
         return [text]
     size = {"zp": "zeropage", "direct": "zeropage", "abs": "absolute", "near": "absolute"}.get(rest[2].lower, rest[2].lower)
     if size not in ("zeropage", "absolute"):
-        raise Unportable(rest[2].text, "size-behind", "an address of this size isn't here")
+        raise Unportable(rest[2].text, "size-behind", "bin65 has no addresses of this size")
     return [text if size == rest[2].text else edited(text, [(rest[2].start, rest[2].end, size)])]
 
 
@@ -113,7 +113,7 @@ def _sized_scope(text: str, statement: Statement, context: Context) -> List[str]
         return [text]
     size = statement.rest[-1]
     if size.lower not in ("abs", "absolute", "near"):
-        raise Unportable(size.text, "size-behind", "an address of this size isn't here")
+        raise Unportable(size.text, "size-behind", "bin65 has no addresses of this size")
     return [text[: colon.start].rstrip() + text[size.end :]]
 
 

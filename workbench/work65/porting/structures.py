@@ -39,7 +39,7 @@ def opened(text: str, statement: Statement, context: Context) -> List[str]:
 
 
 def _begin(it: Structure) -> Tuple[str, Optional[int]]:
-    """Returns where the next member of a structure lies."""
+    """Returns the offset of the next member of a structure."""
     return (it.base, it.base_value) if it.word == ".union" else (it.offset, it.value)
 
 
@@ -82,7 +82,7 @@ def _spelled(it: Structure) -> str:
     if size is not None:
         return str(size)
     if it.word == ".union" or it.base != "0":
-        raise Unportable(it.word, it.word[1:], "its size isn't known here: write the offsets out")
+        raise Unportable(it.word, it.word[1:], "its size can't be determined: write the offsets out")
     return it.offset
 
 
@@ -90,7 +90,7 @@ def _grow(it: Structure, spelled: str, size: Optional[int]) -> None:
     """Adds a member of this size."""
     if it.word == ".union":
         if size is None:
-            raise Unportable(it.word, "union", "its size isn't known here: write the offsets out")
+            raise Unportable(it.word, "union", "its size can't be determined: write the offsets out")
         it.largest = max(it.largest or 0, size)
         return
     it.whole = None if size is None or it.whole is None else it.whole + size
@@ -115,7 +115,7 @@ def member(text: str, statement: Statement, context: Context) -> List[str]:
     if not tokens:
         return [text]
     if tokens[0].lower in CONDITIONS or tokens[0].lower in (".repeat", ".include"):
-        raise Unportable(tokens[0].text, it.word[1:], "a condition within: write the constants out")
+        raise Unportable(tokens[0].text, it.word[1:], "it contains a condition: write the constants out")
     if it.word == ".enum":
         return [_enumerated(text, tokens, it, context)]
     name: Optional[Token] = None
@@ -139,10 +139,10 @@ def member(text: str, statement: Statement, context: Context) -> List[str]:
 
 
 def _moved(text: str, tokens: Sequence[Token], it: Structure, context: Context) -> List[str]:
-    """Returns a .org in a structure: the next member lies there."""
+    """Returns a .org in a structure, which sets the offset of the next member."""
     found = value(tokens[1:], context.value)
     if found is None:
-        raise Unportable(".org", "struct", "its value isn't known here: write the offsets out")
+        raise Unportable(".org", "struct", "its value can't be determined: write the offsets out")
     if it.word == ".union":
         it.base, it.base_value = str(found), found
     else:
@@ -188,7 +188,7 @@ def _member_size(text: str, tokens: Sequence[Token], context: Context) -> Tuple[
         name, at = scoped_name(rest, 0)
         if at == len(rest):
             return f"{name}::{context.size_name}", size_named(name, context)
-    raise Unportable(head.text, "struct", "a member of another kind: write the offsets out")
+    raise Unportable(head.text, "struct", "it has a member of another kind: write the offsets out")
 
 
 def size_named(name: str, context: Context) -> Optional[int]:

@@ -26,12 +26,12 @@ SECONDS, MEMORY, MOST_SAID = 8, 1 << 30, 1 << 16
 
 
 class Refused(Exception):
-    """What a tool said of a source or a link that it refuses."""
+    """The message of a tool that rejects a source or a link."""
 
 
 @dataclass(frozen=True)
 class Options:
-    """What a Makefile hands to ca65, and the symbols that it hands to ld65."""
+    """The options that a Makefile passes to ca65, and the symbols that it passes to ld65."""
 
     target: Optional[str] = None
     include: Sequence[str] = ()
@@ -44,8 +44,8 @@ class Options:
 
 @dataclass
 class Linked:
-    """What came of a link: its files, the sizes of segments, the values of exports, and cc65's debug file or bin65's map. cc65 also
-    tells where segments without bytes begin, and which exports an object uses."""
+    """The result of a link: its files, the sizes of segments, the values of exports, and cc65's debug file or bin65's map. For cc65
+    also the start of segments without bytes, and the exports that an object uses."""
 
     files: Dict[str, bytes]
     sizes: Dict[str, int] = field(default_factory=dict)

@@ -154,7 +154,7 @@ class Judge:
         return lines, "; ".join(parts)
 
     def said(self, module: str, it: Outcome) -> str:
-        """Returns what is said of a source; nothing where it is the same, or its places were said already."""
+        """Returns the report on a source; nothing if it is the same, or was reported already."""
         ported = self.verifier.ported
         path = ported.project.texts[module].path
         if it.theirs:

@@ -33,7 +33,7 @@ Port = Callable[[Spread], Ported]
 
 @dataclass
 class Outcome:
-    """What came of a source alone: what each tool said that refuses it, whether a link by both was compared and was the same, and
+    """The result of a single source: the message of each tool that rejects it, whether a link by both was compared and was the same, and
     cc65's debug file."""
 
     theirs: str = ""
@@ -84,7 +84,7 @@ class Verifier:
 
     @property
     def copy(self) -> str:
-        """Where the copy lies for now."""
+        """The temporary folder of the copy."""
         return os.path.join(self.room, "copy")
 
     @property

@@ -27,7 +27,7 @@ from work65.porting.rewriter import UNLABELLED, Rewriter
 DEEPEST = 256
 BANK = re.compile(r"\.bank\s*\([^()]*\)", re.I)
 ASKED = frozenset((".if", ".elseif"))
-# Features for which each line is looked at.
+# Features for which each line is examined.
 ALL_LINES = frozenset(("bracket_as_indirect", "force_range"))
 
 
@@ -232,7 +232,7 @@ class Walk:
         if context.structures and statement.head in structures.ASKING and context.blocks and context.blocks[-1].is_live is None:
             if statement.head in words.CONDITIONS:
                 context.blocks.pop()  # recover() opens it
-            raise Unportable(statement.head, context.structures[-1].word[1:], "whether it holds isn't known here: write the constants out")
+            raise Unportable(statement.head, context.structures[-1].word[1:], "its condition can't be decided: write the constants out")
         return self.rewriter.finished(found, has_escapes, statement)
 
     def is_left(self, facts: Facts, has_escapes: bool) -> bool:

@@ -1,8 +1,8 @@
 #!/usr/bin/env python3
-"""Tests gate/others.py: a file with six lines of 30 bytes from one file of cc65's is rejected, whatever their indentation. Five lines pass, and so
+"""Tests gate/provenance.py: a file with six lines of 30 bytes from one file of cc65's is rejected, whatever their indentation. Five lines pass, and so
 do six of two files, short lines, and lines of a program's bytes.
 
-usage: others.py. The last line is 'N passed, M failed'."""
+usage: provenance.py. The last line is 'N passed, M failed'."""
 import os
 import subprocess
 import sys
@@ -12,7 +12,7 @@ import pages
 
 sys.path.insert(0, f"{pages.ROOT}/gate")
 sys.dont_write_bytecode = True
-import others
+import provenance
 
 LINES = [f"ROM{it}:  start = $800{it}, size = $2000;  # bank {it}" for it in range(8)]
 
@@ -27,11 +27,11 @@ def said(ours, *theirs, is_clone=True):
         pages.put(f"{top}/ours/a.cfg", "\n".join(ours))
         if is_clone:
             subprocess.run(["git", "init", "-q"], cwd=f"{top}/ours", check=True)
-        return [why and why.replace(top, "") for _, why in others.looked_at(f"{top}/ours", f"{top}/theirs")]
+        return [why and why.replace(top, "") for _, why in provenance.looked_at(f"{top}/ours", f"{top}/theirs")]
 
 
 def main():
-    refused = ["a.cfg: 6 of its lines stand in /theirs/cfg/0.cfg"]
+    refused = ["a.cfg: 6 of its lines are in /theirs/cfg/0.cfg"]
     checks = {
         "six lines": said(LINES[:6], LINES) == refused,
         "six lines where there is no clone": said(LINES[:6], LINES, is_clone=False) == refused,

@@ -1,7 +1,7 @@
 """Several modules as one program: the image by the definition, without objects."""
 
-from whole.modules import LENGTHS, WIDTHS, next_multiple
-from whole.sources import OPCODES, Refused, value1, value2, wrapped
+from reference.modules import LENGTHS, WIDTHS, next_multiple
+from reference.sources import OPCODES, Refused, value1, value2, wrapped
 
 RANGES = {"byte": (0, 255), "word": (0, 65535), "dbyt": (0, 65535), "dword": (0, 2**32 - 1), "branch": (-128, 127)}
 
@@ -24,7 +24,7 @@ class Program:
                 yield from ((owner, s) for s in lines)
 
     def measured(self, name):
-        """The items of a segment, each with its position and the end behind it."""
+        """Returns the items of a segment, each with its position and its end."""
         end = 0
         for owner, it in self.items(name):
             at, multiple = end, it if owner == "rounding" else it.multiple
@@ -51,7 +51,7 @@ class Program:
     # ---- Values.
 
     def value(self, owner, s, e):
-        """The value of an expression where a statement of a module stands."""
+        """Returns the value of an expression at a statement of a module."""
         if isinstance(e, int):
             return e
         if e[0] == "here":
@@ -132,7 +132,7 @@ class Program:
         self.exporters = dict(exports)
 
     def check_said(self):
-        """What has to be given or to have a value, whether or not it is used."""
+        """Checks names that must be defined and expressions that must have a value, used or not."""
         given = {**self.named, **self.exporters, **self.script.weak}
         if not given.keys() >= {*self.script.imports, *(name for module in self.modules for name in module.forced)}:
             raise Refused("unresolved")

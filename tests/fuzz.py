@@ -2,7 +2,7 @@
 """A seeded trial: objects, libraries, scripts and sources of the cases are changed, cut and spliced, and given to the real program. Each run must
 end by itself within 10 seconds, with status 0, or with status 1 and a message of one of the documented forms; a rejected run writes no file.
 
-usage: trial.py BIN65 [--seed N] [--first N] [--count N] [--seconds N]
+usage: fuzz.py BIN65 [--seed N] [--first N] [--count N] [--seconds N]
 
 Runs --count trials from number --first on, or as many as begin within --seconds. A failed trial prints what it ran; --first and --count 1
 repeat it. The last line is 'N passed, M failed'.
@@ -18,8 +18,8 @@ import sys
 import time
 
 import cases
-import starting
-from changes import changed
+import launcher
+from fuzz_mutators import changed
 from message_forms import WARNINGS, is_message
 
 HERE = os.path.dirname(os.path.abspath(__file__))
@@ -109,8 +109,8 @@ def why_wrong(ended, target, files, found):
 
 class Trial:
     def __init__(self, program, seed):
-        self.starter, self.seed = starting.Starter(program), seed
-        starting.bound_memory(MEMORY)
+        self.starter, self.seed = launcher.Starter(program), seed
+        launcher.bound_memory(MEMORY)
         self.targets = corpus(self.starter, random.Random(seed))
         self.counts = collections.Counter()
         self.slowest = (0.0, "")

@@ -2,7 +2,7 @@
 """Runs `make try` with a stand-in for the toolchain, which runs the built program instead of compiling one and prints in the toolchain's form:
 without arguments, with the user's own source and script, and with a rejected source.
 
-usage: trying.py BIN65. The last line is 'N passed, M failed'."""
+usage: make_try.py BIN65. The last line is 'N passed, M failed'."""
 import os
 import subprocess
 import sys

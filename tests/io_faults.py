@@ -4,20 +4,20 @@ each one on; every call moves one byte; and writes write nothing. A run must nam
 read, end with status 1, and leave its files as they were, or the outputs written before and a first part of one. After a stream stops,
 nothing is printed and no file is written. Moving one byte at a time changes no result.
 
-usage: failing_disk.py BIN65    Prints a line for each run; the last line is 'N passed, M failed'.
+usage: io_faults.py BIN65    Prints a line for each run; the last line is 'N passed, M failed'.
 """
 
 import os
 import sys
 
-import failing
+import fault_injection
 
 # How many bytes a file has at most.
 LIMIT = 16_777_216
 
 
 class Call:
-    """A call as failing.c reports it: its kind, its file and its result. `place` is the offset in the file at which it reads, or for which the
+    """A call as fault_injection.c reports it: its kind, its file and its result. `place` is the offset in the file at which it reads, or for which the
     file is opened or sought."""
 
     def __init__(self, line):
@@ -135,7 +135,7 @@ def why_file_wrong(ended, words, before, plain, calls):
     if not order:
         return None if ended.files == before else f"reading {failed.name} failed, and files were written"
     is_all_said = ended.out == plain.out and said == plain.err
-    if is_all_said and failed.name == order[-1] and failing.is_written(ended.files, before, plain.files, order) is not None:
+    if is_all_said and failed.name == order[-1] and fault_injection.is_written(ended.files, before, plain.files, order) is not None:
         return None
     return f"{failed.asked} {failed.name} failed, printed {ended.out}, said {ended.err}, the files are {ended.files}"
 
@@ -144,7 +144,7 @@ def why_dead_wrong(ended, words, before, plain, calls):
     """Returns what is wrong with a run in which the last of these calls and all later ones failed, or None: it can print nothing more."""
     order = [it.name for it in calls if it.asked == "create"]
     is_said = plain.out.startswith(ended.out) and plain.err.startswith(ended.err)
-    if ended.status != 1 or not is_said or failing.is_written(ended.files, before, plain.files, order) is None:
+    if ended.status != 1 or not is_said or fault_injection.is_written(ended.files, before, plain.files, order) is None:
         return f"{calls[-1].asked} {calls[-1].name} failed, {ended.answer()}"
     return None
 
@@ -205,4 +205,4 @@ def trial(tests, name, words, before, plain):
 
 
 if __name__ == "__main__":
-    failing.Tests(sys.argv[1], trial).run()
+    fault_injection.Tests(sys.argv[1], trial).run()

@@ -3,7 +3,7 @@
 import random
 import re
 
-# What words in brackets stand for: one of these texts. The first is taken where words stand too deep inside each other.
+# Words in brackets are replaced by one of these texts; by the first one if the replacements nest too deeply.
 # Any [tree] has a value.
 GRAMMAR = {
     "tree": ["[operand]", "[operand]", "[sign]([tree])", "([tree]) [operator] ([tree])", "([tree]) [operator] ([tree])",
@@ -69,7 +69,7 @@ SEGMENTS = """SEGMENTS {{
 }}
 SYMBOLS {{ top: type = export, value = $FFF0; soft: type = weak, value = {soft}; e0: type = weak, value = 5; }}
 """
-# What an image is refused for, most of them at the end of one module.
+# Reasons for having no image, most of them at the end of one module.
 FAULTS = [
     ('.segment "NOROW"', "nop"),
     (".data", ".res $401"),
@@ -86,7 +86,7 @@ FAULTS = [
     (".export f0", "f0 = 1"),
     (".export f1", ".import f0", "f1 = f0 + 1"),
 ]
-# What the second module has where the first one has one of the last two.
+# The text of the second module if the first one has one of the last two.
 OTHERS = {".export f0": (".export f0", "f0 = 1"), ".export f1": (".export f0", ".import f1", "f0 = f1")}
 
 

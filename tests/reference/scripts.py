@@ -2,14 +2,14 @@
 
 import re
 
-from whole.sources import Refused
+from reference.sources import Refused
 
 TOKEN = re.compile(
     r"[ \t\r\n]+|#.*|(?P<name>[A-Za-z_]\w*)|(?P<number>\d+|\$[0-9A-Fa-f]+)|\"(?P<string>[^\"\n%]*)\"|(?P<output>%O)"
     r"|(?P<sign>[{}:;,=+-])"
 )
 NUMBERS = {"start", "size", "fillval", "align", "align_load", "offset", "value"}
-# What a name says of an area and of a row.
+# The names that an area and a row define.
 AREA_PARTS, ROW_PARTS = ("START", "SIZE", "LAST"), ("LOAD", "RUN", "SIZE")
 
 
@@ -143,7 +143,7 @@ class Script:
                         raise Refused(f"{'ambiguous name' if found else 'no such name'}: {term}")
 
     def known(self):
-        """What each name of a sum stands for as far as it is known."""
+        """Returns the known values of names in sums."""
         found = dict(self.exports)
         for name, it in self.areas.items():
             found.update(zip((f"__{name}_{part}__" for part in AREA_PARTS), (it.start, it.size, it.last)))
@@ -152,7 +152,7 @@ class Script:
         return found
 
     def total(self, area_name, sum_of):
-        """What a sum of an area comes to."""
+        """Returns the value of a sum of an area."""
         found, known = 0, self.known()
         for sign, term in sum_of:
             if not isinstance(term, int) and known[term] is None:

@@ -33,7 +33,7 @@ def why_others(file, there):
         for it in there.get(line, ()):
             shared[it] = shared.get(it, 0) + 1
     most = max(shared, key=shared.get, default=None)
-    return f"{shared[most]} of its lines stand in {most}" if most and shared[most] >= LINES else None
+    return f"{shared[most]} of its lines are in {most}" if most and shared[most] >= LINES else None
 
 
 def files_of(root):

@@ -3,12 +3,12 @@
 must end with status 1, print a first part of what it prints with enough memory and then that memory ran out, and write nothing; or, if it
 was writing its files, the earlier ones and a first part of one. If it ends with status 0, the refusal was lost.
 
-usage: memory.py BIN65    Prints a line for each run; the last line is 'N passed, M failed'.
+usage: alloc_faults.py BIN65    Prints a line for each run; the last line is 'N passed, M failed'.
 """
 
 import sys
 
-import failing
+import fault_injection
 
 
 def names_of(words):
@@ -29,7 +29,7 @@ def why_wrong(ended, words, before, plain, order):
     if ended.files == before:
         return None
     is_said = ended.out == plain.out and plain.err in said
-    if not is_said or failing.is_written(ended.files, before, plain.files, order) is None:
+    if not is_said or fault_injection.is_written(ended.files, before, plain.files, order) is None:
         return f"wrote {sorted(name for name, file in ended.files.items() if before.get(name) != file)}"
     return None
 
@@ -37,7 +37,7 @@ def why_wrong(ended, words, before, plain, order):
 def trial(tests, name, words, before, plain):
     run, restore = tests.starter.run, tests.starter.restore
     restore(before)
-    order = failing.created(run(words, "d").report)
+    order = fault_injection.created(run(words, "d").report)
     for letter in ("", "a"):
         number, why = 0, None
         while True:
@@ -56,4 +56,4 @@ def trial(tests, name, words, before, plain):
 
 
 if __name__ == "__main__":
-    failing.Tests(sys.argv[1], trial).run()
+    fault_injection.Tests(sys.argv[1], trial).run()

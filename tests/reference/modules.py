@@ -1,12 +1,11 @@
-"""The statements of a module, each with what it lies by: scope, region, segment, and how long it is by what is known at
-its line."""
+"""The statements of a module, each with its scope, region and segment, and with its length as known at its line."""
 
-from whole.sources import OPCODES, Refused, statements, value1, value2, wrapped
+from reference.sources import OPCODES, Refused, statements, value1, value2, wrapped
 
 LENGTHS = {"byte": 1, "word": 2, "dbyt": 2, "dword": 4, "branch": 1}
 WIDTHS = {"implied": None, "accumulator": None, "absolute": "word", "absolute_x": "word", "absolute_y": "word",
           "indirect": "word", "relative": "branch"}
-# What asks for a section of the segment in which it stands.
+# The statements that need a section of their segment.
 ASKING = {"label", "cheap", "unnamed", "proc", "instruction", "data", "res", "align"}
 
 
@@ -15,12 +14,12 @@ def next_multiple(at, multiple):
 
 
 def operands(e):
-    """What an expression is made of, from left to right: numbers, `*` and names."""
+    """The parts of an expression, from left to right: numbers, `*` and names."""
     return [e] if isinstance(e, int) or e[0] not in ("one", "two") else [it for part in e[2:] for it in operands(part)]
 
 
 class Statement:
-    """A statement and the scope, region, count of unnamed labels and segment in which it stands."""
+    """A statement with its scope, region, count of unnamed labels and segment."""
 
     def __init__(self, stated, module):
         self.kind, *self.parts = stated
@@ -44,13 +43,13 @@ class Statement:
         return [self.parts[0]] if self.kind == "assert" else []
 
     def asks(self):
-        """Whether there has to be a section of the segment in which it stands."""
+        """Returns whether the statement needs a section of its segment."""
         e = {"constant": self.parts[1:2], "assert": self.parts[:1]}.get(self.kind, [])
         return self.kind in ASKING or ("here",) in [it for tree in e for it in operands(tree)]
 
 
 class Module:
-    """A source's statements. While they are laid one behind the other the module is what is known at a line."""
+    """A source's statements. While they are laid out in order, the module contains what is known at the current line."""
 
     def __init__(self, text):
         self.laid = []
@@ -92,7 +91,7 @@ class Module:
         return scope
 
     def meaning(self, s, e):
-        """What a name means where a statement stands: the place of a statement, the name of an import, or None."""
+        """Returns the meaning of a name at a statement: the index of a statement, the name of an import, or None."""
         kind, what = e
         if kind == "cheap":
             return self.definitions.get((kind, s.region, what))
@@ -106,7 +105,7 @@ class Module:
             return name
         return place
 
-    # ---- What is known at a line.
+    # ---- Values known at a line.
 
     def known(self, s, e, inside=()):
         """A number, a segment and an offset, or None where an expression isn't so much as that at its line."""
@@ -148,7 +147,7 @@ class Module:
         return found
 
     def size(self, s, e):
-        """Whether an expression is of the zero page, by what is known at its line."""
+        """Returns whether an expression is short (zero page), by the values known at its line."""
         found = self.known(s, e)
         if isinstance(found, int):
             return "zeropage" if 0 <= found <= 255 else "absolute"

@@ -1,4 +1,4 @@
-"""Starts the real program with failing.c preloaded, for memory.py and failing_disk.py."""
+"""Starts the real program with fault_injection.c preloaded, for alloc_faults.py and io_faults.py."""
 
 import os
 import re
@@ -6,19 +6,19 @@ import subprocess
 import sys
 import tempfile
 
-import starting
+import launcher
 
 HERE = os.path.dirname(os.path.abspath(__file__))
 ROWS = os.path.join(HERE, "..", "crates", "testkit65", "src", "runs.rt")
 
 
 def build(folder):
-    """Compiles failing.c with the kit's own compiler and linker, and returns the name of the library."""
+    """Compiles fault_injection.c with the kit's own compiler and linker, and returns the name of the library."""
     page = subprocess.run(["rt", "doc"], capture_output=True, text=True, check=True).stdout.strip()
     kit = os.path.join(os.path.dirname(page), "toolchain")
     library = os.path.join(folder, "failing.so")
     words = ["--target=x86_64-unknown-linux-gnu", "--no-default-config", "-O1", "-fPIC", "-ffreestanding", "-shared", "-nostdlib"]
-    words += [f"-fuse-ld={kit}/bin/ld.lld", "-o", library, os.path.join(HERE, "failing.c"), f"{kit}/lib/libc.so.6"]
+    words += [f"-fuse-ld={kit}/bin/ld.lld", "-o", library, os.path.join(HERE, "fault_injection.c"), f"{kit}/lib/libc.so.6"]
     subprocess.run([f"{kit}/bin/clang", *words], check=True)
     return library
 
@@ -34,8 +34,8 @@ class Run:
         return self.status, self.out, self.err, self.files
 
 
-class Starter(starting.Starter):
-    """Starts the program with failing.c preloaded."""
+class Starter(launcher.Starter):
+    """Starts the program with fault_injection.c preloaded."""
 
     def __init__(self, program):
         super().__init__(program)
@@ -44,7 +44,7 @@ class Starter(starting.Starter):
         self.library = build(self.built.name)
 
     def run(self, words, failing):
-        """Runs the program. `failing` tells failing.c what to do."""
+        """Runs the program. `failing` tells fault_injection.c what to do."""
         environment = {"LD_PRELOAD": self.library, "FAILING": failing} if failing else {}
         return Run(self.start(words, environment), self.files())
 

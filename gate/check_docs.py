@@ -1,16 +1,17 @@
-"""Checks docs/PROVED.md, docs/ARCHITECTURE.md and docs/DECISIONS.md: calls, clauses, modules of definitions, files and counts that they cite
+"""Checks the pages for those who verify or maintain bin65: calls, clauses, modules of definitions, names, files and counts that they cite
 exist, claims are short, and so are paragraphs.
 
 A row of PROVED has a claim, its calls, their clauses, and the modules of specs/ that define the clauses' terms, under a heading with the
 crate's name. A clause without a name is cited by a text that it contains, in parentheses; 'law' cites all clauses of a law; 'same' repeats
 the calls of the row before."""
+import functools
 import glob
 import os
 import re
 
 CLAIM_WORDS = 25
 PARAGRAPH = 600
-PAGES = ("PROVED", "ARCHITECTURE", "DECISIONS")
+PAGES = ("PROVED", "ARCHITECTURE", "DECISIONS", "THEOREM", "one-program")
 
 CLAUSE = re.compile(r"\b(?:requires|ensures)\s*(\w*)\s*\{")
 FUNCTION = re.compile(r"^( *)(?:pub (?:\([^)]*\) )?)?(?:const )?fn (\w+)")
@@ -22,6 +23,9 @@ CITED = re.compile(r"\b(\w+65) ((?:`(?:Internal/)?[A-Z]\w*`(?:, | and )?)+)")
 PATH = re.compile(r"(?:crates(?!/NAME)|tests|gate|example|docs|bench|man|\w+65)(?:/[\w.-]+)+")
 TICKED = re.compile(r"`([^`]+)`")
 ROW = re.compile(r"^\| (.*) \|$", re.M)
+# A name of the code in a page: it has an underscore or an inner capital, so it is no word of the language.
+NAME = re.compile(r"(?!__)[A-Za-z]\w*(?:::\w+)*")
+CODE = ("crates/*/src/**/*.rt", "crates/*/specs/**/*.antt", "crates/*/proofs/**/*.antt", "gate/*.py", "tests/*.py")
 
 
 def read(file):
@@ -151,11 +155,11 @@ def why_row(root, crates, crate, cells):
     if lost := sorted({*TICKED.findall(named)} - {clause for clause, _, _ in there}):
         return f"no call of the row has the clause {lost[0]}"
     if idle := [it for it in found if it not in {call for _, call, _ in there}]:
-        return f"no clause of the row stands in {idle[0]}"
+        return f"no clause of the row is one of {idle[0]}"
     text, files = " ".join(it for _, _, it in there), {file for where in found.values() for file, _ in where}
     for other, module in MODULE.findall(modules):
         if not is_near(root, other or crate, module, text, files):
-            return f"{other or crate} {module} isn't there, or defines nothing that these clauses say"
+            return f"{other or crate} {module} doesn't exist, or defines no term of these clauses"
     return None
 
 
@@ -192,12 +196,26 @@ def why_cited(root, text):
             yield f"{folder}/ has {there} edits, not {count}"
 
 
+@functools.lru_cache(maxsize=None)
+def words_of_code(root):
+    """Returns all words of the code, its definitions and its proofs, and the names of mutants."""
+    files = [file for pattern in CODE for file in glob.glob(f"{root}/{pattern}", recursive=True)]
+    mutants = (os.path.basename(it).removesuffix(".edit") for it in glob.glob(f"{root}/crates/*/*/*.edit"))
+    return frozenset(mutants).union(*(re.findall(r"\w+", read(it)) for it in files))
+
+
+def why_named(words, text):
+    """Yields the names in a page that occur nowhere in the code."""
+    for name in sorted(set(filter(NAME.fullmatch, TICKED.findall(text)))):
+        if lost := [it for it in name.split("::") if re.search(r"_|[a-z][A-Z]", it) and it not in words]:
+            yield f"no such name: {lost[0]}"
+
+
 def why_page(root, page):
     """Returns why a page is wrong, or None."""
     text = without_code(read(f"{root}/docs/{page}.md"))
     why = [f"a paragraph of {len(it)} characters: {it[:60]}" for it in paragraphs(text) if len(it) > PARAGRAPH]
-    if page != "DECISIONS":
-        why += [*why_cited(root, text), *why_public(root, text)]
+    why += [*why_named(words_of_code(root), text), *why_cited(root, text), *why_public(root, text)]
     return "; ".join(why) or None
 
 

@@ -2,7 +2,7 @@
 
 import re
 
-# More bytes than this are cut from what is made.
+# The maximum length of a mutated input; the rest is cut.
 MOST = 16384
 
 NUMBERS = (0, 1, 2, 5, 127, 128, 255, 256, 4095, 4096, 4097, 65535, 65536, 2**24 - 1, 2**24, 2**24 + 1, 2**31 - 1, 2**31, 2**32 - 1, 2**63)

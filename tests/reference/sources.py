@@ -1,6 +1,6 @@
 """Sources as lists of statements, each a kind and what belongs to it, and the values of operators.
 
-The statements are those behind expansion: a source with a macro, a condition, a repeat or an include isn't read here.
+The statements are those after expansion: a source with a macro, a condition, a repeat or an include isn't read here.
 """
 
 import operator
@@ -141,7 +141,7 @@ class Line:
         return word
 
     def listed(self, read):
-        """What is read, once or more, between commas."""
+        """Reads one or more items between commas."""
         found = [read()]
         while self.take(","):
             found.append(read())

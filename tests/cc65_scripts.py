@@ -5,7 +5,7 @@ edited script: the images must be the same. If cc65 isn't installed, only the ru
 The rules: FEATURES, FILES and FORMATS are removed; `%S` becomes the start address; a weak symbol that an area needs becomes an export. What
 FORMATS makes cc65's linker write around an Atari program gets areas of its own, and its bytes are in the source.
 
-usage: stock_scripts.py BIN65. The last line is 'N passed, M failed'."""
+usage: cc65_scripts.py BIN65. The last line is 'N passed, M failed'."""
 import os
 import re
 import shutil
@@ -26,7 +26,7 @@ SOURCES = {
     "apple2": ALL + NAMED + '.segment "EXEHDR"\n .res 58, 5\n.segment "ONCE"\n rts\n',
     "atari-xex": ALL + " .export start, __SYSTEM_CHECK__\n__SYSTEM_CHECK__ = $2E00\n",
 }
-# What cc65's linker writes around an Atari program: a mark, the first and the last address, and after it the start.
+# The parts that cc65's linker writes around an Atari program: a mark, the first and the last address, and after the program the start address.
 XEX = """ .import start, __MAIN_START__, __BSS_RUN__
 .segment "MARK"
  .word $FFFF

@@ -208,10 +208,11 @@ module _ (a : Assembling) (out err : List ℕ) where
   -- a source has one outcome, so each object of it is the one that was made
   made_fits : (m : Files) (r : Result Object Diagnostic) → IsMadeFitting (job_in a) m r → SourceObjectFits a m
   made_fits m (Ok object) (is, fits) x other was found =
-      let same : object ≡ other = let e = ap (λ (z : asm.Outcome). z.result) (one_answer m (job_in a) (found_in (Ok object)) x is was) ∙ found in cc in
+      let both : Ok object ≡ Ok other = ap (λ (z : asm.Outcome). z.result) (one_answer m (job_in a) (found_in (Ok object)) x is was) ∙ found in
+      let same : object ≡ other = cc in
       subst ObjectFits same fits
   made_fits m (Err e) (is, fits) x other was found =
-      absurd (let e = ap (λ (z : asm.Outcome). z.result) (one_answer m (job_in a) (found_in (Err e)) x is was) ∙ found in cc)
+      absurd (let both : Err (placed_of e) ≡ Ok other = ap (λ (z : asm.Outcome). z.result) (one_answer m (job_in a) (found_in (Err e)) x is was) ∙ found in cc)
 
   made_does : (m : Files) (r : Result Object Diagnostic) (o : Outcome) → IsMadeFitting (job_in a) m r → Made r o → IsFittingOutcome (assemble a) m o
   made_does m r o is comes = ((found_in r, is.0, comes), made_fits m r is)

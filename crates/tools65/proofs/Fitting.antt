@@ -1,5 +1,5 @@
 -- The object that a run makes fits, unless memory ran out.
-use Rattle.std.proofs.Common.{◌≡◌, ◌⊎◌, inl, inr, ℕ, ◌≤◌, List, [], Bool, true, false, not, Option, Some, None, Result, Ok, Err, ap, subst}
+use Rattle.std.proofs.Common.{◌≡◌, ◌⊎◌, inl, inr, ℕ, ◌≤◌, List, [], Bool, false, not, Option, Some, None, Result, Ok, Err, ap, subst}
 use Rattle.std.specs.Prelude.{IfSome}
 use Rattle.base65.specs.Outcome.{RefinesErr}
 use Rattle.base65.specs.Store.{Files, LastFailure, NoneFailed, RelatesFiles}

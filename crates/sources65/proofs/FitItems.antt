@@ -1,10 +1,8 @@
--- What is left of a source is fit: its tokens, its numbers, which are small, and its places, which are texts; and no line,
--- block or body brings more tokens than its lines may have.
+-- What is left of a source is fit: its tokens; and no line, block or body brings more of them than its lines may have.
 use Rattle.std.proofs.lemmas.Grind.{common_steps}
-use Rattle.std.proofs.Common.{arith, ◌≡◌, ℕ, zero, suc, ◌+◌, ◌*◌, ◌<◌, ◌≤◌, true, List, [], ◌∷◌, ◌++◌, length, map, Option, Some, None, refl, sym, ap, subst}
+use Rattle.std.proofs.Common.{arith, ◌≡◌, ℕ, zero, suc, ◌+◌, ◌*◌, ◌≤◌, List, [], ◌∷◌, ◌++◌, length, map, Some, None, refl, sym, ap, subst}
 use Rattle.std.specs.Prelude.{⊤, Result, Ok, Err}
 use Rattle.std.specs.List.{AllByRecursion}
-use Rattle.std.specs.Str.{is_utf8}
 use Rattle.std.proofs.lemmas.Bool.Decides.{nat_tests}
 use Rattle.base65.specs.Store.{Files}
 use Rattle.syntax65.specs.Tokens.{Lexeme}
@@ -12,13 +10,13 @@ use Rattle.syntax65.specs.declared.fault.ExpandFault.{ExpandFault}
 use Rattle.syntax65.specs.declared.source_location.SourceLocation.{SourceLocation}
 use Rattle.expand65.specs.Blocks.{Block, the_last, one_more, with_line, CompleteBlock}
 use Rattle.expand65.specs.declared.blocks.BlockKind.{BlockKind}
-use Rattle.expand65.specs.Lines.{come_back, body_line_tokens, in_iteration, IsOpened, Item, written, played, labelled, branch, mark, RemainingInput, remaining_input, with_local_names, InputEnd, file_lines_after, outside_macro, location_after, repeat_substitution, Substitution, LocatedError, LineAndRest, taken_as, TakesNextLine, TakesFrom, iterations}
+use Rattle.expand65.specs.Lines.{come_back, body_line_tokens, in_iteration, IsOpened, Item, played, labelled, mark, RemainingInput, remaining_input, with_local_names, InputEnd, file_lines_after, outside_macro, location_after, repeat_substitution, Substitution, LocatedError, LineAndRest, taken_as, TakesNextLine, TakesFrom, iterations}
 use Rattle.sources65.proofs.FitLines.{AreAllFit, AreBases, Each, IsReplacingFit, most, replaced_fit, with_locals_fit}
-use Rattle.sources65.proofs.FitTokens.{AreBytes, AreFit, HaveBytes, IsLineFit, number_limit, read_fit}
+use Rattle.sources65.proofs.FitTokens.{AreFit, IsLineFit, read_fit}
 use Rattle.semantics65.proofs.Segments.{all_more}
 use Rattle.sources65.proofs.SoundForms.{all_append}
 
--- ---- Tokens and places.
+-- ---- Tokens.
 
 -- how many tokens stand there
 abbrev pub tokens_in : List Item → ℕ
@@ -45,30 +43,21 @@ localised_tokens names (labelled ts ∷ is) = ap (λ n. length ts + n) (localise
 localised_tokens names (played r ts ∷ is) = localised_tokens names is
 localised_tokens names (_ ∷ is) = localised_tokens names is
 
-abbrev pub IsPlaceFit : SourceLocation → Type 0
-IsPlaceFit p = (is_utf8 p.file ≡ true) × (p.line < 4294967296)
-
-back_fit : (p : SourceLocation) (o : Option SourceLocation) → IsPlaceFit p → Each IsPlaceFit o → IsPlaceFit (come_back p o)
-back_fit p x1 h j = grind (arith, common_steps)
-
 module _ (m : Files) where
   -- ---- What is left.
 
   abbrev pub IsItemFit : Item → Type 0
-  IsItemFit (written n bytes) = (n < 4294967296) × (HaveBytes m → AreBytes bytes)
   IsItemFit (played r ts) = IsReplacingFit m r × AreFit m ts
   IsItemFit (labelled ts) = AreFit m ts
-  IsItemFit (branch ts) = ⊤
-  IsItemFit (mark k) = Each IsPlaceFit k.back
+  IsItemFit _ = ⊤
 
   -- what is left behind so many tokens
   pub record IsLeftFit (n : ℕ) (l : RemainingInput) : Type 0 where
     pub items : AllByRecursion IsItemFit l.items
-    pub place : IsPlaceFit l.place
     pub few : n + tokens_left l ≤ most
 
   pub fewer : (k n : ℕ) (l : RemainingInput) → k ≤ n → IsLeftFit n l → IsLeftFit k l
-  fewer k n l le h = let few = h.few in record { items = h.items; place = h.place; few = omega (arith, le, few) }
+  fewer k n l le h = let few = h.few in record { items = h.items; few = omega (arith, le, few) }
 
   -- ---- Lines that are put in.
 
@@ -76,31 +65,31 @@ module _ (m : Files) where
   abbrev pub AreLines : List Item → Type 0
   AreLines is = AllByRecursion IsItemFit is × (tokens_in is ≡ 0)
 
-  pub numbered_lines : (n : ℕ) (lines : List (List ℕ)) → (HaveBytes m → AllByRecursion AreBytes lines) → n + length lines < 4294967296 → AreLines (file_lines_after n lines)
-  numbered_lines n [] h few = (tt, refl)
-  numbered_lines n (line ∷ lines) h few = let more = numbered_lines (n + 1) lines (λ all. (h all).1) (omega arith) in (((omega arith, (λ all. (h all).0)), more.0), more.1)
+  pub written_lines : (n : ℕ) (lines : List (List ℕ)) → AreLines (file_lines_after n lines)
+  written_lines n [] = (tt, refl)
+  written_lines n (line ∷ lines) = let more = written_lines (n + 1) lines in ((tt, more.0), more.1)
 
   pub played_lines : (r : Substitution) (body : List (List Lexeme)) → IsReplacingFit m r → AreAllFit m body → AreLines (map (played r) body)
   played_lines r [] fit h = (tt, refl)
   played_lines r (ts ∷ body) fit h = let more = played_lines r body fit h.1 in (((fit, h.0), more.0), more.1)
 
-  pub turns_lines : (variable : List (List ℕ)) (body : List (List Lexeme)) (t n : ℕ) → AreAllFit m body → t + n < number_limit → AreLines (iterations (repeat_substitution variable) body t n)
-  turns_lines variable body t zero h few = (tt, refl)
-  turns_lines variable body t (suc n) h few =
-      let first = played_lines (in_iteration (repeat_substitution variable) t) body (record { arguments = (((omega arith), tt), tt); count = tt; locals = tt; number = omega arith }) h in
-      let more = turns_lines variable body (t + 1) n h (omega arith) in
+  pub turns_lines : (variable : List (List ℕ)) (body : List (List Lexeme)) (t n : ℕ) → AreAllFit m body → AreLines (iterations (repeat_substitution variable) body t n)
+  turns_lines variable body t zero h = (tt, refl)
+  turns_lines variable body t (suc n) h =
+      let first = played_lines (in_iteration (repeat_substitution variable) t) body (record { arguments = ((tt, tt), tt); count = tt; locals = tt; number = omega arith }) h in
+      let more = turns_lines variable body (t + 1) n h in
       let one = first.1 in
       let two = more.1 in
       let all = tokens_append (map (played (in_iteration (repeat_substitution variable) t)) body) (iterations (repeat_substitution variable) body (t + 1) n) in
       (all_append IsItemFit (map (played (in_iteration (repeat_substitution variable) t)) body) (iterations (repeat_substitution variable) body (t + 1) n) first.0 more.0, omega (arith, all, one, two))
 
   -- lines and an end mark in front of what is left
-  pub pushed_fit : (n : ℕ) (is : List Item) (k : InputEnd) (l : RemainingInput) (p : SourceLocation) → IsLeftFit n l → AreLines is → Each IsPlaceFit k.back → IsPlaceFit p → IsLeftFit n (remaining_input (is ++ mark k ∷ l.items) l.room p)
-  pushed_fit n is k l p h lines back place =
+  pub pushed_fit : (n : ℕ) (is : List Item) (k : InputEnd) (l : RemainingInput) (p : SourceLocation) → IsLeftFit n l → AreLines is → IsLeftFit n (remaining_input (is ++ mark k ∷ l.items) l.room p)
+  pushed_fit n is k l p h lines =
       let few = h.few in
       let none = lines.1 in
       let all = tokens_append is (mark k ∷ l.items) in
-      record { items = all_append IsItemFit is (mark k ∷ l.items) lines.0 (back, h.items); place = place; few = omega (arith, few, none, all) }
+      record { items = all_append IsItemFit is (mark k ∷ l.items) lines.0 (tt, h.items); few = omega (arith, few, none, all) }
 
   -- ---- Names of an expansion's own, and what is left behind it.
 
@@ -111,10 +100,10 @@ module _ (m : Files) where
   localised_fit names (_ ∷ is) bases h = (h.0, localised_fit names is bases h.1)
 
   pub after_mark : (n : ℕ) (k : InputEnd) (is : List Item) (room : ℕ) (p : SourceLocation) → IsLeftFit n (remaining_input (mark k ∷ is) room p) → IsLeftFit n (remaining_input is room (come_back p k.back))
-  after_mark n k is room p h = let few = h.few in record { items = h.items.1; place = back_fit p k.back h.place h.items.0; few = omega (arith, few) }
+  after_mark n k is room p h = let few = h.few in record { items = h.items.1; few = omega (arith, few) }
 
   after_item : (n : ℕ) (i : Item) (is : List Item) (room : ℕ) (p : SourceLocation) → IsLeftFit n (remaining_input (i ∷ is) room p) → IsLeftFit n (remaining_input is room p)
-  after_item n i is room p h = let few = h.few in let less = tokens_after i is in record { items = h.items.1; place = h.place; few = omega (arith, few, less) }
+  after_item n i is room p h = let few = h.few in let less = tokens_after i is in record { items = h.items.1; few = omega (arith, few, less) }
 
   abbrev pub IsOutsideFit : ℕ → ℕ → ℕ × List Item × SourceLocation → Type 0
   IsOutsideFit n room (c, is, p) = IsLeftFit n (remaining_input is room p)
@@ -141,12 +130,8 @@ module _ (m : Files) where
   opened_fit : (i : Item) (q : Result (List Lexeme) ExpandFault) → IsItemFit i → IsOpened i q → IsOpenedFit q
   opened_fit x1 q h x2 = grind (arith, common_steps, (read_fit m), (replaced_fit m), fitted_fit)
 
-  reached_fit : (p : SourceLocation) (i : Item) → IsPlaceFit p → IsItemFit i → IsPlaceFit (location_after p i)
-  reached_fit p (written n bytes) h j = (h.0, j.0)
-  reached_fit p _ h j = h
-
   line_after : (n : ℕ) (i : Item) (is : List Item) (room : ℕ) (p : SourceLocation) → IsLeftFit n (remaining_input (i ∷ is) (suc room) p) → (ts : List Lexeme) → length ts ≤ 4096 → IsLeftFit (n + length ts) (remaining_input is room (location_after p i))
-  line_after n i is room p h ts short = let few = h.few in let less = tokens_after i is in record { items = h.items.1; place = reached_fit p i h.place h.items.0; few = omega (arith, few, short, less) }
+  line_after n i is room p h ts short = let few = h.few in let less = tokens_after i is in record { items = h.items.1; few = omega (arith, few, short, less) }
 
   a_line : (n : ℕ) (i : Item) (is : List Item) (room : ℕ) (p : SourceLocation) (q : Result (List Lexeme) ExpandFault) → IsLeftFit n (remaining_input (i ∷ is) (suc room) p) → IsOpened i q → IsTakenFit n (taken_as q (remaining_input is room (location_after p i)))
   a_line n i is room p x1 h o = grind (arith, common_steps, (opened_fit i x1 h.items.0 o), (line_after n i is room p h))

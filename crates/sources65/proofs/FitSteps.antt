@@ -1,11 +1,9 @@
 -- Each step of expansion keeps what is left fit, and gives fit tokens, no more than are left; and no more macros are called
 -- than tokens were taken.
 use Rattle.std.proofs.lemmas.Grind.{common_steps}
-use Rattle.std.proofs.Common.{arith, ◌≡◌, ℤ, ℕ, zero, suc, ◌+◌, ◌<◌, ◌≤◌, Bool, true, false, List, [], ◌∷◌, length, drop, map, Option, Some, None, refl, sym, subst}
-use Rattle.std.specs.Prelude.{⊤, IfOk, Result, Ok, Err}
+use Rattle.std.proofs.Common.{arith, ◌≡◌, ℕ, zero, suc, ◌+◌, Bool, true, false, List, [], ◌∷◌, length, drop, map, Option, Some, None, refl, sym, subst}
+use Rattle.std.specs.Prelude.{⊤, Result, Ok, Err}
 use Rattle.std.specs.List.{AllByRecursion}
-use Rattle.std.specs.Str.{is_utf8}
-use Rattle.std.proofs.lemmas.Bool.Decides.{nat_tests}
 use Rattle.std.proofs.lemmas.List.{length-drop, length-take}
 use Rattle.base65.specs.Outcome.{◌>>=◌}
 use Rattle.base65.specs.Store.{Files}
@@ -23,74 +21,21 @@ use Rattle.expand65.specs.declared.fronts.Directive.{Directive}
 use Rattle.expand65.specs.declared.fronts.Directive.TheVariants.{Macro, EndMacro, ExitMacro, Local, Repeat, EndRepeat, If, ElseIf, Else, EndIf, Include, Error, End}
 use Rattle.expand65.specs.declared.fronts.ConditionKind.{ConditionKind}
 use Rattle.expand65.specs.declared.fronts.ConditionKind.TheVariants.{True}
-use Rattle.expand65.specs.Expansion.{line_step, at_mark, bytes_in, directive_step, file_named, first_file, first_state, found_or, include_file, IsStep, last_condition, StepReaches, Next, statement, nothing, fault, not_opened, opened_in, ReachesNext, further, given, label_step, step_after, step_from, unless_mislabelled}
+use Rattle.expand65.specs.Expansion.{line_step, at_mark, bytes_in, directive_step, file_named, first_file, first_state, include_file, IsStep, last_condition, StepReaches, Next, statement, nothing, fault, not_opened, opened_in, ReachesNext, further, given, label_step, step_after, step_from, unless_mislabelled}
 use Rattle.expand65.specs.Fronts.{front_directive, is_mislabelled, label_len, line_directive, string_of, ok_or_unknown}
-use Rattle.expand65.specs.Lines.{Definition, in_line, Item, line_limit, played, labelled, branch, RemainingInput, remaining_input, lines_of, InputEnd, Substitution, file_lines_after, outside_macro, put_before, repeat_substitution, LineAndRest, TakesNextLine, iterations}
-use Rattle.expand65.specs.Macros.{arguments_of, call_result, with_one_more_call, definition_step, with_input, exit_macro, exit_result, given_to, header_of, local_line, macro_at, macro_of, mark_from, ordinary, repeat_line, repeat_of, iterations_step, iterations_of}
+use Rattle.expand65.specs.Lines.{Definition, in_line, Item, line_limit, played, labelled, branch, RemainingInput, remaining_input, lines_of, InputEnd, Substitution, file_lines_after, outside_macro, repeat_substitution, LineAndRest, TakesNextLine, iterations}
+use Rattle.expand65.specs.Macros.{arguments_of, call_result, with_one_more_call, definition_step, with_input, exit_macro, exit_result, given_to, header_of, local_line, macro_at, macro_of, mark_from, ordinary, repeat_line, repeat_of, iterations_step}
 use Rattle.expand65.specs.State.{condition_step, else_line, ended_if, after_false_condition, goes, gives, ends, stops, if_alone, if_line, leads, parses, decides, takes, takes_block, searches, EnvironmentView, State, ExpandedStatement, label, plain, ExpansionStep, StepResult, unless_refused, with_items, with_remaining}
-use Rattle.sources65.proofs.FitItems.{AreLines, after_mark, block_fit, fewer, IsLeftFit, IsOutsideFit, IsPlaceFit, IsTakenFit, localised_fit, localised_tokens, numbered_lines, outside_fit, played_lines, pushed_fit, taken_fit, turns_lines}
+use Rattle.sources65.proofs.FitItems.{AreLines, after_mark, block_fit, fewer, IsLeftFit, IsOutsideFit, IsTakenFit, localised_fit, localised_tokens, outside_fit, played_lines, pushed_fit, taken_fit, turns_lines, written_lines}
 use Rattle.sources65.proofs.FitLines.{AreAllFit, arguments_few, arguments_fit, Each, lookup_each, new_names_fit}
-use Rattle.sources65.proofs.FitTokens.{all_drop, all_take, AreBytes, AreFit, HaveBytes, IsTokenFit}
+use Rattle.sources65.proofs.FitTokens.{all_drop, all_take, AreFit, IsTokenFit}
 use Rattle.semantics65.proofs.Segments.{all_more}
-
--- ---- Files.
-
--- a file that is read: its name is a text, and it isn't too long
-abbrev pub IsFileFit : Files → List ℕ → List ℕ → Type 0
-IsFileFit m name bytes = (is_utf8 name ≡ true) × (HaveBytes m → AreBytes bytes) × (length bytes ≤ 16777216)
-
-abbrev IsSearchFit : Files → Result (List ℕ × List ℕ) ExpandFault → Type 0
-IsSearchFit m q = IfOk q (λ f. IsFileFit m f.0 f.1)
-
-named_fit : (m : Files) (name bytes : List ℕ) → file_named m name ≡ Some bytes → length bytes ≤ 16777216 → IsFileFit m name bytes
-named_fit m name bytes h short = grind (arith, common_steps)
-
--- so is a source
-pub opened_bytes : (m : Files) (name : List ℕ) (o : Option (List ℕ)) → file_named m name ≡ o → IfOk (bytes_in o) (IsFileFit m name)
-opened_bytes m name x1 e = grind (arith, common_steps, nat_tests, (named_fit m name))
-
--- and what is found of some names
-found_fit : (m : Files) (name : List ℕ) (o : Option (List ℕ)) (others : Result (List ℕ × List ℕ) ExpandFault) → file_named m name ≡ o → IsSearchFit m others → IsSearchFit m (found_or name o others)
-found_fit m name x1 others e j = grind (arith, common_steps, nat_tests, (named_fit m name))
-
-search_fit : (m : Files) (names : List (List ℕ)) → IsSearchFit m (first_file m names)
-search_fit m [] = tt
-search_fit m (name ∷ names) = found_fit m name (file_named m name) (first_file m names) refl (search_fit m names)
-
--- ---- The lines of a file.
-
-put_bytes : (b : ℕ) (lines : List (List ℕ)) → b < 256 → AllByRecursion AreBytes lines → AllByRecursion AreBytes (put_before b lines)
-put_bytes b x1 h j = grind (arith, common_steps)
-
-lines_bytes : (bs : List ℕ) → AreBytes bs → AllByRecursion AreBytes (lines_of bs)
-lines_bytes [] h = tt
-lines_bytes (b ∷ bs) h = grind (arith, common_steps, (lines_bytes bs h.1), put_bytes)
-
-put_few : (b : ℕ) (lines : List (List ℕ)) → length (put_before b lines) ≤ length lines + 1
-put_few b x1 = grind arith
-
-lines_few : (bs : List ℕ) → length (lines_of bs) ≤ length bs
-lines_few [] = omega arith
-lines_few (b ∷ bs) = grind (arith, common_steps, (lines_few bs), (put_few b (lines_of bs)))
-
-file_lines : (m : Files) (name bytes : List ℕ) → IsFileFit m name bytes → AreLines m (file_lines_after 0 (lines_of bytes))
-file_lines m name bytes (text, all, short) = let few = lines_few bytes in numbered_lines m 0 (lines_of bytes) (λ have. lines_bytes bytes (all have)) (omega (arith, few, short))
 
 -- ---- States.
 
 abbrev pub tokens_of : ExpandedStatement → List Lexeme
 tokens_of (label ts) = ts
 tokens_of (plain ts) = ts
-
--- turns of a repeat
-abbrev IsFew : Result (ℕ × List (List ℕ)) ExpandFault → Type 0
-IsFew q = IfOk q (λ h. h.0 ≤ 65536)
-
-turns_few : (o : Option ℤ) → IfOk (iterations_of o) (λ n. n ≤ 65536)
-turns_few x1 = grind (arith, common_steps, nat_tests)
-
-repeat_few : (k : EnvironmentView) (ts : List Lexeme) (q : Result (Tree × ℕ) ExprFault) → IsFew (repeat_of k ts q)
-repeat_few k ts q = grind (arith, common_steps, turns_few)
 
 module _ (m : Files) where
   -- so many tokens were given, or are acted on, and each macro that was called took one more
@@ -119,7 +64,7 @@ module _ (m : Files) where
     Keeps (decides k test ts next) = (c : Result Bool ExpandFault) → Keeps (next c)
     Keeps (takes l next) = (t : LineAndRest) → TakesNextLine l t → Keeps (next t)
     Keeps (takes_block k l next) = (b : CompleteBlock) (x : RemainingInput) → Block k 0 [] l (Ok (b, x)) → IsKept (next b x)
-    Keeps (searches l names next) = (q : Result (List ℕ × List ℕ) ExpandFault) → IsSearchFit m q → Keeps (next q)
+    Keeps (searches l names next) = (q : Result (List ℕ × List ℕ) ExpandFault) → Keeps (next q)
 
     led_fit : (step : ExpansionStep) (r : StepResult) → Keeps step → StepReaches m step r → IsKept r
     led_fit (leads x) r fit h = subst IsKept (sym h) fit
@@ -128,7 +73,7 @@ module _ (m : Files) where
     led_fit (takes l next) r fit (t, p, h) = led_fit (next t) r (fit t p) h
     led_fit (takes_block k l next) r fit (Ok (b, x), p, h) = subst IsKept (sym h) (fit b x p)
     led_fit (takes_block k l next) r fit (Err e, p, h) = subst IsKept (sym h) tt
-    led_fit (searches l names next) r fit h = led_fit (next (first_file m names)) r (fit (first_file m names) (search_fit m names)) h
+    led_fit (searches l names next) r fit h = led_fit (next (first_file m names)) r (fit (first_file m names)) h
 
     -- ---- What steps go through.
 
@@ -140,8 +85,8 @@ module _ (m : Files) where
     alone s [] after h = h
     alone s (t ∷ ts) after h = tt
 
-    enters : (s : State) (is : List Item) (k : InputEnd) (p : SourceLocation) → IsStateFit n s → AreLines m is → Each IsPlaceFit k.back → IsPlaceFit p → IsKept (with_input s is k p)
-    enters s is k p fit lines back place = let inner = pushed_fit m (n + s.expansions) is k s.left p fit.left lines back place in grind (arith, common_steps, inner)
+    enters : (s : State) (is : List Item) (k : InputEnd) (p : SourceLocation) → IsStateFit n s → AreLines m is → IsKept (with_input s is k p)
+    enters s is k p fit lines = let inner = pushed_fit m (n + s.expansions) is k s.left p fit.left lines in grind (arith, common_steps, inner)
 
     module _ (s : State) (fit : IsStateFit n s) where
       block : (k : BlockKind) (b : CompleteBlock) (x : RemainingInput) → Block k 0 [] s.left (Ok (b, x)) → AreAllFit m b.0 × IsLeftFit m (n + s.expansions) x
@@ -180,14 +125,14 @@ module _ (m : Files) where
 
       -- ---- Repeats and included files.
 
-      repeats_on : (count : ℕ) (variable : List (List ℕ)) → count ≤ 65536 → Keeps (iterations_step s count variable)
-      repeats_on count variable small = λ b x p. (let h = block kind.Repeat b x p in enters (with_remaining s x) (iterations (repeat_substitution variable) b.0 0 count) (mark_from s false None) x.place (record { left = h.1; macros = fit.macros }) (turns_lines m variable b.0 0 count h.0 (omega (arith, small))) tt h.1.place)
+      repeats_on : (count : ℕ) (variable : List (List ℕ)) → Keeps (iterations_step s count variable)
+      repeats_on count variable = λ b x p. (let h = block kind.Repeat b x p in enters (with_remaining s x) (iterations (repeat_substitution variable) b.0 0 count) (mark_from s false None) x.place (record { left = h.1; macros = fit.macros }) (turns_lines m variable b.0 0 count h.0))
 
       repeat_on : (k : EnvironmentView) (ts : List Lexeme) → Keeps (repeat_line k s ts)
-      repeat_on k ts = λ q. unless s (repeat_of k ts q) _ (λ h e. repeats_on h.0 h.1 (subst IsFew e (repeat_few k ts q)))
+      repeat_on k ts = λ q. unless s (repeat_of k ts q) _ (λ h e. repeats_on h.0 h.1)
 
       include_on : (file : List ℕ) → Keeps (include_file s file)
-      include_on file = λ q after_false_condition. unless s q _ (λ f e. (let h = subst (IsSearchFit m) e after_false_condition in enters s (file_lines_after 0 (lines_of f.1)) (mark_from s false (Some s.left.place)) (record { file = f.0; line = 0 }) fit (file_lines m f.0 f.1 h) fit.left.place (h.0, omega arith)))
+      include_on file = λ q. unless s q _ (λ f e. enters s (file_lines_after 0 (lines_of f.1)) (mark_from s false (Some s.left.place)) (record { file = f.0; line = 0 }) fit (written_lines m 0 (lines_of f.1)))
 
       directed_on : (k : EnvironmentView) (d : Directive) (ts : List Lexeme) → AreFit m ts → Keeps (directive_step k s d ts)
       directed_on k Macro ts h = unless s (ok_or_unknown (header_of ts)) _ (λ x e. defines_on x.0 x.1 (macro_of s.macros x.0))
@@ -202,7 +147,7 @@ module _ (m : Files) where
       directed_on k EndIf ts h = alone s ts (leads (ended_if s (last_condition s))) (end_if_on (last_condition s))
       directed_on k Include ts h = unless s (ok_or_unknown (string_of ts)) (include_file s) (λ file e. include_on file)
       directed_on k Error ts h = unless s (ok_or_unknown (string_of ts)) (λ text. leads (stops (faults.Error text, s.left.place))) (λ text e. tt)
-      directed_on k End ts h = alone s ts (leads (goes (with_items s []))) (let few = fit.left.few in record { left = record { items = tt; place = fit.left.place; few = omega (arith, few) }; macros = fit.macros })
+      directed_on k End ts h = alone s ts (leads (goes (with_items s []))) (let few = fit.left.few in record { left = record { items = tt; few = omega (arith, few) }; macros = fit.macros })
 
     -- ---- Calls, and other lines.
 
@@ -213,7 +158,7 @@ module _ (m : Files) where
         let inner : IsStateFit n (with_one_more_call s) = record { left = fewer m (n + (s.expansions + 1)) ((n + suc (length ts)) + s.expansions) s.left (omega arith) fit.left; macros = fit.macros } in
         let given : Substitution = given_to d (arguments_of ts) (s.expansions + 1) in
         let lines = played_lines m given d.body (record { arguments = arguments_fit m ts h; count = (omega (arith, few, less), tt); locals = tt; number = omega (arith, few) }) body in
-        grind (arith, common_steps, (enters (with_one_more_call s) (map (played given) d.body) (mark_from s true None) s.left.place inner lines tt fit.left.place))
+        grind (arith, common_steps, (enters (with_one_more_call s) (map (played given) d.body) (mark_from s true None) s.left.place inner lines))
 
     ordinary_on : (s : State) (ts : List Lexeme) → IsStateFit (n + length ts) s → AreFit m ts → IsKept (ordinary s ts)
     ordinary_on s [] fit h = fewer_given n 0 s fit
@@ -229,7 +174,7 @@ module _ (m : Files) where
         let few = fit.left.few in
         let front = length-take (suc len) ts in
         let rest = length-drop (suc len) ts in
-        (all_take (IsTokenFit m) (suc len) ts h, record { left = record { items = (all_drop (IsTokenFit m) (suc len) ts h, fit.left.items); place = fit.left.place; few = omega (arith, few, front, rest) }; macros = fit.macros })
+        (all_take (IsTokenFit m) (suc len) ts h, record { left = record { items = (all_drop (IsTokenFit m) (suc len) ts h, fit.left.items); few = omega (arith, few, front, rest) }; macros = fit.macros })
 
     line_on : (k : EnvironmentView) (s : State) (ts : List Lexeme) (b : Bool) → IsStateFit (n + length ts) s → AreFit m ts → Keeps (unless_mislabelled k s ts b)
     line_on k s ts true fit h = tt
@@ -247,8 +192,8 @@ module _ (m : Files) where
 
     -- the first line, and what else is left
     from_on : (k : EnvironmentView) (s : State) (is : List Item) → IsStateFit n s → IsLeftFit m (n + s.expansions) (remaining_input is s.left.room s.left.place) → Keeps (step_from k s is)
-    from_on k s (labelled ts ∷ is) fit h = let few = h.few in acted_on k (with_items s is) ts (front_directive ts) (record { left = record { items = h.items.1; place = h.place; few = omega (arith, few) }; macros = fit.macros }) h.items.0
-    from_on k s (branch ts ∷ is) fit h = if_on (with_items s is) (record { left = record { items = h.items.1; place = h.place; few = h.few }; macros = fit.macros }) k True ts
+    from_on k s (labelled ts ∷ is) fit h = let few = h.few in acted_on k (with_items s is) ts (front_directive ts) (record { left = record { items = h.items.1; few = omega (arith, few) }; macros = fit.macros }) h.items.0
+    from_on k s (branch ts ∷ is) fit h = if_on (with_items s is) (record { left = record { items = h.items.1; few = h.few }; macros = fit.macros }) k True ts
     from_on k s _ fit h = λ t takes. after_on k s fit t (taken_fit m (n + s.expansions) s.left t fit.left takes)
 
   step_fit : (n : ℕ) (k : EnvironmentView) (s : State) (r : StepResult) → IsStateFit n s → IsStep m k s r → IsKept n r
@@ -269,15 +214,14 @@ module _ (m : Files) where
 
   -- ---- A source's first state.
 
-  pub first_fit : (file : List ℕ) (folders : List (List ℕ)) (bytes : List ℕ) → IsFileFit m file bytes → IsStateFit 0 (first_state file folders bytes)
-  first_fit file folders bytes h =
-      let place : IsPlaceFit (in_line file 0) = (h.0, omega arith) in
-      let none : IsLeftFit m 0 (remaining_input [] line_limit (in_line file 0)) = record { items = tt; place = place; few = omega arith } in
-      record { left = pushed_fit m 0 (file_lines_after 0 (lines_of bytes)) (record { is_macro = false; conditions = 0; back = None }) (remaining_input [] line_limit (in_line file 0)) (in_line file 0) none (file_lines m file bytes h) tt place; macros = tt }
+  first_fit : (file : List ℕ) (folders : List (List ℕ)) (bytes : List ℕ) → IsStateFit 0 (first_state file folders bytes)
+  first_fit file folders bytes =
+      let none : IsLeftFit m 0 (remaining_input [] line_limit (in_line file 0)) = record { items = tt; few = omega arith } in
+      record { left = pushed_fit m 0 (file_lines_after 0 (lines_of bytes)) (record { is_macro = false; conditions = 0; back = None }) (remaining_input [] line_limit (in_line file 0)) (in_line file 0) none (written_lines m 0 (lines_of bytes)); macros = tt }
 
   pub opened_fit : (file : List ℕ) (folders : List (List ℕ)) (s : State) → opened_in m file folders ≡ Ok s → IsStateFit 0 s
-  opened_fit file folders s h = by (bytes_in (file_named m file)) (opened_bytes m file (file_named m file) refl) h
+  opened_fit file folders s h = by (bytes_in (file_named m file)) h
     where
-      by : (q : Result (List ℕ) ExpandFault) → IfOk q (IsFileFit m file) → (q >>= (λ bytes. Ok (first_state file folders bytes))) ≡ Ok s → IsStateFit 0 s
-      by (Ok bytes) fit e = let same : first_state file folders bytes ≡ s = cc in subst (IsStateFit 0) same (first_fit file folders bytes fit)
-      by (Err f) fit e = absurd cc
+      by : (q : Result (List ℕ) ExpandFault) → (q >>= (λ bytes. Ok (first_state file folders bytes))) ≡ Ok s → IsStateFit 0 s
+      by (Ok bytes) e = let same : first_state file folders bytes ≡ s = cc in subst (IsStateFit 0) same (first_fit file folders bytes)
+      by (Err f) e = absurd cc

@@ -1,22 +1,13 @@
--- The tokens of lines are fit: identifiers are names that objects can hold, and numbers are small, and so those of
--- expressions; no line has more tokens than bytes.
+-- The tokens of lines are fit: identifiers are names that objects can hold. No line has more tokens than bytes.
 use Rattle.std.proofs.lemmas.Grind.{common_steps}
-use Rattle.std.proofs.Common.{arith, ◌≡◌, ℕ, zero, suc, ◌+◌, ◌<◌, ◌≤◌, Bool, true, false, List, [], ◌∷◌, length, take, drop, Option, Some, None, sym, subst}
-use Rattle.std.specs.Prelude.{⊤, Ok, ◌-◌}
-use Rattle.std.specs.FinMap as fmap
+use Rattle.std.proofs.Common.{arith, ◌≡◌, ℕ, zero, suc, ◌<◌, ◌≤◌, Bool, true, false, List, [], ◌∷◌, length, take, drop, Option, None, sym, subst}
+use Rattle.std.specs.Prelude.{⊤, Ok}
 use Rattle.std.specs.List.{AllByRecursion, prefix_len}
-use Rattle.std.proofs.lemmas.Bool.Decides.{nat_tests}
 use Rattle.std.proofs.lemmas.List.{length-drop}
-use Rattle.base65.specs.Digit.{digits}
 use Rattle.base65.specs.Store.{Files}
-use Rattle.syntax65.specs.Expressions.{IsParsed, leaf_of, opening_at, opening_of, opening_of_mark, opening_of_word, text_at, Phrase, a_leaf, a_name, a_global, prefixed, enclosed, of_level, joined, negated}
-use Rattle.syntax65.specs.Forms.{IsForm, IsToken, number_of, plain_number_of, is_blank}
+use Rattle.syntax65.specs.Forms.{IsForm, IsToken, is_blank}
 use Rattle.syntax65.specs.Tokens.{IsRead, Lexeme, HasTokens, after_blanks}
-use Rattle.syntax65.specs.Trees.{Tree, number, unary, binary}
-use Rattle.syntax65.specs.declared.expressions.words.OperandStart.{OperandStart}
-use Rattle.syntax65.specs.declared.expressions.words.OperandStart.TheVariants.{Number}
 use Rattle.syntax65.specs.declared.lexing.tokens.LexFault.{LexFault}
-use Rattle.syntax65.specs.declared.lexing.tokens.Punctuation.{Punctuation}
 use Rattle.syntax65.specs.declared.lexing.tokens.TokenKind.{TokenKind}
 use Rattle.syntax65.specs.declared.lexing.tokens.TokenKind.TheVariants as token
 use Rattle.syntax65.proofs.Fronts.{empty}
@@ -38,38 +29,11 @@ all_take P zero xs h = tt
 all_take P (suc n) [] h = tt
 all_take P (suc n) (x ∷ xs) h = (h.0, all_take P n xs h.1)
 
--- ---- Bytes.
-
-abbrev pub IsByte : ℕ → Type 0
-IsByte b = b < 256
-
-abbrev pub AreBytes : List ℕ → Type 0
-AreBytes bs = AllByRecursion IsByte bs
-
--- files have bytes
-abbrev pub HaveBytes : Files → Type 0
-HaveBytes m = (name bytes : List ℕ) → fmap.get m name ≡ Some bytes → AreBytes bytes
-
 -- ---- Tokens.
 
--- no number of a source is larger
-abbrev pub number_limit : ℕ
-number_limit = 1099511627776
-
-abbrev pub IsSmall : TokenKind → Type 0
-IsSmall (token.Number v) = v < number_limit
-IsSmall (token.Character c) = c < number_limit
-IsSmall _ = ⊤
-
-abbrev pub AreSmall : List Lexeme → Type 0
-AreSmall ts = AllByRecursion (λ t. IsSmall t.0) ts
-
--- An identifier is a name, and a short one unless it was made. A number is small, and so is a character where the files
--- have bytes.
+-- an identifier is a name, and a short one unless it was made
 abbrev pub IsFit : Files → TokenKind → List ℕ → Type 0
 IsFit m token.Identifier t = (is_name t ≡ true) × (is_made t ≡ false → length t ≤ 200)
-IsFit m (token.Number v) t = v < number_limit
-IsFit m (token.Character c) t = HaveBytes m → c < number_limit
 IsFit m _ t = ⊤
 
 abbrev pub IsTokenFit : Files → Lexeme → Type 0
@@ -84,41 +48,18 @@ is_named m x1 t h = grind (arith, common_steps)
 pub are_named : (m : Files) (ts : List Lexeme) → AreFit m ts → AreSymbolNames ts
 are_named m ts h = all_same (IsTokenFit m) (λ t. IsNamed t.0 t.1) (λ t fit. is_named m t.0 t.1 fit) ts h
 
-is_small : (m : Files) (k : TokenKind) (t : List ℕ) → HaveBytes m → IsFit m k t → IsSmall k
-is_small m x1 t all h = grind (arith, common_steps)
-
-pub are_small : (m : Files) (ts : List Lexeme) → HaveBytes m → AreFit m ts → AreSmall ts
-are_small m ts all h = all_same (IsTokenFit m) (λ t. IsSmall t.0) (λ t fit. is_small m t.0 t.1 all fit) ts h
-
 -- ---- The tokens of a line.
 
-digits_small : (radix : ℕ) (bs : List ℕ) (v : ℕ) → digits radix bs ≡ Some v → v < 4294967296
-digits_small radix x1 v h = grind (arith, common_steps, nat_tests)
-
-plain_small : (text : List ℕ) (v : ℕ) → plain_number_of text ≡ Some v → v < 4294967296
-plain_small text v h = grind (arith, common_steps, (digits_small 16 (take (length text - 1) text) v), (digits_small 10 text v))
-
-number_small : (text : List ℕ) (v : ℕ) → number_of text ≡ Some v → v < 4294967296
-number_small [] v h = absurd cc
-number_small (b ∷ bs) v h = grind (arith, common_steps, (digits_small 16 bs v), (digits_small 2 bs v), (plain_small (b ∷ bs) v))
-
-character_small : (c : ℕ) (text : List ℕ) → IsForm (token.Character c) text → AreBytes text → c < number_limit
-character_small c [] form h = absurd form
-character_small c (b ∷ bs) form h = let all = subst AreBytes form.1 h.1 in let small : c < 256 = all.0 in omega (arith, small)
-
-token_fit : (m : Files) (first : Bool) (k : TokenKind) (t text : List ℕ) → t ≡ take (length t) text → IsToken first k (length t) text → (HaveBytes m → AreBytes text) → IsFit m k t
-token_fit m first token.Identifier t text at is bytes =
+token_fit : (m : Files) (first : Bool) (k : TokenKind) (t text : List ℕ) → t ≡ take (length t) text → IsToken first k (length t) text → IsFit m k t
+token_fit m first token.Identifier t text at is =
     let short : length t ≤ 200 = subst (λ (n : List ℕ). length n ≤ 200) (sym at) is.short in
     (short_name t (subst (IsForm token.Identifier) (sym at) is.longest.stands.form) short, λ none. short)
-token_fit m first (token.Number v) t text at is bytes = let small = number_small (take (length t) text) v is.value in omega (arith, small)
-token_fit m first (token.Character c) t text at is bytes = λ all. character_small c (take (length t) text) is.longest.stands.form (all_take IsByte (length t) text (bytes all))
-token_fit m first _ t text at is bytes = tt
+token_fit m first _ t text at is = tt
 
-tokens_fit : (m : Files) (first : Bool) (line : List ℕ) (ts : List Lexeme) (end : Option LexFault) → HasTokens first line ts end → (HaveBytes m → AreBytes line) → AreFit m ts
-tokens_fit m first line [] end h bytes = tt
-tokens_fit m first line (t ∷ ts) end h bytes =
-    let text : HaveBytes m → AreBytes (after_blanks line) = λ all. all_drop IsByte (prefix_len is_blank line) line (bytes all) in
-    (token_fit m first t.0 t.1 (after_blanks line) h.0 h.1 text, tokens_fit m false (drop (length t.1) (after_blanks line)) ts end h.2 (λ all. all_drop IsByte (length t.1) (after_blanks line) (text all)))
+tokens_fit : (m : Files) (first : Bool) (line : List ℕ) (ts : List Lexeme) (end : Option LexFault) → HasTokens first line ts end → AreFit m ts
+tokens_fit m first line [] end h = tt
+tokens_fit m first line (t ∷ ts) end h =
+    (token_fit m first t.0 t.1 (after_blanks line) h.0 h.1, tokens_fit m false (drop (length t.1) (after_blanks line)) ts end h.2)
 
 some_bytes : (first : Bool) (k : TokenKind) (n : ℕ) (text : List ℕ) → IsToken first k n text → 0 < n
 some_bytes first k zero text h = absurd (empty first k text h.longest.stands)
@@ -138,49 +79,5 @@ tokens_few first line (t ∷ ts) end h =
 abbrev pub IsLineFit : Files → List Lexeme → Type 0
 IsLineFit m ts = AreFit m ts × (length ts ≤ 4096)
 
-pub read_fit : (m : Files) (line : List ℕ) (ts : List Lexeme) → IsRead line (Ok ts) → (HaveBytes m → AreBytes line) → IsLineFit m ts
-read_fit m line ts h bytes = (tokens_fit m true line ts None h.1 bytes, (let few = tokens_few true line ts None h.1 in let short = h.0 in omega (arith, few, short)))
-
--- ---- Expressions.
-
-abbrev pub IsSmallTree : Tree → Type 0
-IsSmallTree (number v) = v < number_limit
-IsSmallTree (unary op e) = IsSmallTree e
-IsSmallTree (binary op e f) = IsSmallTree e × IsSmallTree f
-IsSmallTree _ = ⊤
-
-abbrev OpensSmall : OperandStart → Type 0
-OpensSmall (Number v) = v < number_limit
-OpensSmall _ = ⊤
-
-mark_small : (m : Punctuation) → OpensSmall (opening_of_mark m)
-mark_small m = grind (arith, common_steps)
-
-word_small : (text : List ℕ) → OpensSmall (opening_of_word text)
-word_small text = grind (arith, common_steps)
-
-kind_small : (k : TokenKind) (text : List ℕ) → IsSmall k → OpensSmall (opening_of k text)
-kind_small x1 text h = grind (arith, common_steps, word_small, mark_small)
-
-opening_small : (ts : List Lexeme) (i : ℕ) → AreSmall ts → OpensSmall (opening_at ts i)
-opening_small [] zero h = tt
-opening_small [] (suc i) h = tt
-opening_small (t ∷ ts) zero h = kind_small t.0 t.1 h.0
-opening_small (t ∷ ts) (suc i) h = opening_small ts i h.1
-
-leaf_small : (o : OperandStart) (text : List ℕ) (t : Tree) → leaf_of o text ≡ Some t → OpensSmall o → IsSmallTree t
-leaf_small x1 text t e h = grind (arith, common_steps)
-
-module _ (ts : List Lexeme) (h : AreSmall ts) where
-  phrase_small : (room n i j : ℕ) (t : Tree) → Phrase ts room n i j t → IsSmallTree t
-  phrase_small _ _ _ _ _ (a_leaf room i t e) = leaf_small (opening_at ts i) (text_at ts i) t e (opening_small ts i h)
-  phrase_small _ _ _ _ _ (a_name room i j parts p) = tt
-  phrase_small _ _ _ _ _ (a_global room i j parts e p) = tt
-  phrase_small _ _ _ _ _ (prefixed room i j op t e p) = phrase_small room 0 (i + 1) j t p
-  phrase_small _ _ _ _ _ (enclosed room i j t e p c) = phrase_small room 6 (i + 1) j t p
-  phrase_small _ _ _ _ _ (of_level room n i j t p) = phrase_small room n i j t p
-  phrase_small _ _ _ _ _ (joined room n i j k op t u p e l q) = (phrase_small room (n + 1) i j t p, phrase_small room n (j + 1) k u q)
-  phrase_small _ _ _ _ _ (negated room i j t e p) = phrase_small room 6 (i + 1) j t p
-
-pub parsed_small : (ts : List Lexeme) (e : Tree) (n : ℕ) → AreSmall ts → IsParsed ts (Ok (e, n)) → IsSmallTree e
-parsed_small ts e n h p = phrase_small ts h 64 6 0 n e p.phrase
+pub read_fit : (m : Files) (line : List ℕ) (ts : List Lexeme) → IsRead line (Ok ts) → IsLineFit m ts
+read_fit m line ts h = (tokens_fit m true line ts None h.1, (let few = tokens_few true line ts None h.1 in let short = h.0 in omega (arith, few, short)))

@@ -1,11 +1,5 @@
-pub mod FitContents
-pub mod FitForms
 pub mod FitItems
-pub mod FitKeys
-pub mod FitLayouts
 pub mod FitLines
-pub mod FitObjects
-pub mod FitStatements
 pub mod FitSteps
 pub mod FitTokens
 pub mod OneLayouts

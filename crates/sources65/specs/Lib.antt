@@ -1,4 +1,3 @@
-pub mod Fitting
 pub mod Laws
 pub mod Machine
 pub mod Reading

@@ -1,6 +1,5 @@
 //! Laws about the definitions. Each law is the contract of a function that does nothing.
 
-ghost use Rattle.sources65.specs.Fitting.{FittingObjectLaw};
 ghost use Rattle.sources65.specs.Laws.{AnswerExists, FormExists, LayoutExists};
 ghost use Rattle.sources65.specs.Machine.{FinalSettles, LayoutIsReachable, AnswerIsUnique, LayoutIsUnique, OnePassSuffices, MachineSimulatesLayout, SoundContents, SoundLayoutLaw};
 
@@ -59,9 +58,4 @@ pub fn one_pass_suffices()
 /// The one-pass machine reaches each layout.
 pub fn layout_is_reachable()
     ensures { LayoutIsReachable }
-{}
-
-/// The numbers and texts of a source's object are within the limits of their types.
-pub fn fitting_object()
-    ensures { FittingObjectLaw }
 {}

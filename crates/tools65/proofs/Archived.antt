@@ -31,6 +31,7 @@ use Rattle.output65.specs.declared.outcome.Outcome.{Outcome}
 use Rattle.output65.specs.declared.outcome.Status.TheVariants.{Failure, Success}
 use Rattle.tools65.specs.Assembling.{asm_message, job_in}
 use Rattle.tools65.specs.Command.{AssemblesWith, refused_with}
+use Rattle.tools65.specs.Fitting.{SourceObjectFits}
 use Rattle.tools65.specs.Kept.{ArchivedSourcesLaw, AssembledFileLaw, source_in}
 use Rattle.tools65.specs.OneProgram.{Source}
 use Rattle.output65.specs.Outputs.{failing, outputs_of}
@@ -134,10 +135,10 @@ named_file x name bytes is = by (length name == 0)
     by true = tt
     by false = (is, tt)
 
-object_file : (a : Assembling) (m : Files) (o : Outcome) (z : asm.Outcome) (r : Result Object LocatedFault) → IsOutcome m (job_in a) z → z.result ≡ r → AssemblesWith a z.out z.err r o → o.status ≡ Success → AllByRecursion (IsFileOf (source_in a m)) o.outputs
-object_file a m o z (Err e) is found h well =
+object_file : (a : Assembling) (m : Files) (o : Outcome) (z : asm.Outcome) (r : Result Object LocatedFault) → IsOutcome m (job_in a) z → z.result ≡ r → AssemblesWith a z.out z.err r o → SourceObjectFits a m → o.status ≡ Success → AllByRecursion (IsFileOf (source_in a m)) o.outputs
+object_file a m o z (Err e) is found h fits well =
     absurd (not_well (sym (ap (λ (x : Outcome). x.status) h ∙ refused_fails a.source z.out z.err e) ∙ well))
-object_file a m o z (Ok k) is found (fits, name, named, same) well =
+object_file a m o z (Ok k) is found (name, named, same) fits well =
     subst (λ (fs : List OutputFile). AllByRecursion (IsFileOf (source_in a m)) fs) (sym (ap (λ (x : Outcome). x.outputs) same))
     (named_file (source_in a m) name (object_bytes k) (λ short. record {
       outcome = z;
@@ -147,9 +148,9 @@ object_file a m o z (Ok k) is found (fits, name, named, same) well =
       object = k;
       version = inl refl;
       spelled = refl;
-      numbers = fits;
+      numbers = fits z k is found;
       limit = short;
     }))
 
 pub assembled_file : AssembledFileLaw
-assembled_file a m o (z, is, to) well = object_file a m o z z.result is refl to well
+assembled_file a m o (z, is, to) fits well = object_file a m o z z.result is refl to fits well

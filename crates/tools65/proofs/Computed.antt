@@ -4,9 +4,12 @@ use Rattle.std.specs.Prelude.{IfErr, IfOk, IfSome, ◌||◌}
 use Rattle.std.specs.Result.{IsErrAnd}
 use Rattle.base65.specs.Outcome.{RefinesProp, Refines, Unless}
 use Rattle.base65.specs.Store.{FailsAtLastCount, LastFailure, Files, HasFailed, PropagatesIoErrors}
+use Rattle.object65.specs.Objects.{ObjectFits}
 use Rattle.object65.specs.declared.object.Object.{Object}
 use Rattle.ast65.specs.Faults.{is_memory as is_asm_memory}
 use Rattle.sources65.specs.Reading.{IsOutcome, Define, Job}
+use Rattle.sources65.proofs.OneLayouts.{one_answer}
+use Rattle.semantics65.specs.Module as asm
 use Rattle.semantics65.specs.Module.{LocatedFault}
 use Rattle.asm65.specs.Assembly.{has_failed, in_places, is_diagnostic_system_error, placed_of}
 use Rattle.asm65.specs.Failing.{StoreFailureStops}
@@ -28,24 +31,25 @@ use Rattle.output65.specs.declared.outcome.Outcome.{Outcome}
 use Rattle.output65.specs.declared.outcome.Status.TheVariants.{Failure}
 use Rattle.tools65.specs.Archives.{archive_outcome}
 use Rattle.tools65.specs.Assembling.{asm_message, define_in, job_in}
-use Rattle.tools65.specs.Command.{AssemblesWith, IsOutcomeOfCommand, line_memory, outcome_of, refused_with}
+use Rattle.tools65.specs.Command.{AssemblesWith, line_memory, outcome_of, refused_with}
 use Rattle.tools65.specs.Failing.{refusing}
+use Rattle.tools65.specs.Fitting.{IsFittingOutcome, SourceObjectFits}
 use Rattle.tools65.specs.Internal.Computing.{ComputesOutcome, OnlyReports}
 
 -- A command, whose answers come to outcomes of a line: to no more than the words of want of memory where memory ran out, and to
 -- why it stopped where a call of the store failed.
 module _ {A E : Type 0} (line : CommandView) (is_memory is_failure : E → Bool)
     (Is : Files → Result A E → Type 0) (Comes : Result A E → Outcome → Type 0) (Stopped : Files → LastFailure → E → Type 0)
-    (does : (m : Files) (r : Result A E) (o : Outcome) → Is m r → Comes r o → IsOutcomeOfCommand line m o)
+    (does : (m : Files) (r : Result A E) (o : Outcome) → Is m r → Comes r o → IsFittingOutcome line m o)
     (by_memory : (e : E) (o : Outcome) → is_memory e ≡ true → Comes (Err e) o → o ≡ failing (line_memory line))
     (by_failure : (m : Files) (last_failure : LastFailure) (e : E) (o : Outcome) → is_failure e ≡ true → Stopped m last_failure e → Comes (Err e) o → OnlyReports line m last_failure o)
     (fails : (e : E) (o : Outcome) → Comes (Err e) o → o.status ≡ Failure) where
   -- what was found, where no call of the store failed
-  found : (m : Files) (r : Result A E) (o : Outcome) → RefinesProp (λ e. is_memory e || is_failure e) (Is m) r → IfErr r (λ e. is_failure e ≡ true → ⊥) → Comes r o → IsOutcomeOfCommand line m o ⊎ (o ≡ failing (line_memory line))
+  found : (m : Files) (r : Result A E) (o : Outcome) → RefinesProp (λ e. is_memory e || is_failure e) (Is m) r → IfErr r (λ e. is_failure e ≡ true → ⊥) → Comes r o → IsFittingOutcome line m o ⊎ (o ≡ failing (line_memory line))
   found m (Ok x) o h none comes = inl (does m (Ok x) o h comes)
   found m (Err e) o h none comes = by_cause (is_memory e) (is_failure e) refl refl h
     where
-      by_cause : (a b : Bool) → is_memory e ≡ a → is_failure e ≡ b → Unless (a || b) (Is m (Err e)) → IsOutcomeOfCommand line m o ⊎ (o ≡ failing (line_memory line))
+      by_cause : (a b : Bool) → is_memory e ≡ a → is_failure e ≡ b → Unless (a || b) (Is m (Err e)) → IsFittingOutcome line m o ⊎ (o ≡ failing (line_memory line))
       by_cause true b p q u = inr (by_memory e o p comes)
       by_cause false true p q u = absurd (none q)
       by_cause false false p q u = inl (does m (Err e) o u comes)
@@ -102,8 +106,8 @@ module _ (l : Linking) where
   abbrev LinkStops : Files → LastFailure → LinkCommandFault → Type 0
   LinkStops m b e = IsOfLine (Some m) b l e
 
-  link_does : (m : Files) (r : Result Linked LinkCommandFault) (o : Outcome) → IsLinked m l r → o ≡ outcome_of l r → IsOutcomeOfCommand (link l) m o
-  link_does m r o is comes = (r, is, comes)
+  link_does : (m : Files) (r : Result Linked LinkCommandFault) (o : Outcome) → IsLinked m l r → o ≡ outcome_of l r → IsFittingOutcome (link l) m o
+  link_does m r o is comes = ((r, is, comes), tt)
 
   link_memory : (e : LinkCommandFault) (o : Outcome) → is_memory e ≡ true → o ≡ outcome_of l (Err e) → o ≡ failing memory_message
   link_memory e o h is = is ∙ by_memory
@@ -141,8 +145,8 @@ module _ (a : Archiving) where
   abbrev ArchiveStops : Files → LastFailure → ArchiveRefusal → Type 0
   ArchiveStops m b e = IsOfArchive b a e
 
-  archive_does : (m : Files) (r : Result Archived ArchiveRefusal) (o : Outcome) → IsArchived m r → o ≡ archive_outcome a r → IsOutcomeOfCommand (archive a) m o
-  archive_does m r o is comes = comes ∙ ap (archive_outcome a) (sym is)
+  archive_does : (m : Files) (r : Result Archived ArchiveRefusal) (o : Outcome) → IsArchived m r → o ≡ archive_outcome a r → IsFittingOutcome (archive a) m o
+  archive_does m r o is comes = (comes ∙ ap (archive_outcome a) (sym is), tt)
 
   archive_memory : (e : ArchiveRefusal) (o : Outcome) → is_archive_memory e ≡ true → o ≡ archive_outcome a (Err e) → o ≡ failing (memory_line a.library)
   archive_memory e o h is = is ∙ by_memory
@@ -188,14 +192,39 @@ module _ (a : Assembling) (out err : List ℕ) where
   abbrev Made : Result Object Diagnostic → Outcome → Type 0
   Made r o = AssemblesWith a out err (in_places r) o
 
+  abbrev found_in : Result Object Diagnostic → asm.Outcome
+  found_in r = record { result = in_places r; out = out; err = err }
+
   abbrev IsMade : Job → Files → Result Object Diagnostic → Type 0
-  IsMade j m r = IsOutcome m j (record { result = in_places r; out = out; err = err })
+  IsMade j m r = IsOutcome m j (found_in r)
+
+  -- that, and the numbers of an object fit their types
+  abbrev IsMadeFitting : Job → Files → Result Object Diagnostic → Type 0
+  IsMadeFitting j m r = IsMade j m r × IfOk r ObjectFits
 
   abbrev MakingStops : Job → Files → LastFailure → Diagnostic → Type 0
   MakingStops j m b e = StoreFailureStops m b j (placed_of e) out err
 
-  made_does : (m : Files) (r : Result Object Diagnostic) (o : Outcome) → IsMade (job_in a) m r → Made r o → IsOutcomeOfCommand (assemble a) m o
-  made_does m r o is comes = (record { result = in_places r; out = out; err = err }, is, comes)
+  -- a source has one outcome, so each object of it is the one that was made
+  made_fits : (m : Files) (r : Result Object Diagnostic) → IsMadeFitting (job_in a) m r → SourceObjectFits a m
+  made_fits m (Ok object) (is, fits) x other was found =
+      let both : Ok object ≡ Ok other = ap (λ (z : asm.Outcome). z.result) (one_answer m (job_in a) (found_in (Ok object)) x is was) ∙ found in
+      let same : object ≡ other = cc in
+      subst ObjectFits same fits
+  made_fits m (Err e) (is, fits) x other was found =
+      absurd (let both : Err (placed_of e) ≡ Ok other = ap (λ (z : asm.Outcome). z.result) (one_answer m (job_in a) (found_in (Err e)) x is was) ∙ found in cc)
+
+  made_does : (m : Files) (r : Result Object Diagnostic) (o : Outcome) → IsMadeFitting (job_in a) m r → Made r o → IsFittingOutcome (assemble a) m o
+  made_does m r o is comes = ((found_in r, is.0, comes), made_fits m r is)
+
+  with_numbers : (j : Job) (known : Option Files) (r : Result Object Diagnostic) → IfOk r ObjectFits → IfSome known (λ m. RefinesProp is_diagnostic_system_error (IsMade j m) r) → IfSome known (λ m. RefinesProp is_diagnostic_system_error (IsMadeFitting j m) r)
+  with_numbers j None r fits h = tt
+  with_numbers j (Some m) (Ok object) fits h = (h, fits)
+  with_numbers j (Some m) (Err e) fits h = by (is_diagnostic_system_error e) h
+    where
+      by : (b : Bool) → Unless b (IsMade j m (Err e)) → Unless b (IsMadeFitting j m (Err e))
+      by true u = tt
+      by false u = (u, tt)
 
   made_memory : (e : Diagnostic) (o : Outcome) → is_asm_memory e.fault ≡ true → Made (Err e) o → o ≡ failing (memory_line a.source)
   made_memory e o h is = is ∙ by_memory
@@ -220,13 +249,13 @@ module _ (a : Assembling) (out err : List ℕ) where
       refused_status e true h = rw h refl
       refused_status e false h = rw h refl
 
-  pub computes_assembly : {F : Type 0} (known : Option Files) (fo fm : ℕ) (b : LastFailure) (j : Job) (r : Result Object Diagnostic) (q : Result Outcome F) → j ≡ job_in a → PropagatesIoErrors has_failed fo fm r → FailsAtLastCount is_diagnostic_system_error fo r → IfSome known (λ m. IfErr r (λ e. has_failed e ≡ true → StoreFailureStops m b j (placed_of e) out err)) → IfSome known (λ m. RefinesProp is_diagnostic_system_error (IsMade j m) r) → IfOk q (Made r) → IfSome known (λ m. IfOk q (ComputesOutcome (assemble a) m b fo fm))
-  computes_assembly known fo fm b j r q same count asks stopped finds comes =
-      computes (assemble a) (λ e. is_asm_memory e.fault) has_failed (IsMade (job_in a)) Made (MakingStops (job_in a)) made_does made_memory made_failure made_fails
+  pub computes_assembly : {F : Type 0} (known : Option Files) (fo fm : ℕ) (b : LastFailure) (j : Job) (r : Result Object Diagnostic) (q : Result Outcome F) → j ≡ job_in a → PropagatesIoErrors has_failed fo fm r → FailsAtLastCount is_diagnostic_system_error fo r → IfSome known (λ m. IfErr r (λ e. has_failed e ≡ true → StoreFailureStops m b j (placed_of e) out err)) → IfSome known (λ m. RefinesProp is_diagnostic_system_error (IsMade j m) r) → IfOk r ObjectFits → IfOk q (Made r) → IfSome known (λ m. IfOk q (ComputesOutcome (assemble a) m b fo fm))
+  computes_assembly known fo fm b j r q same count asks stopped finds fits comes =
+      computes (assemble a) (λ e. is_asm_memory e.fault) has_failed (IsMadeFitting (job_in a)) Made (MakingStops (job_in a)) made_does made_memory made_failure made_fails
       known fo fm b r q count asks
       (subst (λ (k : Job). IfSome known (λ m. IfErr r (λ e. has_failed e ≡ true → StoreFailureStops m b k (placed_of e) out err))) same stopped)
-      (subst (λ (k : Job). IfSome known (λ m. RefinesProp is_diagnostic_system_error (IsMade k m) r)) same finds) comes
+      (with_numbers (job_in a) known r fits (subst (λ (k : Job). IfSome known (λ m. RefinesProp is_diagnostic_system_error (IsMade k m) r)) same finds)) comes
 
   pub assembly_fails_so : {F : Type 0} (fo fm : ℕ) (r : Result Object Diagnostic) (q : Result Outcome F) → PropagatesIoErrors has_failed fo fm r → FailsAtLastCount is_diagnostic_system_error fo r → IfOk q (Made r) → HasFailed fo fm → IfOk q (λ o. o.status ≡ Failure)
   assembly_fails_so =
-      fails_so (assemble a) (λ e. is_asm_memory e.fault) has_failed (IsMade (job_in a)) Made (MakingStops (job_in a)) made_does made_memory made_failure made_fails
+      fails_so (assemble a) (λ e. is_asm_memory e.fault) has_failed (IsMadeFitting (job_in a)) Made (MakingStops (job_in a)) made_does made_memory made_failure made_fails

@@ -8,8 +8,9 @@ use Rattle.cli65.specs.Line.{CommandView, line_of}
 use Rattle.cli65.specs.Messages.{line_memory_message, line_message_of}
 use Rattle.cli65.specs.declared.fault.LineFault.{LineFault}
 use Rattle.cli65.specs.declared.fault.LineFault.TheVariants.{BadArguments, OutOfMemory}
-use Rattle.tools65.specs.Command.{IsOutcomeOfCommand, line_memory}
+use Rattle.tools65.specs.Command.{line_memory}
 use Rattle.tools65.specs.Failing.{RunFails, FailsAs, FailsLine, FailsWords, SaysWhy}
+use Rattle.tools65.specs.Fitting.{IsFittingOutcome}
 use Rattle.output65.specs.RunEffects.{PerformsOutcome, PrintsText, Streams, streams}
 use Rattle.output65.specs.WriteFailures.{StopsWriting}
 use Rattle.output65.specs.Outputs.{failing}
@@ -43,7 +44,7 @@ unfolding FailsLine
 line_fails None mid new fo fm fn line o asked last_failure io status same early computes performs kept stops = tt
 line_fails (Some m) mid new fo fm fn line o asked last_failure io status same early computes performs kept stops = λ some. by_last some (nat_eq fo max_failures) refl
   where
-    while_reading : HasFailed fo fm → RunFails (IsOutcomeOfCommand line) (SaysWhy line) m new last_failure io status
+    while_reading : HasFailed fo fm → RunFails (IsFittingOutcome line) (SaysWhy line) m new last_failure io status
     while_reading h =
         let why = computes.failed h in
         let none : o.outputs ≡ [] = ap (λ (x : Outcome). x.outputs) why.3 in
@@ -55,18 +56,18 @@ line_fails (Some m) mid new fo fm fn line o asked last_failure io status same ea
           said = subst (λ (x : Outcome). PerformsOutcome x m new io status) why.3 (rw same at performs none);
         })
 
-    while_writing : IsOutcomeOfCommand line m o ⊎ (o ≡ failing (line_memory line)) → StopsWriting o m new last_failure io status → RunFails (IsOutcomeOfCommand line) (SaysWhy line) m new last_failure io status
+    while_writing : IsFittingOutcome line m o ⊎ (o ≡ failing (line_memory line)) → StopsWriting o m new last_failure io status → RunFails (IsFittingOutcome line) (SaysWhy line) m new last_failure io status
     while_writing (inl does) s = inr (o, does, s)
     while_writing (inr is) s =
         let none : o.outputs ≡ [] = ap (λ (x : Outcome). x.outputs) is in
         let empty : None ≡ Some s.output = rw none at s.at in
         cc
 
-    by_moment : nat_eq fo max_failures ≡ false → fo < fn → (fo ≡ fm) ⊎ (fo < fm) → RunFails (IsOutcomeOfCommand line) (SaysWhy line) m new last_failure io status
+    by_moment : nat_eq fo max_failures ≡ false → fo < fn → (fo ≡ fm) ⊎ (fo < fm) → RunFails (IsFittingOutcome line) (SaysWhy line) m new last_failure io status
     by_moment other later (inr rose) = while_reading (inl rose)
     by_moment other later (inl e) = while_writing (computes.done (not_failed fo fm (sym e) other)) ((rw same at stops) (omega (arith, e, later)))
 
-    by_last : HasFailed fo fn → (b : Bool) → nat_eq fo max_failures ≡ b → RunFails (IsOutcomeOfCommand line) (SaysWhy line) m new last_failure io status
+    by_last : HasFailed fo fn → (b : Bool) → nat_eq fo max_failures ≡ b → RunFails (IsFittingOutcome line) (SaysWhy line) m new last_failure io status
     by_last some true at = while_reading (inr (is_equal fo max_failures at))
     by_last (inl later) false other = by_moment other later (eq-or-lt_of_le early)
     by_last (inr at) false other = while_reading (inr at)

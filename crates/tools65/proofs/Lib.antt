@@ -1,5 +1,6 @@
 pub mod Computed
 pub mod Runs
+pub mod Fitting
 pub mod Failing
 pub mod OneFailure
 pub mod OneLinks

@@ -91,7 +91,7 @@ output_name_one None source a b h g = object_name_one source a b h g
 output_name_one (Some given) source a b h g = h ∙ sym g
 
 assembles_with_one : (l : Assembling) (out err : List ℕ) (r : Result Object LocatedFault) (a b : Outcome) → AssemblesWith l out err r a → AssemblesWith l out err r b → a ≡ b
-assembles_with_one l out err (Ok object) a b (fits, name, is, e) (fitted, other, was, f) =
+assembles_with_one l out err (Ok object) a b (name, is, e) (other, was, f) =
     e ∙ ap (λ n. record { out = out; err = err; outputs = outputs_of n (object_bytes object); status = Success }) (output_name_one l.output l.source name other is was) ∙ sym f
 assembles_with_one l out err (Err fault) a b h g = h ∙ sym g
 

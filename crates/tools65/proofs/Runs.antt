@@ -8,6 +8,7 @@ use Rattle.output65.specs.declared.outcome.Status.{Status}
 use Rattle.output65.specs.declared.outcome.Status.TheVariants.{Failure}
 use Rattle.output65.specs.Outputs.{failing}
 use Rattle.tools65.specs.Internal.Computing.{ComputesOutcome}
+use Rattle.tools65.specs.Fitting.{IsFittingOutcome}
 use Rattle.tools65.specs.Command.{IsOutcomeOfCommand, RunsCommand, RunSatisfies, ArgsRunSatisfies, line_memory}
 use Rattle.output65.specs.RunEffects.{OverWriters, PrintsText, SaysBoth, FilesAfterRun, PerformsOutcome, StopsShort, Streams, streams}
 use Rattle.cli65.specs.Line.{CommandView, line_of}
@@ -40,7 +41,7 @@ only_memory None new does out err_old err_new memory out_refused err_refused sta
 only_memory (Some m) new does out err_old err_new memory out_refused err_refused status Q same e quiet p = λ _. (failing memory, inr refl, inl (says m new out err_old err_new memory out_refused err_refused status same e quiet p))
 
 -- no call failed before a moment between
-none_before : (fo fm fn : ℕ) → fo ≤ fm → fm ≤ fn → NoneFailed fo fn → (fm ≡ fo) × NoneFailed fm fn
+pub none_before : (fo fm fn : ℕ) → fo ≤ fm → fm ≤ fn → NoneFailed fo fn → (fm ≡ fo) × NoneFailed fm fn
 none_before fo fm fn a b h =
     let same : fm ≡ fo = omega (arith, h.same) in
     (same, record { same = omega (arith, h.same); before = omega (arith, h.before, same) })
@@ -54,7 +55,11 @@ pub line_done : (known mid new : Option Files) (fo fm fn : ℕ) (line : CommandV
 line_done None mid new fo fm fn line last_failure o io status same early later computes performs = tt
 line_done (Some m) mid new fo fm fn line last_failure o io status same early later computes performs = λ none.
     let between = none_before fo fm fn early later none in
-    (o, computes.done (did_not_fail fo fm between.0 none.before), (rw same at performs) between.1)
+    (o, by (computes.done (did_not_fail fo fm between.0 none.before)), (rw same at performs) between.1)
+  where
+    by : IsFittingOutcome line m o ⊎ (o ≡ failing (line_memory line)) → IsOutcomeOfCommand line m o ⊎ (o ≡ failing (line_memory line))
+    by (inl (does, fits)) = inl does
+    by (inr memory) = inr memory
 
 -- a line that was run
 pub line_run : (known new : Option Files) (fo fn : ℕ) (words : List (List ℕ)) (line : CommandView) (io : Streams) (status : Status) → line_of words ≡ Ok line → IfSome known (λ m. NoneFailed fo fn → RunSatisfies (IsOutcomeOfCommand line) (line_memory line) m new io status) → IfSome known (λ m. NoneFailed fo fn → RunsCommand words m new io status)

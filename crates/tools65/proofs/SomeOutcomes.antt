@@ -1,25 +1,18 @@
 -- Whatever words and files are, there is exactly one thing that the words do as a command; and sources have an image, or none.
-use Rattle.std.proofs.Common.{◌≡◌, ◌⊎◌, ◌<◌, ◌≤◌, inl, inr, ℕ, zero, suc, ◌+◌, ◌++◌, Bool, true, false, List, [], ◌∷◌, length, map, take, Option, Some, None, Result, Ok, Err, refl, sym, ap, subst, arith, get_or, nat_eq, ◌-◌}
-use Rattle.std.specs.Prelude.{◌^◌, IfOk, codes}
-use Rattle.std.specs.List.{AllByRecursion}
+use Rattle.std.proofs.Common.{◌≡◌, ◌⊎◌, ◌<◌, ◌≤◌, inl, inr, ℕ, zero, suc, ◌++◌, Bool, true, false, List, length, take, Option, Some, None, Result, Ok, Err, refl, sym, ap, subst, arith, get_or, nat_eq, ◌-◌}
+use Rattle.std.specs.Prelude.{codes}
 use Rattle.std.proofs.Math.Nat.{eq-or-lt_of_le}
 use Rattle.std.proofs.lemmas.Bool.Decides.{nat_tests}
-use Rattle.base65.specs.Holding.{HoldBytes}
 use Rattle.base65.specs.Store.{Files}
 use Rattle.base65.specs.declared.output.OutputFile.{OutputFile}
-use Rattle.object65.specs.Objects.{ObjectFits}
 use Rattle.object65.specs.Spelling.{object_bytes}
 use Rattle.object65.specs.declared.object.Object.{Object}
-use Rattle.sources65.specs.Fitting.{AreOfTypes}
 use Rattle.semantics65.specs.Module as asm
 use Rattle.sources65.specs.Reading.{IsOutcome}
 use Rattle.semantics65.specs.Module.{LocatedFault}
 use Rattle.sources65.proofs.SomeLayouts.{some_answer}
-use Rattle.sources65.proofs.FitLayouts.{fitting_object}
-use Rattle.cli65.specs.Defining.{Defining}
 use Rattle.cli65.specs.Line.{Assembling, CommandView, archive, assemble, line_of, link}
 use Rattle.cli65.specs.declared.fault.LineFault.{LineFault}
-use Rattle.cli65.proofs.SmallValues.{HasSmallValues, line_small}
 use Rattle.link65.proofs.OutcomeLemmas.{link_once}
 use Rattle.link65.proofs.SomeOutcome.{some_outcome}
 use Rattle.link65.specs.Links.{LinkOf}
@@ -32,7 +25,7 @@ use Rattle.output65.specs.declared.outcome.Outcome.{Outcome}
 use Rattle.output65.specs.declared.outcome.Status.TheVariants.{Success}
 use Rattle.cli65.specs.Messages.{line_message_of}
 use Rattle.tools65.specs.Archives.{archive_outcome}
-use Rattle.tools65.specs.Assembling.{IsOutputName, define_in, job_in}
+use Rattle.tools65.specs.Assembling.{IsOutputName, job_in}
 use Rattle.tools65.specs.Command.{AssemblesSource, IsOutcomeOfCommand, IsOutcomeOfArgs, outcome_of, refused_with}
 use Rattle.tools65.specs.Naming.{HasNoExtension, IsExtension, IsObjectName, IsPlain}
 use Rattle.tools65.specs.OneOutcome.{OutcomeExists}
@@ -137,35 +130,30 @@ output_name_there (Some given) source = (given, refl)
 
 -- ---- Assembling.
 
-defines_of_types : (ds : List Defining) → AllByRecursion (λ d. d.value < 2 ^ 32) ds → AllByRecursion (λ d. d.1 < 2 ^ 32) (map define_in ds)
-defines_of_types [] h = tt
-defines_of_types (d ∷ ds) h = (h.0, defines_of_types ds h.1)
-
-assembles_there : (a : Assembling) (m : Files) → HoldBytes m → AreOfTypes (job_in a).defines → (o : Outcome) × AssemblesSource a m o
-assembles_there a m bytes typed = let found = some_answer m (job_in a) in by found.0 found.1 found.0.result refl
+assembles_there : (a : Assembling) (m : Files) → (o : Outcome) × AssemblesSource a m o
+assembles_there a m = let found = some_answer m (job_in a) in by found.0 found.1 found.0.result refl
   where
     by : (x : asm.Outcome) → IsOutcome m (job_in a) x → (r : Result Object LocatedFault) → x.result ≡ r → (o : Outcome) × AssemblesSource a m o
     by x is (Ok object) e =
         let name = output_name_there a.output a.source in
-        let fits : ObjectFits object = fitting_object m (job_in a) x object bytes typed is e in
         let o : Outcome = record { out = x.out; err = x.err; outputs = outputs_of name.0 (object_bytes object); status = Success } in
-        (o, (x, is, rw e (fits, name.0, name.1, refl)))
+        (o, (x, is, rw e (name.0, name.1, refl)))
     by x is (Err fault) e = (refused_with a.source x.out x.err fault, (x, is, rw e refl))
 
 -- ---- Commands.
 
-line_there : (line : CommandView) (m : Files) → HoldBytes m → HasSmallValues line → (o : Outcome) × IsOutcomeOfCommand line m o
-line_there (assemble a) m bytes small = assembles_there a m bytes (defines_of_types a.defines small)
-line_there (link l) m bytes small = let r = some_link m l in (outcome_of l r.0, (r.0, r.1, refl))
-line_there (archive a) m bytes small = (archive_outcome a (archived_of m a), refl)
+line_there : (line : CommandView) (m : Files) → (o : Outcome) × IsOutcomeOfCommand line m o
+line_there (assemble a) m = assembles_there a m
+line_there (link l) m = let r = some_link m l in (outcome_of l r.0, (r.0, r.1, refl))
+line_there (archive a) m = (archive_outcome a (archived_of m a), refl)
 
-words_there : (words : Result CommandView LineFault) (m : Files) → HoldBytes m → IfOk words HasSmallValues → (o : Outcome) × IsOutcomeOfArgs words m o
-words_there (Ok line) m bytes small = line_there line m bytes small
-words_there (Err e) m bytes small = (failing (line_message_of e), refl)
+words_there : (words : Result CommandView LineFault) (m : Files) → (o : Outcome) × IsOutcomeOfArgs words m o
+words_there (Ok line) m = line_there line m
+words_there (Err e) m = (failing (line_message_of e), refl)
 
 pub an_outcome_exists : OutcomeExists
-an_outcome_exists words m bytes =
-    let there = words_there (line_of words) m bytes (line_small words) in
+an_outcome_exists words m =
+    let there = words_there (line_of words) m in
     (there.0, there.1, λ other does. one_outcome (line_of words) m other there.0 does there.1)
 
 -- ---- Images.

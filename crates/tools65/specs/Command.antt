@@ -2,7 +2,6 @@
 use Rattle.std.specs.Prelude.{◌≡◌, ℕ, ◌⊎◌, List, [], ◌++◌, Option, Result, Ok, Err, if◌then◌else◌}
 use Rattle.base65.specs.Store.{Files}
 use Rattle.object65.specs.declared.object.Object.{Object}
-use Rattle.object65.specs.Objects.{ObjectFits}
 use Rattle.object65.specs.Spelling.{object_bytes}
 use Rattle.ast65.specs.Faults.{is_memory}
 use Rattle.semantics65.specs.Module as asm
@@ -38,11 +37,10 @@ refused_with source out err e =
     if is_memory e.fault then failing (memory_line source)
     else record { out = out; err = err ++ asm_message source e; outputs = []; status = Failure }
 
--- the outcome of assembling: the object's file, whose numbers fit their types; or the output so far and the
--- error
+-- the outcome of assembling: the object's file; or the output so far and the error
 abbrev pub AssemblesWith : Assembling → List ℕ → List ℕ → Result Object LocatedFault → Outcome → Type 0
 AssemblesWith a out err (Ok object) o =
-    ObjectFits object × (name : List ℕ) × IsOutputName a.output a.source name × (o ≡ record { out = out; err = err; outputs = outputs_of name (object_bytes object); status = Success })
+    (name : List ℕ) × IsOutputName a.output a.source name × (o ≡ record { out = out; err = err; outputs = outputs_of name (object_bytes object); status = Success })
 AssemblesWith a out err (Err e) o = o ≡ refused_with a.source out err e
 
 abbrev pub AssemblesTo : Assembling → asm.Outcome → Outcome → Type 0

@@ -15,7 +15,8 @@ use Rattle.cli65.specs.Line.{CommandView, assemble, link, archive, line_of}
 use Rattle.semantics65.specs.Module.{LocatedFault}
 use Rattle.asm65.specs.Failing.{StoreFailureStops}
 use Rattle.tools65.specs.Assembling.{asm_message, job_in}
-use Rattle.tools65.specs.Command.{IsOutcomeOfCommand, ArgsRunSatisfies, line_memory}
+use Rattle.tools65.specs.Command.{ArgsRunSatisfies, line_memory}
+use Rattle.tools65.specs.Fitting.{IsFittingOutcome}
 use Rattle.output65.specs.RunEffects.{PerformsOutcome, Streams}
 use Rattle.output65.specs.WriteFailures.{StopsWriting}
 use Rattle.output65.specs.declared.outcome.Outcome.{Outcome}
@@ -55,8 +56,9 @@ SaysFailure (archive a) m last_failure out err =
 abbrev pub SaysWhy : CommandView → Files → LastFailure → List ℕ → List ℕ → Type 0
 SaysWhy line m last_failure out err = SaysFailure line m last_failure out err ⊎ ((out ≡ []) × (err ≡ line_memory line))
 
+-- A command line of which a call failed. If files were being written, the numbers of ca65's object fit their types.
 unfoldable pub FailsLine : CommandView → Files → Option Files → LastFailure → Streams → Status → Type 0
-FailsLine line = RunFails (IsOutcomeOfCommand line) (SaysWhy line)
+FailsLine line = RunFails (IsFittingOutcome line) (SaysWhy line)
 
 -- Words that are no line ask nothing of the store: what is said of them is said. Where the count of failures stood at its
 -- last value when the run began, it may also be said of a line that memory ran out before the words were one.

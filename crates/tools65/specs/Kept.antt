@@ -12,6 +12,7 @@ use Rattle.output65.specs.declared.outcome.Outcome.{Outcome}
 use Rattle.output65.specs.declared.outcome.Status.TheVariants.{Success}
 use Rattle.tools65.specs.Assembling.{job_in}
 use Rattle.tools65.specs.Command.{AssemblesSource}
+use Rattle.tools65.specs.Fitting.{SourceObjectFits}
 use Rattle.tools65.specs.OneProgram.{Source}
 use Rattle.tools65.specs.Written.{IsSourceLibrary, IsSourceObject, IsWrittenOf}
 
@@ -19,10 +20,11 @@ use Rattle.tools65.specs.Written.{IsSourceLibrary, IsSourceObject, IsWrittenOf}
 abbrev pub source_in : Assembling → Files → Source
 source_in a m = record { files = m; job = job_in a }
 
--- a file that an assemble line writes is what ca65 writes of the line's source, where it is within the limit of a file
+-- A file that an assemble line writes is what ca65 writes of the line's source, where it is within the limit of a file. The
+-- premises are clauses `done` and `fits` of the line's run.
 abbrev pub AssembledFileLaw : Type 0
 AssembledFileLaw =
-    (a : Assembling) (m : Files) (o : Outcome) → AssemblesSource a m o → o.status ≡ Success →
+    (a : Assembling) (m : Files) (o : Outcome) → AssemblesSource a m o → SourceObjectFits a m → o.status ≡ Success →
     AllByRecursion (λ f. length f.bytes ≤ file_limit → IsWrittenOf (source_in a m) f.bytes) o.outputs
 
 -- `r` makes of object files that ca65 wrote, and of a library of such members or of none, a library of such members

@@ -2,6 +2,7 @@ pub mod Naming
 pub mod Assembling
 pub mod Archives
 pub mod Command
+pub mod Fitting
 pub mod OneOutcome
 pub mod Failing
 pub mod OneProgram

@@ -1,6 +1,5 @@
 -- A command has one outcome, exactly, and a failure of the store one message.
 use Rattle.std.specs.Prelude.{◌≡◌, ℕ, List, Some, Result}
-use Rattle.base65.specs.Holding.{HoldBytes}
 use Rattle.base65.specs.Store.{FailedCall, Files}
 use Rattle.cli65.specs.Line.{Archiving, Linking, CommandView, archive, line_of, link}
 use Rattle.cli65.specs.declared.fault.LineFault.{LineFault}
@@ -13,10 +12,10 @@ use Rattle.tools65.specs.Failing.{SaysFailure}
 abbrev pub OutcomeIsUnique : Type 0
 OutcomeIsUnique = (words : Result CommandView LineFault) (m : Files) (a b : Outcome) → IsOutcomeOfArgs words m a → IsOutcomeOfArgs words m b → a ≡ b
 
--- Whatever words are and whatever bytes files hold, there is one thing that the words do as a command, and no other.
+-- Whatever words and files are, there is one thing that the words do as a command, and no other.
 abbrev pub OutcomeExists : Type 0
 OutcomeExists =
-    (words : List (List ℕ)) (m : Files) → HoldBytes m →
+    (words : List (List ℕ)) (m : Files) →
     (o : Outcome) × IsOutcomeOfArgs (line_of words) m o
     × ((other : Outcome) → IsOutcomeOfArgs (line_of words) m other → other ≡ o)
 

@@ -10,8 +10,8 @@ pub fn outcome_is_unique()
     ensures { OutcomeIsUnique }
 {}
 
-/// Whatever words are and whatever bytes files hold, there is exactly one thing that the words do as a command: these texts,
-/// these files, this status.
+/// Whatever words and files are, there is exactly one thing that the words do as a command: these texts, these files, this
+/// status.
 pub fn outcome_exists()
     ensures { OutcomeExists }
 {}
@@ -66,7 +66,8 @@ pub fn written_inputs_select_sources()
     ensures { SourcesSelectedLaw }
 {}
 
-/// A file that a line of ca65 writes is what ca65 writes of the line's source, where it is within the limit of a file.
+/// A file that a line of ca65 writes is what ca65 writes of the line's source, where its object fits and it is within the limit
+/// of a file.
 pub fn written_file_is_kept()
     ensures { AssembledFileLaw }
 {}

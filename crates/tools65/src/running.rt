@@ -7,6 +7,7 @@ ghost use Rattle.cli65.specs.Messages.{memory_line};
 ghost use Rattle.output65.specs.RunEffects.{AreSame, OverWriters, between};
 ghost use Rattle.tools65.specs.Command.{RunsCommand, IsOutcomeOfCommand, RunSatisfies, line_memory};
 ghost use Rattle.tools65.specs.Failing.{FailsLine, FailsWords};
+ghost use Rattle.tools65.specs.Fitting.{RunObjectFits, WordsObjectFits};
 ghost use Rattle.tools65.specs.Internal.Computing.{ComputesOutcome, ComputeFrame};
 ghost use Rattle.tools65.specs.OneProgram.{LineLinksWhole, WordsLinkWhole};
 
@@ -59,6 +60,9 @@ pub fn run_line_with_streams<S: Store, W: Write, E: Write>(
     ensures done { IfSome (S.files store.old) (λ m. NoneFailed (S.failures store.old) (S.failures store.new) →
         RunSatisfies (IsOutcomeOfCommand (view line.now)) (line_memory (view line.now)) m (S.files store.new)
         (between W.contents E.contents out.old out.new err.old err.new) result) }
+    ensures fits { IfSome (S.files store.old) (λ m. NoneFailed (S.failures store.old) (S.failures store.new) →
+        RunObjectFits (view line.now) m (S.files store.new)
+        (between W.contents E.contents out.old out.new err.old err.new) result) }
     ensures failed { IfSome (S.files store.old) (λ m. HasFailed (S.failures store.old) (S.failures store.new) →
         FailsLine (view line.now) m (S.files store.new) (S.last_failure store.new)
         (between W.contents E.contents out.old out.new err.old err.new) result) }
@@ -88,6 +92,9 @@ pub fn run_line<S: Store, W: Write, E: Write>(
     ensures done { IfSome (S.files store.old) (λ m. NoneFailed (S.failures store.old) (S.failures store.new) →
         OverWriters (W.contents out.old) (W.contents out.new) (E.contents err.old) (E.contents err.new)
         (λ io. RunSatisfies (IsOutcomeOfCommand (view line.now)) (line_memory (view line.now)) m (S.files store.new) io result)) }
+    ensures fits { IfSome (S.files store.old) (λ m. NoneFailed (S.failures store.old) (S.failures store.new) →
+        OverWriters (W.contents out.old) (W.contents out.new) (E.contents err.old) (E.contents err.new)
+        (λ io. RunObjectFits (view line.now) m (S.files store.new) io result)) }
     ensures failed { IfSome (S.files store.old) (λ m. HasFailed (S.failures store.old) (S.failures store.new) →
         OverWriters (W.contents out.old) (W.contents out.new) (E.contents err.old) (E.contents err.new)
         (λ io. FailsLine (view line.now) m (S.files store.new) (S.last_failure store.new) io result)) }
@@ -120,6 +127,9 @@ pub fn run_with_streams<A: AsStr, S: Store, W: Write, E: Write>(
     ensures done { IfSome (S.files store.old) (λ m. NoneFailed (S.failures store.old) (S.failures store.new) →
         RunsCommand (map A.text words.now) m (S.files store.new)
         (between W.contents E.contents out.old out.new err.old err.new) result) }
+    ensures fits { IfSome (S.files store.old) (λ m. NoneFailed (S.failures store.old) (S.failures store.new) →
+        WordsObjectFits (map A.text words.now) m (S.files store.new)
+        (between W.contents E.contents out.old out.new err.old err.new) result) }
     ensures failed { IfSome (S.files store.old) (λ m. HasFailed (S.failures store.old) (S.failures store.new) →
         FailsWords (S.failures store.old) (map A.text words.now) m (S.files store.new) (S.last_failure store.new)
         (between W.contents E.contents out.old out.new err.old err.new) result) }
@@ -149,6 +159,9 @@ pub fn run<A: AsStr, S: Store, W: Write, E: Write>(
     ensures done { IfSome (S.files store.old) (λ m. NoneFailed (S.failures store.old) (S.failures store.new) →
         OverWriters (W.contents out.old) (W.contents out.new) (E.contents err.old) (E.contents err.new)
         (λ io. RunsCommand (map A.text words.now) m (S.files store.new) io result)) }
+    ensures fits { IfSome (S.files store.old) (λ m. NoneFailed (S.failures store.old) (S.failures store.new) →
+        OverWriters (W.contents out.old) (W.contents out.new) (E.contents err.old) (E.contents err.new)
+        (λ io. WordsObjectFits (map A.text words.now) m (S.files store.new) io result)) }
     ensures failed { IfSome (S.files store.old) (λ m. HasFailed (S.failures store.old) (S.failures store.new) →
         OverWriters (W.contents out.old) (W.contents out.new) (E.contents err.old) (E.contents err.new)
         (λ io. FailsWords (S.failures store.old) (map A.text words.now) m (S.files store.new) (S.last_failure store.new) io result)) }

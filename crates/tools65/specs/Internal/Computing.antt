@@ -5,17 +5,18 @@ use Rattle.cli65.specs.Line.{CommandView}
 use Rattle.output65.specs.declared.outcome.Outcome.{Outcome}
 use Rattle.output65.specs.declared.outcome.Status.TheVariants.{Failure}
 use Rattle.output65.specs.Outputs.{failing}
-use Rattle.tools65.specs.Command.{IsOutcomeOfCommand, line_memory}
+use Rattle.tools65.specs.Command.{line_memory}
 use Rattle.tools65.specs.Failing.{SaysWhy, refusing}
+use Rattle.tools65.specs.Fitting.{IsFittingOutcome}
 
 -- it only says why, as it may where the last failed call asked for this
 abbrev pub OnlyReports : CommandView → Files → LastFailure → Outcome → Type 0
 OnlyReports line m last_failure o = (out : List ℕ) × (err : List ℕ) × SaysWhy line m last_failure out err × (o ≡ refusing out err)
 
--- An outcome that was computed of these files, between two counts of failures: the line's, or only that memory ran out, where no
--- call failed; else it says why.
+-- An outcome that was computed of these files, between two counts of failures: the line's, whose object fits, or only that memory
+-- ran out, where no call failed; else it says why.
 pub record ComputesOutcome (line : CommandView) (m : Files) (last_failure : LastFailure) (old new : ℕ) (o : Outcome) : Type 0 where
-  pub done : (HasFailed old new → ⊥) → IsOutcomeOfCommand line m o ⊎ (o ≡ failing (line_memory line))
+  pub done : (HasFailed old new → ⊥) → IsFittingOutcome line m o ⊎ (o ≡ failing (line_memory line))
   pub failed : HasFailed old new → OnlyReports line m last_failure o
 
 -- The results of computing an outcome: the files are unchanged, and the outcome is a failure if a call

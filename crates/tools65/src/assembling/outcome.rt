@@ -1,7 +1,7 @@
 //! The outcome of assembling.
 
 ghost use Rattle.std.specs.Prelude.{◌≡◌, IfOk, IfSome, true};
-ghost use Rattle.object65.specs.Objects.{ObjectFits, is_well_formed_object};
+ghost use Rattle.object65.specs.Objects.{is_well_formed_object};
 ghost use Rattle.object65.specs.Spelling.{object_bytes};
 ghost use Rattle.tools65.specs.Assembling.{IsOutputName};
 ghost use Rattle.asm65.specs.Assembly.{answer_of, placed_of};
@@ -74,8 +74,7 @@ fn asm_outcome(
     line: &AssembleArgs<'_>,
     assembly: Assembly,
 ) -> Result<Outcome, AllocError>
-    requires good { IfOk assembly.result (λ object. is_well_formed_object object ≡ true) }
-    requires numbers { IfOk assembly.result ObjectFits }
+    requires { IfOk assembly.result (λ object. is_well_formed_object object ≡ true) }
     ensures { IfOk result (λ outcome. AssemblesTo (assembling line.now) (answer_of assembly assembly.result) outcome) }
 {
     let Assembly { result, out, err } = assembly;

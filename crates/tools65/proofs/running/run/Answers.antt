@@ -2,6 +2,7 @@ use Rattle.std.proofs.Common.{map, rules}
 use Rattle.cli65.specs.Line.{line_of}
 use Rattle.tools65.specs.Command.{RunsCommand}
 use Rattle.tools65.specs.Failing.{FailsWords}
+use Rattle.tools65.specs.Fitting.{WordsObjectFits}
 use Rattle.tools65.specs.OneProgram.{WordsLinkWhole}
 use Rattle.tools65.proofs.Runs.{over_writers}
 use Rattle.tools65.proofs.running.run.Goals as goal
@@ -10,6 +11,11 @@ pub returns-clause-done : goal.returns-clause-done
 returns-clause-done g c =
     over_writers _ _ _ _ _ _ c.run_with_streams.new.out.has_failed c.run_with_streams.new.err.has_failed
     (λ m io. RunsCommand (map g.A.AsStr.text c.args.words.now) m (g.S.Store.files c.run_with_streams.new.store) io c.run_with_streams.result) (search rules)
+
+pub returns-clause-fits : goal.returns-clause-fits
+returns-clause-fits g c =
+    over_writers _ _ _ _ _ _ c.run_with_streams.new.out.has_failed c.run_with_streams.new.err.has_failed
+    (λ m io. WordsObjectFits (map g.A.AsStr.text c.args.words.now) m (g.S.Store.files c.run_with_streams.new.store) io c.run_with_streams.result) (search rules)
 
 pub returns-clause-failed : goal.returns-clause-failed
 returns-clause-failed g c =

@@ -2,6 +2,7 @@ use Rattle.std.proofs.Common.{rules}
 use Rattle.cli65.specs.Line.{view}
 use Rattle.tools65.specs.Command.{IsOutcomeOfCommand, RunSatisfies, line_memory}
 use Rattle.tools65.specs.Failing.{FailsLine}
+use Rattle.tools65.specs.Fitting.{RunObjectFits}
 use Rattle.tools65.specs.OneProgram.{LineLinksWhole}
 use Rattle.tools65.proofs.Runs.{over_writers}
 use Rattle.tools65.proofs.running.run_line.Goals as goal
@@ -10,6 +11,11 @@ pub returns-clause-done : goal.returns-clause-done
 returns-clause-done g c =
     over_writers _ _ _ _ _ _ c.run_line_with_streams.new.out.has_failed c.run_line_with_streams.new.err.has_failed
     (λ m io. RunSatisfies (IsOutcomeOfCommand (view c.args.line.now)) (line_memory (view c.args.line.now)) m (g.S.Store.files c.run_line_with_streams.new.store) io c.run_line_with_streams.result) (search rules)
+
+pub returns-clause-fits : goal.returns-clause-fits
+returns-clause-fits g c =
+    over_writers _ _ _ _ _ _ c.run_line_with_streams.new.out.has_failed c.run_line_with_streams.new.err.has_failed
+    (λ m io. RunObjectFits (view c.args.line.now) m (g.S.Store.files c.run_line_with_streams.new.store) io c.run_line_with_streams.result) (search rules)
 
 pub returns-clause-failed : goal.returns-clause-failed
 returns-clause-failed g c =

@@ -2,6 +2,7 @@ use Rattle.std.proofs.Common.{refl}
 use Rattle.cli65.specs.Line.{view}
 use Rattle.tools65.specs.Command.{IsOutcomeOfCommand, line_memory}
 use Rattle.tools65.proofs.Failing.{line_failed, line_fails, only_memory_fails}
+use Rattle.tools65.proofs.Fitting.{line_fits, only_memory_fits}
 use Rattle.tools65.proofs.Runs.{line_done, only_memory}
 use Rattle.tools65.proofs.WholeRuns.{line_whole}
 use Rattle.tools65.proofs.running.run_line_with_streams.Goals as goal
@@ -13,6 +14,14 @@ returns-in-Ok-clause-done g c =
 pub returns-in-Err-clause-done : goal.returns-in-Err-clause-done
 returns-in-Err-clause-done g c =
     only_memory _ _ (IsOutcomeOfCommand (view c.args.line.now)) _ _ _ (line_memory (view c.args.line.now)) _ _ _ _ c.compute.ensures.frame.files refl c.requires.out (rw c.memory_name-in-Err.ensures at c.print_out_of_memory.ensures.said)
+
+pub returns-in-Ok-clause-fits : goal.returns-in-Ok-clause-fits
+returns-in-Ok-clause-fits g c =
+    line_fits _ _ _ _ _ _ (view c.args.line.now) _ c.in-Ok.outcome _ _ c.in-Ok.ensures.frame.files c.in-Ok.ensures.frame.later c.commit_outcome.ensures.later c.in-Ok.ensures.computed (rw c.memory_name.ensures at c.commit_outcome.ensures.done)
+
+pub returns-in-Err-clause-fits : goal.returns-in-Err-clause-fits
+returns-in-Err-clause-fits g c =
+    only_memory_fits _ _ (view c.args.line.now) _ _ _ _ _ _ _ c.compute.ensures.frame.files refl c.requires.out (rw c.memory_name-in-Err.ensures at c.print_out_of_memory.ensures.said)
 
 pub returns-in-Ok-clause-failed : goal.returns-in-Ok-clause-failed
 returns-in-Ok-clause-failed g c =

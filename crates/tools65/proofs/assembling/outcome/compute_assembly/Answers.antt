@@ -13,7 +13,7 @@ returns-clause-computed g c =
     let include : c.as_slice-3.result.now ≡ a.include = search rules in
     let defines : map define_of c.as_slice-4.result.now ≡ map define_in a.defines = search rules in
     let made = c.assemble-assembly in
-    computes_assembly a made.result.out made.result.err _ _ _ _ j made.result.result c.asm_outcome.result (same_job a _ _ include defines) made.ensures.count made.ensures.at_last_count made.ensures.stopped made.ensures.assembled c.asm_outcome.ensures
+    computes_assembly a made.result.out made.result.err _ _ _ _ j made.result.result c.asm_outcome.result (same_job a _ _ include defines) made.ensures.count made.ensures.at_last_count made.ensures.stopped made.ensures.assembled made.ensures.numbers c.asm_outcome.ensures
 
 pub returns-clause-frame : goal.returns-clause-frame
 returns-clause-frame g c =

@@ -1,0 +1,64 @@
+-- The object that a run makes fits, unless memory ran out.
+use Rattle.std.proofs.Common.{◌≡◌, ◌⊎◌, inl, inr, ℕ, ◌≤◌, List, [], Bool, false, not, Option, Some, None, Result, Ok, Err, ap, subst}
+use Rattle.std.specs.Prelude.{IfSome}
+use Rattle.base65.specs.Outcome.{RefinesErr}
+use Rattle.base65.specs.Store.{Files, LastFailure, NoneFailed, RelatesFiles}
+use Rattle.base65.specs.declared.output.OutputFile.{OutputFile}
+use Rattle.cli65.specs.Line.{CommandView, line_of}
+use Rattle.cli65.specs.LineFaults.{is_system_error as is_line_system_error}
+use Rattle.cli65.specs.Messages.{line_memory_message, line_message_of}
+use Rattle.cli65.specs.declared.fault.LineFault.{LineFault}
+use Rattle.cli65.specs.declared.fault.LineFault.TheVariants.{BadArguments, OutOfMemory}
+use Rattle.output65.specs.Outputs.{failing}
+use Rattle.output65.specs.RunEffects.{PerformsOutcome, PrintsText, StopsAt, StopsShort, Streams, streams}
+use Rattle.output65.specs.declared.outcome.Outcome.{Outcome}
+use Rattle.output65.specs.declared.outcome.Status.{Status}
+use Rattle.output65.specs.declared.outcome.Status.TheVariants.{Failure}
+use Rattle.tools65.specs.Command.{line_memory}
+use Rattle.tools65.specs.Fitting.{ArgsObjectFits, IsFittingOutcome, LineObjectFits, RunObjectFits, WordsObjectFits}
+use Rattle.tools65.specs.Internal.Computing.{ComputesOutcome}
+use Rattle.tools65.proofs.Runs.{did_not_fail, none_before, says}
+
+-- where there are no files to write, writing doesn't stop at one
+stops_nowhere : (k : ℕ) (m : Files) (new : Option Files) → RelatesFiles (StopsAt [] k) (Some m) new → ⊥
+stops_nowhere k m None h = h
+stops_nowhere k m (Some n) h = let empty : None ≡ Some h.0 = h.1 in cc
+
+-- an outcome that was computed is carried out
+pub line_fits : (known mid new : Option Files) (fo fm fn : ℕ) (line : CommandView) (last_failure : LastFailure) (o : Outcome) (io : Streams) (status : Status) → mid ≡ known → fo ≤ fm → fm ≤ fn → IfSome known (λ m. ComputesOutcome line m last_failure fo fm o) → IfSome mid (λ m. NoneFailed fm fn → PerformsOutcome o m new io status ⊎ StopsShort o (line_memory line) m new io status) → IfSome known (λ m. NoneFailed fo fn → RunObjectFits line m new io status)
+unfolding RunObjectFits
+line_fits None mid new fo fm fn line last_failure o io status same early later computes performs = tt
+line_fits (Some m) mid new fo fm fn line last_failure o io status same early later computes performs = λ none.
+    let between = none_before fo fm fn early later none in
+    by (computes.done (did_not_fail fo fm between.0 none.before)) ((rw same at performs) between.1)
+  where
+    by : IsFittingOutcome line m o ⊎ (o ≡ failing (line_memory line)) → PerformsOutcome o m new io status ⊎ StopsShort o (line_memory line) m new io status → LineObjectFits line m ⊎ PerformsOutcome (failing (line_memory line)) m new io status
+    by (inl (does, fits)) carried = inl fits
+    by (inr memory) (inl said) = inr (subst (λ (x : Outcome). PerformsOutcome x m new io status) memory said)
+    by (inr memory) (inr short) =
+        let none : o.outputs ≡ [] = ap (λ (x : Outcome). x.outputs) memory in
+        absurd (stops_nowhere short.place m new (subst (λ (os : List OutputFile). RelatesFiles (StopsAt os short.place) (Some m) new) none short.left))
+
+-- memory ran out before there was an outcome
+pub only_memory_fits : (known new : Option Files) (line : CommandView) (out err_old err_new : Option (List ℕ)) (out_refused err_refused : Bool) (status : Status) (Q : Type 0) → new ≡ known → status ≡ Failure → out_refused ≡ false → PrintsText err_old err_new (line_memory line) (not err_refused) → IfSome known (λ m. Q → RunObjectFits line m new (streams out out out_refused err_old err_new err_refused) status)
+unfolding RunObjectFits
+only_memory_fits None new line out err_old err_new out_refused err_refused status Q same e quiet p = tt
+only_memory_fits (Some m) new line out err_old err_new out_refused err_refused status Q same e quiet p =
+    λ _. inr (says m new out err_old err_new (line_memory line) out_refused err_refused status same e quiet p)
+
+-- a line that was run
+pub words_fit : (known new : Option Files) (fo fn : ℕ) (words : List (List ℕ)) (line : CommandView) (io : Streams) (status : Status) → line_of words ≡ Ok line → IfSome known (λ m. NoneFailed fo fn → RunObjectFits line m new io status) → IfSome known (λ m. NoneFailed fo fn → WordsObjectFits words m new io status)
+unfolding WordsObjectFits
+words_fit None new fo fn words line io status e h = tt
+words_fit (Some m) new fo fn words line io status e h = λ none. rw e (inl (h none))
+
+-- words that are no line, or for which memory ran out
+pub refused_fit : (known new : Option Files) (words : List (List ℕ)) (e : LineFault) (out err_old err_new : Option (List ℕ)) (out_refused err_refused : Bool) (status : Status) (Q : Type 0) → new ≡ known → status ≡ Failure → RefinesErr is_line_system_error e (line_of words) → out_refused ≡ false → PrintsText err_old err_new (line_message_of e) (not err_refused) → IfSome known (λ m. Q → WordsObjectFits words m new (streams out out out_refused err_old err_new err_refused) status)
+unfolding WordsObjectFits
+refused_fit None new words e out err_old err_new out_refused err_refused status Q same f h quiet p = tt
+refused_fit (Some m) new words BadArguments out err_old err_new out_refused err_refused status Q same f h quiet p = λ _. rw h tt
+refused_fit (Some m) new words OutOfMemory out err_old err_new out_refused err_refused status Q same f h quiet p = λ _. either (line_of words)
+  where
+    either : (r : Result CommandView LineFault) → ArgsObjectFits r m new (streams out out out_refused err_old err_new err_refused) status
+    either (Ok line) = inr (says m new out err_old err_new line_memory_message out_refused err_refused status same f quiet p)
+    either (Err e) = tt

@@ -113,11 +113,11 @@ module _ (ws : List (List ℕ)) (es : List (InternedKey × Definition)) (ss : Li
   less_scope : (s : ScopeKey × Bool) (z : l.Symbols) → Extends (table_without_imports ws es (ss ++ s ∷ [])) z → Extends (table_without_imports ws es ss) z
   less_scope s z h = grind (arith, common_steps)
 
-  pub final_pushed : (e : InternedKey × Definition) → AreFinal ws es ss → KeepsFinal (table_without_imports ws es ss) (length es) (definition_in ws e) e.1 → AreFinal ws (es ++ e ∷ []) ss
+  pub final_pushed : (e : InternedKey × Definition) → AreFinal ws es ss → KeepsFinal (table_without_imports ws es ss) (length es) (definition_in ws e) e.1.form → AreFinal ws (es ++ e ∷ []) ss
   final_pushed e h own = grind (arith, common_steps, less_definition, get_more)
 
   pub final_scoped : (s : ScopeKey × Bool) → AreFinal ws es ss → AreFinal ws es (ss ++ s ∷ [])
-  final_scoped s h = λ j d at. (λ f is z extends. (h j d at).0 f is z (less_scope s z extends), λ r is z extends none. (h j d at).1 r is z (less_scope s z extends) none)
+  final_scoped s h = λ j d at f is z extends. h j d at f is z (less_scope s z extends)
 
 -- ---- The entry of a key.
 

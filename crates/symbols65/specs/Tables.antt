@@ -13,8 +13,7 @@ use Rattle.symbols65.specs.declared.table.symbols.InternedKey.TheVariants as ent
 use Rattle.symbols65.specs.declared.table.symbols.ScopeKey.{ScopeKey}
 use Rattle.symbols65.specs.declared.table.symbols.ScopeKey.TheVariants as opening
 use Rattle.symbols65.specs.declared.table.symbols.Definition.{Definition}
-use Rattle.semantics65.specs.Norms.{Extends, defined_form, form_of_value, norm, norm_of}
-use Rattle.symbols65.specs.Plains.{plain_in}
+use Rattle.semantics65.specs.Norms.{Extends, form_of_value, norm}
 
 abbrev pub key_of : code.Key → l.Key
 key_of (key.Named scope name) = named scope name.now
@@ -99,29 +98,16 @@ scope_opened ws s = scope_by ws s.0 s.1
 abbrev pub table_without_imports : List (List ℕ) → List (InternedKey × Definition) → List (ScopeKey × Bool) → l.Symbols
 table_without_imports ws es ss = record { definitions = map (definition_in ws) es; scopes = map (scope_opened ws) ss; imports = []; zero_page = [] }
 
--- the final form of the definition at an index: it has this form whatever statements follow
-abbrev pub HasFinalForm : l.Symbols → ℕ → l.Definition → Option Form → Type 0
-HasFinalForm y j d form = (f : Form) → form ≡ Some f → (z : l.Symbols) → Extends y z → result_ok (form_of_value (norm (suc j) z) d.context d.value) ≡ Some f
+-- the form that is kept with what is defined at a place is final: it has this form whatever statements follow
+abbrev pub KeepsFinal : l.Symbols → ℕ → l.Definition → Option Form → Type 0
+KeepsFinal y j d kept = (f : Form) → kept ≡ Some f → (z : l.Symbols) → Extends y z → result_ok (form_of_value (norm (suc j) z) d.context d.value) ≡ Some f
 
--- the blocker of a definition: it has no number and no address if this constant has none, whatever statements follow
-abbrev pub HasBlocker : l.Symbols → l.Definition → Option ℕ → Type 0
-HasBlocker y d blocker =
-    (r : ℕ) → blocker ≡ Some r → (z : l.Symbols) → Extends y z → plain_in (defined_form z r) ≡ None →
-    plain_in (form_of_value (norm_of z) d.context d.value) ≡ None
-
--- what is kept with the definition at an index is so whatever statements follow
-abbrev pub KeepsFinal : l.Symbols → ℕ → l.Definition → Definition → Type 0
-KeepsFinal y j d kept = HasFinalForm y j d kept.form × HasBlocker y d kept.blocker
-
--- each definition does
+-- each form that is kept is final
 abbrev pub AreFinal : List (List ℕ) → List (InternedKey × Definition) → List (ScopeKey × Bool) → Type 0
-AreFinal ws es ss = (j : ℕ) (e : InternedKey × Definition) → slice_get es j ≡ Some e → KeepsFinal (table_without_imports ws es ss) j (definition_in ws e) e.1
+AreFinal ws es ss = (j : ℕ) (e : InternedKey × Definition) → slice_get es j ≡ Some e → KeepsFinal (table_without_imports ws es ss) j (definition_in ws e) e.1.form
 
 pub AreFinal-prop : (ws : List (List ℕ)) (es : List (InternedKey × Definition)) (ss : List (ScopeKey × Bool)) → IsProp (AreFinal ws es ss)
-AreFinal-prop ws es ss = λ p q i j e at. (
-  λ f is z more. Coded-set (coded_option form_code) _ _ ((p j e at).0 f is z more) ((q j e at).0 f is z more) i,
-  λ r is z more none. Coded-set (coded_option form_code) _ _ ((p j e at).1 r is z more none) ((q j e at).1 r is z more none) i,
-)
+AreFinal-prop ws es ss = λ p q i j e at f is z more. Coded-set (coded_option form_code) _ _ (p j e at f is z more) (q j e at f is z more) i
 
 -- ---- How keys are looked up.
 

@@ -15,7 +15,7 @@ pub use measuring::{
     needs_section,
 };
 pub use resolving::{
-    Binding, NormCache, binding_of, blocker_of, defined_norm, definition_of, norm, operand_form,
+    Binding, NormCache, State, binding_of, defined_norm, definition_of, norm, operand_form,
     plain_part, scope_of, scopes_in, shown,
 };
 pub use table::{Definition, InternedKey, Key, ScopeKey, Symbols, define};

@@ -14,6 +14,7 @@ ghost use Rattle.semantics65.specs.Symbols.{with_new, enclosing, scope_in, paren
 ghost use Rattle.symbols65.specs.Tables.{IsPrefixOf, HasNumber, IsOpening, first_number, same_opening, scope_by, word_opened, KeepsFinal, definition_seen, entry_of, key_of, same_entry};
 ghost use Rattle.symbols65.specs.Views.{table_of, with_names, with_scope, words_of, key_at};
 ghost use Rattle.semantics65.specs.Norms.{is_zero_page_name};
+ghost use Rattle.symbols65.specs.Resolving.{IsUnknownName};
 
 use base65::{ListVec, Seed};
 pub use defining::define;
@@ -128,6 +129,13 @@ impl Symbols {
         }
     }
 
+    /// Returns whether a name is neither defined nor imported.
+    pub fn is_unknown(&self, name: &[u8]) -> bool
+        ensures { result ≡ true → IsUnknownName (table_of self.now) name.now }
+    {
+        self.word(name).is_none() && self.imported(name).is_none()
+    }
+
     pub fn place_opened(&self, opening: ScopeKey) -> Option<usize>
         ensures place { result ≡ position (same_opening opening) (keys self.now.scopes) }
         ensures within { IfSome result (λ i. i < index_map_len self.now.scopes) }
@@ -180,21 +188,11 @@ impl Symbols {
     pub fn definition(&self, place: usize) -> Option<&Definition>
         ensures definition { slice_get (table_of self.now).definitions place ≡ option_map (λ d. definition_seen (key_at self.now place) d.now) result }
         ensures entry { option_map (λ d. d.now) result ≡ option_map (λ e. e.1) (slice_get self.now.definitions.entries place) }
-        ensures forms { IfSome result (λ d. KeepsFinal (table_of self.now) place (definition_seen (key_at self.now place) d.now) d.now) }
+        ensures forms { IfSome result (λ d. KeepsFinal (table_of self.now) place (definition_seen (key_at self.now place) d.now) d.now.form) }
     {
         match self.definitions.get_index(place) {
             Some((_, definition)) => Some(definition),
             None => None,
-        }
-    }
-
-    /// Returns whether the definition at an index is that of a name directly in a scope.
-    pub fn is_in(&self, index: usize, scope: usize) -> bool
-        ensures { result ≡ true → (n : List ℕ) × (key_at self.now index ≡ named scope n) }
-    {
-        match self.definitions.get_index(index) {
-            Some((InternedKey::Named { scope: own, .. }, _)) => *own == scope,
-            _ => false,
         }
     }
 

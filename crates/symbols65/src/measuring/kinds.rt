@@ -146,8 +146,7 @@ pub fn needs_section(statement: &Statement) -> bool
     }
 }
 
-/// Lays out a statement whose names are checked, from the evaluations of its expressions, or returns
-/// its first error.
+/// What a statement whose names are understood places, by the evaluations of its expressions, or its first fault.
 pub fn place(
     before: LineState<'_>,
     statement: &Statement,

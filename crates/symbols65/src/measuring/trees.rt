@@ -1,16 +1,18 @@
 //! The expressions of statements, each of which is evaluated once.
 
-ghost use Rattle.std.specs.Prelude.{◌≡◌, IfOk, Option, Some, [], ◌∷◌, ◌++◌};
+ghost use Rattle.std.specs.Prelude.{◌≡◌, IfOk, OnOk, Option, Some, [], ◌∷◌, ◌++◌};
 ghost use Rattle.std.specs.Option.{option_map};
 ghost use Rattle.base65.specs.Outcome.{Refines};
 ghost use Rattle.ast65.specs.Faults.{is_memory};
 ghost use Rattle.semantics65.specs.Contents.{operand_tree};
 ghost use Rattle.semantics65.specs.Layout.{context_of, lost_scopes, item_trees, optional_tree, own_size, trees_of, unless_fault};
 ghost use Rattle.symbols65.specs.Evaluations.{AreEvaluations, HasFinal, HaveFinals, IsEvaluated, first_tree, item_tree, second_tree};
+ghost use Rattle.symbols65.specs.Resolving.{IsTable};
 ghost use Rattle.symbols65.specs.Views.{table_of};
 
 use crate::constants::{Evaluation, evaluate, final_form};
 use crate::measuring::LineState;
+use crate::resolving::NormCache;
 use ast65::{AsmFault, Item, Items, ItemsKind, Operand, Statement};
 use object65::Norm;
 use std::alloc::Global;
@@ -30,8 +32,10 @@ pub struct Evaluations {
 pub fn evaluate_optional(
     alloc: Global,
     before: LineState<'_>,
+    known: &mut NormCache,
     value: Option<&Expr>,
 ) -> Result<Option<Evaluation>, AsmFault>
+    requires { IsTable (table_of before.symbols.now) known.old.states.items }
     ensures scopes { Refines is_memory (λ _. tt {0}) result (unless_fault
         (lost_scopes (table_of before.entry.symbols.now).scopes
         (context_of before.entry.cursor.now).scope
@@ -39,10 +43,12 @@ pub fn evaluate_optional(
     ensures found { IfOk result (IsEvaluated (table_of before.entry.symbols.now)
         (context_of before.entry.cursor.now) (own_size before.entry.cursor.now)
         (option_map (λ e. e.now) value.entry)) }
+    ensures table { OnOk result
+        (IsTable (table_of before.entry.symbols.now) known.new.states.items) }
 {
     match value {
         Some(value) => {
-            let found = evaluate(alloc, before, value)?;
+            let found = evaluate(alloc, before, known, value)?;
             Ok(Some(found))
         }
         None => Ok(None),
@@ -92,17 +98,21 @@ fn second_value(statement: &Statement) -> Option<&Expr>
 fn evaluate_item(
     alloc: Global,
     before: LineState<'_>,
+    known: &mut NormCache,
     item: &Item,
 ) -> Result<Option<Norm>, AsmFault>
+    requires { IsTable (table_of before.symbols.now) known.old.states.items }
     ensures scopes { Refines is_memory (λ _. tt {0}) result (unless_fault
         (lost_scopes (table_of before.entry.symbols.now).scopes
         (context_of before.entry.cursor.now).scope (item_trees (item.now ∷ []))) tt) }
     ensures form { IfOk result (HasFinal (table_of before.entry.symbols.now)
         (context_of before.entry.cursor.now) (item_tree item.now)) }
+    ensures table { OnOk result
+        (IsTable (table_of before.entry.symbols.now) known.new.states.items) }
 {
     match item {
         Item::Value(value) => {
-            let found = evaluate_optional(alloc, before, Some(value))?;
+            let found = evaluate_optional(alloc, before, known, Some(value))?;
             Ok(final_form(found))
         }
         Item::StringLiteral(_) => Ok(None),
@@ -114,17 +124,21 @@ fn evaluate_item(
 fn evaluate_items(
     alloc: Global,
     before: LineState<'_>,
+    known: &mut NormCache,
     items: &[Item],
 ) -> Result<Vec<Option<Norm>>, AsmFault>
+    requires { IsTable (table_of before.symbols.now) known.old.states.items }
     ensures scopes { Refines is_memory (λ _. tt {0}) result (unless_fault
         (lost_scopes (table_of before.entry.symbols.now).scopes
         (context_of before.entry.cursor.now).scope (item_trees items.now)) tt) }
     ensures forms { IfOk result (λ forms. HaveFinals (table_of before.entry.symbols.now)
         (context_of before.entry.cursor.now) items.now forms.items) }
+    ensures table { OnOk result
+        (IsTable (table_of before.entry.symbols.now) known.new.states.items) }
 {
     let mut forms = Vec::with_capacity(alloc, items.len())?;
     for item in items {
-        let form = evaluate_item(alloc, before, item)?;
+        let form = evaluate_item(alloc, before, known, item)?;
         forms.push(form)?;
     }
     Ok(forms)
@@ -134,17 +148,21 @@ fn evaluate_items(
 fn evaluate_list(
     alloc: Global,
     before: LineState<'_>,
+    known: &mut NormCache,
     items: &Items,
 ) -> Result<Vec<Option<Norm>>, AsmFault>
+    requires { IsTable (table_of before.symbols.now) known.old.states.items }
     ensures scopes { Refines is_memory (λ _. tt {0}) result (unless_fault
         (lost_scopes (table_of before.entry.symbols.now).scopes
         (context_of before.entry.cursor.now).scope (item_trees items.now)) tt) }
     ensures forms { IfOk result (λ forms. HaveFinals (table_of before.entry.symbols.now)
         (context_of before.entry.cursor.now) items.now forms.items) }
+    ensures table { OnOk result
+        (IsTable (table_of before.entry.symbols.now) known.new.states.items) }
 {
     match items.kind() {
         ItemsKind::Numbers(_) => Ok(Vec::new(alloc)),
-        ItemsKind::Mixed(items) => evaluate_items(alloc, before, items.as_slice()),
+        ItemsKind::Mixed(items) => evaluate_items(alloc, before, known, items.as_slice()),
     }
 }
 
@@ -152,9 +170,11 @@ fn evaluate_list(
 pub fn evaluate_two(
     alloc: Global,
     before: LineState<'_>,
+    known: &mut NormCache,
     first: Option<&Expr>,
     second: Option<&Expr>,
 ) -> Result<Evaluations, AsmFault>
+    requires { IsTable (table_of before.symbols.now) known.old.states.items }
     ensures scopes { Refines is_memory (λ _. tt {0}) result (unless_fault
         (lost_scopes (table_of before.entry.symbols.now).scopes
         (context_of before.entry.cursor.now).scope
@@ -167,9 +187,11 @@ pub fn evaluate_two(
         (context_of before.entry.cursor.now) (own_size before.entry.cursor.now)
         (option_map (λ e. e.now) second.entry) found.second) }
     ensures forms { IfOk result (λ found. found.forms.items ≡ []) }
+    ensures table { OnOk result
+        (IsTable (table_of before.entry.symbols.now) known.new.states.items) }
 {
-    let first = evaluate_optional(alloc, before, first)?;
-    let second = evaluate_optional(alloc, before, second)?;
+    let first = evaluate_optional(alloc, before, known, first)?;
+    let second = evaluate_optional(alloc, before, known, second)?;
     Ok(Evaluations {
         first,
         second,
@@ -181,18 +203,22 @@ pub fn evaluate_two(
 pub fn evaluate_trees(
     alloc: Global,
     before: LineState<'_>,
+    known: &mut NormCache,
     statement: &Statement,
 ) -> Result<Evaluations, AsmFault>
+    requires { IsTable (table_of before.symbols.now) known.old.states.items }
     ensures scopes { Refines is_memory (λ _. tt {0}) result (unless_fault
         (lost_scopes (table_of before.entry.symbols.now).scopes
         (context_of before.entry.cursor.now).scope (trees_of statement.now)) tt) }
     ensures found { IfOk result (AreEvaluations (table_of before.entry.symbols.now)
         (context_of before.entry.cursor.now) (own_size before.entry.cursor.now)
         statement.now) }
+    ensures table { OnOk result
+        (IsTable (table_of before.entry.symbols.now) known.new.states.items) }
 {
     match statement {
         Statement::Values { items, .. } => {
-            let forms = evaluate_list(alloc, before, items)?;
+            let forms = evaluate_list(alloc, before, known, items)?;
             Ok(Evaluations {
                 first: None,
                 second: None,
@@ -202,7 +228,7 @@ pub fn evaluate_trees(
         _ => {
             let first = first_value(statement);
             let second = second_value(statement);
-            evaluate_two(alloc, before, first, second)
+            evaluate_two(alloc, before, known, first, second)
         }
     }
 }

@@ -80,7 +80,7 @@ fn put(symbols: &mut Symbols, entry: InternedKey, definition: Definition) -> Res
     requires number { first_number (words_of symbols.old) (word_of entry) ≡ word_of entry }
     requires counted { IsCounted entry }
     requires form { KeepsFinal (table_of symbols.old) (length symbols.old.definitions.entries)
-        (definition_in (words_of symbols.old) (entry, definition)) definition }
+        (definition_in (words_of symbols.old) (entry, definition)) definition.form }
     ensures { OnOk result (position (same_entry entry) (keys symbols.old.definitions) ≡ None →
         table_of symbols.new ≡ with_definition (table_of symbols.old)
         (definition_in (words_of symbols.old) (entry, definition))) }
@@ -102,7 +102,7 @@ pub fn define(
     definition: Definition,
 ) -> Result<(), AllocError>
     requires { KeepsFinal (table_of symbols.old) (length (table_of symbols.old).definitions)
-        (definition_seen (key_of key) definition) definition }
+        (definition_seen (key_of key) definition) definition.form }
     ensures { OnOk result (definition_index (table_of symbols.old) (key_of key.entry) ≡ None →
         table_of symbols.new ≡ with_definition (table_of symbols.old)
         (definition_seen (key_of key.entry) definition)) }

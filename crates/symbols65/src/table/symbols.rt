@@ -21,8 +21,6 @@ pub struct Definition {
     pub size: AddressSize,
     /// The form of a constant, where it is final: where it stays whatever statements follow.
     pub form: Option<Norm>,
-    /// A constant without whose number or address this one has none, whatever statements follow.
-    pub blocker: Option<usize>,
 }
 
 /// By what a definition is found.

@@ -20,4 +20,5 @@ returns-in_default c =
     record {
       scopes = subst (λ (es : List Tree). Refines is_memory (λ _. tt {0}) c.evaluate_two.result (unless_fault (lost_scopes y.scopes s.scope es) tt)) same c.evaluate_two.ensures.scopes;
       found = all_found y s (own_size w) x first second c.evaluate_two.result c.first_value-first.ensures c.second_value-second.ensures c.evaluate_two.ensures.first c.evaluate_two.ensures.second c.evaluate_two.ensures.forms;
+      table = c.evaluate_two.ensures.table;
     }

@@ -15,9 +15,9 @@ put-requires-clause-form c =
     let t = c.entry.new.symbols in
     let key = (entry_is (words_of t) (key_of c.args.key) c.in_ok-entry.entry c.in_ok-entry.ensures.entry).1 in
     let long : length (table_of t).definitions ≡ length t.definitions.entries = map_length (definition_in (words_of t)) t.definitions.entries in
-    subst (λ (k : Key). KeepsFinal (table_of t) (length t.definitions.entries) (definition_seen k c.args.definition) c.args.definition) (sym key)
-    (subst (λ (n : ℕ). KeepsFinal (table_of t) n (definition_seen (key_of c.args.key) c.args.definition) c.args.definition) long
-    (subst (λ (y : Symbols). KeepsFinal y (length y.definitions) (definition_seen (key_of c.args.key) c.args.definition) c.args.definition) (sym c.in_ok-entry.ensures.table) c.requires))
+    subst (λ (k : Key). KeepsFinal (table_of t) (length t.definitions.entries) (definition_seen k c.args.definition) c.args.definition.form) (sym key)
+    (subst (λ (n : ℕ). KeepsFinal (table_of t) n (definition_seen (key_of c.args.key) c.args.definition) c.args.definition.form) long
+    (subst (λ (y : Symbols). KeepsFinal y (length y.definitions) (definition_seen (key_of c.args.key) c.args.definition) c.args.definition.form) (sym c.in_ok-entry.ensures.table) c.requires))
 
 pub returns : goal.returns
 returns c =

@@ -1,11 +1,9 @@
 use Rattle.std.proofs.Common.{List, sym, subst}
 use Rattle.std.specs.Map.{keys_of}
-use Rattle.semantics65.specs.Norms.{Extends}
-use Rattle.semantics65.specs.Symbols.{Symbols}
 use Rattle.symbols65.specs.declared.table.symbols.Definition.{Definition}
 use Rattle.symbols65.specs.declared.table.symbols.InternedKey.{InternedKey}
-use Rattle.symbols65.specs.Tables.{AreCounted, AreFinal, AreInnerKnown, AreNumbered, table_without_imports, word_of}
-use Rattle.symbols65.specs.Views.{table_of, words_of}
+use Rattle.symbols65.specs.Tables.{AreCounted, AreFinal, AreInnerKnown, AreNumbered, word_of}
+use Rattle.symbols65.specs.Views.{words_of}
 use Rattle.symbols65.proofs.Growing.{after, counted_pushed, final_pushed, inner_kept, inner_pushed, numbered_pushed}
 use Rattle.symbols65.proofs.table.defining.put.Goals as goal
 
@@ -32,7 +30,6 @@ invariant_of-symbols-in-None c =
     let Numbered : List (InternedKey × Definition) → Type 0 = λ l. AreNumbered word_of ws (keys_of l) in
     let Counted : List (InternedKey × Definition) → Type 0 = λ l. AreCounted (keys_of l) in
     let Final : List (InternedKey × Definition) → Type 0 = λ l. AreFinal ws l ss in
-    let with_imports : (z : Symbols) → Extends (table_without_imports ws es ss) z → Extends (table_of t) z = λ z more. record { later_definitions = more.later_definitions; definitions = more.definitions; later_scopes = more.later_scopes; scopes = more.scopes } in
     let pushed = c.push.ensures.pushed in
     let unchanged = c.push.ensures.unchanged in
     record {
@@ -41,5 +38,5 @@ invariant_of-symbols-in-None c =
       counts_fit = after c.push.result (λ e. subst Counted (sym e) (counted_pushed es c.args.entry c.args.definition t.counts_fit c.requires.counted)) (λ e. subst Counted (sym e) t.counts_fit) pushed unchanged;
       openings_numbered = t.openings_numbered;
       openings_distinct = t.openings_distinct;
-      forms_final = after c.push.result (λ e. subst Final (sym e) (final_pushed ws es ss (c.args.entry, c.args.definition) t.forms_final ((λ f is z more. c.requires.form.0 f is z (with_imports z more)), (λ r is z more none. c.requires.form.1 r is z (with_imports z more) none)))) (λ e. subst Final (sym e) t.forms_final) pushed unchanged;
+      forms_final = after c.push.result (λ e. subst Final (sym e) (final_pushed ws es ss (c.args.entry, c.args.definition) t.forms_final (λ f is z more. c.requires.form f is z (record { later_definitions = more.later_definitions; definitions = more.definitions; later_scopes = more.later_scopes; scopes = more.scopes })))) (λ e. subst Final (sym e) t.forms_final) pushed unchanged;
     }

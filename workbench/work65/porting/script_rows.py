@@ -59,6 +59,8 @@ class Rows:
         self.script_words = {word.text for block in blocks for it in block.entries for one in it.attributes for word in one.value}
         self.edits: List[Edit] = []
         self.said: List[Said] = []
+        # Offsets that rows got from unused ones: the offset, and the number of its edit.
+        self.given: Dict[str, Tuple[int, int]] = {}
 
     def all(self) -> "Rows":
         """Looks at all areas, where the sources are known."""
@@ -159,6 +161,8 @@ class Rows:
         if given is not None and given.value:
             self.edits.append((given.value[0].start, given.value[-1].end, f"${align:04X}"))
         else:
+            if name == "OFFSET":
+                self.given[row.name] = number, len(self.edits)
             self.edits.append((row.entry.last.start, row.entry.last.start, f", {name.lower()} = ${number:04X}"))
 
     def part(self, area: Entry, rows: List[Row]) -> None:
@@ -190,11 +194,15 @@ class Rows:
     def moved(self, area: Entry, row: Row) -> bool:
         """Returns a row's offset as a start, since its area becomes another one; False where that isn't known."""
         it = next((it for it in row.entry.attributes if it.name.upper == "OFFSET"), None)
-        if it is None:
+        if it is None and row.name not in self.given:
             return True
         begin = next((_number(one) for one in area.attributes if one.name.upper == "START"), None)
-        number = _number(it)
-        if begin is None or number is None or not row.is_run or _text(row.entry, "RUN") not in ("", area.name.text):
+        if it is None and begin is not None:
+            number, at = self.given[row.name]
+            self.edits[at] = (*self.edits[at][:2], f", start = ${begin + number:04X}")
+            return True
+        number = _number(it) if it is not None else None
+        if it is None or begin is None or number is None or not row.is_run or _text(row.entry, "RUN") not in ("", area.name.text):
             return False
         self.edits.append((it.name.start, it.value[-1].end, f"start = ${begin + number:04X}"))
         return True

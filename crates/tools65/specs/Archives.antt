@@ -26,7 +26,7 @@ archived_outcome a (Library bytes) = record { out = []; err = []; outputs = libr
 archived_outcome a (Names text) = record { out = text; err = []; outputs = []; status = Success }
 archived_outcome a (Members files) = record { out = []; err = []; outputs = map output_of files; status = Success }
 
--- the same, or it says why it does nothing
+-- the outcome, or the error
 abbrev pub archive_outcome : Archiving → Result Archived ArchiveFault → Outcome
 archive_outcome a (Ok x) = archived_outcome a x
 archive_outcome a (Err e) = failing (error_message a e)

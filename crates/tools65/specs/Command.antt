@@ -50,8 +50,8 @@ AssemblesTo a x o = AssemblesWith a x.out x.err x.result o
 abbrev pub AssemblesSource : Assembling → Files → Outcome → Type 0
 AssemblesSource a m o = (x : asm.Outcome) × IsOutcome m (job_in a) x × AssemblesTo a x o
 
--- A run has the outcome that the files give, or only says that memory ran out; it carries that out, or memory ran
--- out while it wrote the files.
+-- The outcome of a run is one that the files determine, or only reports that memory ran out. The run performs the
+-- outcome, or memory ran out while it wrote the files.
 abbrev pub RunSatisfies : (Files → Outcome → Type 0) → List ℕ → Files → Option Files → Streams → Status → Type 0
 RunSatisfies does memory m new io status =
     (o : Outcome) × (does m o ⊎ (o ≡ failing memory)) × (PerformsOutcome o m new io status ⊎ StopsShort o memory m new io status)
@@ -73,7 +73,8 @@ line_memory (assemble a) = memory_line a.source
 line_memory (link l) = memory_message
 line_memory (archive a) = memory_line a.library
 
--- A run with these arguments: of the command line that they are; or, if they are none, of an error message. Memory may also run out before they are parsed.
+-- A run with these arguments: a run of the command line that they parse to, or, if they don't parse, of an error message.
+-- Memory may also run out before they are parsed.
 abbrev pub ArgsRunSatisfies : Result CommandView LineFault → Files → Option Files → Streams → Status → Type 0
 ArgsRunSatisfies (Ok line) m new io status =
     RunSatisfies (IsOutcomeOfCommand line) (line_memory line) m new io status ⊎ PerformsOutcome (failing line_memory_message) m new io status

@@ -27,7 +27,7 @@ use Rattle.output65.specs.declared.outcome.Status.TheVariants.{Failure}
 abbrev pub refusing : List ℕ → List ℕ → Outcome
 refusing out err = record { out = out; err = err; outputs = []; status = Failure }
 
--- A call failed while files were read: nothing is written, and texts for both streams say why, as they may.
+-- A call failed while files were read: no file is written, and the texts for both streams report why.
 pub record StopsReading (Why : List ℕ → List ℕ → Type 0) (old : Files) (new : Option Files) (io : Streams) (status : Status) : Type 0 where
   pub out : List ℕ
   pub err : List ℕ
@@ -60,8 +60,8 @@ SaysWhy line m last_failure out err = SaysFailure line m last_failure out err �
 unfoldable pub FailsLine : CommandView → Files → Option Files → LastFailure → Streams → Status → Type 0
 FailsLine line = RunFails (IsFittingOutcome line) (SaysWhy line)
 
--- Words that are no line ask nothing of the store: what is said of them is said. Where the count of failures stood at its
--- last value when the run began, it may also be said of a line that memory ran out before the words were one.
+-- Arguments that are no command line make no call of the store: their error is reported. If the failure counter was at its
+-- maximum when the run began, a run of a command line may also report that memory ran out while the arguments were parsed.
 abbrev pub FailsAs : ℕ → Result CommandView LineFault → Files → Option Files → LastFailure → Streams → Status → Type 0
 FailsAs count (Ok line) m new last_failure io status =
     FailsLine line m new last_failure io status

@@ -20,14 +20,14 @@ use Rattle.tools65.specs.Written.{IsSourceLibrary, IsSourceObject, IsWrittenOf}
 abbrev pub source_in : Assembling → Files → Source
 source_in a m = record { files = m; job = job_in a }
 
--- A file that an assemble line writes is what ca65 writes of the line's source, where it is within the limit of a file. The
--- premises are clauses `done` and `fits` of the line's run.
+-- A file that an assembler's command line writes is an object file of the line's source, if it is within the file size
+-- limit. The premises are clauses `done` and `fits` of the run.
 abbrev pub AssembledFileLaw : Type 0
 AssembledFileLaw =
     (a : Assembling) (m : Files) (o : Outcome) → AssemblesSource a m o → SourceObjectFits a m → o.status ≡ Success →
     AllByRecursion (λ f. length f.bytes ≤ file_limit → IsWrittenOf (source_in a m) f.bytes) o.outputs
 
--- `r` makes of object files that ca65 wrote, and of a library of such members or of none, a library of such members
+-- From object files that ca65 wrote, `r` makes a library of such members, if the library had only such members or none.
 abbrev pub ArchivedSourcesLaw : Type 0
 ArchivedSourcesLaw =
     (sources : List Source) (m : Files) (a : Archiving) (bytes : List ℕ) → a.operation ≡ Replace →

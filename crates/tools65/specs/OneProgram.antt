@@ -62,7 +62,8 @@ AreLaidOf (x ∷ xs) [] = ⊥
 abbrev pub WholeOf : List ℕ → Script → List Source → List OutputFile → Type 0
 WholeOf output s xs files = (ys : List Layout) × AreLaidOf xs ys × IsWholeProgramImage output s ys files
 
--- Linking what ca65 wrote of sources gives files exactly where their whole program has an image, and that image.
+-- Linking the objects that ca65 wrote from sources gives files if and only if the sources have an image as one program, and
+-- these files are the image.
 abbrev pub OneProgramLaw : Type 0
 OneProgramLaw =
     (output : List ℕ) (s : Script) (xs : List Source) (ms : List Module) (files : List OutputFile) →
@@ -107,8 +108,8 @@ AreSelected s m before (name ∷ names) ms =
 
 -- ---- A run.
 
--- The script of a line is this one, and each module that the line selects is an object that ca65 wrote of a source, in this
--- order, whichever of them are of version 1.
+-- The script of a command line is this one, and the modules that the line selects are objects that ca65 wrote from these
+-- sources, in this order, each of either version.
 pub record SelectsSources (l : Linking) (m : Files) (s : Script) (xs : List Source) : Type 0 where
   pub text : List ℕ
   pub file : get m l.script ≡ Some text

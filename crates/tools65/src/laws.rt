@@ -22,7 +22,7 @@ pub fn failure_is_unique()
     ensures { FailureIsUnique }
 {}
 
-/// Linking objects that ca65 wrote of sources, in either version, gives files exactly where the sources, laid out
+/// Linking objects that ca65 wrote from sources, in either version, gives files if and only if the sources, laid out
 /// and evaluated as one program, have an image, and these files are that image.
 pub fn one_program()
     ensures { OneProgramLaw }

@@ -45,8 +45,8 @@ fn compute<S: Store>(alloc: Global, line: &Line<'_>, store: &mut S) -> Result<Ou
     }
 }
 
-/// Runs a line over two streams, and answers the status. Everything is computed first, then the texts are printed, then the
-/// files are written; a run that is refused writes none, and a stream that has refused is asked no more.
+/// Runs a command line over two streams, and returns the status. Everything is computed first; then the texts are printed,
+/// and then the files are written. After an error no file is written, and after a stream has failed nothing is written to it.
 pub fn run_line_with_streams<S: Store, W: Write, E: Write>(
     alloc: Global,
     line: &Line<'_>,
@@ -81,7 +81,7 @@ pub fn run_line_with_streams<S: Store, W: Write, E: Write>(
     }
 }
 
-/// Runs a line over streams over these writers, and answers the status.
+/// Runs a command line over streams over these writers, and returns the status.
 pub fn run_line<S: Store, W: Write, E: Write>(
     alloc: Global,
     line: &Line<'_>,
@@ -113,7 +113,7 @@ pub fn run_line<S: Store, W: Write, E: Write>(
     )
 }
 
-/// Runs words as a command over two streams, the first word being the program's name, and answers the status.
+/// Runs arguments over two streams, the first being the program's name, and returns the status.
 pub fn run_with_streams<A: AsStr, S: Store, W: Write, E: Write>(
     alloc: Global,
     words: &[A],
@@ -148,7 +148,7 @@ pub fn run_with_streams<A: AsStr, S: Store, W: Write, E: Write>(
     }
 }
 
-/// Runs words as a command over streams over these writers, the first word being the program's name, and answers the status.
+/// Runs arguments over streams over these writers, the first being the program's name, and returns the status.
 pub fn run<A: AsStr, S: Store, W: Write, E: Write>(
     alloc: Global,
     words: &[A],

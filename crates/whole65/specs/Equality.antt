@@ -15,7 +15,7 @@ pub record IsLinkedTo (output : List ℕ) (s : Script) (ms : List Module) (files
   pub link : LinkOf output s ms (Ok linked)
   pub same : linked.files ≡ files
 
--- Linking the objects of sources gives files exactly where their whole program has an image, and that image.
+-- Linking the objects of sources gives files if and only if their whole program has an image, and these files are the image.
 abbrev pub EqualityLaw : Type 0
 EqualityLaw =
     (output : List ℕ) (s : Script) (ys : List Layout) (ms : List Module) (files : List OutputFile) →

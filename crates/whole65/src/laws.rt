@@ -51,7 +51,7 @@ pub fn row_bytes()
     ensures { RowsLaw }
 {}
 
-/// Linking the objects of sources gives files exactly where their whole program has an image, and that image.
+/// Linking the objects of sources gives files if and only if their whole program has an image, and these files are the image.
 pub fn equality()
     ensures { EqualityLaw }
 {}

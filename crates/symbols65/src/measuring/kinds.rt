@@ -146,7 +146,8 @@ pub fn needs_section(statement: &Statement) -> bool
     }
 }
 
-/// What a statement whose names are understood places, by the evaluations of its expressions, or its first fault.
+/// Lays out a statement whose names are checked, from the evaluations of its expressions, or returns
+/// its first error.
 pub fn place(
     before: LineState<'_>,
     statement: &Statement,

@@ -67,7 +67,7 @@ HABITS: Tuple[Habit, ...] = (
     Habit("continuation", "a `\\` at a line's end", "Line continuation: `.linecont` and `\\`",
           "write the statement on one line, or split its list into two statements", (".linecont",), ("\\\\[[:blank:]]*(;.*)?$",)),
     Habit("size-behind", "`.import n: zeropage`", "Address sizes after names",
-          "use .importzp or .globalzp for imports; write no size after other names", (),
+          "use .importzp or .globalzp for imports; write no size after other names, and only zeropage or absolute after a segment's name", (),
           ("^[^;]*\\.(import|export|global)(zp)?[^;]*:", "^[^;]*\\.(proc|scope)[^;]*:[^:]",
            "^[^;]*\\.segment[^;]*:[[:blank:]]*(zp|abs([^o]|$)|direct|near|far|dword|long)")),
     Habit("export-value", "`.export n = 3`", "Definitions in `.export`", "define the constant on a line of its own", (),

@@ -20,8 +20,10 @@ PROGRAM = f"{kit.ROOT}/crates/bin65/out/bin65"
 SUM = f"{PROGRAM}.sum"
 # A proof is three or four processes of 1 to 2 GB.
 MEMORY = 5_000_000_000
-# The longest chain of proofs leads to this crate; then only the commands and the program are left.
-LONGEST = "asm65"
+# The crates to which the two longest chains of proofs lead, the longest first; then only the commands and the program are left. For each
+# chain, and last for the other crates: how many processes prove a crate at once, and their niceness.
+CHAINS = ("asm65", "link65")
+SHARES = ((4, 0), (3, 3), (2, 10))
 
 
 def sum_of(files, begun=b""):
@@ -104,12 +106,14 @@ class Proofs:
         self.begun, self.ended = time.time(), threading.Event()
 
     def start(self, crate):
-        """Starts a proof in a thread of its own. The assembler's crates come first: the linker's use the processors that these leave."""
-        is_first = crate.name == LONGEST or any(it.name == LONGEST and crate in it.below() for it in self.crates)
+        """Starts a proof in a thread of its own. The assembler's crates come first, then the linker's: a crate of neither chain uses the
+        processors that these leave."""
+        chains = [at for at, name in enumerate(CHAINS) if crate.name == name or any(it.name == name and crate in it.below() for it in self.crates)]
+        jobs, priority = SHARES[min(chains, default=len(CHAINS))]
         begun, done = time.time(), Future()
 
         def run():
-            done.set_result(prove(self.rt, crate, min(4 if is_first else 2, self.processors), 0 if is_first else 10))
+            done.set_result(prove(self.rt, crate, min(jobs, self.processors), priority))
 
         self.left.remove(crate)
         self.running[done] = crate, begun

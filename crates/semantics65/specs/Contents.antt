@@ -19,7 +19,7 @@ pub data Part : Type 0 where
   Known : List ℕ → Part
   -- bytes of the linker's fill value
   Filled : ℕ → Part
-  -- a value that the linker computes, and the location of its statement
+  -- a deferred value, which the linker computes from its form, and the location of its statement
   Waiting : Width → SourceLocation → Form → Part
 
 -- a declaration of a statement
@@ -43,15 +43,17 @@ exported_names ss = filter_map exported_name ss
 pub record Content : Type 0 where
   -- the segment, as an index into the segments
   pub segment : ℕ
-  -- whether it requests a section of the segment
+  -- whether it requests a section of the segment; a requested section can be without bytes
   pub asks : Bool
   -- its parts of the section
   pub parts : List Part
+  -- its declarations
   pub said : List Declaration
 
 -- ---- Files whose name an object can hold.
 
--- the value, if its location can be stored: an object can hold the name of the file
+-- a value that contains this location, namely a part or a list of declarations; an error if an object can't hold the name of
+-- its file
 abbrev pub located_declarations : {A : Type 0} → SourceLocation → A → Result A AsmFault
 located_declarations place a = if is_file_name place.file then Ok a else Err FileNameTooLong
 
@@ -99,6 +101,7 @@ import_fault y n = go (definition_index y (named 0 n))
     go None = Ok []
     go (Some j) = Err (ImportedAndDefined n)
 
+-- the export of a name, if the module defines it; otherwise the result `absent`
 abbrev pub export_said : Symbols → SourceLocation → List ℕ → Result (List Declaration) AsmFault → Option ℕ → Result (List Declaration) AsmFault
 export_said y place n absent None = absent
 export_said y place n absent (Some j) = defined_form y j >>= (λ f. located_declarations place (Exported n place f ∷ []))

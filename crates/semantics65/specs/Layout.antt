@@ -23,8 +23,9 @@ pub record Cursor : Type 0 where
   pub region : ℕ
   pub unnamed : ℕ
   pub segments : List Segment
-  -- the segment of the next statement, and the pushed segments, the last one first
+  -- the segment of the next statement
   pub current : ℕ
+  -- the pushed segments, the last one first
   pub kept : List ℕ
 
 abbrev pub new_segment : List ℕ → AddressSize → Segment
@@ -70,10 +71,12 @@ abbrev pub segments_after : List Segment → ℕ → ℕ → ℕ → Statement �
 segments_after gs current count alignment (statement.Segment n own) = named_segments gs n own (place_of gs n)
 segments_after gs current count alignment _ = grown_at gs current count alignment
 
+-- the segment pushed last; the current one if none is pushed
 abbrev pub last_kept : ℕ → List ℕ → ℕ
 last_kept current [] = current
 last_kept current (k ∷ kept) = k
 
+-- the pushed segments without the last one
 abbrev pub rest_kept : List ℕ → List ℕ
 rest_kept [] = []
 rest_kept (k ∷ kept) = kept
@@ -83,6 +86,7 @@ current_after w (statement.Segment n own) = or_last w.segments (place_of w.segme
 current_after w statement.PopSegment = last_kept w.current w.kept
 current_after w _ = w.current
 
+-- the pushed segments after a statement
 abbrev pub kept_after : Cursor → Statement → List ℕ
 kept_after w statement.PushSegment = w.current ∷ w.kept
 kept_after w statement.PopSegment = rest_kept w.kept
@@ -93,6 +97,7 @@ kept_after w _ = w.kept
 abbrev pub context_of : Cursor → Context
 context_of w = record { scope = w.scope; opened = w.opened; region = w.region; unnamed = w.unnamed; segment = w.current; offset = (segment_at w.segments w.current).end }
 
+-- the address size of the current segment, which the definitions below call `own`
 abbrev pub own_size : Cursor → AddressSize
 own_size w = (segment_at w.segments w.current).size
 
@@ -181,6 +186,7 @@ unless_fault (Some e) x = Err e
 
 -- ---- Statements that are allowed in the global scope only.
 
+-- whether a statement is allowed in the global scope only
 abbrev pub stands_outside : Statement → Bool
 stands_outside (statement.Import s names) = true
 stands_outside (statement.Export names) = true
@@ -188,7 +194,7 @@ stands_outside (statement.Global s names) = true
 stands_outside (statement.ForceImport names) = true
 stands_outside _ = false
 
--- a scope that isn't the global one
+-- whether a scope isn't the global one
 abbrev pub is_open : ℕ → Bool
 is_open zero = false
 is_open (suc i) = true
@@ -345,6 +351,7 @@ block_fault cs scope statement.CloseScope = when (not (is_open scope && is_scope
 block_fault cs scope statement.CloseProc = when (not (is_open scope && not (is_scope (opened_as cs scope)))) BadScope
 block_fault cs scope _ = None
 
+-- whether any segment is pushed
 abbrev pub is_kept : List ℕ → Bool
 is_kept [] = false
 is_kept (k ∷ kept) = true

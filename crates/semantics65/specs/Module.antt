@@ -65,12 +65,15 @@ pub data Purpose : Type 0 where
   equated : Purpose
   asserted : Action → List ℕ → Purpose
 
+-- a piece of a statement, which has its own result
 pub data Piece : Type 0 where
   -- a part that needs no value
   given : Part → Piece
+  -- an expression, and the purpose of its value
   valued : Purpose → Tree → Piece
-  -- a name that the module must not define, and one that is imported even if it is unused
+  -- an imported name, which the module must not define
   imported : List ℕ → Piece
+  -- a forced import: a name that is imported even if it is unused
   demanded : List ℕ → Piece
   -- a name that is exported if it is defined, or that must be defined
   exported : (must : Bool) → List ℕ → Piece
@@ -156,7 +159,7 @@ pub data Slot : Type 0 where
   resolved : Content → Slot
   deferred : Fixup → Slot
 
--- a piece of a laid-out statement
+-- a piece of a laid-out statement, deferred until all statements are laid out
 abbrev pub waiting_at : LaidOutStatement → Piece → Slot
 waiting_at l p = deferred (record { place = l.place; context = l.context; piece = p })
 

@@ -130,7 +130,7 @@ abbrev pub size_by : AddressSize → Option ℤ → AddressSize
 size_by other None = other
 size_by other (Some v) = size_of_value v
 
--- The address size of an expression, from what is known at its line and the size of the segment: that of
+-- The address size of an expression, from what is known at its line and the address size `own` of the segment: that of
 -- its value if it is constant; a byte after `<`, `>` and `^`; otherwise that of the name, and the largest
 -- of its operands.
 abbrev pub size_of : Symbols → Context → AddressSize → Tree → AddressSize
@@ -177,7 +177,7 @@ abbrev pub branch_mode : Option AddressSize → Option Index → Option Mode
 branch_mode None None = Some Relative
 branch_mode forced r = None
 
--- the addressing mode of an operand, if the instruction has it
+-- the addressing mode of an operand, if the instruction has it, given the address size `own` of the segment
 abbrev pub mode_of : Symbols → Context → AddressSize → Mnemonic → Operand → Option Mode
 mode_of y s own m operands.Absent = first_of m Implied Accumulator
 mode_of y s own m operands.Accumulator = first_of m Accumulator Accumulator
@@ -240,7 +240,7 @@ part_len y s None start len = 0
 part_len y s (Some bytes) start len =
     length (bytes_between bytes (part_start y s start) (optional_value y s len (pos (length bytes - part_start y s start))))
 
--- The length of a statement in bytes, from what is known at its line and the size of the segment.
+-- The length of a statement in bytes, from what is known at its line and the address size `own` of the segment.
 abbrev pub length_of : Symbols → Context → AddressSize → Statement → ℕ
 length_of y s own (Instruction m operand) = mode_len (mode_of y s own m operand)
 length_of y s own (Values width items) = sum_by (item_len width) items
@@ -259,7 +259,7 @@ abbrev pub fill_settled : Symbols → Context → Option Tree → EncodingChoice
 fill_settled y s None = Undecided
 fill_settled y s (Some v) = FillByte (byte_count (constant_in y s v))
 
--- the encoding decisions of a statement at its line, given the size of the segment
+-- the encoding decisions of a statement at its line, given the address size `own` of the segment
 abbrev pub settled_of : Symbols → Context → AddressSize → Statement → EncodingChoice
 settled_of y s own (Instruction m operand) = mode_settled (mode_of y s own m operand)
 settled_of y s own (Reserve n v) = fill_settled y s v

@@ -1,4 +1,5 @@
--- The object of contents: its sections, names and files by number, and its well-formedness.
+-- The object of contents: its sections, imports and files by number. Then the conditions for an object: on statements
+-- (`IsWellFormedStatement`), on a layout (`IsSoundLayout`) and on contents (`AreSound`).
 use Rattle.std.specs.Prelude.{ℕ, zero, ◌+◌, nat_eq, Bool, true, false, not, List, [], ◌∷◌, ◌++◌, map, filter_map, Option, Some, None, unwrap_or, slice_get, if◌then◌else◌, ◌≡◌, ◌≤◌, ◌<◌, nat_lt, length, sum_by, take, ⊤}
 use Rattle.std.specs.List.{position, list_any, flat_map, filter, list_all, AllByRecursion}
 use Rattle.std.specs.Str.{bytes_eq}
@@ -24,11 +25,15 @@ use Rattle.semantics65.specs.Norms.{length_of, settled_of}
 
 -- ---- Numbers.
 
+-- A key is the index of a segment or of an import in the module. The object has numbers of its own for those that it uses. (The
+-- type `Key` of Symbols is something else: that by which a definition is found.)
+
 -- appends keys that aren't there yet, in order of first occurrence
 abbrev pub distinct_keys : List ℕ → List ℕ → List ℕ
 distinct_keys found [] = found
 distinct_keys found (k ∷ ks) = distinct_keys (if list_any (nat_eq k) found then found else found ++ k ∷ []) ks
 
+-- the number of a key: its index among the keys that the object uses
 abbrev pub number_of : List ℕ → ℕ → ℕ
 number_of keys k = unwrap_or (position (nat_eq k) keys) 0
 
@@ -66,7 +71,7 @@ abbrev pub optional_key : Option ℕ → List ℕ
 optional_key None = []
 optional_key (Some k) = k ∷ []
 
--- the key of the first import of a name
+-- the key of an import: the index of its name in the module's list of imports
 abbrev pub key_of : List (List ℕ) → List ℕ → Option ℕ
 key_of names n = position (λ m. bytes_eq m n) names
 
@@ -207,6 +212,7 @@ abbrev pub IsNamed : TokenKind → List ℕ → Type 0
 IsNamed token.Identifier t = is_name t ≡ true
 IsNamed _ t = ⊤
 
+-- the same for tokens, of which `t.0` is the kind and `t.1` the text
 abbrev pub AreSymbolNames : List Lexeme → Type 0
 AreSymbolNames ts = AllByRecursion (λ t. IsNamed t.0 t.1) ts
 
@@ -225,16 +231,21 @@ IsWellFormedStatement _ = ⊤
 abbrev pub statements_in : List LaidOutStatement → ℕ → List LaidOutStatement
 statements_in ls g = filter (λ l. nat_eq l.context.segment g) ls
 
--- the length and the encoding decisions of a statement are those of the layout rules
+-- The length and the encoding decisions of a statement are those of the layout rules, which depend on the address size of the
+-- segment. That is `l.size`, except for a constant: there `l.size` is the size of its expression. For a constant the address
+-- size has no effect: its length is 0, and its encoding `Undecided`.
 pub record IsMeasured (y : Symbols) (l : LaidOutStatement) : Type 0 where
   pub length : l.length ≡ length_of y l.context l.size l.stated
   pub settled : l.settled ≡ settled_of y l.context l.size l.stated
 
+-- A layout whose names and sizes fit into an object, and whose lengths and encoding decisions are those of the layout rules.
 pub record IsSoundLayout (y : Layout) : Type 0 where
   pub named : are_names (map (λ g. g.name) y.cursor.segments) ≡ true
   pub sound : AllByRecursion (λ l. IsWellFormedStatement l.stated) y.laid
+  -- each statement is in one of the segments
   pub standing : AllByRecursion (λ l. l.context.segment < length y.cursor.segments) y.laid
   pub measured : (i : ℕ) (l : LaidOutStatement) → slice_get y.laid i ≡ Some l → IsMeasured (symbols_of (take i y.laid)) l
+  -- the statements in a segment are not longer than a section can be
   pub room : (g : ℕ) → sum_by (λ l. l.length) (statements_in y.laid g) ≤ section_limit
 
 -- ---- Contents.
@@ -282,6 +293,8 @@ pub record AreSound (segments : List Segment) (names : List (List ℕ)) (cs : Li
   pub named : are_names (map (λ g. g.name) segments) ≡ true
   pub imported : are_names names ≡ true
   pub exported : are_names (exported_names (all_said cs)) ≡ true
+  -- each content is in one of the segments
   pub standing : AllByRecursion (λ c. c.segment < length segments) cs
+  -- the parts in a segment are not longer than a section can be
   pub room : (g : ℕ) → sum_by part_len (parts_in cs g) ≤ section_limit
   pub contents : AllByRecursion (IsSoundContent (section_keys cs) (length names)) cs

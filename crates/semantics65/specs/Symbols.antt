@@ -114,6 +114,7 @@ scope_opened parent_scope (OpenScope n) = record { within = parent_scope; name =
 scope_opened parent_scope (OpenProc n) = record { within = parent_scope; name = Some n; is_proc = true } ∷ []
 scope_opened parent_scope _ = []
 
+-- the names that a statement imports, to which it gives the address size `own`
 abbrev pub imports_of : Statement → List (List ℕ)
 imports_of (Import own names) = names
 imports_of (Global own names) = names

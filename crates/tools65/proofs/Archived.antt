@@ -32,7 +32,7 @@ use Rattle.output65.specs.declared.outcome.Status.TheVariants.{Failure, Success}
 use Rattle.tools65.specs.Assembling.{asm_message, job_in}
 use Rattle.tools65.specs.Command.{AssemblesWith, refused_with}
 use Rattle.tools65.specs.Fitting.{SourceObjectFits}
-use Rattle.tools65.specs.Kept.{ArchivedSourcesLaw, AssembledFileLaw, source_in}
+use Rattle.tools65.specs.Outputs.{ArchivedSourcesLaw, AssembledFileLaw, source_in}
 use Rattle.tools65.specs.OneProgram.{Source}
 use Rattle.output65.specs.Outputs.{failing, outputs_of}
 use Rattle.tools65.specs.Written.{IsSourceLibrary, IsSourceObject, IsWrittenOf}

@@ -31,7 +31,7 @@ use Rattle.output65.specs.declared.outcome.Outcome.{Outcome}
 use Rattle.output65.specs.declared.outcome.Status.TheVariants.{Failure}
 use Rattle.tools65.specs.Archives.{archive_outcome}
 use Rattle.tools65.specs.Assembling.{asm_message, define_in, job_in}
-use Rattle.tools65.specs.Command.{AssemblesWith, line_memory, outcome_of, refused_with}
+use Rattle.tools65.specs.Command.{AssemblesWith, line_memory, link_outcome, refused_with}
 use Rattle.tools65.specs.Failing.{refusing}
 use Rattle.tools65.specs.Fitting.{IsFittingOutcome, SourceObjectFits}
 use Rattle.tools65.specs.Internal.Computing.{ComputesOutcome, OnlyReports}
@@ -106,19 +106,19 @@ module _ (l : Linking) where
   abbrev LinkStops : Files → LastFailure → LinkCommandFault → Type 0
   LinkStops m b e = IsOfLine (Some m) b l e
 
-  link_does : (m : Files) (r : Result Linked LinkCommandFault) (o : Outcome) → IsLinked m l r → o ≡ outcome_of l r → IsFittingOutcome (link l) m o
+  link_does : (m : Files) (r : Result Linked LinkCommandFault) (o : Outcome) → IsLinked m l r → o ≡ link_outcome l r → IsFittingOutcome (link l) m o
   link_does m r o is comes = ((r, is, comes), tt)
 
-  link_memory : (e : LinkCommandFault) (o : Outcome) → is_memory e ≡ true → o ≡ outcome_of l (Err e) → o ≡ failing memory_message
+  link_memory : (e : LinkCommandFault) (o : Outcome) → is_memory e ≡ true → o ≡ link_outcome l (Err e) → o ≡ failing memory_message
   link_memory e o h is = is ∙ by_memory
     where
-      by_memory : outcome_of l (Err e) ≡ failing memory_message
+      by_memory : link_outcome l (Err e) ≡ failing memory_message
       by_memory = rw h refl
 
-  link_failure : (m : Files) (b : LastFailure) (e : LinkCommandFault) (o : Outcome) → is_failure e ≡ true → LinkStops m b e → o ≡ outcome_of l (Err e) → OnlyReports (link l) m b o
+  link_failure : (m : Files) (b : LastFailure) (e : LinkCommandFault) (o : Outcome) → is_failure e ≡ true → LinkStops m b e → o ≡ link_outcome l (Err e) → OnlyReports (link l) m b o
   link_failure m b e o failed is_of is = ([], error_message l e, inl (e, failed, is_of, refl, refl), is)
 
-  link_fails : (e : LinkCommandFault) (o : Outcome) → o ≡ outcome_of l (Err e) → o.status ≡ Failure
+  link_fails : (e : LinkCommandFault) (o : Outcome) → o ≡ link_outcome l (Err e) → o.status ≡ Failure
   link_fails e o is = ap (λ (x : Outcome). x.status) is
 
   -- what a refusal names, where the files are known
@@ -126,14 +126,14 @@ module _ (l : Linking) where
   of_known None r b named = tt
   of_known (Some m) r b named = named
 
-  pub computes_link : {F : Type 0} (known : Option Files) (fo fm : ℕ) (b : LastFailure) (r : Result Linked LinkCommandFault) (q : Result Outcome F) → PropagatesIoErrors is_failure fo fm r → FailsAtLastCount is_system_error fo r → IfErr r (NamesFailure (IsOfLine known b l)) → IfSome known (λ m. RefinesProp is_system_error (IsLinked m l) r) → IfOk q (λ o. o ≡ outcome_of l r) → IfSome known (λ m. IfOk q (ComputesOutcome (link l) m b fo fm))
+  pub computes_link : {F : Type 0} (known : Option Files) (fo fm : ℕ) (b : LastFailure) (r : Result Linked LinkCommandFault) (q : Result Outcome F) → PropagatesIoErrors is_failure fo fm r → FailsAtLastCount is_system_error fo r → IfErr r (NamesFailure (IsOfLine known b l)) → IfSome known (λ m. RefinesProp is_system_error (IsLinked m l) r) → IfOk q (λ o. o ≡ link_outcome l r) → IfSome known (λ m. IfOk q (ComputesOutcome (link l) m b fo fm))
   computes_link known fo fm b r q count asks named finds comes =
-      computes (link l) is_memory is_failure (λ m. IsLinked m l) (λ r o. o ≡ outcome_of l r) LinkStops link_does link_memory link_failure link_fails
+      computes (link l) is_memory is_failure (λ m. IsLinked m l) (λ r o. o ≡ link_outcome l r) LinkStops link_does link_memory link_failure link_fails
       known fo fm b r q count asks (of_known known r b named) finds comes
 
-  pub link_fails_so : {F : Type 0} (fo fm : ℕ) (r : Result Linked LinkCommandFault) (q : Result Outcome F) → PropagatesIoErrors is_failure fo fm r → FailsAtLastCount is_system_error fo r → IfOk q (λ o. o ≡ outcome_of l r) → HasFailed fo fm → IfOk q (λ o. o.status ≡ Failure)
+  pub link_fails_so : {F : Type 0} (fo fm : ℕ) (r : Result Linked LinkCommandFault) (q : Result Outcome F) → PropagatesIoErrors is_failure fo fm r → FailsAtLastCount is_system_error fo r → IfOk q (λ o. o ≡ link_outcome l r) → HasFailed fo fm → IfOk q (λ o. o.status ≡ Failure)
   link_fails_so =
-      fails_so (link l) is_memory is_failure (λ m. IsLinked m l) (λ r o. o ≡ outcome_of l r) LinkStops link_does link_memory link_failure link_fails
+      fails_so (link l) is_memory is_failure (λ m. IsLinked m l) (λ r o. o ≡ link_outcome l r) LinkStops link_does link_memory link_failure link_fails
 
 -- ---- A line of the librarian.
 

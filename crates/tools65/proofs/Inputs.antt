@@ -37,7 +37,7 @@ use Rattle.link65.specs.Representation.{module_of}
 use Rattle.whole65.proofs.SameValues.{bind_ok}
 use Rattle.ld65.specs.Linkage.{ByKind, selected_entries, chosen_at, file_input, is_library, is_library_in, member_input, member_module, no_limit}
 use Rattle.tools65.specs.Inputs.{SourcesSelectedLaw, WrittenInputLaw, WrittenMemberLaw, WrittenObjectLaw}
-use Rattle.tools65.specs.OneProgram.{AreInputOf, AreMembers, AreObjectsOf, AreSelected, AreTaken, IsModuleOf, IsObjectOf, Source}
+use Rattle.tools65.specs.OneProgram.{AreModulesOfInput, AreModulesOfEntries, AreObjectsOf, AreModulesOfInputs, AreModulesOfLibrary, IsModuleOf, IsObjectOf, Source}
 use Rattle.tools65.specs.Written.{IsOneOf, IsSourceInput, IsSourceObject, IsWrittenOf}
 use Rattle.tools65.proofs.Selected.{ok_err, ok_same}
 use Rattle.library65.proofs.SomeSelection.{some_selection}
@@ -99,7 +99,7 @@ written_input s m before name bytes x there w =
     let read = ap (λ (f : Option (List ℕ)). in_file f (object_at 0 no_limit)) there ∙ file_read bytes w.object w.limit (written_object x bytes w) in
     let is : IsModuleOf m (file_input name) k = (w.object, read, refl, refl) in
     let own : (y : Module) × IsModuleOf m (file_input name) y × (k ∷ [] ≡ y ∷ []) = (k, is, refl) in
-    (k, source_module x bytes name w, subst (λ (b : Bool). ByKind b (AreTaken s m before name (k ∷ [])) ((y : Module) × IsModuleOf m (file_input name) y × (k ∷ [] ≡ y ∷ []))) (sym kind) own)
+    (k, source_module x bytes name w, subst (λ (b : Bool). ByKind b (AreModulesOfLibrary s m before name (k ∷ [])) ((y : Module) × IsModuleOf m (file_input name) y × (k ∷ [] ≡ y ∷ []))) (sym kind) own)
 
 -- ---- A member.
 
@@ -193,7 +193,7 @@ module _ (sources : List Source) (m : Files) where
       let (k, object, is) = written_member m library bytes e p x there short are.0 w in
       ((x, one, k, object, is), all_stored library bytes es ps there short are.1 all.1)
 
-  members_given : (library : List ℕ) (es : List Entry) → AllByRecursion (HasSource library) es → Given (AreMembers m library es)
+  members_given : (library : List ℕ) (es : List Entry) → AllByRecursion (HasSource library) es → Given (AreModulesOfEntries m library es)
   members_given library [] all = record { modules = []; are = tt; xs = []; given = tt; objects = tt }
   members_given library (e ∷ es) all =
       let (x, one, k, object, is) = all.0 in
@@ -201,7 +201,7 @@ module _ (sources : List Source) (m : Files) where
       record { modules = k ∷ rest.modules; are = (is, rest.are); xs = x ∷ rest.xs; given = (one, rest.given); objects = (object, rest.objects) }
 
   module _ (s : Script) where
-    library_given : (before : List Module) (library bytes : List ℕ) (ps : List Member) → get m library ≡ Some bytes → IsLibrary bytes ps → AllByRecursion (λ p. IsSourceObject sources p.1) ps → Given (AreInputOf s m before library)
+    library_given : (before : List Module) (library bytes : List ℕ) (ps : List Member) → get m library ≡ Some bytes → IsLibrary bytes ps → AllByRecursion (λ p. IsSourceObject sources p.1) ps → Given (AreModulesOfInput s m before library)
     library_given before library bytes ps there is all =
         let es : List Entry = is.index in
         let wanted : List (List ℕ) = open_names s (program_of before) in
@@ -211,22 +211,22 @@ module _ (sources : List Source) (m : Files) where
         let selected = some_selection es wanted defined in
         let stored = all_stored library bytes es ps there is.is_index.limit is.members all in
         let own = members_given library (selected_entries es selected.0) (all_chosen (HasSource library) es selected.0 stored) in
-        let taken : AreTaken s m before library own.modules = (es, selected.0, index, selected.1, own.are) in
+        let taken : AreModulesOfLibrary s m before library own.modules = (es, selected.0, index, selected.1, own.are) in
         record {
           modules = own.modules;
-          are = subst (λ (b : Bool). ByKind b (AreTaken s m before library own.modules) ((y : Module) × IsModuleOf m (file_input library) y × (own.modules ≡ y ∷ []))) (sym kind) taken;
+          are = subst (λ (b : Bool). ByKind b (AreModulesOfLibrary s m before library own.modules) ((y : Module) × IsModuleOf m (file_input library) y × (own.modules ≡ y ∷ []))) (sym kind) taken;
           xs = own.xs;
           given = own.given;
           objects = own.objects;
         }
 
-    input_given : (before : List Module) (name : List ℕ) → IsSourceInput sources m name → Given (AreInputOf s m before name)
+    input_given : (before : List Module) (name : List ℕ) → IsSourceInput sources m name → Given (AreModulesOfInput s m before name)
     input_given before name (bytes, there, inl (x, one, w)) =
         let (k, object, is) = written_input s m before name bytes x there w in
         record { modules = k ∷ []; are = is; xs = x ∷ []; given = (one, tt); objects = (object, tt) }
     input_given before name (bytes, there, inr (ps, is, all)) = library_given before name bytes ps there is all
 
-    inputs_given : (before : List Module) (names : List (List ℕ)) → AllByRecursion (IsSourceInput sources m) names → Given (AreSelected s m before names)
+    inputs_given : (before : List Module) (names : List (List ℕ)) → AllByRecursion (IsSourceInput sources m) names → Given (AreModulesOfInputs s m before names)
     inputs_given before [] all = record { modules = []; are = refl; xs = []; given = tt; objects = tt }
     inputs_given before (name ∷ names) all =
         let own = input_given before name all.0 in

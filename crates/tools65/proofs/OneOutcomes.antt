@@ -27,7 +27,7 @@ use Rattle.output65.specs.Outputs.{outputs_of}
 use Rattle.output65.specs.declared.outcome.Outcome.{Outcome}
 use Rattle.output65.specs.declared.outcome.Status.TheVariants.{Success}
 use Rattle.tools65.specs.Assembling.{IsOutputName, job_in}
-use Rattle.tools65.specs.Command.{AssemblesSource, AssemblesTo, AssemblesWith, IsOutcomeOfCommand, outcome_of}
+use Rattle.tools65.specs.Command.{AssemblesSource, AssemblesTo, AssemblesWith, IsOutcomeOfCommand, link_outcome}
 use Rattle.tools65.specs.Naming.{IsExtension, IsObjectName}
 use Rattle.tools65.specs.OneOutcome.{OutcomeIsUnique}
 
@@ -103,7 +103,7 @@ assembles_one l m a b (x, is, to) (y, was, from) =
 
 line_one : (line : CommandView) (m : Files) (a b : Outcome) → IsOutcomeOfCommand line m a → IsOutcomeOfCommand line m b → a ≡ b
 line_one (assemble l) m a b h g = assembles_one l m a b h g
-line_one (link l) m a b (r, is, e) (q, was, f) = e ∙ ap (outcome_of l) (linked_one m l r q is was) ∙ sym f
+line_one (link l) m a b (r, is, e) (q, was, f) = e ∙ ap (link_outcome l) (linked_one m l r q is was) ∙ sym f
 line_one (archive l) m a b h g = h ∙ sym g
 
 pub one_outcome : OutcomeIsUnique

@@ -24,7 +24,7 @@ use Rattle.ld65.specs.declared.fault.LinkCommandFault.{LinkCommandFault}
 use Rattle.ld65.specs.declared.fault.LinkCommandFault.TheVariants as refusal
 use Rattle.ld65.specs.Linkage.{AreInputs, AreNeeded, ByKind, Input, IsLibraryInput, added_in, as_library, modules_after, selected_entries, file_input, index_in, is_library_in, member_input, member_module, object_in, with_file, with_member, with_members}
 use Rattle.ld65.specs.Faults.{refusal_at, refusal_in}
-use Rattle.tools65.specs.OneProgram.{AreMembers, AreSelected, AreTaken, IsModuleOf}
+use Rattle.tools65.specs.OneProgram.{AreModulesOfEntries, AreModulesOfInputs, AreModulesOfLibrary, IsModuleOf}
 
 -- ---- Answers that are right, and faults.
 
@@ -113,7 +113,7 @@ module _ (s : Script) (m : Files) where
 
   -- ---- Members of a library.
 
-  members_added : (library : List ℕ) (before : List Module) (es : List Entry) (ms : List Module) → AreMembers m library es ms → names_once s (program_of (before ++ ms)) ≡ Ok tt → with_members s m library before es ≡ Ok (before ++ ms)
+  members_added : (library : List ℕ) (before : List Module) (es : List Entry) (ms : List Module) → AreModulesOfEntries m library es ms → names_once s (program_of (before ++ ms)) ≡ Ok tt → with_members s m library before es ≡ Ok (before ++ ms)
   members_added library before [] [] h once = ap modules (sym (append-nil before))
   members_added library before [] (x ∷ ms) h once = absurd h
   members_added library before (e ∷ es) [] h once = absurd h
@@ -126,7 +126,7 @@ module _ (s : Script) (m : Files) where
       ∙ members_added library (before ++ x ∷ []) es ms h.1 all
       ∙ ap modules assoc
 
-  members_there : (library : List ℕ) (before : List Module) (es : List Entry) (after : List Module) → with_members s m library before es ≡ Ok after → (ms : List Module) × AreMembers m library es ms × (after ≡ before ++ ms)
+  members_there : (library : List ℕ) (before : List Module) (es : List Entry) (after : List Module) → with_members s m library before es ≡ Ok after → (ms : List Module) × AreModulesOfEntries m library es ms × (after ≡ before ++ ms)
   members_there library before [] after e = ([], tt, sym (ok_same before after e) ∙ sym (append-nil before))
   members_there library before (e ∷ es) after h =
       let (zs, first, rest) = bind_ok (with_member s m library before e) (λ zs. with_members s m library zs es) after h in
@@ -141,7 +141,7 @@ module _ (s : Script) (m : Files) where
   index_there k (Ok es) before after Next h = (es, refl, h)
   index_there k (Err e) before after Next h = absurd (ok_err after (refusal.Library k e) h)
 
-  kind_there : (b : Bool) (k : ℕ) (before after : List Module) (name : List ℕ) → ByKind b (IsLibraryInput s m k before name (Ok after)) (◌≡◌ {A = Result (List Module) LinkCommandFault} (Ok after) (with_file s m k before name)) → (ms : List Module) × ByKind b (AreTaken s m before name ms) ((x : Module) × IsModuleOf m (file_input name) x × (ms ≡ x ∷ [])) × (after ≡ before ++ ms)
+  kind_there : (b : Bool) (k : ℕ) (before after : List Module) (name : List ℕ) → ByKind b (IsLibraryInput s m k before name (Ok after)) (◌≡◌ {A = Result (List Module) LinkCommandFault} (Ok after) (with_file s m k before name)) → (ms : List Module) × ByKind b (AreModulesOfLibrary s m before name ms) ((x : Module) × IsModuleOf m (file_input name) x × (ms ≡ x ∷ [])) × (after ≡ before ++ ms)
   kind_there true k before after name h =
       let (es, index, needed) = index_there k (index_in m name) before after (AreNeeded s m name before) h in
       let more = members_there name before (selected_entries es needed.0) after (sym needed.2) in
@@ -150,7 +150,7 @@ module _ (s : Script) (m : Files) where
       let (o, added, same) = after_ok (refusal_at k) before after name (added_in s before m (file_input name)) (sym h) in
       (module_of name o ∷ [], (module_of name o, added_module before (file_input name) o added, refl), same)
 
-  kind_added : (b : Bool) (k : ℕ) (before ms : List Module) (name : List ℕ) → ByKind b (AreTaken s m before name ms) ((x : Module) × IsModuleOf m (file_input name) x × (ms ≡ x ∷ [])) → names_once s (program_of (before ++ ms)) ≡ Ok tt → ByKind b (IsLibraryInput s m k before name (Ok (before ++ ms))) (◌≡◌ {A = Result (List Module) LinkCommandFault} (Ok (before ++ ms)) (with_file s m k before name))
+  kind_added : (b : Bool) (k : ℕ) (before ms : List Module) (name : List ℕ) → ByKind b (AreModulesOfLibrary s m before name ms) ((x : Module) × IsModuleOf m (file_input name) x × (ms ≡ x ∷ [])) → names_once s (program_of (before ++ ms)) ≡ Ok tt → ByKind b (IsLibraryInput s m k before name (Ok (before ++ ms))) (◌≡◌ {A = Result (List Module) LinkCommandFault} (Ok (before ++ ms)) (with_file s m k before name))
   kind_added true k before ms name (es, places, index, selection, members) once =
       let needed : AreNeeded s m name before es (Ok (before ++ ms)) = (places, selection, sym (members_added name before (selected_entries es places) ms members once)) in
       subst (λ q. AndThen (as_library k q) (AreNeeded s m name before) (Ok (before ++ ms))) (sym index) needed
@@ -159,17 +159,17 @@ module _ (s : Script) (m : Files) where
       ap (λ z. modules (before ++ z)) same ∙ sym (module_added before (file_input name) x of there (refusal_at k))
 
   -- what the linker is fed is what the line selects
-  pub inputs_selected : (k : ℕ) (before : List Module) (names : List (List ℕ)) (after : List Module) → AreInputs s m k before names (Ok after) → (ms : List Module) × AreSelected s m before names ms × (after ≡ before ++ ms)
+  pub inputs_selected : (k : ℕ) (before : List Module) (names : List (List ℕ)) (after : List Module) → AreInputs s m k before names (Ok after) → (ms : List Module) × AreModulesOfInputs s m before names ms × (after ≡ before ++ ms)
   inputs_selected k before [] after h = ([], refl, ok_same after before h ∙ sym (append-nil before))
   inputs_selected k before (name ∷ names) after (Err e, is, next) = absurd (ok_err after e next)
   inputs_selected k before (name ∷ names) after (Ok zs, is, next) =
       let own = kind_there (is_library_in m name) k before zs name is in
       let more = inputs_selected (k + 1) zs names after next in
-      let there : AreSelected s m (before ++ own.0) names more.0 = subst (λ z. AreSelected s m z names more.0) own.2 more.1 in
+      let there : AreModulesOfInputs s m (before ++ own.0) names more.0 = subst (λ z. AreModulesOfInputs s m z names more.0) own.2 more.1 in
       (own.0 ++ more.0, (own.0, more.0, own.1, there, refl), more.2 ∙ ap (λ z. z ++ more.0) own.2 ∙ append_assoc before own.0 more.0)
 
   -- and where no name is given twice it is fed what the line selects
-  pub selected_inputs : (k : ℕ) (before : List Module) (names : List (List ℕ)) (ms : List Module) → AreSelected s m before names ms → names_once s (program_of (before ++ ms)) ≡ Ok tt → AreInputs s m k before names (Ok (before ++ ms))
+  pub selected_inputs : (k : ℕ) (before : List Module) (names : List (List ℕ)) (ms : List Module) → AreModulesOfInputs s m before names ms → names_once s (program_of (before ++ ms)) ≡ Ok tt → AreInputs s m k before names (Ok (before ++ ms))
   selected_inputs k before [] ms h once = ap modules (ap (λ z. before ++ z) h ∙ append-nil before)
   selected_inputs k before (name ∷ names) ms (own, rest, of, more, same) once =
       let assoc : before ++ ms ≡ (before ++ own) ++ rest = ap (λ z. before ++ z) same ∙ sym (append_assoc before own rest) in
@@ -184,7 +184,7 @@ module _ (s : Script) (m : Files) where
       let objects : o ≡ p = ok_same o p (sym found ∙ there) in
       same ∙ ap (module_of i.name) objects ∙ sym equal
 
-  members_once : (library : List ℕ) (es : List Entry) (xs ys : List Module) → AreMembers m library es xs → AreMembers m library es ys → xs ≡ ys
+  members_once : (library : List ℕ) (es : List Entry) (xs ys : List Module) → AreModulesOfEntries m library es xs → AreModulesOfEntries m library es ys → xs ≡ ys
   members_once library [] [] [] h k = refl
   members_once library [] (x ∷ xs) ys h k = absurd h
   members_once library [] [] (y ∷ ys) h k = absurd k
@@ -193,22 +193,22 @@ module _ (s : Script) (m : Files) where
   members_once library (e ∷ es) (x ∷ xs) (y ∷ ys) h k =
       ap (λ z. z ∷ xs) (module_once (member_input library e) x y h.0 k.0) ∙ ap (λ z. y ∷ z) (members_once library es xs ys h.1 k.1)
 
-  taken_once : (before : List Module) (library : List ℕ) (xs ys : List Module) → AreTaken s m before library xs → AreTaken s m before library ys → xs ≡ ys
+  taken_once : (before : List Module) (library : List ℕ) (xs ys : List Module) → AreModulesOfLibrary s m before library xs → AreModulesOfLibrary s m before library ys → xs ≡ ys
   taken_once before library xs ys (es, places, index, selection, members) (fs, others, there, other, further) =
       let same : fs ≡ es = ok_same fs es (sym there ∙ index) in
       let selected : IsSelection es (open_names s (program_of before)) (given_names s (program_of before)) others = subst (λ z. IsSelection z (open_names s (program_of before)) (given_names s (program_of before)) others) same other in
       let equal : others ≡ places = one_selection es (open_names s (program_of before)) (given_names s (program_of before)) others places selected selection in
-      let moved : AreMembers m library (selected_entries es places) ys = subst (λ z. AreMembers m library (selected_entries es z) ys) equal (subst (λ z. AreMembers m library (selected_entries z others) ys) same further) in
+      let moved : AreModulesOfEntries m library (selected_entries es places) ys = subst (λ z. AreModulesOfEntries m library (selected_entries es z) ys) equal (subst (λ z. AreModulesOfEntries m library (selected_entries z others) ys) same further) in
       members_once library (selected_entries es places) xs ys members moved
 
-  input_of_once : (b : Bool) (before : List Module) (name : List ℕ) (xs ys : List Module) → ByKind b (AreTaken s m before name xs) ((x : Module) × IsModuleOf m (file_input name) x × (xs ≡ x ∷ [])) → ByKind b (AreTaken s m before name ys) ((x : Module) × IsModuleOf m (file_input name) x × (ys ≡ x ∷ [])) → xs ≡ ys
+  input_of_once : (b : Bool) (before : List Module) (name : List ℕ) (xs ys : List Module) → ByKind b (AreModulesOfLibrary s m before name xs) ((x : Module) × IsModuleOf m (file_input name) x × (xs ≡ x ∷ [])) → ByKind b (AreModulesOfLibrary s m before name ys) ((x : Module) × IsModuleOf m (file_input name) x × (ys ≡ x ∷ [])) → xs ≡ ys
   input_of_once true before name xs ys h k = taken_once before name xs ys h k
   input_of_once false before name xs ys h k = h.2 ∙ ap (λ (z : Module). z ∷ []) (module_once (file_input name) h.0 k.0 h.1 k.1) ∙ sym k.2
 
-  pub selected_once : (before : List Module) (names : List (List ℕ)) (xs ys : List Module) → AreSelected s m before names xs → AreSelected s m before names ys → xs ≡ ys
+  pub selected_once : (before : List Module) (names : List (List ℕ)) (xs ys : List Module) → AreModulesOfInputs s m before names xs → AreModulesOfInputs s m before names ys → xs ≡ ys
   selected_once before [] xs ys h k = h ∙ sym k
   selected_once before (name ∷ names) xs ys (own, rest, of, more, same) (other, further, be, next, equal) =
       let first : other ≡ own = input_of_once (is_library_in m name) before name other own be of in
-      let there : AreSelected s m (before ++ own) names further = subst (λ z. AreSelected s m (before ++ z) names further) first next in
+      let there : AreModulesOfInputs s m (before ++ own) names further = subst (λ z. AreModulesOfInputs s m (before ++ z) names further) first next in
       let others : further ≡ rest = selected_once (before ++ own) names further rest there more in
       same ∙ sym (equal ∙ ap (λ z. z ++ further) first ∙ ap (λ z. own ++ z) others)

@@ -26,7 +26,7 @@ use Rattle.output65.specs.declared.outcome.Status.TheVariants.{Success}
 use Rattle.cli65.specs.Messages.{line_message_of}
 use Rattle.tools65.specs.Archives.{archive_outcome}
 use Rattle.tools65.specs.Assembling.{IsOutputName, job_in}
-use Rattle.tools65.specs.Command.{AssemblesSource, IsOutcomeOfCommand, IsOutcomeOfArgs, outcome_of, refused_with}
+use Rattle.tools65.specs.Command.{AssemblesSource, IsOutcomeOfCommand, IsOutcomeOfArgs, link_outcome, refused_with}
 use Rattle.tools65.specs.Naming.{HasNoExtension, IsExtension, IsObjectName, IsPlain}
 use Rattle.tools65.specs.OneOutcome.{OutcomeExists}
 use Rattle.tools65.specs.OneProgram.{ImageOrNoneLaw, WholeOf}
@@ -144,7 +144,7 @@ assembles_there a m = let found = some_answer m (job_in a) in by found.0 found.1
 
 line_there : (line : CommandView) (m : Files) → (o : Outcome) × IsOutcomeOfCommand line m o
 line_there (assemble a) m = assembles_there a m
-line_there (link l) m = let r = some_link m l in (outcome_of l r.0, (r.0, r.1, refl))
+line_there (link l) m = let r = some_link m l in (link_outcome l r.0, (r.0, r.1, refl))
 line_there (archive a) m = (archive_outcome a (archived_of m a), refl)
 
 words_there : (words : Result CommandView LineFault) (m : Files) → (o : Outcome) × IsOutcomeOfArgs words m o

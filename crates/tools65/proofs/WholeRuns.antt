@@ -15,7 +15,7 @@ use Rattle.whole65.specs.Equality.{IsLinkedTo}
 use Rattle.ld65.specs.declared.fault.LinkCommandFault.{LinkCommandFault}
 use Rattle.ld65.specs.Linkage.{IsLinked, output_of}
 use Rattle.ld65.specs.Faults.{memory_message}
-use Rattle.tools65.specs.Command.{RunsCommand, IsLinkOutcome, IsOutcomeOfCommand, RunSatisfies, ArgsRunSatisfies, line_memory, outcome_of}
+use Rattle.tools65.specs.Command.{RunsCommand, IsLinkOutcome, IsOutcomeOfCommand, RunSatisfies, ArgsRunSatisfies, line_memory, link_outcome}
 use Rattle.output65.specs.RunEffects.{PerformsOutcome, FilesAfterRun, StopsAt, StopsShort, Streams, apply, took_both}
 use Rattle.tools65.specs.OneProgram.{DoesWhole, HasFiles, HaveNoImage, IsRefusal, LineLinksWhole, LineRunsLaw, LinksWhole, RunsLaw, SelectsSources, Source, WholeOf, WordsLinkWhole, WritesWhole, WroteFiles}
 use Rattle.output65.specs.Outputs.{failing, with_map}
@@ -43,7 +43,7 @@ carried_out o memory m new io status e (inr p) = absurd (not_both (sym e ∙ p.f
 failing_fails : (o : Outcome) (text : List ℕ) → o ≡ failing text → o.status ≡ Success → ⊥
 failing_fails o text same e = not_both (sym e ∙ ap (λ (z : Outcome). z.status) same)
 
-linked_well : (l : Linking) (r : Result Linked LinkCommandFault) (o : Outcome) → o ≡ outcome_of l r → o.status ≡ Success → (linked : Linked) × (r ≡ Ok linked)
+linked_well : (l : Linking) (r : Result Linked LinkCommandFault) (o : Outcome) → o ≡ link_outcome l r → o.status ≡ Success → (linked : Linked) × (r ≡ Ok linked)
 linked_well l (Ok linked) o same e = (linked, refl)
 linked_well l (Err f) o same e = absurd (failing_fails o _ same e)
 
@@ -94,7 +94,7 @@ module _ (l : Linking) (m : Files) (s : Script) (xs : List Source) (k : SelectsS
       let found = linked_well l r o same e in
       let linked : Linked = found.0 in
       let link = fed_so linked (subst (λ (q : Result Linked LinkCommandFault). IsLinked m l q) found.1 is) in
-      let outcome : o ≡ outcome_of l (Ok linked) = same ∙ ap (λ (q : Result Linked LinkCommandFault). outcome_of l q) found.1 in (
+      let outcome : o ≡ link_outcome l (Ok linked) = same ∙ ap (λ (q : Result Linked LinkCommandFault). link_outcome l q) found.1 in (
         linked.files,
         (one_program (output_of l) s xs k.modules linked.files k.objects).1 (record { linked = linked; link = link; same = refl }),
         (linked.map, written ∙ ap (λ (z : Outcome). Some (apply z.outputs m)) outcome),
@@ -105,10 +105,10 @@ module _ (l : Linking) (m : Files) (s : Script) (xs : List Source) (k : SelectsS
       let link : IsLinkedTo (output_of l) s k.modules files = (one_program (output_of l) s xs k.modules files k.objects).0 w in
       let found : r ≡ Ok link.linked = linked_so link.linked r link.link is in
       let made : List OutputFile → Outcome = λ zs. record { out = []; err = link.linked.warnings; outputs = with_map l.map zs link.linked.map; status = Success } in
-      (link.linked.warnings, link.linked.map, same ∙ ap (λ (q : Result Linked LinkCommandFault). outcome_of l q) found ∙ ap made link.same)
+      (link.linked.warnings, link.linked.map, same ∙ ap (λ (q : Result Linked LinkCommandFault). link_outcome l q) found ∙ ap made link.same)
 
   -- a link is the image of the sources, or they have none
-  image_or_none : (r : Result Linked LinkCommandFault) → IsLinked m l r → (o : Outcome) → o ≡ outcome_of l r → ((files : List OutputFile) × WholeOf (output_of l) s xs files × HasFiles l files o) ⊎ (HaveNoImage l s xs × IsRefusal l o)
+  image_or_none : (r : Result Linked LinkCommandFault) → IsLinked m l r → (o : Outcome) → o ≡ link_outcome l r → ((files : List OutputFile) × WholeOf (output_of l) s xs files × HasFiles l files o) ⊎ (HaveNoImage l s xs × IsRefusal l o)
   image_or_none (Ok linked) is o same =
       let whole = (one_program (output_of l) s xs k.modules linked.files k.objects).1 (record { linked = linked; link = fed_so linked is; same = refl }) in
       inl (linked.files, whole, (linked.warnings, linked.map, same))

@@ -12,20 +12,20 @@ use Rattle.whole65.proofs.Links.{laid_out_law}
 use Rattle.whole65.specs.Sources.{AreSources}
 use Rattle.whole65.specs.Sources as whole
 use Rattle.whole65.specs.Whole.{IsWholeProgramImage}
-use Rattle.tools65.specs.OneProgram.{AreLaidOf, AreObjectsOf, IsLaidOf, IsObjectOf, OneProgramLaw, Source}
+use Rattle.tools65.specs.OneProgram.{AreLayoutsOf, AreObjectsOf, IsLayoutOf, IsObjectOf, OneProgramLaw, Source}
 
 -- a source with an object has no fault at a line
 no_fault : (y : Layout) (f : Option LocatedFault) (o : Object) → (outcome_of y f).result ≡ Ok o → (f ≡ None) × (object_of y ≡ Ok o)
 no_fault y None o e = (refl, e)
 no_fault y (Some f) o e = absurd cc
 
-laid_of : (x : Source) (m : Module) → IsObjectOf x m → (y : Layout) × IsLaidOf x y × whole.IsSource y m
+laid_of : (x : Source) (m : Module) → IsObjectOf x m → (y : Layout) × IsLayoutOf x y × whole.IsSource y m
 laid_of x m (a, p, (r, laid, is), found, version) =
     let sound = no_fault r.following r.fault p (sym (ap (λ z. z.result) is) ∙ found) in
-    let there : IsLaidOf x r.following = subst (λ f. AreLaidOut x.files x.job (record { following = r.following; fault = f })) sound.0 laid in
+    let there : IsLayoutOf x r.following = subst (λ f. AreLaidOut x.files x.job (record { following = r.following; fault = f })) sound.0 laid in
     (r.following, there, record { laid_out = laid_out_law x.files x.job r laid; sound = sound_layout x.files x.job r laid; written = p; object = sound.1; version = version })
 
-all_laid : (xs : List Source) (ms : List Module) → AreObjectsOf xs ms → (ys : List Layout) × AreLaidOf xs ys × AreSources ys ms
+all_laid : (xs : List Source) (ms : List Module) → AreObjectsOf xs ms → (ys : List Layout) × AreLayoutsOf xs ys × AreSources ys ms
 all_laid [] [] h = ([], tt, tt)
 all_laid [] (m ∷ ms) h = absurd h
 all_laid (x ∷ xs) [] h = absurd h
@@ -35,7 +35,7 @@ all_laid (x ∷ xs) (m ∷ ms) h =
     (y ∷ ys, (laid, more), (source, sources))
 
 -- sources are laid in one way
-laid_once : (xs : List Source) (ys zs : List Layout) → AreLaidOf xs ys → AreLaidOf xs zs → ys ≡ zs
+laid_once : (xs : List Source) (ys zs : List Layout) → AreLayoutsOf xs ys → AreLayoutsOf xs zs → ys ≡ zs
 laid_once [] [] [] h k = refl
 laid_once [] (y ∷ ys) zs h k = absurd h
 laid_once [] [] (z ∷ zs) h k = absurd k

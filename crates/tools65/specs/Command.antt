@@ -1,4 +1,5 @@
--- The outcome of a command.
+-- The outcome of a command: two texts, files and a status. (`asm.Outcome` is the assembler's: an object or an error, and two
+-- texts.)
 use Rattle.std.specs.Prelude.{◌≡◌, ℕ, ◌⊎◌, List, [], ◌++◌, Option, Result, Ok, Err, if◌then◌else◌}
 use Rattle.base65.specs.Store.{Files}
 use Rattle.object65.specs.declared.object.Object.{Object}
@@ -23,13 +24,13 @@ use Rattle.cli65.specs.Messages.{line_message_of, line_memory_message, memory_li
 use Rattle.ld65.specs.Faults.{error_message, memory_message}
 
 -- the outcome of linking: warnings and files, the map last; or the error
-abbrev pub outcome_of : Linking → Result Linked LinkCommandFault → Outcome
-outcome_of l (Ok linked) = record { out = []; err = linked.warnings; outputs = with_map l.map linked.files linked.map; status = Success }
-outcome_of l (Err e) = failing (error_message l e)
+abbrev pub link_outcome : Linking → Result Linked LinkCommandFault → Outcome
+link_outcome l (Ok linked) = record { out = []; err = linked.warnings; outputs = with_map l.map linked.files linked.map; status = Success }
+link_outcome l (Err e) = failing (error_message l e)
 
 -- the outcome of a linker's command line with these files
 abbrev pub IsLinkOutcome : Linking → Files → Outcome → Type 0
-IsLinkOutcome l m o = (r : Result Linked LinkCommandFault) × IsLinked m l r × (o ≡ outcome_of l r)
+IsLinkOutcome l m o = (r : Result Linked LinkCommandFault) × IsLinked m l r × (o ≡ link_outcome l r)
 
 -- the outcome of assembling without an object: the output so far and the error; or only *out of memory*
 abbrev pub refused_with : List ℕ → List ℕ → List ℕ → LocatedFault → Outcome

@@ -1,12 +1,12 @@
 -- The results of a run in which a call of the store fails.
 use Rattle.std.specs.Prelude.{◌≡◌, ℕ, ◌⊎◌, true, List, [], ◌++◌, Option, Some, Result, Ok, Err}
 use Rattle.base65.specs.Store.{Files, max_failures, LastFailure}
-use Rattle.ar65.specs.declared.fault.ArchiveFault.{ArchiveFault as ArchiveRefusal}
-use Rattle.ar65.specs.Naming.{IsOfLine as IsOfArchive}
+use Rattle.ar65.specs.declared.fault.ArchiveFault.{ArchiveFault}
+use Rattle.ar65.specs.Naming.{IsOfLine as IsFaultOfArchive}
 use Rattle.ar65.specs.Faults as archives
 use Rattle.ld65.specs.declared.fault.LinkCommandFault.{LinkCommandFault}
 use Rattle.ld65.specs.Faults.{is_failure, error_message}
-use Rattle.ld65.specs.Naming.{IsOfLine}
+use Rattle.ld65.specs.Naming.{IsOfLine as IsFaultOfLink}
 use Rattle.ast65.specs.Faults as asm
 use Rattle.cli65.specs.declared.fault.LineFault.{LineFault}
 use Rattle.cli65.specs.Messages.{line_memory_message}
@@ -43,16 +43,17 @@ RunFails does Why m new last_failure io status =
 
 -- The output of a command line of which a call failed while it read files: one message. For ca65 the message
 -- has the location and follows the output of the source up to there. Otherwise it names the file that the
--- call requested: the script, an input or a member of one; the library or a FILE that is added.
+-- call requested: the script, an input or a member of one (`IsFaultOfLink`); the library or a FILE that is added
+-- (`IsFaultOfArchive`).
 abbrev pub SaysFailure : CommandView → Files → LastFailure → List ℕ → List ℕ → Type 0
 SaysFailure (assemble a) m last_failure out err =
     (e : LocatedFault) × (before : List ℕ) × (asm.is_failure e.fault ≡ true) × StoreFailureStops m last_failure (job_in a) e out before × (err ≡ before ++ asm_message a.source e)
 SaysFailure (link l) m last_failure out err =
-    (e : LinkCommandFault) × (is_failure e ≡ true) × IsOfLine (Some m) last_failure l e × (out ≡ []) × (err ≡ error_message l e)
+    (e : LinkCommandFault) × (is_failure e ≡ true) × IsFaultOfLink (Some m) last_failure l e × (out ≡ []) × (err ≡ error_message l e)
 SaysFailure (archive a) m last_failure out err =
-    (e : ArchiveRefusal) × (archives.is_failure e ≡ true) × IsOfArchive last_failure a e × (out ≡ []) × (err ≡ archives.error_message a e)
+    (e : ArchiveFault) × (archives.is_failure e ≡ true) × IsFaultOfArchive last_failure a e × (out ≡ []) × (err ≡ archives.error_message a e)
 
--- that, or that memory ran out as well
+-- the output of such a command line, or the message that memory ran out as well
 abbrev pub SaysWhy : CommandView → Files → LastFailure → List ℕ → List ℕ → Type 0
 SaysWhy line m last_failure out err = SaysFailure line m last_failure out err ⊎ ((out ≡ []) × (err ≡ line_memory line))
 

@@ -12,7 +12,7 @@ use Rattle.script65.specs.Scripts.{IsScript}
 use Rattle.script65.specs.declared.script.Script.{Script}
 use Rattle.cli65.specs.Line.{Linking}
 use Rattle.ld65.specs.Linkage.{member_input}
-use Rattle.tools65.specs.OneProgram.{AreInputOf, IsModuleOf, IsObjectOf, SelectsSources, Source}
+use Rattle.tools65.specs.OneProgram.{AreModulesOfInput, IsModuleOf, IsObjectOf, SelectsSources, Source}
 use Rattle.tools65.specs.Written.{IsOneOf, IsSourceInput, IsWrittenOf}
 
 -- the bytes that ca65 wrote from a source encode an object of the grammar
@@ -25,9 +25,9 @@ abbrev pub WrittenInputLaw : Type 0
 WrittenInputLaw =
     (s : Script) (m : Files) (before : List Module) (name bytes : List ℕ) (x : Source) →
     get m name ≡ Some bytes → IsWrittenOf x bytes →
-    (k : Module) × IsObjectOf x k × AreInputOf s m before name (k ∷ [])
+    (k : Module) × IsObjectOf x k × AreModulesOfInput s m before name (k ∷ [])
 
--- a library's member that ca65 wrote of a source gives an object of the source
+-- a library's member that ca65 wrote of a source gives an object of the source (`p.1` is the bytes of the member `p`)
 abbrev pub WrittenMemberLaw : Type 0
 WrittenMemberLaw =
     (m : Files) (library bytes : List ℕ) (e : Entry) (p : Member) (x : Source) →

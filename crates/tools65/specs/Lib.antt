@@ -8,5 +8,5 @@ pub mod Failing
 pub mod OneProgram
 pub mod Written
 pub mod Inputs
-pub mod Kept
+pub mod Outputs
 pub mod Internal

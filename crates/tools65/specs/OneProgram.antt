@@ -48,19 +48,21 @@ AreObjectsOf (x ∷ xs) (m ∷ ms) = IsObjectOf x m × AreObjectsOf xs ms
 AreObjectsOf [] (m ∷ ms) = ⊥
 AreObjectsOf (x ∷ xs) [] = ⊥
 
--- a source's expanded statements are laid so, and none has a fault at its line
-abbrev pub IsLaidOf : Source → Layout → Type 0
-IsLaidOf x y = AreLaidOut x.files x.job (record { following = y; fault = None })
+-- The expanded statements of a source have this layout, and none has an error at its line. (`AreLaidOut` states which state a
+-- source reaches: `following` is the layout of the statements before the first error at a line, and `fault` is that error.)
+abbrev pub IsLayoutOf : Source → Layout → Type 0
+IsLayoutOf x y = AreLaidOut x.files x.job (record { following = y; fault = None })
 
-abbrev pub AreLaidOf : List Source → List Layout → Type 0
-AreLaidOf [] [] = ⊤
-AreLaidOf (x ∷ xs) (y ∷ ys) = IsLaidOf x y × AreLaidOf xs ys
-AreLaidOf [] (y ∷ ys) = ⊥
-AreLaidOf (x ∷ xs) [] = ⊥
+-- the same for each of these sources
+abbrev pub AreLayoutsOf : List Source → List Layout → Type 0
+AreLayoutsOf [] [] = ⊤
+AreLayoutsOf (x ∷ xs) (y ∷ ys) = IsLayoutOf x y × AreLayoutsOf xs ys
+AreLayoutsOf [] (y ∷ ys) = ⊥
+AreLayoutsOf (x ∷ xs) [] = ⊥
 
 -- the sources, laid out and evaluated as one program, have this image
 abbrev pub WholeOf : List ℕ → Script → List Source → List OutputFile → Type 0
-WholeOf output s xs files = (ys : List Layout) × AreLaidOf xs ys × IsWholeProgramImage output s ys files
+WholeOf output s xs files = (ys : List Layout) × AreLayoutsOf xs ys × IsWholeProgramImage output s ys files
 
 -- Linking the objects that ca65 wrote from sources gives files if and only if the sources have an image as one program, and
 -- these files are the image.
@@ -82,29 +84,30 @@ ImageOrNoneLaw =
 abbrev pub IsModuleOf : Files → Input → Module → Type 0
 IsModuleOf m i x = (o : Object) × (object_in m i ≡ Ok o) × (agrees_with i.entry o ≡ true) × (x ≡ module_of i.name o)
 
-abbrev pub AreMembers : Files → List ℕ → List Entry → List Module → Type 0
-AreMembers m library [] [] = ⊤
-AreMembers m library (e ∷ es) (x ∷ ms) = IsModuleOf m (member_input library e) x × AreMembers m library es ms
-AreMembers m library [] (x ∷ ms) = ⊥
-AreMembers m library (e ∷ es) [] = ⊥
+-- the modules of members of a library, given their entries in its index
+abbrev pub AreModulesOfEntries : Files → List ℕ → List Entry → List Module → Type 0
+AreModulesOfEntries m library [] [] = ⊤
+AreModulesOfEntries m library (e ∷ es) (x ∷ ms) = IsModuleOf m (member_input library e) x × AreModulesOfEntries m library es ms
+AreModulesOfEntries m library [] (x ∷ ms) = ⊥
+AreModulesOfEntries m library (e ∷ es) [] = ⊥
 
--- the members of a library that the modules before it need, in file order
-abbrev pub AreTaken : Script → Files → List Module → List ℕ → List Module → Type 0
-AreTaken s m before library ms =
+-- the modules of those members of a library that the modules before it need, in file order
+abbrev pub AreModulesOfLibrary : Script → Files → List Module → List ℕ → List Module → Type 0
+AreModulesOfLibrary s m before library ms =
     (es : List Entry) × (places : List ℕ) × (index_in m library ≡ Ok es)
-    × IsSelection es (open_names s (program_of before)) (given_names s (program_of before)) places × AreMembers m library (selected_entries es places) ms
+    × IsSelection es (open_names s (program_of before)) (given_names s (program_of before)) places × AreModulesOfEntries m library (selected_entries es places) ms
 
--- the modules that an input gives, after these modules
-abbrev pub AreInputOf : Script → Files → List Module → List ℕ → List Module → Type 0
-AreInputOf s m before name ms =
-    ByKind (is_library_in m name) (AreTaken s m before name ms) ((x : Module) × IsModuleOf m (file_input name) x × (ms ≡ x ∷ []))
+-- the modules of an input, given the modules before it: of a library the members that are needed, of an object file its module
+abbrev pub AreModulesOfInput : Script → Files → List Module → List ℕ → List Module → Type 0
+AreModulesOfInput s m before name ms =
+    ByKind (is_library_in m name) (AreModulesOfLibrary s m before name ms) ((x : Module) × IsModuleOf m (file_input name) x × (ms ≡ x ∷ []))
 
--- the modules that inputs give in turn, after these modules; a name may be defined twice
-abbrev pub AreSelected : Script → Files → List Module → List (List ℕ) → List Module → Type 0
-AreSelected s m before [] ms = ms ≡ []
-AreSelected s m before (name ∷ names) ms =
-    (own : List Module) × (rest : List Module) × AreInputOf s m before name own
-    × AreSelected s m (before ++ own) names rest × (ms ≡ own ++ rest)
+-- the modules of all inputs, given the modules before them; a name may be defined twice
+abbrev pub AreModulesOfInputs : Script → Files → List Module → List (List ℕ) → List Module → Type 0
+AreModulesOfInputs s m before [] ms = ms ≡ []
+AreModulesOfInputs s m before (name ∷ names) ms =
+    (own : List Module) × (rest : List Module) × AreModulesOfInput s m before name own
+    × AreModulesOfInputs s m (before ++ own) names rest × (ms ≡ own ++ rest)
 
 -- ---- A run.
 
@@ -115,7 +118,7 @@ pub record SelectsSources (l : Linking) (m : Files) (s : Script) (xs : List Sour
   pub file : get m l.script ≡ Some text
   pub script : IsScript text (Ok s)
   pub modules : List Module
-  pub selected : AreSelected s m [] l.inputs modules
+  pub selected : AreModulesOfInputs s m [] l.inputs modules
   pub objects : AreObjectsOf xs modules
 
 -- a link's outcome has the files of an image, and then the map
@@ -138,29 +141,30 @@ HaveNoImage l s xs = (files : List OutputFile) → WholeOf (output_of l) s xs fi
 -- The effect of a command line with these files, if its modules are objects of sources.
 pub record DoesWhole (l : Linking) (s : Script) (xs : List Source) (m : Files) (o : Outcome) : Type 0 where
   pub does : IsLinkOutcome l m o
-  -- where the sources have an image as one program, its files and then the map
+  -- if the sources have an image as one program, the outcome has its files, and then the map
   pub has : (files : List OutputFile) → WholeOf (output_of l) s xs files → HasFiles l files o
-  -- nothing but those files, or a refusal where there is no image
+  -- the outcome has the files of an image, or there is no image and the outcome is an error
   pub only :
       ((files : List OutputFile) × WholeOf (output_of l) s xs files × HasFiles l files o)
       ⊎ (HaveNoImage l s xs × IsRefusal l o)
 
--- A run over sources' objects carries out the image that the sources have as one program, and a refusal where they have
+-- A run of a link of sources' objects writes the image that the sources have as one program, or reports an error if they have
 -- none.
 pub record WritesWhole (l : Linking) (s : Script) (xs : List Source) (m : Files) (new : Option Files) (io : Streams) (status : Status) : Type 0 where
-  -- the run carries that out, or says that memory ran out
+  -- the run performs an outcome that `DoesWhole` allows, or stops short in it; or it only reports that memory ran out
   pub ran : RunSatisfies (DoesWhole l s xs) memory_message m new io status
   -- a run that succeeds wrote such an image
   pub wrote :
       status ≡ Success → (files : List OutputFile) × WholeOf (output_of l) s xs files × WroteFiles l files m new
-  -- where there is none, no file is written and the run fails
+  -- if the sources have no image, no file is written and the run fails
   pub refused : HaveNoImage l s xs → (new ≡ Some m) × (status ≡ Failure)
 
+-- the same for every script and list of sources that the command line selects
 abbrev pub LinksWhole : Linking → Files → Option Files → Streams → Status → Type 0
 LinksWhole l m new io status =
     (s : Script) (xs : List Source) → SelectsSources l m s xs → WritesWhole l s xs m new io status
 
--- where a line is a link of sources' objects
+-- the same for a command line, if it is a link
 unfoldable pub LineLinksWhole : CommandView → Files → Option Files → Streams → Status → Type 0
 LineLinksWhole line m new io status =
     (l : Linking) → line ≡ link l → LinksWhole l m new io status

@@ -22,7 +22,7 @@ pub record IsWrittenOf (x : Source) (bytes : List ℕ) : Type 0 where
   pub object : Object
   pub version : IsEitherVersion made object
   pub spelled : bytes ≡ object_bytes object
-  -- the numbers in it are those of their types, and no byte lies past the limit of a file
+  -- its numbers fit their types, and the file is within the file size limit
   pub numbers : ObjectFits object
   pub limit : length bytes ≤ file_limit
 
@@ -33,7 +33,7 @@ IsOneOf xs x = (i : ℕ) × (slice_get xs i ≡ Some x)
 abbrev pub IsSourceObject : List Source → List ℕ → Type 0
 IsSourceObject sources bytes = (x : Source) × IsOneOf sources x × IsWrittenOf x bytes
 
--- a library, each member of which ca65 wrote of one of these sources
+-- a library, each member of which ca65 wrote of one of these sources (`p.1` is the bytes of a member `p`)
 abbrev pub IsSourceLibrary : List Source → List ℕ → Type 0
 IsSourceLibrary sources bytes =
     (ms : List Member) × IsLibrary bytes ms × AllByRecursion (λ p. IsSourceObject sources p.1) ms

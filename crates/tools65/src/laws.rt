@@ -1,7 +1,7 @@
 //! Laws of commands, and of linking objects that ca65 wrote. Each function's contract is a law.
 
 ghost use Rattle.tools65.specs.Inputs.{SourcesSelectedLaw, WrittenInputLaw, WrittenMemberLaw, WrittenObjectLaw};
-ghost use Rattle.tools65.specs.Kept.{ArchivedSourcesLaw, AssembledFileLaw};
+ghost use Rattle.tools65.specs.Outputs.{ArchivedSourcesLaw, AssembledFileLaw};
 ghost use Rattle.tools65.specs.OneOutcome.{OutcomeExists, FailureIsUnique, OutcomeIsUnique};
 ghost use Rattle.tools65.specs.OneProgram.{ImageOrNoneLaw, LineRunsLaw, OneProgramLaw, RunsLaw};
 
@@ -66,13 +66,13 @@ pub fn written_inputs_select_sources()
     ensures { SourcesSelectedLaw }
 {}
 
-/// A file that a line of ca65 writes is what ca65 writes of the line's source, where its object fits and it is within the limit
-/// of a file.
-pub fn written_file_is_kept()
+/// A file that a command line of ca65 writes is an object file of the line's source, if its object's numbers fit and it is
+/// within the file size limit.
+pub fn assembled_file_is_of_its_source()
     ensures { AssembledFileLaw }
 {}
 
 /// `r` makes of object files that ca65 wrote, and of a library of such members or of none, a library of such members.
-pub fn written_library_is_kept()
+pub fn archived_library_is_of_sources()
     ensures { ArchivedSourcesLaw }
 {}

@@ -2,7 +2,7 @@
 
 ghost use Rattle.std.specs.Prelude.{◌≡◌, IfOk, IfSome};
 ghost use Rattle.cli65.specs.Line.{link, linking};
-ghost use Rattle.tools65.specs.Command.{outcome_of};
+ghost use Rattle.tools65.specs.Command.{link_outcome};
 ghost use Rattle.tools65.specs.Internal.Computing.{ComputesOutcome, ComputeFrame};
 
 use base65::{ListVec, Store};
@@ -17,7 +17,7 @@ fn link_outcome(
     line: &LinkArgs<'_>,
     linked: Result<Linked, LinkCommandFault>,
 ) -> Result<Outcome, AllocError>
-    ensures { IfOk result (λ outcome. outcome ≡ outcome_of (linking line.now) linked) }
+    ensures { IfOk result (λ outcome. outcome ≡ link_outcome (linking line.now) linked) }
 {
     match linked {
         Ok(linked) => Ok(Outcome {

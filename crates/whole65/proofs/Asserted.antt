@@ -27,7 +27,7 @@ use Rattle.whole65.proofs.Statements.{AreStated, IsSaidBy, SaidOnce, a_line, are
 use Rattle.whole65.specs.Objects.{AreObjects, HasValue, Objects, form_value}
 use Rattle.whole65.specs.Segments.{line_of, lines_after}
 use Rattle.whole65.specs.Values.{Program, Value}
-use Rattle.whole65.specs.Whole.{HasAssertion, AssertionHolds, AreAsserted}
+use Rattle.whole65.specs.Whole.{HasAssertion, AssertionHolds, PassAssertions}
 use Rattle.std.specs.Ordering.{int_eq}
 use Rattle.std.proofs.lemmas.Bool.Decides.{not_from_Decides}
 use Rattle.object65.specs.declared.object.Object.{Object}
@@ -126,7 +126,7 @@ module _ {E : Type 0} (p : Program) (o : Objects E) (h : AreObjects p o) (owner 
 
   -- ---- Lines.
 
-  pub lines_pass : (all : List LaidOutStatement) → ((place : ℕ) (l : LaidOutStatement) → slice_get all place ≡ Some l → o.contexts owner place ≡ l.context) → (before ls : List LaidOutStatement) (names : List (List ℕ)) (cs : List Content) → before ++ ls ≡ all → AreStated (o.symbols owner) names ls cs → AllByRecursion (HasAssertion p) (lines_after owner before ls) ↔ AllPass o owner (all_said cs)
+  pub lines_pass : (all : List LaidOutStatement) → ((index : ℕ) (l : LaidOutStatement) → slice_get all index ≡ Some l → o.contexts owner index ≡ l.context) → (before ls : List LaidOutStatement) (names : List (List ℕ)) (cs : List Content) → before ++ ls ≡ all → AreStated (o.symbols owner) names ls cs → AllByRecursion (HasAssertion p) (lines_after owner before ls) ↔ AllPass o owner (all_said cs)
   lines_pass all contexts before [] names _ w no_line = (λ k. tt, λ k. tt)
   lines_pass all contexts before (l ∷ ls) names _ w (a_line ds cs found more) =
       let next : (before ++ l ∷ []) ++ ls ≡ all = append_assoc before (l ∷ []) ls ∙ w in
@@ -223,8 +223,8 @@ module _ (s : Script) (placement : Placement) (ys : List Layout) (ms : List Modu
 
     one_form : (f : Form) (v : ℤ) → IsKeyed sections numbers (length (table_of y).imports) f → (value_by l (in_table table) owner (renumbered_form sections numbers f) ≡ Ok v) ↔ HasValue o owner f v
     one_form f v keyed =
-        let same : (turns : ℕ) → form_value o turns owner f ≡ value_by l (exports_through l turns) owner (renumbered_form sections numbers f) =
-        λ turns. form_law s placement ys ms owner turns y m cs f h at_y at_m found keyed in
+        let same : (export_depth : ℕ) → form_value o export_depth owner f ≡ value_by l (exports_through l export_depth) owner (renumbered_form sections numbers f) =
+        λ export_depth. form_law s placement ys ms owner export_depth y m cs f h at_y at_m found keyed in
         let value = table_law l table owner (renumbered_form sections numbers f) v exports in (
           λ k. (let q = value.0 k in (q.0, same q.0 ∙ q.1)),
           λ k. value.1 (k.0, sym (same k.0) ∙ k.1),
@@ -243,8 +243,8 @@ module _ (s : Script) (placement : Placement) (ys : List Layout) (ms : List Modu
     table_there : o.symbols owner ≡ table_of y
     table_there = ap symbols_at at_y
 
-    context_there : (place : ℕ) (x : LaidOutStatement) → slice_get y.laid place ≡ Some x → o.contexts owner place ≡ x.context
-    context_there place x e = ap (λ r. context_in r place) at_y ∙ ap (context_or (global_context y)) e
+    context_there : (index : ℕ) (x : LaidOutStatement) → slice_get y.laid index ≡ Some x → o.contexts owner index ≡ x.context
+    context_there index x e = ap (λ r. context_in r index) at_y ∙ ap (context_or (global_context y)) e
 
     lines_agree : AllByRecursion (HasAssertion p) (lines_after owner [] y.laid) ↔ AllByRecursion (IsPassed o owner) (all_said cs)
     lines_agree =
@@ -265,7 +265,7 @@ module _ (s : Script) (placement : Placement) (ys : List Layout) (ms : List Modu
 
   -- ---- Module by module.
 
-  all_sources : (rest : List Layout) (ns : List Module) (owner : ℕ) → AreSources rest ns → ((i : ℕ) → slice_get rest i ≡ slice_get ys (owner + i)) → ((i : ℕ) → slice_get ns i ≡ slice_get ms (owner + i)) → AllByRecursion Passing (linked_asserts owner ns) ↔ AreAsserted p owner rest
+  all_sources : (rest : List Layout) (ns : List Module) (owner : ℕ) → AreSources rest ns → ((i : ℕ) → slice_get rest i ≡ slice_get ys (owner + i)) → ((i : ℕ) → slice_get ns i ≡ slice_get ms (owner + i)) → AllByRecursion Passing (linked_asserts owner ns) ↔ PassAssertions p owner rest
   all_sources [] [] owner k up_y up_m = (λ q. tt, λ q. tt)
   all_sources [] (m ∷ ns) owner k up_y up_m = absurd k
   all_sources (y ∷ rest) [] owner k up_y up_m = absurd k
@@ -284,7 +284,7 @@ module _ (s : Script) (placement : Placement) (ys : List Layout) (ms : List Modu
 
 -- All assertions pass in a link, with some text of warnings, exactly where those that modules make pass in the whole
 -- program.
-pub assertions_law : (s : Script) (placement : Placement) (ys : List Layout) (ms : List Module) (table : List (Result ℤ ValueFault)) → let q : linked.Program = linked.program_of ms in let l : Linkage = linkage_of s q placement in AreSources ys ms → AreExports l table → ((warnings : List ℕ) × (check_asserts l q.members (in_table table) q.asserts ≡ Ok warnings)) ↔ AreAsserted (program_of s placement ys) 0 ys
+pub assertions_law : (s : Script) (placement : Placement) (ys : List Layout) (ms : List Module) (table : List (Result ℤ ValueFault)) → let q : linked.Program = linked.program_of ms in let l : Linkage = linkage_of s q placement in AreSources ys ms → AreExports l table → ((warnings : List ℕ) × (check_asserts l q.members (in_table table) q.asserts ≡ Ok warnings)) ↔ PassAssertions (program_of s placement ys) 0 ys
 assertions_law s placement ys ms table h exports =
     let q : linked.Program = linked.program_of ms in
     let l : Linkage = linkage_of s q placement in

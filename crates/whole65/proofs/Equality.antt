@@ -23,7 +23,7 @@ use Rattle.whole65.specs.Modules.{table_of}
 use Rattle.whole65.specs.Programs as whole
 use Rattle.whole65.specs.Sources.{AreSources}
 use Rattle.whole65.specs.Values.{Program}
-use Rattle.whole65.specs.Whole.{HasExport, AreAsserted, AreExported, AreForced, AreSaid, HasImage, IsWholeProgramImage}
+use Rattle.whole65.specs.Whole.{HasExport, PassAssertions, HaveExportValues, HaveForcedImports, SatisfiesAllDeclarations, HasRowsAndFiles, IsWholeProgramImage}
 use Rattle.base65.specs.declared.output.OutputFile.{OutputFile}
 use Rattle.whole65.proofs.Asserted.{assertions_law}
 use Rattle.whole65.proofs.Links.{names_law, HasLink, link_by, link_has, linked_by}
@@ -63,20 +63,20 @@ module _ (s : Script) (placement : Placement) (ys : List Layout) (ms : List Modu
       let m : IsExportOf ys ms e = all_get (IsExportOf ys ms) (linked.program_of ms).exports i e (exports_known ys ms h) at in
       let value = same_values_law ValueFault p (linked_objects s placement ys ms) (sources_law s placement ys ms h) (suc (suc (length (table_of m.layout).definitions))) e.owner (p.global e.owner) (tree.name false (e.name ∷ [])) m.form has.0 (export_normal s placement ys ms e m) in
       let q = value.0 has.1 in
-      let turns : ℕ = q.0 in (
+      let export_depth : ℕ = q.0 in (
         has.0,
         (
-          suc turns,
-          ap (export_value l (exports_through l turns)) at
-              ∙ ap (value_by l (exports_through l turns) e.owner) m.written
-              ∙ sym (form_law s placement ys ms e.owner turns m.layout m.object m.contents m.form h m.at_y m.at_m m.found m.keyed)
+          suc export_depth,
+          ap (export_value l (exports_through l export_depth)) at
+              ∙ ap (value_by l (exports_through l export_depth) e.owner) m.written
+              ∙ sym (form_law s placement ys ms e.owner export_depth m.layout m.object m.contents m.form h m.at_y m.at_m m.found m.keyed)
               ∙ q.1,
         ),
       )
 
 -- Where all names that modules export have values in the whole program, a link has the table of exports that its
 -- definition wants.
-pub export_table_law : (s : Script) (placement : Placement) (ys : List Layout) (ms : List Module) → AreSources ys ms → AreExported (program_of s placement ys) 0 ys → (table : List (Result ℤ ValueFault)) × AreExports (linkage_of s (linked.program_of ms) placement) table
+pub export_table_law : (s : Script) (placement : Placement) (ys : List Layout) (ms : List Module) → AreSources ys ms → HaveExportValues (program_of s placement ys) 0 ys → (table : List (Result ℤ ValueFault)) × AreExports (linkage_of s (linked.program_of ms) placement) table
 export_table_law s placement ys ms h exported =
     let p : Program = whole.program_of s placement ys in
     let es : List Exported = (linked.program_of ms).exports in
@@ -88,7 +88,7 @@ export_table_law s placement ys ms h exported =
 -- ---- A link of the objects of sources gives the image of their whole program, and none where that has none.
 
 -- what modules say, one thing of all modules after the other
-said_parts : (p : Program) (owner : ℕ) (ys : List Layout) → AreSaid p owner ys ↔ (AreForced p ys × AreExported p owner ys × AreAsserted p owner ys)
+said_parts : (p : Program) (owner : ℕ) (ys : List Layout) → SatisfiesAllDeclarations p owner ys ↔ (HaveForcedImports p ys × HaveExportValues p owner ys × PassAssertions p owner ys)
 said_parts p owner [] = (λ k. (tt, tt, tt), λ k. tt)
 said_parts p owner (y ∷ ys) = grind (arith, common_steps, (said_parts p (suc owner) ys))
 
@@ -96,7 +96,7 @@ module _ (output : List ℕ) (s : Script) (ys : List Layout) (ms : List Module) 
   has_link : IsWholeProgramImage output s ys files → HasLink output s (linked.program_of ms) files
   has_link w =
       let p : Program = program_of s w.placement ys in
-      let said = (said_parts p 0 ys).0 w.image.said in
+      let said = (said_parts p 0 ys).0 w.image.declarations in
       let found = export_table_law s w.placement ys ms h said.1 in
       let made = (files_law output s w.placement ys ms found.0 files h found.1).0 (record { bytes = w.image.bytes; rows = w.image.rows; image = w.image.image }) in
       let warned = (assertions_law s w.placement ys ms found.0 h found.1).1 said.2 in
@@ -121,7 +121,7 @@ module _ (output : List ℕ) (s : Script) (ys : List Layout) (ms : List Module) 
       let names = given_law s k.placement ys ms h placed k.none in
       let exported = (exports_law s k.placement ys ms k.table h k.exports).0 k.exported in
       let asserted = (assertions_law s k.placement ys ms k.table h k.exports).0 (k.warnings, k.asserted) in
-      let image : HasImage output s ys k.placement p files = (files_law output s k.placement ys ms k.table files h k.exports).1 (k.values, k.made) in
+      let image : HasRowsAndFiles output s ys k.placement p files = (files_law output s k.placement ys ms k.table files h k.exports).1 (k.values, k.made) in
       grind (arith, common_steps, names_law, said_parts)
 
   either : IsWholeProgramImage output s ys files ↔ IsLinkedTo output s ms files

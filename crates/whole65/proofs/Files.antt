@@ -41,7 +41,7 @@ use Rattle.whole65.specs.Objects.{form_value}
 use Rattle.whole65.specs.Programs as whole
 use Rattle.whole65.specs.Sources.{AreSources}
 use Rattle.whole65.specs.Values.{Program}
-use Rattle.whole65.specs.Whole.{AreRow, AreExported, HasExport, HasImage}
+use Rattle.whole65.specs.Whole.{AreRow, HaveExportValues, HasExport, HasRowsAndFiles}
 use Rattle.object65.specs.declared.object.Export.{Export}
 use Rattle.script65.specs.declared.placement.RowPlacement.{RowPlacement}
 use Rattle.script65.specs.declared.script.MemoryArea.{MemoryArea}
@@ -200,8 +200,8 @@ export_value_law s placement ys ms table i e v h exports at =
     let p : Program = whole.program_of s placement ys in
     let m : IsExportOf ys ms e = all_get (IsExportOf ys ms) (linked.program_of ms).exports i e (exports_known ys ms h) at in
     let found = table_law l table e.owner e.form v exports in
-    let same : (turns : ℕ) → form_value (linked_objects s placement ys ms) turns e.owner m.form ≡ value_by l (exports_through l turns) e.owner e.form =
-    λ turns. form_law s placement ys ms e.owner turns m.layout m.object m.contents m.form h m.at_y m.at_m m.found m.keyed ∙ ap (value_by l (exports_through l turns) e.owner) (sym m.written) in
+    let same : (export_depth : ℕ) → form_value (linked_objects s placement ys ms) export_depth e.owner m.form ≡ value_by l (exports_through l export_depth) e.owner e.form =
+    λ export_depth. form_law s placement ys ms e.owner export_depth m.layout m.object m.contents m.form h m.at_y m.at_m m.found m.keyed ∙ ap (value_by l (exports_through l export_depth) e.owner) (sym m.written) in
     let value = same_values_law ValueFault p (linked_objects s placement ys ms) (sources_law s placement ys ms h) (suc (suc (length (table_of m.layout).definitions))) e.owner (p.global e.owner) (tree.name false (e.name ∷ [])) m.form v (export_normal s placement ys ms e m) in (
       λ k. (let q = found.0 k in value.1 (q.0, same q.0 ∙ q.1)),
       λ k. (let q = value.0 k in found.1 (q.0, sym (same q.0) ∙ q.1)),
@@ -231,7 +231,7 @@ all_itself bytes (r ∷ rs) = (refl, all_itself bytes rs)
 
 -- The rows of a placed program have bytes and make these files exactly where each value that waits in a link passes its
 -- check, and the link makes them.
-pub files_law : (output : List ℕ) (s : Script) (placement : Placement) (ys : List Layout) (ms : List Module) (table : List (Result ℤ ValueFault)) (files : List OutputFile) → let l : Linkage = linkage_of s (linked.program_of ms) placement in AreSources ys ms → AreExports l table → HasImage output s ys placement (program_of s placement ys) files ↔ ((each_passes (check_fixup l (linked.program_of ms).members (in_table table)) (fixups_by_row s.rows (linked.program_of ms).segments) ≡ Ok tt) × AreFiles output s (linked.program_of ms) placement l (in_table table) files)
+pub files_law : (output : List ℕ) (s : Script) (placement : Placement) (ys : List Layout) (ms : List Module) (table : List (Result ℤ ValueFault)) (files : List OutputFile) → let l : Linkage = linkage_of s (linked.program_of ms) placement in AreSources ys ms → AreExports l table → HasRowsAndFiles output s ys placement (program_of s placement ys) files ↔ ((each_passes (check_fixup l (linked.program_of ms).members (in_table table)) (fixups_by_row s.rows (linked.program_of ms).segments) ≡ Ok tt) × AreFiles output s (linked.program_of ms) placement l (in_table table) files)
 files_law output s placement ys ms table files h exports =
     let l : Linkage = linkage_of s (linked.program_of ms) placement in
     let written : RowBytes = row_bytes l (in_table table) (linked.program_of ms).segments in (
@@ -267,7 +267,7 @@ module _ (p : Program) where
   one_module owner [] = (λ k. tt, λ k. tt)
   one_module owner (e ∷ es) = let more = one_module owner es in (λ k. (k.0, more.0 k.1), λ k. (k.0, more.1 k.1))
 
-  pub all_modules : (owner : ℕ) (ys : List Layout) (ms : List Module) → AreSources ys ms → AllByRecursion OfExport (linked_exports owner ms) ↔ AreExported p owner ys
+  pub all_modules : (owner : ℕ) (ys : List Layout) (ms : List Module) → AreSources ys ms → AllByRecursion OfExport (linked_exports owner ms) ↔ HaveExportValues p owner ys
   all_modules owner [] [] h = (λ k. tt, λ k. tt)
   all_modules owner [] (m ∷ ms) h = absurd h
   all_modules owner (y ∷ ys) [] h = absurd h
@@ -282,5 +282,5 @@ module _ (p : Program) where
       )
 
 -- All exports pass in a link exactly where all names that modules export have values in the whole program.
-pub exports_law : (s : Script) (placement : Placement) (ys : List Layout) (ms : List Module) (table : List (Result ℤ ValueFault)) → let l : Linkage = linkage_of s (linked.program_of ms) placement in AreSources ys ms → AreExports l table → (each_passes (check_export l (linked.program_of ms).members (in_table table)) (linked.program_of ms).exports ≡ Ok tt) ↔ AreExported (program_of s placement ys) 0 ys
+pub exports_law : (s : Script) (placement : Placement) (ys : List Layout) (ms : List Module) (table : List (Result ℤ ValueFault)) → let l : Linkage = linkage_of s (linked.program_of ms) placement in AreSources ys ms → AreExports l table → (each_passes (check_export l (linked.program_of ms).members (in_table table)) (linked.program_of ms).exports ≡ Ok tt) ↔ HaveExportValues (program_of s placement ys) 0 ys
 exports_law s placement ys ms table h exports = grind (arith, common_steps, passes, passes_each, all_either, there, value_there, export_value_law, all_modules, exports_are)

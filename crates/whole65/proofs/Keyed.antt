@@ -31,7 +31,7 @@ use Rattle.whole65.proofs.Multiples.{equal, end_of-append}
 use Rattle.whole65.proofs.Sources.{contents_of, in_segment, section_begin, same_object, size_law, size_or}
 use Rattle.whole65.proofs.LinkedObjects.{or_empty, base_in, symbols_at, IsKeyed, IsKeyedContent, IsKeyedPart, IsKeyedSaid, provider_named, imports_linked, linked_objects}
 use Rattle.whole65.specs.Modules.{table_of}
-use Rattle.whole65.specs.Offsets.{IsSoundLayoutOf, begin_from, lines_at}
+use Rattle.whole65.specs.Offsets.{HasNoLineErrors, begin_from, lines_at}
 use Rattle.whole65.specs.Segments.{end_of, has_section, items_from, items_of, largest_multiple, lines_after, lines_in, part_of, segment_name}
 use Rattle.whole65.specs.Sources.{AreSources, IsSource}
 use Rattle.std.proofs.lemmas.List.Folds.{list_any-append}
@@ -131,10 +131,10 @@ module _ (y : Layout) (owner : ℕ) (origins : SourceLocation → Origin) (secti
 
 -- ---- Where sections begin.
 
-begins : (ys : List Layout) (y : Layout) (name : List ℕ) (at first i : ℕ) → slice_get ys i ≡ Some y → begin_from at first ys name i ≡ next_multiple_of (end_of at (items_from first (take i ys) name)) (largest_multiple (lines_in (first + i) y name))
-begins [] y name at first i e = cc
-begins (z ∷ ys) y name at first zero e = grind (arith, common_steps)
-begins (z ∷ ys) y name at first (suc i) e = grind (arith, common_steps, end_of-append, (begins ys y name (end_of at (part_of first z name)) (suc first) i e))
+begins : (ys : List Layout) (y : Layout) (name : List ℕ) (position first i : ℕ) → slice_get ys i ≡ Some y → begin_from position first ys name i ≡ next_multiple_of (end_of position (items_from first (take i ys) name)) (largest_multiple (lines_in (first + i) y name))
+begins [] y name position first i e = cc
+begins (z ∷ ys) y name position first zero e = grind (arith, common_steps)
+begins (z ∷ ys) y name position first (suc i) e = grind (arith, common_steps, end_of-append, (begins ys y name (end_of position (part_of first z name)) (suc first) i e))
 
 less : (n m : ℕ) → n < m → nat_lt n m ≡ true
 less n m h = grind (arith, nat_tests)
@@ -143,7 +143,7 @@ less n m h = grind (arith, nat_tests)
 pub section_base_law : (s : Script) (placement : Placement) (ys : List Layout) (ms : List Module) (owner g : ℕ) (y : Layout) (m : Module) (cs : List Content) → AreSources ys ms → slice_get ys owner ≡ Some y → slice_get ms owner ≡ Some m → (module_resolution y.laid).found ≡ Ok cs → list_any (nat_eq g) (section_keys cs) ≡ true → base_of (slice_get (linkage_of s (linked.program_of ms) placement).modules owner) (number_of (section_keys cs) g) ≡ base_in s placement ys owner g (Some y)
 section_base_law s placement ys ms owner g y m cs h at_y at_m e among =
     let source : IsSource y m = source_at ys ms owner y m h at_y at_m in
-    let d : IsSoundLayoutOf y = source.laid_out in
+    let d : HasNoLineErrors y = source.laid_out in
     let keys = keys_of y cs d e in
     let names = (table_of y).imports in
     let imports : List ℕ = import_keys names cs in
@@ -249,8 +249,8 @@ got (n ∷ names) zero h = refl
 got (n ∷ names) (suc k) h = got names k (omega (arith, h))
 
 -- Such a form comes in a link, through so many exports, to what linking knows of it in the whole program.
-pub form_law : (s : Script) (placement : Placement) (ys : List Layout) (ms : List Module) (owner turns : ℕ) (y : Layout) (m : Module) (cs : List Content) (f : Form) → AreSources ys ms → slice_get ys owner ≡ Some y → slice_get ms owner ≡ Some m → (module_resolution y.laid).found ≡ Ok cs → let sections : List ℕ = section_keys cs in let imports : List ℕ = import_keys (table_of y).imports cs in let l : Linkage = linkage_of s (linked.program_of ms) placement in IsKeyed sections imports (length (table_of y).imports) f → form_value (linked_objects s placement ys ms) turns owner f ≡ value_by l (exports_through l turns) owner (renumbered_form sections imports f)
-form_law s placement ys ms owner turns y m cs f h at_y at_m e =
+pub form_law : (s : Script) (placement : Placement) (ys : List Layout) (ms : List Module) (owner export_depth : ℕ) (y : Layout) (m : Module) (cs : List Content) (f : Form) → AreSources ys ms → slice_get ys owner ≡ Some y → slice_get ms owner ≡ Some m → (module_resolution y.laid).found ≡ Ok cs → let sections : List ℕ = section_keys cs in let imports : List ℕ = import_keys (table_of y).imports cs in let l : Linkage = linkage_of s (linked.program_of ms) placement in IsKeyed sections imports (length (table_of y).imports) f → form_value (linked_objects s placement ys ms) export_depth owner f ≡ value_by l (exports_through l export_depth) owner (renumbered_form sections imports f)
+form_law s placement ys ms owner export_depth y m cs f h at_y at_m e =
     let names : List (List ℕ) = (table_of y).imports in
     let sections : List ℕ = section_keys cs in
     let imports : List ℕ = import_keys names cs in
@@ -269,7 +269,7 @@ form_law s placement ys ms owner turns y m cs f h at_y at_m e =
     ∙ ap (λ (o : Object). get_or (map G o.imports) (number_of imports k) Nobody) (sym object)
     ∙ ap (λ r. provider_at r (number_of imports k)) (sym mine) in
     λ keyed.
-    own_parts_law ValueFault NoValue (λ g. base_in s placement ys owner g (slice_get ys owner)) (λ g. base_of (slice_get l.modules owner) (number_of sections g)) (imports_linked s placement ys ms turns owner) (λ k. import_value (exports_through l turns) (provider_at (slice_get l.modules owner) (number_of imports k))) f
+    own_parts_law ValueFault NoValue (λ g. base_in s placement ys owner g (slice_get ys owner)) (λ g. base_of (slice_get l.modules owner) (number_of sections g)) (imports_linked s placement ys ms export_depth owner) (λ k. import_value (exports_through l export_depth) (provider_at (slice_get l.modules owner) (number_of imports k))) f
     (all_same (λ g. list_any (nat_eq g) sections ≡ true) (λ g. base_in s placement ys owner g (slice_get ys owner) ≡ base_of (slice_get l.modules owner) (number_of sections g)) base (sections_in f) keyed.own_sections)
-    (all_same (λ k. (list_any (nat_eq k) imports ≡ true) × (k < length names)) (λ k. imports_linked s placement ys ms turns owner k ≡ import_value (exports_through l turns) (provider_at (slice_get l.modules owner) (number_of imports k))) (λ k among. ap (import_value (exports_through l turns)) (provider k among)) (imports_in f) keyed.own_imports)
-    ∙ sym (number_law ValueFault NoValue (base_of (slice_get l.modules owner)) (λ j. import_value (exports_through l turns) (provider_at (slice_get l.modules owner) j)) sections imports f)
+    (all_same (λ k. (list_any (nat_eq k) imports ≡ true) × (k < length names)) (λ k. imports_linked s placement ys ms export_depth owner k ≡ import_value (exports_through l export_depth) (provider_at (slice_get l.modules owner) (number_of imports k))) (λ k among. ap (import_value (exports_through l export_depth)) (provider k among)) (imports_in f) keyed.own_imports)
+    ∙ sym (number_law ValueFault NoValue (base_of (slice_get l.modules owner)) (λ j. import_value (exports_through l export_depth) (provider_at (slice_get l.modules owner) j)) sections imports f)

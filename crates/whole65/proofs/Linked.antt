@@ -7,9 +7,9 @@ use Rattle.ast65.specs.declared.fault.AsmFault.{AsmFault}
 use Rattle.semantics65.specs.Symbols.{LaidOutStatement, needs_section, Definition, Key, definition_with, definitions_of, key_defined, value_defined, Symbols, symbols_of, binding_of}
 use Rattle.semantics65.specs.Layout.{Layout}
 use Rattle.semantics65.specs.Symbols as names
-use Rattle.whole65.proofs.LinkedObjects.{place_in, symbols_at, base_in, begin_in, objects_of, context_in}
-use Rattle.whole65.specs.Modules.{defining_from, import_named, meaning_by, context_at, statement_at, table_of, global_context, context_or}
-use Rattle.whole65.specs.Objects.{definition_shown, import_shown, meaning_shown, AreObjects, ImportHasValue, Objects}
+use Rattle.whole65.proofs.LinkedObjects.{definer_in, symbols_at, base_in, begin_in, objects_of, context_in}
+use Rattle.whole65.specs.Modules.{definers_from, import_named, meaning_by, context_at, statement_at, table_of, global_context, context_or}
+use Rattle.whole65.specs.Objects.{definition_binding, import_binding, symbol_binding, AreObjects, ImportHasValue, Objects}
 use Rattle.whole65.specs.Values.{SymbolBinding, Program}
 use Rattle.std.specs.Prelude.{◌&&◌, ℤ, pos, ◌+ℤ◌, nat_lt}
 use Rattle.syntax65.specs.declared.lexing.tokens.AddressSize.{AddressSize}
@@ -20,8 +20,8 @@ use Rattle.semantics65.proofs.Segments.{all_more}
 use Rattle.whole65.proofs.Positions.{IsAbsent, other_part, all_front, itself, all_get, position_law, named}
 use Rattle.whole65.proofs.Multiples.{equal}
 use Rattle.whole65.proofs.Offsets.{placed}
-use Rattle.whole65.specs.Offsets.{IsSoundLayoutOf, begun, following, lines_at, begin_of}
-use Rattle.whole65.specs.Segments.{Item, end_of, has_section, items_before, items_from, items_of, largest_multiple, line, line_end, lines_after, lines_in, part_of, rounding, segment_name, stands_in, position_of}
+use Rattle.whole65.specs.Offsets.{HasNoLineErrors, begun, following, lines_at, begin_of}
+use Rattle.whole65.specs.Segments.{Item, end_of, has_section, items_before, items_from, items_of, largest_multiple, line, line_end, lines_after, lines_in, part_of, rounding, segment_name, is_in_segment, position_of}
 use Rattle.std.specs.Int.{int_wrap}
 use Rattle.std.proofs.lemmas.Bool.Decides.{nat_tests}
 use Rattle.std.proofs.lemmas.Int.{ints, int_wrap-add_left}
@@ -34,17 +34,17 @@ use Rattle.whole65.specs.Programs.{laid_at, means_at, statement_address, program
 
 -- the definition of a number and the statement that makes it
 pub record Made (i : ℕ) (ls : List LaidOutStatement) (d : ℕ) : Type 0 where
-  pub place : ℕ
+  pub index : ℕ
   pub laid : LaidOutStatement
   pub definition : Definition
-  pub there : slice_get ls place ≡ Some laid
-  pub defining : slice_get (defining_from i ls) d ≡ Some (i + place)
+  pub there : slice_get ls index ≡ Some laid
+  pub defining : slice_get (definers_from i ls) d ≡ Some (i + index)
   pub defined : slice_get (flat_map definitions_of ls) d ≡ Some definition
   pub value : definition.value ≡ value_defined laid.stated
   pub context : definition.context ≡ laid.context
 
 pub record Missing (i : ℕ) (ls : List LaidOutStatement) (d : ℕ) : Type 0 where
-  pub defining : slice_get (defining_from i ls) d ≡ None
+  pub defining : slice_get (definers_from i ls) d ≡ None
   pub defined : slice_get (flat_map definitions_of ls) d ≡ None
 
 pub data Looked (i : ℕ) (ls : List LaidOutStatement) (d : ℕ) : Type 0 where
@@ -55,11 +55,11 @@ pub look : (i : ℕ) (ls : List LaidOutStatement) (d : ℕ) → Looked i ls d
 look i [] d = missing (record { defining = refl; defined = refl })
 look i (l ∷ ls) d = go (key_defined l.context l.stated) refl d (λ e. look (suc i) ls e)
   where
-    later : (e d : ℕ) → slice_get (map (λ z. i) (definitions_of l) ++ defining_from (suc i) ls) d ≡ slice_get (defining_from (suc i) ls) e → slice_get (definitions_of l ++ flat_map definitions_of ls) d ≡ slice_get (flat_map definitions_of ls) e → Looked (suc i) ls e → Looked i (l ∷ ls) d
+    later : (e d : ℕ) → slice_get (map (λ z. i) (definitions_of l) ++ definers_from (suc i) ls) d ≡ slice_get (definers_from (suc i) ls) e → slice_get (definitions_of l ++ flat_map definitions_of ls) d ≡ slice_get (flat_map definitions_of ls) e → Looked (suc i) ls e → Looked i (l ∷ ls) d
     later e d p q (made m) =
-        let moved : suc i + m.place ≡ i + suc m.place = omega arith in
+        let moved : suc i + m.index ≡ i + suc m.index = omega arith in
         made (record {
-          place = suc m.place;
+          index = suc m.index;
           laid = m.laid;
           definition = m.definition;
           there = m.there;
@@ -73,17 +73,17 @@ look i (l ∷ ls) d = go (key_defined l.context l.stated) refl d (λ e. look (su
     go : (k : Option Key) → key_defined l.context l.stated ≡ k → (d : ℕ) → ((e : ℕ) → Looked (suc i) ls e) → Looked i (l ∷ ls) d
     go None e d next =
         let none : definitions_of l ≡ [] = ap (λ z. definition_with z (value_defined l.stated) l.context l.size) e in
-        later d d (ap (λ xs. slice_get (map (λ z. i) xs ++ defining_from (suc i) ls) d) none) (ap (λ xs. slice_get (xs ++ flat_map definitions_of ls) d) none) (next d)
+        later d d (ap (λ xs. slice_get (map (λ z. i) xs ++ definers_from (suc i) ls) d) none) (ap (λ xs. slice_get (xs ++ flat_map definitions_of ls) d) none) (next d)
     go (Some k) e zero next =
         let x : Definition = record { key = k; value = value_defined l.stated; context = l.context; size = l.size } in
         let one : definitions_of l ≡ x ∷ [] = ap (λ z. definition_with z (value_defined l.stated) l.context l.size) e in
         let here : i ≡ i + 0 = omega arith in
         made (record {
-          place = 0;
+          index = 0;
           laid = l;
           definition = x;
           there = refl;
-          defining = ap (λ xs. slice_get (map (λ z. i) xs ++ defining_from (suc i) ls) 0) one ∙ ap Some here;
+          defining = ap (λ xs. slice_get (map (λ z. i) xs ++ definers_from (suc i) ls) 0) one ∙ ap Some here;
           defined = ap (λ xs. slice_get (xs ++ flat_map definitions_of ls) 0) one;
           value = refl;
           context = refl;
@@ -91,19 +91,19 @@ look i (l ∷ ls) d = go (key_defined l.context l.stated) refl d (λ e. look (su
     go (Some k) e (suc d) next =
         let x : Definition = record { key = k; value = value_defined l.stated; context = l.context; size = l.size } in
         let one : definitions_of l ≡ x ∷ [] = ap (λ z. definition_with z (value_defined l.stated) l.context l.size) e in
-        later d (suc d) (ap (λ xs. slice_get (map (λ z. i) xs ++ defining_from (suc i) ls) (suc d)) one) (ap (λ xs. slice_get (xs ++ flat_map definitions_of ls) (suc d)) one) (next d)
+        later d (suc d) (ap (λ xs. slice_get (map (λ z. i) xs ++ definers_from (suc i) ls) (suc d)) one) (ap (λ xs. slice_get (xs ++ flat_map definitions_of ls) (suc d)) one) (next d)
 
 -- ---- What names mean.
 
 abbrev pub shown_by : Option Layout → Result names.Binding AsmFault → Option SymbolBinding
 shown_by r (Err e) = None
-shown_by r (Ok (names.defined_at d)) = definition_shown (place_in r d) (slice_get (symbols_at r).definitions d)
-shown_by r (Ok (names.imported_as k)) = import_shown (slice_get (symbols_at r).imports k)
+shown_by r (Ok (names.defined_at d)) = definition_binding (definer_in r d) (slice_get (symbols_at r).definitions d)
+shown_by r (Ok (names.imported_as k)) = import_binding (slice_get (symbols_at r).imports k)
 
-same_definition : (y : Layout) (d : ℕ) → Looked 0 y.laid d → statement_at y.laid (slice_get (defining_from 0 y.laid) d) ≡ definition_shown (place_in (Some y) d) (slice_get (table_of y).definitions d)
+same_definition : (y : Layout) (d : ℕ) → Looked 0 y.laid d → statement_at y.laid (slice_get (definers_from 0 y.laid) d) ≡ definition_binding (definer_in (Some y) d) (slice_get (table_of y).definitions d)
 same_definition y d x = grind (arith, common_steps)
 
-same_import : (r : Option (List ℕ)) → import_named r ≡ import_shown r
+same_import : (r : Option (List ℕ)) → import_named r ≡ import_binding r
 same_import x = grind (arith, common_steps)
 
 pub same_meaning : (y : Layout) (r : Result names.Binding AsmFault) → meaning_by y r ≡ shown_by (Some y) r
@@ -113,10 +113,10 @@ pub none_shown : (r : Result names.Binding AsmFault) → None ≡ shown_by None 
 none_shown x = grind (arith, common_steps)
 
 -- a definition stands where its statement does
-pub same_context : (y : Layout) (d : ℕ) (x : Definition) → slice_get (table_of y).definitions d ≡ Some x → context_at y (place_in (Some y) d) ≡ x.context
+pub same_context : (y : Layout) (d : ℕ) (x : Definition) → slice_get (table_of y).definitions d ≡ Some x → context_at y (definer_in (Some y) d) ≡ x.context
 same_context y d x e = go (look 0 y.laid d)
   where
-    go : Looked 0 y.laid d → context_at y (place_in (Some y) d) ≡ x.context
+    go : Looked 0 y.laid d → context_at y (definer_in (Some y) d) ≡ x.context
     go (missing m) = let none : Some x ≡ None = sym e ∙ m.defined in absurd cc
     go (made m) = grind (arith, common_steps)
 
@@ -128,72 +128,72 @@ IsQuiet l = needs_section l.stated ≡ false → l.length ≡ 0
 places_nothing : (y : Symbols) (s : Context) (own : AddressSize) (x : Statement) → needs_section x ≡ false → length_of y s own x ≡ 0
 places_nothing y s own x h = grind (arith, common_steps)
 
-pub quiet : {y : Layout} → IsSoundLayoutOf y → AllByRecursion IsQuiet y.laid
+pub quiet : {y : Layout} → HasNoLineErrors y → AllByRecursion IsQuiet y.laid
 quiet begun = tt
 quiet (following y place x d none) = grind (arith, common_steps, (quiet d), all_more, places_nothing)
 
 -- none of the module's statements there asks
 abbrev AsksNot : Layout → List ℕ → LaidOutStatement → Type 0
-AsksNot y name l = stands_in y name l ≡ true → needs_section l.stated ≡ false
+AsksNot y name l = is_in_segment y name l ≡ true → needs_section l.stated ≡ false
 
-none_asks : (y : Layout) (name : List ℕ) (ls : List LaidOutStatement) → list_any (λ l. stands_in y name l && needs_section l.stated) ls ≡ false → AllByRecursion (AsksNot y name) ls
+none_asks : (y : Layout) (name : List ℕ) (ls : List LaidOutStatement) → list_any (λ l. is_in_segment y name l && needs_section l.stated) ls ≡ false → AllByRecursion (AsksNot y name) ls
 none_asks y name [] h = tt
 none_asks y name (l ∷ ls) h = grind (arith, common_steps, (none_asks y name ls))
 
-quiet_lines : (at owner : ℕ) (y : Layout) (g : ℕ) (before ls : List LaidOutStatement) → AllByRecursion IsQuiet ls → AllByRecursion (AsksNot y (segment_name y g)) ls → end_of at (map line (lines_at g (lines_after owner before ls))) ≡ at
-quiet_lines at owner y g before [] q a = refl
-quiet_lines at owner y g before (l ∷ ls) q a = grind (arith, common_steps, itself, (λ (z : ℕ). quiet_lines z owner y g (before ++ l ∷ []) ls q.1 a.1))
+quiet_lines : (position owner : ℕ) (y : Layout) (g : ℕ) (before ls : List LaidOutStatement) → AllByRecursion IsQuiet ls → AllByRecursion (AsksNot y (segment_name y g)) ls → end_of position (map line (lines_at g (lines_after owner before ls))) ≡ position
+quiet_lines position owner y g before [] q a = refl
+quiet_lines position owner y g before (l ∷ ls) q a = grind (arith, common_steps, itself, (λ (z : ℕ). quiet_lines z owner y g (before ++ l ∷ []) ls q.1 a.1))
 
 -- a statement there has the offset 0
-pub no_offset : (y : Layout) (place : ℕ) (l : LaidOutStatement) → IsSoundLayoutOf y → slice_get y.laid place ≡ Some l → has_section y (segment_name y l.context.segment) ≡ false → l.context.offset ≡ 0
-no_offset y place l d there asked =
-    (placed 0 d).offsets place l there
-    ∙ quiet_lines 0 0 y l.context.segment [] (take place y.laid) (all_front IsQuiet y.laid place (quiet d)) (all_front (AsksNot y (segment_name y l.context.segment)) y.laid place (none_asks y (segment_name y l.context.segment) y.laid asked))
+pub no_offset : (y : Layout) (index : ℕ) (l : LaidOutStatement) → HasNoLineErrors y → slice_get y.laid index ≡ Some l → has_section y (segment_name y l.context.segment) ≡ false → l.context.offset ≡ 0
+no_offset y index l d there asked =
+    (placed 0 d).offsets index l there
+    ∙ quiet_lines 0 0 y l.context.segment [] (take index y.laid) (all_front IsQuiet y.laid index (quiet d)) (all_front (AsksNot y (segment_name y l.context.segment)) y.laid index (none_asks y (segment_name y l.context.segment) y.laid asked))
 
 -- ---- No item of the segment's list is such a statement.
 
-all_absent : (owner place : ℕ) (xs : List Item) → IsAbsent owner place xs → items_before owner place xs ≡ xs
-all_absent owner place [] h = refl
-all_absent owner place (x ∷ xs) h = grind (arith, common_steps, (all_absent owner place xs h.1))
+all_absent : (owner index : ℕ) (xs : List Item) → IsAbsent owner index xs → items_before owner index xs ≡ xs
+all_absent owner index [] h = refl
+all_absent owner index (x ∷ xs) h = grind (arith, common_steps, (all_absent owner index xs h.1))
 
-both_absent : (owner place : ℕ) (xs ys : List Item) → IsAbsent owner place xs → IsAbsent owner place ys → IsAbsent owner place (xs ++ ys)
-both_absent owner place [] ys h k = k
-both_absent owner place (x ∷ xs) ys h k = (h.0, both_absent owner place xs ys h.1 k)
+both_absent : (owner index : ℕ) (xs ys : List Item) → IsAbsent owner index xs → IsAbsent owner index ys → IsAbsent owner index (xs ++ ys)
+both_absent owner index [] ys h k = k
+both_absent owner index (x ∷ xs) ys h k = (h.0, both_absent owner index xs ys h.1 k)
 
-after_absent : (first owner place : ℕ) (ys : List Layout) (name : List ℕ) → owner < first → IsAbsent owner place (items_from first ys name)
-after_absent first owner place [] name lt = tt
-after_absent first owner place (y ∷ ys) name lt =
+after_absent : (first owner index : ℕ) (ys : List Layout) (name : List ℕ) → owner < first → IsAbsent owner index (items_from first ys name)
+after_absent first owner index [] name lt = tt
+after_absent first owner index (y ∷ ys) name lt =
     let other : first ≢ owner = omega (arith, lt) in
     let next : owner < suc first = omega (arith, lt) in
-    both_absent owner place (part_of first y name) (items_from (suc first) ys name) (other_part first owner place other y name) (after_absent (suc first) owner place ys name next)
+    both_absent owner index (part_of first y name) (items_from (suc first) ys name) (other_part first owner index other y name) (after_absent (suc first) owner index ys name next)
 
-absent_from : (first count owner place : ℕ) (ys : List Layout) (y : Layout) (name : List ℕ) → owner ≡ first + count → slice_get ys count ≡ Some y → has_section y name ≡ false → IsAbsent owner place (items_from first ys name)
-absent_from first count owner place [] y name o e h = cc
-absent_from first zero owner place (z ∷ ys) y name o e h =
+absent_from : (first count owner index : ℕ) (ys : List Layout) (y : Layout) (name : List ℕ) → owner ≡ first + count → slice_get ys count ≡ Some y → has_section y name ≡ false → IsAbsent owner index (items_from first ys name)
+absent_from first count owner index [] y name o e h = cc
+absent_from first zero owner index (z ∷ ys) y name o e h =
     let same : z ≡ y = cc in
     let none : has_section z name ≡ false = ap (λ k. has_section k name) same ∙ h in
     let lt : owner < suc first = omega (arith, o) in
     let empty : part_of first z name ≡ [] = ap (λ b. cond b (rounding (largest_multiple (lines_in first z name)) ∷ map line (lines_in first z name)) []) none in
-    subst (λ xs. IsAbsent owner place (xs ++ items_from (suc first) ys name)) (sym empty) (after_absent (suc first) owner place ys name lt)
-absent_from first (suc count) owner place (z ∷ ys) y name o e h =
+    subst (λ xs. IsAbsent owner index (xs ++ items_from (suc first) ys name)) (sym empty) (after_absent (suc first) owner index ys name lt)
+absent_from first (suc count) owner index (z ∷ ys) y name o e h =
     let other : first ≢ owner = omega (arith, o) in
     let next : owner ≡ suc first + count = omega (arith, o) in
-    both_absent owner place (part_of first z name) (items_from (suc first) ys name) (other_part first owner place other z name) (absent_from (suc first) count owner place ys y name next e h)
+    both_absent owner index (part_of first z name) (items_from (suc first) ys name) (other_part first owner index other z name) (absent_from (suc first) count owner index ys y name next e h)
 
 -- its position is the end of the list
-pub at_end : (ys : List Layout) (owner place : ℕ) (y : Layout) (name : List ℕ) → slice_get ys owner ≡ Some y → has_section y name ≡ false → end_of 0 (items_before owner place (items_of ys name)) ≡ end_of 0 (items_of ys name)
-at_end ys owner place y name e h =
-    ap (end_of 0) (all_absent owner place (items_of ys name) (absent_from 0 owner owner place ys y name (omega arith) e h))
+pub at_end : (ys : List Layout) (owner index : ℕ) (y : Layout) (name : List ℕ) → slice_get ys owner ≡ Some y → has_section y name ≡ false → end_of 0 (items_before owner index (items_of ys name)) ≡ end_of 0 (items_of ys name)
+at_end ys owner index y name e h =
+    ap (end_of 0) (all_absent owner index (items_of ys name) (absent_from 0 owner owner index ys y name (omega arith) e h))
 
 -- ---- Names.
 
-shown_is : {E : Type 0} (none : E) (imports : ℕ → ℕ → ℕ → Result ℤ E) (s : Script) (p : Placement) (ys : List Layout) (owner : ℕ) (r : Result names.Binding AsmFault) → meaning_shown (objects_of none imports s p ys) owner r ≡ shown_by (slice_get ys owner) r
+shown_is : {E : Type 0} (none : E) (imports : ℕ → ℕ → ℕ → Result ℤ E) (s : Script) (p : Placement) (ys : List Layout) (owner : ℕ) (r : Result names.Binding AsmFault) → symbol_binding (objects_of none imports s p ys) owner r ≡ shown_by (slice_get ys owner) r
 shown_is none imports s p ys owner x = grind (arith, common_steps)
 
-means_by : (r : Option Layout) (place : ℕ) (e : Tree) → means_at r place e ≡ shown_by r (binding_of (symbols_at r) (context_in r place) e)
-means_by x place e = grind (arith, common_steps, none_shown, symbols_at, context_in, same_meaning)
+means_by : (r : Option Layout) (index : ℕ) (e : Tree) → means_at r index e ≡ shown_by r (binding_of (symbols_at r) (context_in r index) e)
+means_by x index e = grind (arith, common_steps, none_shown, symbols_at, context_in, same_meaning)
 
-context_by : (r : Option Layout) (d : ℕ) (x : Definition) → slice_get (symbols_at r).definitions d ≡ Some x → context_in r (place_in r d) ≡ x.context
+context_by : (r : Option Layout) (d : ℕ) (x : Definition) → slice_get (symbols_at r).definitions d ≡ Some x → context_in r (definer_in r d) ≡ x.context
 context_by x1 d x e = grind (arith, common_steps, same_context)
 
 -- ---- Addresses.
@@ -212,17 +212,17 @@ less n m h = grind (arith, nat_tests)
 not_less : (n : ℕ) → nat_lt n n ≡ false
 not_less n = grind (arith, nat_tests)
 
-module _ (s : Script) (p : Placement) (ys : List Layout) (laid_out : AllByRecursion IsSoundLayoutOf ys) where
-  position_is : (owner place : ℕ) (y : Layout) (l : LaidOutStatement) → slice_get ys owner ≡ Some y → slice_get y.laid place ≡ Some l → (b : Bool) → has_section y (segment_name y l.context.segment) ≡ b → position_of ys (segment_name y l.context.segment) owner place ≡ cond b (begin_of ys (segment_name y l.context.segment) owner) (end_of 0 (items_of ys (segment_name y l.context.segment))) + l.context.offset
-  position_is owner place y l e there x1 h = grind (arith, common_steps, position_law, all_get, no_offset, at_end)
+module _ (s : Script) (p : Placement) (ys : List Layout) (laid_out : AllByRecursion HasNoLineErrors ys) where
+  position_is : (owner index : ℕ) (y : Layout) (l : LaidOutStatement) → slice_get ys owner ≡ Some y → slice_get y.laid index ≡ Some l → (b : Bool) → has_section y (segment_name y l.context.segment) ≡ b → position_of ys (segment_name y l.context.segment) owner index ≡ cond b (begin_of ys (segment_name y l.context.segment) owner) (end_of 0 (items_of ys (segment_name y l.context.segment))) + l.context.offset
+  position_is owner index y l e there x1 h = grind (arith, common_steps, position_law, all_get, no_offset, at_end)
 
-  of_line : (owner place : ℕ) (y : Layout) → slice_get ys owner ≡ Some y → (r : Option LaidOutStatement) → slice_get y.laid place ≡ r → statement_address s p ys owner place (Some y) r ≡ wrap_signed (base_in s p ys owner (context_or (global_context y) r).segment (Some y) +ℤ pos (context_or (global_context y) r).offset)
-  of_line owner place y e x1 there = grind (arith, common_steps, all_get, named, position_is, moved)
+  of_line : (owner index : ℕ) (y : Layout) → slice_get ys owner ≡ Some y → (r : Option LaidOutStatement) → slice_get y.laid index ≡ r → statement_address s p ys owner index (Some y) r ≡ wrap_signed (base_in s p ys owner (context_or (global_context y) r).segment (Some y) +ℤ pos (context_or (global_context y) r).offset)
+  of_line owner index y e x1 there = grind (arith, common_steps, all_get, named, position_is, moved)
 
-  of_module : (owner place : ℕ) (r : Option Layout) → slice_get ys owner ≡ r → statement_address s p ys owner place r (laid_at r place) ≡ wrap_signed (base_in s p ys owner (context_in r place).segment r +ℤ pos (context_in r place).offset)
-  of_module owner place x e = grind (arith, common_steps, zero_wraps, of_line)
+  of_module : (owner index : ℕ) (r : Option Layout) → slice_get ys owner ≡ r → statement_address s p ys owner index r (laid_at r index) ≡ wrap_signed (base_in s p ys owner (context_in r index).segment r +ℤ pos (context_in r index).offset)
+  of_module owner index x e = grind (arith, common_steps, zero_wraps, of_line)
 
 -- The modules of a placed program are linked as that program: names mean the same, and statements have the addresses that
 -- their sections' bases and their offsets make, for all that imports come to as their providers say.
-pub linked_law : (E : Type 0) → (none : E) (imports : ℕ → ℕ → ℕ → Result ℤ E) (s : Script) (placement : Placement) (ys : List Layout) → AllByRecursion IsSoundLayoutOf ys → let p : Program = program_of s placement ys in let o : Objects E = objects_of none imports s placement ys in ((owner k : ℕ) → ImportHasValue p o owner k (slice_get (o.symbols owner).imports k)) → AreObjects p o
+pub linked_law : (E : Type 0) → (none : E) (imports : ℕ → ℕ → ℕ → Result ℤ E) (s : Script) (placement : Placement) (ys : List Layout) → AllByRecursion HasNoLineErrors ys → let p : Program = program_of s placement ys in let o : Objects E = objects_of none imports s placement ys in ((owner k : ℕ) → ImportHasValue p o owner k (slice_get (o.symbols owner).imports k)) → AreObjects p o
 linked_law x none imports s p ys laid_out given = grind (arith, common_steps, means_by, shown_is, symbols_at, context_in, context_by, of_module)

@@ -16,7 +16,7 @@ use Rattle.link65.specs.Values.{run_of, linkage_of, exports_through, import_valu
 use Rattle.semantics65.specs.declared.laid.Context.{Context}
 use Rattle.semantics65.specs.Layout.{Layout}
 use Rattle.semantics65.specs.Symbols.{Symbols}
-use Rattle.whole65.specs.Modules.{defining_from, context_at, table_of}
+use Rattle.whole65.specs.Modules.{definers_from, context_at, table_of}
 use Rattle.whole65.specs.Objects.{Objects, HasValue}
 use Rattle.whole65.specs.Offsets.{begin_of}
 use Rattle.whole65.specs.Segments.{end_of, has_section, items_of, segment_name}
@@ -36,7 +36,7 @@ Valuing = Form → ℤ → Type 0
 
 -- that of an object, where its sections have these bases and its imports come to this through so many exports
 abbrev pub valued_by : {E : Type 0} → E → (ℕ → ℤ) → (ℕ → ℕ → Result ℤ E) → Valuing
-valued_by none bases values f v = (turns : ℕ) × (value_in none bases (values turns) f ≡ Ok v)
+valued_by none bases values f v = (export_depth : ℕ) × (value_in none bases (values export_depth) f ≡ Ok v)
 
 -- the bytes of a part of a module's section, by the fill value of its row
 abbrev pub ArePart : Valuing → ℕ → Part → List ℕ → Type 0
@@ -73,7 +73,7 @@ after_sections owner name g [] = g
 after_sections owner name g (s ∷ ss) =
     after_sections owner name (if bytes_eq s.name name then Some (segment_with_section owner (or_empty s.name g) s) else g) ss
 
--- behind modules, the first of which has this place
+-- after modules, the first of which has the index `owner`
 abbrev pub after_modules : ℕ → List ℕ → Option Segment → List Module → Option Segment
 after_modules owner name g [] = g
 after_modules owner name g (m ∷ ms) = after_modules (suc owner) name (after_sections owner name g m.object.sections) ms
@@ -91,17 +91,17 @@ abbrev pub nowhere : Context
 nowhere = record { scope = 0; opened = 0; region = 0; unnamed = 0; segment = 0; offset = 0 }
 
 abbrev pub context_in : Option Layout → ℕ → Context
-context_in None place = nowhere
-context_in (Some y) place = context_at y place
+context_in None index = nowhere
+context_in (Some y) index = context_at y index
 
 abbrev pub or_first : Option ℕ → ℕ
 or_first None = 0
-or_first (Some place) = place
+or_first (Some index) = index
 
--- the place of the statement that makes a definition
-abbrev pub place_in : Option Layout → ℕ → ℕ
-place_in None definition = 0
-place_in (Some y) definition = or_first (slice_get (defining_from 0 y.laid) definition)
+-- the index of the statement that makes a definition
+abbrev pub definer_in : Option Layout → ℕ → ℕ
+definer_in None definition = 0
+definer_in (Some y) definition = or_first (slice_get (definers_from 0 y.laid) definition)
 
 -- where a module's section begins; a segment of which it has none is at its end there
 abbrev pub begin_in : List Layout → ℕ → Layout → List ℕ → ℕ
@@ -119,8 +119,8 @@ abbrev pub objects_of : {E : Type 0} → E → (ℕ → ℕ → ℕ → Result �
 objects_of none imports s p ys = record {
   none = none;
   symbols = λ owner. symbols_at (slice_get ys owner);
-  contexts = λ owner place. context_in (slice_get ys owner) place;
-  places = λ owner definition. place_in (slice_get ys owner) definition;
+  contexts = λ owner index. context_in (slice_get ys owner) index;
+  definers = λ owner definition. definer_in (slice_get ys owner) definition;
   bases = λ owner g. base_in s p ys owner g (slice_get ys owner);
   imports = imports;
 }
@@ -135,8 +135,8 @@ provider_named s placement q (Some name) = provider_of (script_definitions s pla
 
 -- an import of a module has the value of the export of its name, through so many exports
 abbrev pub imports_linked : Script → Placement → List Layout → List Module → ℕ → ℕ → ℕ → Result ℤ ValueFault
-imports_linked s placement ys ms turns owner k =
-    import_value (exports_through (linkage_of s (program_of ms) placement) turns) (provider_named s placement (program_of ms) (slice_get (symbols_at (slice_get ys owner)).imports k))
+imports_linked s placement ys ms export_depth owner k =
+    import_value (exports_through (linkage_of s (program_of ms) placement) export_depth) (provider_named s placement (program_of ms) (slice_get (symbols_at (slice_get ys owner)).imports k))
 
 -- what linking knows of the modules of sources
 abbrev pub linked_objects : Script → Placement → List Layout → List Module → Objects ValueFault
@@ -168,7 +168,7 @@ pub record IsKeyedContent (sections imports : List ℕ) (count : ℕ) (c : Conte
 -- the value of a form of a linked module, through some number of exports
 abbrev pub linked_value : Linkage → ℕ → Valuing
 linked_value l owner =
-    valued_by NoValue (base_of (slice_get l.modules owner)) (λ turns j. import_value (exports_through l turns) (provider_at (slice_get l.modules owner) j))
+    valued_by NoValue (base_of (slice_get l.modules owner)) (λ export_depth j. import_value (exports_through l export_depth) (provider_at (slice_get l.modules owner) j))
 
 abbrev pub IsCell : Linkage → ℕ → Cell → List ℕ → Type 0
 IsCell l fill (known b) bytes = bytes ≡ b ∷ []

@@ -29,14 +29,14 @@ use Rattle.semantics65.specs.Layout.{Layout, layout_after, nothing_laid, line_fa
 use Rattle.semantics65.specs.Symbols.{symbols_of}
 use Rattle.ast65.specs.Parsing.{label_of}
 use Rattle.sources65.specs.Reading.{IsLaidOut, layout_semantics, AreLaidOut, AreDefined, AreTaken, Define, AssemblesAfterDefines, IsBegun, AssemblesExpanded, IsLabelled, IsRest, Job, ReachedState, no_line, taken, faulty, refused, ended, with_bytes}
-use Rattle.whole65.specs.Offsets.{IsSoundLayoutOf, begun, following}
+use Rattle.whole65.specs.Offsets.{HasNoLineErrors, begun, following}
 use Rattle.object65.specs.Form.{lit, sec, imp, prefix, binary, Form}
 use Rattle.object65.specs.FormValue.{value_in}
 use Rattle.semantics65.specs.Numbering.{imports_in}
 use Rattle.sources65.proofs.SoundForms.{all_append}
 use Rattle.whole65.proofs.Exports.{export_names_law}
 use Rattle.std.specs.List.{AllByRecursion}
-use Rattle.whole65.specs.Whole.{given_names}
+use Rattle.whole65.specs.Whole.{provided_names}
 use Rattle.whole65.specs.Sources.{AreSources}
 
 -- ---- One thing first, and then another.
@@ -74,52 +74,52 @@ module _ (output : List ℕ) (s : Script) (q : Program) (files : List OutputFile
 
 -- ---- A source lays its statements one behind the other, none with a fault at its line.
 
-one : (y z : Layout) (place : SourceLocation) (x : Statement) → IsSoundLayoutOf y → IsLaidOut y place x (Ok z) → IsSoundLayoutOf z
+one : (y z : Layout) (place : SourceLocation) (x : Statement) → HasNoLineErrors y → IsLaidOut y place x (Ok z) → HasNoLineErrors z
 one y z place x d h = by (line_fault (symbols_of y.laid) y.cursor x) refl h
   where
-    by : (o : Option AsmFault) → line_fault (symbols_of y.laid) y.cursor x ≡ o → Ok z ≡ unless_fault o (layout_after y place x) → IsSoundLayoutOf z
+    by : (o : Option AsmFault) → line_fault (symbols_of y.laid) y.cursor x ≡ o → Ok z ≡ unless_fault o (layout_after y place x) → HasNoLineErrors z
     by x1 is h = grind (arith, common_steps, (following y place x d))
 
-unchanged : (y z : Layout) → IsSoundLayoutOf y → ◌≡◌ {A = Result Layout AsmFault} (Ok z) (Ok y) → IsSoundLayoutOf z
-unchanged y z d h = let same : y ≡ z = cc in subst IsSoundLayoutOf same d
+unchanged : (y z : Layout) → HasNoLineErrors y → ◌≡◌ {A = Result Layout AsmFault} (Ok z) (Ok y) → HasNoLineErrors z
+unchanged y z d h = let same : y ≡ z = cc in subst HasNoLineErrors same d
 
-labelled : (y z : Layout) (place : SourceLocation) (x : Option Statement) → IsSoundLayoutOf y → IsLabelled IsLaidOut y place x (Ok z) → IsSoundLayoutOf z
+labelled : (y z : Layout) (place : SourceLocation) (x : Option Statement) → HasNoLineErrors y → IsLabelled IsLaidOut y place x (Ok z) → HasNoLineErrors z
 labelled y z place x d h = grind (arith, common_steps, unchanged, one)
 
-stated : (m : Files) (y z : Layout) (place : SourceLocation) (x : Result Statement AsmFault) → IsSoundLayoutOf y → AndThen x (λ s. IsLaidOut y place (with_bytes m place s)) (Ok z) → IsSoundLayoutOf z
+stated : (m : Files) (y z : Layout) (place : SourceLocation) (x : Result Statement AsmFault) → HasNoLineErrors y → AndThen x (λ s. IsLaidOut y place (with_bytes m place s)) (Ok z) → HasNoLineErrors z
 stated m y z place x d h = grind (arith, common_steps, one)
 
-rest : (m : Files) (y z : Layout) (place : SourceLocation) (ts : List Lexeme) → IsSoundLayoutOf y → IsRest m IsLaidOut y place ts (Ok z) → IsSoundLayoutOf z
+rest : (m : Files) (y z : Layout) (place : SourceLocation) (ts : List Lexeme) → HasNoLineErrors y → IsRest m IsLaidOut y place ts (Ok z) → HasNoLineErrors z
 rest m y z place [] d h = unchanged y z d h
 rest m y z place (t ∷ ts) d (x, is, h) = stated m y z place x d h
 
-after_label : (m : Files) (y z : Layout) (place : SourceLocation) (ts : List Lexeme) (q : Result Layout AsmFault) → IsSoundLayoutOf y → IsLabelled IsLaidOut y place (label_of ts).0 q → AndThen q (λ w. IsRest m IsLaidOut w place (label_of ts).1) (Ok z) → IsSoundLayoutOf z
+after_label : (m : Files) (y z : Layout) (place : SourceLocation) (ts : List Lexeme) (q : Result Layout AsmFault) → HasNoLineErrors y → IsLabelled IsLaidOut y place (label_of ts).0 q → AndThen q (λ w. IsRest m IsLaidOut w place (label_of ts).1) (Ok z) → HasNoLineErrors z
 after_label m y z place ts x1 d l h = grind (arith, common_steps, rest, labelled)
 
-given : (m : Files) (y z : Layout) (place : SourceLocation) (x : expand.ExpandedStatement) → IsSoundLayoutOf y → AssemblesExpanded m IsLaidOut y place x (Ok z) → IsSoundLayoutOf z
+given : (m : Files) (y z : Layout) (place : SourceLocation) (x : expand.ExpandedStatement) → HasNoLineErrors y → AssemblesExpanded m IsLaidOut y place x (Ok z) → HasNoLineErrors z
 given m y z place (expand.label ts) d (q, l, h) = after_label m y z place ts q d l h
 given m y z place (expand.plain ts) d h = rest m y z place ts d h
 
-all_taken : (m : Files) {s : expand.State} {y : Layout} {r : ReachedState Layout} → AreTaken m layout_semantics s y r → IsSoundLayoutOf y → IsSoundLayoutOf r.following
+all_taken : (m : Files) {s : expand.State} {y : Layout} {r : ReachedState Layout} → AreTaken m layout_semantics s y r → HasNoLineErrors y → HasNoLineErrors r.following
 all_taken m (taken s t x y z r reach h more) d = all_taken m more (given m y z t.left.place x d h)
 all_taken m (faulty s t x y e reach h) d = d
 all_taken m (refused s y e place reach) d = d
 all_taken m (ended s t y reach) d = d
 
-all_defined : (y : Layout) (place : SourceLocation) (ds : List Define) (z : Layout) → IsSoundLayoutOf y → AreDefined IsLaidOut y place ds (Ok z) → IsSoundLayoutOf z
+all_defined : (y : Layout) (place : SourceLocation) (ds : List Define) (z : Layout) → HasNoLineErrors y → AreDefined IsLaidOut y place ds (Ok z) → HasNoLineErrors z
 all_defined y place [] z d h = unchanged y z d h
 all_defined y place (c ∷ cs) z d (q, is, h) = grind (arith, common_steps, (λ (w : Layout). one y w place (Constant c.0 (number c.1)) d), (λ (w : Layout). all_defined w place cs z))
 
-followed : (m : Files) (s : expand.State) (place : SourceLocation) (ds : List Define) (q : Result Layout AsmFault) (r : ReachedState Layout) → AreDefined IsLaidOut nothing_laid place ds q → AssemblesAfterDefines m layout_semantics s place nothing_laid q r → IsSoundLayoutOf r.following
+followed : (m : Files) (s : expand.State) (place : SourceLocation) (ds : List Define) (q : Result Layout AsmFault) (r : ReachedState Layout) → AreDefined IsLaidOut nothing_laid place ds q → AssemblesAfterDefines m layout_semantics s place nothing_laid q r → HasNoLineErrors r.following
 followed m s place ds (Ok z) r defined h = all_taken m h (all_defined nothing_laid place ds z begun defined)
-followed m s place ds (Err e) r defined h = subst (λ (k : ReachedState Layout). IsSoundLayoutOf k.following) (sym h) begun
+followed m s place ds (Err e) r defined h = subst (λ (k : ReachedState Layout). HasNoLineErrors k.following) (sym h) begun
 
-opened : (m : Files) (job : Job) (o : Result expand.State ExpandFault) (r : ReachedState Layout) → IsBegun m layout_semantics job nothing_laid o r → IsSoundLayoutOf r.following
-opened m job (Err e) r h = subst (λ (k : ReachedState Layout). IsSoundLayoutOf k.following) (sym h) begun
+opened : (m : Files) (job : Job) (o : Result expand.State ExpandFault) (r : ReachedState Layout) → IsBegun m layout_semantics job nothing_laid o r → HasNoLineErrors r.following
+opened m job (Err e) r h = subst (λ (k : ReachedState Layout). HasNoLineErrors k.following) (sym h) begun
 opened m job (Ok s) r (q, defined, h) = followed m s (no_line job.source) job.defines q r defined h
 
 -- what a source lays, it lays so: statement by statement, none with a fault at its line
-pub laid_out_law : (m : Files) (job : Job) (r : ReachedState Layout) → AreLaidOut m job r → IsSoundLayoutOf r.following
+pub laid_out_law : (m : Files) (job : Job) (r : ReachedState Layout) → AreLaidOut m job r → HasNoLineErrors r.following
 laid_out_law m job r h = opened m job (opened_in m job.source job.include) r h
 
 -- ---- Names that are given, and imports that have values.
@@ -136,5 +136,5 @@ pub none_again : (r : Option (List ℕ)) → (no_name_again r ≡ Ok tt) ↔ (r 
 none_again x = grind (arith, common_steps)
 
 -- A name is given twice in a link exactly where it is in the whole program.
-pub names_law : (s : Script) (ys : List Layout) (ms : List Module) → AreSources ys ms → (names_once s (program_of ms) ≡ Ok tt) ↔ (first_again [] (given_names s ys) ≡ None)
+pub names_law : (s : Script) (ys : List Layout) (ms : List Module) → AreSources ys ms → (names_once s (program_of ms) ≡ Ok tt) ↔ (first_again [] (provided_names s ys) ≡ None)
 names_law s ys ms h = grind (arith, common_steps, export_names_law, none_again)

@@ -22,7 +22,7 @@ use Rattle.whole65.specs.Objects.{HasValue, Objects, AreObjects}
 use Rattle.semantics65.specs.Module.{module_resolution}
 use Rattle.semantics65.specs.Layout.{Layout}
 use Rattle.whole65.specs.Modules.{table_of}
-use Rattle.whole65.specs.Offsets.{lines_at, IsMultiple, IsSoundLayoutOf}
+use Rattle.whole65.specs.Offsets.{lines_at, IsMultiple, HasNoLineErrors}
 use Rattle.semantics65.specs.Symbols.{LaidOutStatement}
 use Rattle.whole65.specs.Segments.{largest_multiple, lines_after, line}
 use Rattle.whole65.specs.Contents.{AreBytes}
@@ -144,7 +144,7 @@ module _ {E : Type 0} (o : Objects E) (l : Linkage) (owner fill : ℕ) (sections
 
 -- A module's lines in a segment have the bytes of what its object's section puts there, where the forms in its parts have the
 -- values of those in the object.
-pub module_law : (E : Type 0) → (p : Program) (o : Objects E) (l : Linkage) (fill begin owner g : ℕ) (y : Layout) (cs : List Content) (origins : SourceLocation → Origin) (sections imports bytes : List ℕ) → AreObjects p o → o.symbols owner ≡ table_of y → ((place : ℕ) (x : LaidOutStatement) → slice_get y.laid place ≡ Some x → o.contexts owner place ≡ x.context) → IsSoundLayoutOf y → IsMultiple begin (largest_multiple (lines_at g (lines_after owner [] y.laid))) → (module_resolution y.laid).found ≡ Ok cs → AllByRecursion (IsValuedIn o l owner sections imports) (parts_in cs g) → AreBytes p fill begin (map line (lines_at g (lines_after owner [] y.laid))) bytes ↔ AreCells l fill (flat_map (fragment_cells owner) (section_of origins y.cursor.segments sections imports cs g).fragments) bytes
+pub module_law : (E : Type 0) → (p : Program) (o : Objects E) (l : Linkage) (fill begin owner g : ℕ) (y : Layout) (cs : List Content) (origins : SourceLocation → Origin) (sections imports bytes : List ℕ) → AreObjects p o → o.symbols owner ≡ table_of y → ((index : ℕ) (x : LaidOutStatement) → slice_get y.laid index ≡ Some x → o.contexts owner index ≡ x.context) → HasNoLineErrors y → IsMultiple begin (largest_multiple (lines_at g (lines_after owner [] y.laid))) → (module_resolution y.laid).found ≡ Ok cs → AllByRecursion (IsValuedIn o l owner sections imports) (parts_in cs g) → AreBytes p fill begin (map line (lines_at g (lines_after owner [] y.laid))) bytes ↔ AreCells l fill (flat_map (fragment_cells owner) (section_of origins y.cursor.segments sections imports cs g).fragments) bytes
 module_law E p o l fill begin owner g y cs origins sections imports bytes h table contexts d m e valued =
     let Has : Valuing = linked_value l owner in
     let lines = section_law E p o fill begin owner g y cs bytes h table contexts d m e in

@@ -93,9 +93,9 @@ power_positive n p = subst (λ z. 0 < z) (sym p.power) (pow_pos p.exponent)
 
 -- ---- Lines behind a multiple of their alignment.
 
-pub end_of-append : (at : ℕ) (xs ys : List Item) → end_of at (xs ++ ys) ≡ end_of (end_of at xs) ys
-end_of-append at [] ys = refl
-end_of-append at (x ∷ xs) ys = end_of-append (end_after at x) xs ys
+pub end_of-append : (position : ℕ) (xs ys : List Item) → end_of position (xs ++ ys) ≡ end_of (end_of position xs) ys
+end_of-append position [] ys = refl
+end_of-append position (x ∷ xs) ys = end_of-append (end_after position x) xs ys
 
 pub largest_power : (xs : List SegmentLine) → ArePowers xs → IsPower (largest_multiple xs)
 largest_power [] h = record { exponent = 0; below = omega arith; power = refl }
@@ -169,5 +169,5 @@ by_parts : (x y q r : ℕ) → 0 < y → r < y → y * q + r ≡ x → (q + min 
 by_parts x y q x1 pos_y h e = grind (arith, common_steps)
 
 -- A link and the whole program round alike.
-pub rounding_law : (at n : ℕ) → 0 < n → rounded_up at n ≡ next_multiple_of at n
-rounding_law at x1 h = grind (arith, common_steps, by_parts)
+pub rounding_law : (position n : ℕ) → 0 < n → rounded_up position n ≡ next_multiple_of position n
+rounding_law position x1 h = grind (arith, common_steps, by_parts)

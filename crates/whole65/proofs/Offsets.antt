@@ -15,7 +15,7 @@ use Rattle.std.proofs.lemmas.List.Elements.{filter-append}
 use Rattle.syntax65.specs.declared.source_location.SourceLocation.{SourceLocation}
 use Rattle.whole65.proofs.Multiples.{line_ends, multiple_power, equal, end_of-append, largest_power, line_shift, Larger, larger, multiple_of_multiple}
 use Rattle.whole65.specs.Laws.{OffsetLaw}
-use Rattle.whole65.specs.Offsets.{ArePowers, IsSoundLayoutOf, IsPower, begun, following, lines_at, IsMultiple}
+use Rattle.whole65.specs.Offsets.{ArePowers, HasNoLineErrors, IsPower, begun, following, lines_at, IsMultiple}
 use Rattle.whole65.specs.Segments.{SegmentLine, end_of, largest_multiple, line, line_end, line_of, lines_after}
 use Rattle.std.proofs.Math.Nat.{add_assoc}
 
@@ -166,7 +166,7 @@ module _ (owner : ℕ) (y : Layout) (place : SourceLocation) (x : Statement) (h 
     powers = subst ArePowers (sym pushed) (all_more (λ (z : SegmentLine). IsPower z.alignment) lines next h.powers (multiple_power table y.cursor x none));
   }
 
-pub placed : (owner : ℕ) {y : Layout} → IsSoundLayoutOf y → Placed owner y
+pub placed : (owner : ℕ) {y : Layout} → HasNoLineErrors y → Placed owner y
 placed owner begun = grind (arith, common_steps)
 placed owner (following y place x d none) = step owner y place x (placed owner d) none
 
@@ -177,22 +177,22 @@ offset_law y owner d = grind (arith, common_steps, placed)
 
 -- from a position on, each of these lines ends its length further on
 abbrev pub EndsAt : ℕ → List SegmentLine → Type 0
-EndsAt at [] = Unit {0}
-EndsAt at (x ∷ xs) = (line_end at x.alignment x.laid ≡ at + x.laid.length) × EndsAt (line_end at x.alignment x.laid) xs
+EndsAt position [] = Unit {0}
+EndsAt position (x ∷ xs) = (line_end position x.alignment x.laid ≡ position + x.laid.length) × EndsAt (line_end position x.alignment x.laid) xs
 
-ends_push : (at : ℕ) (xs : List SegmentLine) (x : SegmentLine) → EndsAt at xs → line_end (end_of at (map line xs)) x.alignment x.laid ≡ end_of at (map line xs) + x.laid.length → EndsAt at (xs ++ x ∷ [])
-ends_push at [] x h e = (e, tt)
-ends_push at (y ∷ ys) x h e = (h.0, ends_push (line_end at y.alignment y.laid) ys x h.1 e)
+ends_push : (position : ℕ) (xs : List SegmentLine) (x : SegmentLine) → EndsAt position xs → line_end (end_of position (map line xs)) x.alignment x.laid ≡ end_of position (map line xs) + x.laid.length → EndsAt position (xs ++ x ∷ [])
+ends_push position [] x h e = (e, tt)
+ends_push position (y ∷ ys) x h e = (h.0, ends_push (line_end position y.alignment y.laid) ys x h.1 e)
 
-pub ends_moved : (begin at : ℕ) (xs : List SegmentLine) → ArePowers xs → IsMultiple begin (largest_multiple xs) → EndsAt at xs → EndsAt (begin + at) xs
-ends_moved begin at [] p m h = tt
-ends_moved begin at (x ∷ xs) p m h =
+pub ends_moved : (begin position : ℕ) (xs : List SegmentLine) → ArePowers xs → IsMultiple begin (largest_multiple xs) → EndsAt position xs → EndsAt (begin + position) xs
+ends_moved begin position [] p m h = tt
+ends_moved begin position (x ∷ xs) p m h =
     let both : Larger x.alignment (largest_multiple xs) = larger x.alignment (largest_multiple xs) p.0 (largest_power xs p.1) in
     let first = multiple_of_multiple begin x.alignment (max x.alignment (largest_multiple xs)) m both.first in
     let others = multiple_of_multiple begin (largest_multiple xs) (max x.alignment (largest_multiple xs)) m both.second in
-    let shifted = line_shift begin at x.alignment x.laid first in (
-      shifted ∙ ap (λ n. begin + n) h.0 ∙ sym (add_assoc begin at x.laid.length),
-      subst (λ n. EndsAt n xs) (sym shifted) (ends_moved begin (line_end at x.alignment x.laid) xs p.1 others h.1),
+    let shifted = line_shift begin position x.alignment x.laid first in (
+      shifted ∙ ap (λ n. begin + n) h.0 ∙ sym (add_assoc begin position x.laid.length),
+      subst (λ n. EndsAt n xs) (sym shifted) (ends_moved begin (line_end position x.alignment x.laid) xs p.1 others h.1),
     )
 
 module _ (owner g : ℕ) where
@@ -202,6 +202,6 @@ module _ (owner g : ℕ) where
   one_more : (y : Layout) (place : SourceLocation) (x : Statement) → Placed owner y → line_fault (symbols_of y.laid) y.cursor x ≡ None → EndsAt 0 (here y.laid) → (b : Bool) → nat_eq y.cursor.current g ≡ b → EndsAt 0 (here (y.laid ++ laid_out_statement (symbols_of y.laid) y.cursor place x ∷ []))
   one_more y place x h none ends b e = grind (arith, common_steps, pushed, lines_push, filter-append, append-nil, equal, ends_push, line_ends)
 
-  pub all_end : {y : Layout} → IsSoundLayoutOf y → EndsAt 0 (here y.laid)
+  pub all_end : {y : Layout} → HasNoLineErrors y → EndsAt 0 (here y.laid)
   all_end begun = tt
   all_end (following y place x d none) = one_more y place x (placed owner d) none (all_end d) (nat_eq y.cursor.current g) refl

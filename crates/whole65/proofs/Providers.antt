@@ -38,8 +38,8 @@ use Rattle.whole65.proofs.Positions.{all_get}
 use Rattle.whole65.proofs.Sources.{contents_of}
 use Rattle.whole65.proofs.LinkedObjects.{IsKeyed, IsKeyedContent, IsKeyedSaid, provider_named, imports_linked, linked_objects, context_in, symbols_at}
 use Rattle.whole65.specs.Modules.{global_context, table_of}
-use Rattle.whole65.specs.Objects.{IsExport, ImportHasValue, IsGivenBy, Objects, AreObjects}
-use Rattle.whole65.specs.Offsets.{IsSoundLayoutOf}
+use Rattle.whole65.specs.Objects.{IsExport, ImportHasValue, HasProviderValue, Objects, AreObjects}
+use Rattle.whole65.specs.Offsets.{HasNoLineErrors}
 use Rattle.whole65.specs.Programs as whole
 use Rattle.whole65.specs.Programs.{definition_of, exporter_from, provider_or, length_of}
 use Rattle.whole65.specs.Sources.{AreSources}
@@ -198,7 +198,7 @@ past_all (l ∷ ls) = past_all ls
 pub global_form : (y : Layout) (x : List ℕ) (j : ℕ) (f : Form) → definition_index (table_of y) (named 0 x) ≡ Some j → defined_form (table_of y) j ≡ Ok f → norm (suc (suc (length (table_of y).definitions))) (table_of y) (global_context y) (tree.name false (x ∷ [])) ≡ Ok f
 global_form y x j f e h = grind (arith, common_steps)
 
-all_laid_out : (ys : List Layout) (ms : List Module) → AreSources ys ms → AllByRecursion IsSoundLayoutOf ys
+all_laid_out : (ys : List Layout) (ms : List Module) → AreSources ys ms → AllByRecursion HasNoLineErrors ys
 all_laid_out [] [] h = tt
 all_laid_out [] (m ∷ ms) h = absurd h
 all_laid_out (y ∷ ys) [] h = absurd h
@@ -221,7 +221,7 @@ module _ (s : Script) (placement : Placement) (ys : List Layout) (ms : List Modu
   pub export_normal : (e : parts.Exported) (m : IsExportOf ys ms e) → norm (suc (suc (length (table_of m.layout).definitions))) (o.symbols e.owner) (o.contexts e.owner (p.global e.owner)) (tree.name false (e.name ∷ [])) ≡ Ok m.form
   export_normal e m = grind (arith, common_steps, symbols_at, context_in, past_all, global_form)
 
-  of_export : (h : AreSources ys ms) (owner k : ℕ) (x : List ℕ) (i : ℕ) (e : parts.Exported) → slice_get (program_of ms).exports i ≡ Some e → e.name ≡ x → ((turns : ℕ) → o.imports turns owner k ≡ exports_through l turns i) → IsExport p o owner k x e.owner
+  of_export : (h : AreSources ys ms) (owner k : ℕ) (x : List ℕ) (i : ℕ) (e : parts.Exported) → slice_get (program_of ms).exports i ≡ Some e → e.name ≡ x → ((export_depth : ℕ) → o.imports export_depth owner k ≡ exports_through l export_depth i) → IsExport p o owner k x e.owner
   of_export h owner k x i e at called says =
       let m = all_get (IsExportOf ys ms) (program_of ms).exports i e (exports_known ys ms h) at in
       let y : Layout = m.layout in
@@ -230,23 +230,23 @@ module _ (s : Script) (placement : Placement) (ys : List Layout) (ms : List Modu
         form = m.form;
         normal = subst (λ n. norm (suc (suc (length (table_of y).definitions))) (o.symbols e.owner) (o.contexts e.owner (p.global e.owner)) (tree.name false (n ∷ [])) ≡ Ok m.form) called (export_normal e m);
         first = λ v q. (let never : ◌≡◌ {A = Result ℤ ValueFault} (Err Circular) (Ok v) = sym (says zero) ∙ q in absurd cc);
-        later = λ turns.
-            says (suc turns)
-            ∙ ap (export_value l (exports_through l turns)) at
-            ∙ ap (value_by l (exports_through l turns) e.owner) m.written
-            ∙ sym (form_law s placement ys ms e.owner turns y m.object m.contents m.form h m.at_y m.at_m m.found m.keyed);
+        later = λ export_depth.
+            says (suc export_depth)
+            ∙ ap (export_value l (exports_through l export_depth)) at
+            ∙ ap (value_by l (exports_through l export_depth) e.owner) m.written
+            ∙ sym (form_law s placement ys ms e.owner export_depth y m.object m.contents m.form h m.at_y m.at_m m.found m.keyed);
       }
 
-  given_by : (h : AreSources ys ms) (owner k : ℕ) (x : List ℕ) (w : values.Provider) (g : Provider) → Agree (program_of ms).exports x w g → ((turns : ℕ) → o.imports turns owner k ≡ import_value (exports_through l turns) g) → IsGivenBy p o owner k x w
+  given_by : (h : AreSources ys ms) (owner k : ℕ) (x : List ℕ) (w : values.Provider) (g : Provider) → Agree (program_of ms).exports x w g → ((export_depth : ℕ) → o.imports export_depth owner k ≡ import_value (exports_through l export_depth) g) → HasProviderValue p o owner k x w
   given_by h owner k x _ _ (of_script v) says = says
-  given_by h owner k x _ _ of_nobody says = λ turns v q. (let never : ◌≡◌ {A = Result ℤ ValueFault} (Err Unresolved) (Ok v) = sym (says turns) ∙ q in absurd cc)
+  given_by h owner k x _ _ of_nobody says = λ export_depth v q. (let never : ◌≡◌ {A = Result ℤ ValueFault} (Err Unresolved) (Ok v) = sym (says export_depth) ∙ q in absurd cc)
   given_by h owner k x _ _ (of_module i e at called) says = of_export h owner k x i e at called says
 
   given : (h : AreSources ys ms) (owner k : ℕ) (r : Option (List ℕ)) → slice_get (o.symbols owner).imports k ≡ r → ImportHasValue p o owner k r
-  given h owner k None e = λ turns v q. (let never : ◌≡◌ {A = Result ℤ ValueFault} (Err Unresolved) (Ok v) = sym (ap (λ r. import_value (exports_through l turns) (provider_named s placement (program_of ms) r)) e) ∙ q in absurd cc)
+  given h owner k None e = λ export_depth v q. (let never : ◌≡◌ {A = Result ℤ ValueFault} (Err Unresolved) (Ok v) = sym (ap (λ r. import_value (exports_through l export_depth) (provider_named s placement (program_of ms) r)) e) ∙ q in absurd cc)
   given h owner k (Some x) e =
       given_by h owner k x (whole.provider_of s placement ys x) (linked.provider_of (script_definitions s placement) (program_of ms).exports (weak_symbols s.symbols) x) (providers_agree s placement ys ms x h)
-      (λ turns. ap (λ r. import_value (exports_through l turns) (provider_named s placement (program_of ms) r)) e)
+      (λ export_depth. ap (λ r. import_value (exports_through l export_depth) (provider_named s placement (program_of ms) r)) e)
 
 -- What linking knows of the modules of sources is of their program: each import comes to what its provider says.
 pub sources_law : (s : Script) (placement : Placement) (ys : List Layout) (ms : List Module) → AreSources ys ms → AreObjects (whole.program_of s placement ys) (linked_objects s placement ys ms)

@@ -26,7 +26,7 @@ use Rattle.whole65.proofs.Positions.{itself}
 use Rattle.whole65.proofs.Sources.{contents_of, size_law, Following, begin_is_multiple, after_source, grows, no_part, part_end, section_begin, size_or, size_or_empty, unchanged, whole_part}
 use Rattle.whole65.specs.Laws.{PlacementLaw}
 use Rattle.whole65.specs.Modules.{table_of, global_context, context_or}
-use Rattle.whole65.specs.Segments.{asked_by, end_of, items_of, need_of, segment_name, segments_of, Item, end_after, items_from, largest_multiple, line, lines_after, part_of, rounding}
+use Rattle.whole65.specs.Segments.{requested_segments, end_of, items_of, need_of, segment_name, segments_of, Item, end_after, items_from, largest_multiple, line, lines_after, part_of, rounding}
 use Rattle.whole65.specs.Sources.{AreSources, IsSource}
 use Rattle.std.specs.Int.{next_multiple_of}
 use Rattle.script65.specs.declared.placement.Placement.{Placement}
@@ -92,7 +92,7 @@ pub names_asked : (y : Layout) (ls : List LaidOutStatement) → map (segment_nam
 names_asked y [] = refl
 names_asked y (l ∷ ls) = ap (λ z. segment_name y l.context.segment ∷ z) (names_asked y ls)
 
-one_source : (y : Layout) (m : Module) (known : List (List ℕ)) → IsSource y m → with_new known (map (λ (s : Section). s.name) m.object.sections) ≡ with_new known (asked_by y)
+one_source : (y : Layout) (m : Module) (known : List (List ℕ)) → IsSource y m → with_new known (map (λ (s : Section). s.name) m.object.sections) ≡ with_new known (requested_segments y)
 one_source y m known h =
     let c = contents_of y m h in
     let cs : List Content = c.contents in
@@ -100,7 +100,7 @@ one_source y m known h =
     let imports : List ℕ = import_keys (table_of y).imports cs in
     grind (arith, common_steps, (section_names y c.origins (section_keys cs) imports cs (section_keys cs) keys.standing), (names_once (segment_name y) known [] (segments_asked cs)), (asked_are y cs c.found), names_asked)
 
-all_modules : (p : LinkedProgram) (ys : List Layout) (ms : List Module) → AreSources ys ms → names_of (with_modules p ms).segments ≡ with_new (names_of p.segments) (flat_map asked_by ys)
+all_modules : (p : LinkedProgram) (ys : List Layout) (ms : List Module) → AreSources ys ms → names_of (with_modules p ms).segments ≡ with_new (names_of p.segments) (flat_map requested_segments ys)
 all_modules p [] [] h = refl
 all_modules p [] (m ∷ ms) h = absurd h
 all_modules p (y ∷ ys) [] h = absurd h
@@ -141,16 +141,16 @@ placement_law s ys ms h =
 
 module _ (p : Program) (fill : ℕ) where
   abbrev BothBytes : ℕ → List Item → List Item → List ℕ → Type 0
-  BothBytes at xs zs bytes = (own : List ℕ) × (rest : List ℕ) × AreBytes p fill at xs own × AreBytes p fill (end_of at xs) zs rest × (bytes ≡ own ++ rest)
+  BothBytes position xs zs bytes = (own : List ℕ) × (rest : List ℕ) × AreBytes p fill position xs own × AreBytes p fill (end_of position xs) zs rest × (bytes ≡ own ++ rest)
 
-  bytes_joined : (at : ℕ) (xs zs : List Item) (bytes : List ℕ) → BothBytes at xs zs bytes → AreBytes p fill at (xs ++ zs) bytes
-  bytes_joined at [] zs bytes (own, rest, none, h, e) = subst (AreBytes p fill at zs) (sym (e ∙ ap (λ z. z ++ rest) none)) h
-  bytes_joined at (x ∷ xs) zs bytes (own, rest, (a, b, k, more, e'), h, e) = grind (arith, common_steps, (bytes_joined (end_after at x) xs zs (b ++ rest) (b, rest, more, h, refl)))
+  bytes_joined : (position : ℕ) (xs zs : List Item) (bytes : List ℕ) → BothBytes position xs zs bytes → AreBytes p fill position (xs ++ zs) bytes
+  bytes_joined position [] zs bytes (own, rest, none, h, e) = subst (AreBytes p fill position zs) (sym (e ∙ ap (λ z. z ++ rest) none)) h
+  bytes_joined position (x ∷ xs) zs bytes (own, rest, (a, b, k, more, e'), h, e) = grind (arith, common_steps, (bytes_joined (end_after position x) xs zs (b ++ rest) (b, rest, more, h, refl)))
 
-  pub bytes_split : (at : ℕ) (xs zs : List Item) (bytes : List ℕ) → AreBytes p fill at (xs ++ zs) bytes → BothBytes at xs zs bytes
-  bytes_split at [] zs bytes h = ([], bytes, refl, h, refl)
-  bytes_split at (x ∷ xs) zs bytes (a, b, k, more, e) =
-      let (own, rest, h, g, e') = bytes_split (end_after at x) xs zs b more in
+  pub bytes_split : (position : ℕ) (xs zs : List Item) (bytes : List ℕ) → AreBytes p fill position (xs ++ zs) bytes → BothBytes position xs zs bytes
+  bytes_split position [] zs bytes h = ([], bytes, refl, h, refl)
+  bytes_split position (x ∷ xs) zs bytes (a, b, k, more, e) =
+      let (own, rest, h, g, e') = bytes_split (end_after position x) xs zs b more in
       (a ++ own, rest, (a, own, k, h, refl), g, e ∙ ap (λ z. a ++ z) e' ∙ sym (append_assoc a own rest))
 
 -- ---- Parts of a segment.
@@ -174,7 +174,7 @@ module _ (s : Script) (placement : Placement) (ys : List Layout) (ms : List Modu
 
   -- what lies there, and behind it the bytes of items
   abbrev Split : List Cell → ℕ → List Item → List ℕ → Type 0
-  Split cells at items bytes = (own : List ℕ) × (rest : List ℕ) × AreCells l fill cells own × AreBytes p fill at items rest × (bytes ≡ own ++ rest)
+  Split cells position items bytes = (own : List ℕ) × (rest : List ℕ) × AreCells l fill cells own × AreBytes p fill position items rest × (bytes ≡ own ++ rest)
 
   module _ (owner : ℕ) (y : Layout) (m : Module) (at_y : slice_get ys owner ≡ Some y) (at_m : slice_get ms owner ≡ Some m) where
     source : IsSource y m
@@ -192,8 +192,8 @@ module _ (s : Script) (placement : Placement) (ys : List Layout) (ms : List Modu
       valued cs e qs h.1,
     )
 
-    context_is : (place : ℕ) (x : LaidOutStatement) → slice_get y.laid place ≡ Some x → o.contexts owner place ≡ x.context
-    context_is place x e = ap (λ r. context_in r place) at_y ∙ ap (context_or (global_context y)) e
+    context_is : (index : ℕ) (x : LaidOutStatement) → slice_get y.laid index ≡ Some x → o.contexts owner index ≡ x.context
+    context_is index x e = ap (λ r. context_in r index) at_y ∙ ap (context_or (global_context y)) e
 
     lines_have : (begin key : ℕ) (origins : SourceLocation → Origin) (cs : List Content) (bytes : List ℕ) → (module_resolution y.laid).found ≡ Ok cs → IsMultiple begin (largest_multiple (lines_at key (lines_after owner [] y.laid))) → AreBytes p fill begin (map line (lines_at key (lines_after owner [] y.laid))) bytes ↔ AreCells l fill (flat_map (fragment_cells owner) (section_of origins y.cursor.segments (section_keys cs) (import_keys (table_of y).imports cs) cs key).fragments) bytes
     lines_have begin key origins cs bytes e alignment =

@@ -18,7 +18,7 @@ use Rattle.ast65.specs.declared.fault.AsmFault.{AsmFault}
 use Rattle.ast65.specs.declared.fault.AsmFault.TheVariants.{OutOfRange}
 use Rattle.semantics65.specs.declared.laid.Context.{Context}
 use Rattle.whole65.proofs.SameValues.{bind_ok, folded_ok, same_values_law}
-use Rattle.whole65.specs.Contents.{AreStored, counted_from, AreInstruction, AreItem, AreItems, AreLine, AreOperand, code_bytes, filling, AreBytes}
+use Rattle.whole65.specs.Contents.{AreStored, counted_from, AreInstruction, AreDataItem, AreDataItems, AreLine, AreOperand, code_bytes, filling, AreBytes}
 use Rattle.whole65.specs.Objects.{HasValue, Objects, form_value, AreObjects}
 use Rattle.whole65.proofs.LinkedObjects.{ArePart, AreParts, Valuing}
 use Rattle.whole65.proofs.Statements.{AllCome, AreStated, a_datum, a_line, a_part, a_piece, all_put, an_operand, are_stated, no_line, no_piece, none_put, parts_append, pieces_alike, stated}
@@ -40,7 +40,7 @@ use Rattle.semantics65.specs.Numbering.{all_said, parts_in}
 use Rattle.semantics65.specs.Module.{Piece, module_resolution, given, instruction_pieces, item_piece, operand_pieces, pieces_of}
 use Rattle.whole65.proofs.Offsets.{EndsAt, all_end, ends_moved, placed}
 use Rattle.whole65.proofs.Positions.{powers_at}
-use Rattle.whole65.specs.Offsets.{lines_at, IsMultiple, IsSoundLayoutOf}
+use Rattle.whole65.specs.Offsets.{lines_at, IsMultiple, HasNoLineErrors}
 use Rattle.semantics65.specs.Layout.{Layout}
 use Rattle.whole65.specs.Modules.{table_of}
 
@@ -79,8 +79,8 @@ module _ {E : Type 0} (o : Objects E) (owner fill : ℕ) where
       following : ℤ
       following = wrap_signed (o.bases owner s.segment +ℤ pos (s.offset + 2))
 
-      difference : (turns : ℕ) → form_value o turns owner h ≡ (form_value o turns owner f >>= (λ a. Ok (wrap_signed (a -ℤ wrap_signed (o.bases owner s.segment +ℤ pos (s.offset + 2))))))
-      difference turns = binary_fold_law E o.none (o.bases owner) (o.imports turns owner) Subtract f (sec s.segment (pos (s.offset + 2))) h e
+      difference : (export_depth : ℕ) → form_value o export_depth owner h ≡ (form_value o export_depth owner f >>= (λ a. Ok (wrap_signed (a -ℤ wrap_signed (o.bases owner s.segment +ℤ pos (s.offset + 2))))))
+      difference export_depth = binary_fold_law E o.none (o.bases owner) (o.imports export_depth owner) Subtract f (sec s.segment (pos (s.offset + 2))) h e
 
       same : wrap_signed (address +ℤ pos 2) ≡ wrap_signed (o.bases owner s.segment +ℤ pos (s.offset + 2))
       same = ap (λ z. wrap_signed (z +ℤ pos 2)) at ∙ two_more (o.bases owner s.segment) s.offset
@@ -89,14 +89,14 @@ module _ {E : Type 0} (o : Objects E) (owner fill : ℕ) where
       counted v = ap (λ z. wrap_signed (v -ℤ z)) same
 
       there : Counted Branch address f bytes → HasBytes o owner Branch h bytes
-      there (v, (turns, got), st) =
-          (counted_from Branch address v, (turns, difference turns ∙ ap (λ r. r >>= (λ a. Ok (wrap_signed (a -ℤ wrap_signed (o.bases owner s.segment +ℤ pos (s.offset + 2)))))) got ∙ ap Ok (sym (counted v))), st)
+      there (v, (export_depth, got), st) =
+          (counted_from Branch address v, (export_depth, difference export_depth ∙ ap (λ r. r >>= (λ a. Ok (wrap_signed (a -ℤ wrap_signed (o.bases owner s.segment +ℤ pos (s.offset + 2)))))) got ∙ ap Ok (sym (counted v))), st)
 
       back : HasBytes o owner Branch h bytes → Counted Branch address f bytes
-      back (w, (turns, got), st) =
-          let (v, first, last) = bind_ok (form_value o turns owner f) (λ a. Ok (wrap_signed (a -ℤ wrap_signed (o.bases owner s.segment +ℤ pos (s.offset + 2))))) w (sym (difference turns) ∙ got) in
+      back (w, (export_depth, got), st) =
+          let (v, first, last) = bind_ok (form_value o export_depth owner f) (λ a. Ok (wrap_signed (a -ℤ wrap_signed (o.bases owner s.segment +ℤ pos (s.offset + 2))))) w (sym (difference export_depth) ∙ got) in
           let one : wrap_signed (v -ℤ wrap_signed (o.bases owner s.segment +ℤ pos (s.offset + 2))) ≡ w = cc last in
-          (v, (turns, first), subst (λ z. AreStored Branch z bytes) (sym (counted v ∙ one)) st)
+          (v, (export_depth, first), subst (λ z. AreStored Branch z bytes) (sym (counted v ∙ one)) st)
 
   unchanged : (width : Width) (f h : Form) (bytes : List ℕ) → ◌≡◌ {A = Result Form AsmFault} (Ok f) (Ok h) → HasBytes o owner width f bytes ↔ HasBytes o owner width h bytes
   unchanged width f h bytes e = grind (arith, common_steps)
@@ -111,7 +111,7 @@ module _ {E : Type 0} (o : Objects E) (owner fill : ℕ) where
 
 -- ---- The bytes of lines and those of parts.
 
-module _ {E : Type 0} (p : Program) (o : Objects E) (h : AreObjects p o) (fill : ℕ) (x : SegmentLine) (at_context : o.contexts x.owner x.place ≡ x.laid.context) where
+module _ {E : Type 0} (p : Program) (o : Objects E) (h : AreObjects p o) (fill : ℕ) (x : SegmentLine) (at_context : o.contexts x.owner x.index ≡ x.laid.context) where
   -- these pieces of the statement come to these contents
   abbrev Come : List (List ℕ) → List Piece → List Content → Type 0
   Come names ps cs = AllCome (o.symbols x.owner) x.laid names ps cs
@@ -124,20 +124,20 @@ module _ {E : Type 0} (p : Program) (o : Objects E) (h : AreObjects p o) (fill :
   single q bytes = grind (arith, common_steps)
 
   -- an expression has the value of its form
-  values : (e : Tree) (f : Form) (v : ℤ) → norm_of (o.symbols x.owner) x.laid.context e ≡ Ok f → Value p x.owner x.place e v ↔ HasValue o x.owner f v
+  values : (e : Tree) (f : Form) (v : ℤ) → norm_of (o.symbols x.owner) x.laid.context e ≡ Ok f → Value p x.owner x.index e v ↔ HasValue o x.owner f v
   values e f v q =
       let there = subst (λ s. norm_of (o.symbols x.owner) s e ≡ Ok f) (sym at_context) q in
-      same_values_law E p o h (suc (length (o.symbols x.owner).definitions)) x.owner x.place e f v there
+      same_values_law E p o h (suc (length (o.symbols x.owner).definitions)) x.owner x.index e f v there
 
-  address : p.address x.owner x.place ≡ wrap_signed (o.bases x.owner x.laid.context.segment +ℤ pos x.laid.context.offset)
-  address = subst (λ (s : Context). p.address x.owner x.place ≡ wrap_signed (o.bases x.owner s.segment +ℤ pos s.offset)) at_context (h.addresses x.owner x.place)
+  address : p.address x.owner x.index ≡ wrap_signed (o.bases x.owner x.laid.context.segment +ℤ pos x.laid.context.offset)
+  address = subst (λ (s : Context). p.address x.owner x.index ≡ wrap_signed (o.bases x.owner s.segment +ℤ pos s.offset)) at_context (h.addresses x.owner x.index)
 
   -- ---- Data.
 
-  of_datum : (width : Width) (e : Tree) (f : Form) (q : Part) (bytes : List ℕ) → norm_of (o.symbols x.owner) x.laid.context e ≡ Ok f → value_part width x.laid.place f ≡ Ok q → AreItem p x width (item.Value e) bytes ↔ ArePart (HasValue o x.owner) fill q bytes
+  of_datum : (width : Width) (e : Tree) (f : Form) (q : Part) (bytes : List ℕ) → norm_of (o.symbols x.owner) x.laid.context e ≡ Ok f → value_part width x.laid.place f ≡ Ok q → AreDataItem p x width (item.Value e) bytes ↔ ArePart (HasValue o x.owner) fill q bytes
   of_datum width e f q bytes normal kept = grind (arith, common_steps, of_stored, values)
 
-  of_items : (width : Width) (names : List (List ℕ)) (is : List Item) (cs : List Content) (bytes : List ℕ) → Come names (map (item_piece width) is) cs → AreItems p x width is bytes ↔ HaveBytes cs bytes
+  of_items : (width : Width) (names : List (List ℕ)) (is : List Item) (cs : List Content) (bytes : List ℕ) → Come names (map (item_piece width) is) cs → AreDataItems p x width is bytes ↔ HaveBytes cs bytes
   of_items width names [] _ bytes no_piece = (λ k. k, λ k. k)
   of_items width names (item.Value e ∷ is) _ bytes (a_piece {cs = cs} (a_datum _ _ f q normal kept) more) =
       let one = λ (own : List ℕ). of_datum width e f q own normal kept in
@@ -156,7 +156,7 @@ module _ {E : Type 0} (p : Program) (o : Objects E) (h : AreObjects p o) (fill :
   of_counted : (width : Width) (e : Tree) (f g : Form) (q : Part) (bytes : List ℕ) → norm_of (o.symbols x.owner) x.laid.context e ≡ Ok f → operand_form width x.laid.context f ≡ Ok g → value_part width x.laid.place g ≡ Ok q → AreOperand p x (Some width) (Some e) bytes ↔ ArePart (HasValue o x.owner) fill q bytes
   of_counted width e f g q bytes normal counted kept =
       let part = of_stored o x.owner fill width x.laid.place g q bytes kept in
-      let form = of_operand o x.owner fill width (p.address x.owner x.place) x.laid.context f g bytes address counted in
+      let form = of_operand o x.owner fill width (p.address x.owner x.index) x.laid.context f g bytes address counted in
       (λ k. part.1 (form.0 (k.0, (values e f k.0 normal).0 k.1, k.2)), λ k. (let b = form.1 (part.0 k) in (b.0, (values e f b.0 normal).1 b.1, b.2)))
 
   of_operands : (width : Option Width) (e : Option Tree) (names : List (List ℕ)) (cs : List Content) (bytes : List ℕ) → Come names (operand_pieces width e) cs → AreOperand p x width e bytes ↔ HaveBytes cs bytes
@@ -192,20 +192,20 @@ module _ {E : Type 0} (p : Program) (o : Objects E) (h : AreObjects p o) (fill :
   none : (cs : List Content) (bytes : List ℕ) → all_put cs ≡ [] → (bytes ≡ []) ↔ HaveBytes cs bytes
   none cs bytes e = (λ k. subst (λ qs. AreParts (HasValue o x.owner) fill qs bytes) (sym e) k, λ k. subst (λ qs. AreParts (HasValue o x.owner) fill qs bytes) e k)
 
-of_line : {E : Type 0} (p : Program) (o : Objects E) → AreObjects p o → (fill at : ℕ) (x : SegmentLine) (t : Statement) (names : List (List ℕ)) (cs : List Content) (bytes : List ℕ) → o.contexts x.owner x.place ≡ x.laid.context → line_end at x.alignment (record x.laid { stated = t }) ≡ at + x.laid.length → AllCome (o.symbols x.owner) x.laid names (pieces_of x.laid.length x.laid.settled t) cs → AreLine p fill at (record x { laid = record x.laid { stated = t } }) bytes ↔ AreParts (HasValue o x.owner) fill (all_put cs) bytes
-of_line p o h fill at x (statement.Instruction m d) names cs bytes s e all = of_instruction p o h fill x s m d x.laid.settled names cs bytes all
-of_line p o h fill at x (statement.Values width is) names cs bytes s e all = of_items p o h fill x s width names is cs bytes all
-of_line p o h fill at x (statement.Reserve n v) names cs bytes s e all = room p o h fill x s x.laid.length x.laid.length x.laid.settled names cs bytes refl all
-of_line p o h fill at x (statement.Align n v) names cs bytes s e all =
-    let count : line_end at x.alignment (record x.laid { stated = statement.Align n v }) - at ≡ x.laid.length = omega (arith, e) in
-    room p o h fill x s (line_end at x.alignment (record x.laid { stated = statement.Align n v }) - at) x.laid.length x.laid.settled names cs bytes count all
-of_line p o h fill at x (statement.Incbin file n v) names cs bytes s e all = of_alone p o h fill x s _ names cs bytes all
-of_line p o h fill at x t names cs bytes s e all = none p o h fill x s cs bytes (none_put all (pieces_alike x.laid.length x.laid.settled t))
+of_line : {E : Type 0} (p : Program) (o : Objects E) → AreObjects p o → (fill position : ℕ) (x : SegmentLine) (t : Statement) (names : List (List ℕ)) (cs : List Content) (bytes : List ℕ) → o.contexts x.owner x.index ≡ x.laid.context → line_end position x.alignment (record x.laid { stated = t }) ≡ position + x.laid.length → AllCome (o.symbols x.owner) x.laid names (pieces_of x.laid.length x.laid.settled t) cs → AreLine p fill position (record x { laid = record x.laid { stated = t } }) bytes ↔ AreParts (HasValue o x.owner) fill (all_put cs) bytes
+of_line p o h fill position x (statement.Instruction m d) names cs bytes s e all = of_instruction p o h fill x s m d x.laid.settled names cs bytes all
+of_line p o h fill position x (statement.Values width is) names cs bytes s e all = of_items p o h fill x s width names is cs bytes all
+of_line p o h fill position x (statement.Reserve n v) names cs bytes s e all = room p o h fill x s x.laid.length x.laid.length x.laid.settled names cs bytes refl all
+of_line p o h fill position x (statement.Align n v) names cs bytes s e all =
+    let count : line_end position x.alignment (record x.laid { stated = statement.Align n v }) - position ≡ x.laid.length = omega (arith, e) in
+    room p o h fill x s (line_end position x.alignment (record x.laid { stated = statement.Align n v }) - position) x.laid.length x.laid.settled names cs bytes count all
+of_line p o h fill position x (statement.Incbin file n v) names cs bytes s e all = of_alone p o h fill x s _ names cs bytes all
+of_line p o h fill position x t names cs bytes s e all = none p o h fill x s cs bytes (none_put all (pieces_alike x.laid.length x.laid.settled t))
 
 -- A line of the whole program has the bytes of the parts that its statement's pieces put into the section, at a position at
 -- which it ends its length further on.
-pub parts_law : (E : Type 0) → (p : Program) (o : Objects E) (fill at : ℕ) (x : SegmentLine) (names : List (List ℕ)) (cs : List Content) (bytes : List ℕ) → AreObjects p o → o.contexts x.owner x.place ≡ x.laid.context → line_end at x.alignment x.laid ≡ at + x.laid.length → AllCome (o.symbols x.owner) x.laid names (pieces_of x.laid.length x.laid.settled x.laid.stated) cs → AreLine p fill at x bytes ↔ AreParts (HasValue o x.owner) fill (all_put cs) bytes
-parts_law E p o fill at x names cs bytes h s e all = of_line p o h fill at x x.laid.stated names cs bytes s e all
+pub parts_law : (E : Type 0) → (p : Program) (o : Objects E) (fill position : ℕ) (x : SegmentLine) (names : List (List ℕ)) (cs : List Content) (bytes : List ℕ) → AreObjects p o → o.contexts x.owner x.index ≡ x.laid.context → line_end position x.alignment x.laid ≡ position + x.laid.length → AllCome (o.symbols x.owner) x.laid names (pieces_of x.laid.length x.laid.settled x.laid.stated) cs → AreLine p fill position x bytes ↔ AreParts (HasValue o x.owner) fill (all_put cs) bytes
+parts_law E p o fill position x names cs bytes h s e all = of_line p o h fill position x x.laid.stated names cs bytes s e all
 
 -- ---- Parts behind parts.
 
@@ -228,13 +228,13 @@ pub in_middle : {A : Type 0} (before : List A) (l : A) (ls : List A) → slice_g
 in_middle [] l ls = refl
 in_middle (x ∷ before) l ls = in_middle before l ls
 
-module _ {E : Type 0} (p : Program) (o : Objects E) (h : AreObjects p o) (fill owner g : ℕ) (all : List LaidOutStatement) (contexts : (place : ℕ) (l : LaidOutStatement) → slice_get all place ≡ Some l → o.contexts owner place ≡ l.context) where
+module _ {E : Type 0} (p : Program) (o : Objects E) (h : AreObjects p o) (fill owner g : ℕ) (all : List LaidOutStatement) (contexts : (index : ℕ) (l : LaidOutStatement) → slice_get all index ≡ Some l → o.contexts owner index ≡ l.context) where
   abbrev here : List LaidOutStatement → List LaidOutStatement → List SegmentLine
   here before ls = lines_at g (lines_after owner before ls)
 
-  of_lines : (before ls : List LaidOutStatement) (names : List (List ℕ)) (cs : List Content) (at : ℕ) (bytes : List ℕ) → before ++ ls ≡ all → EndsAt at (here before ls) → AreStated (o.symbols owner) names ls cs → AreBytes p fill at (map line (here before ls)) bytes ↔ AreParts (HasValue o owner) fill (parts_in cs g) bytes
-  of_lines before [] names _ at bytes w ends no_line = (λ k. k, λ k. k)
-  of_lines before (l ∷ ls) names _ at bytes w ends (a_line ds cs found more) =
+  of_lines : (before ls : List LaidOutStatement) (names : List (List ℕ)) (cs : List Content) (position : ℕ) (bytes : List ℕ) → before ++ ls ≡ all → EndsAt position (here before ls) → AreStated (o.symbols owner) names ls cs → AreBytes p fill position (map line (here before ls)) bytes ↔ AreParts (HasValue o owner) fill (parts_in cs g) bytes
+  of_lines before [] names _ position bytes w ends no_line = (λ k. k, λ k. k)
+  of_lines before (l ∷ ls) names _ position bytes w ends (a_line ds cs found more) =
       let one = stated (o.symbols owner) names l ds found in
       let next : (before ++ l ∷ []) ++ ls ≡ all = append_assoc before (l ∷ []) ls ∙ w in
       let there : slice_get all (length before) ≡ Some l = subst (λ z. slice_get z (length before) ≡ Some l) w (in_middle before l ls) in
@@ -248,20 +248,20 @@ module _ {E : Type 0} (p : Program) (o : Objects E) (h : AreObjects p o) (fill o
       by :
           (own : List Content) → AllCome (o.symbols owner) l names (pieces_of l.length l.settled l.stated) own → o.contexts owner (length before) ≡ l.context →
           ((z : ℕ) (rest : List ℕ) → EndsAt z others → AreBytes p fill z (map line others) rest ↔ AreParts (HasValue o owner) fill (parts_in cs g) rest) →
-          (b : Bool) → EndsAt at (cond b (line_of owner before l ∷ others) others) →
-          AreBytes p fill at (map line (cond b (line_of owner before l ∷ others) others)) bytes ↔ AreParts (HasValue o owner) fill (cond b (all_put own) [] ++ parts_in cs g) bytes
-      by own pieces context deeper false ends = deeper at bytes ends
+          (b : Bool) → EndsAt position (cond b (line_of owner before l ∷ others) others) →
+          AreBytes p fill position (map line (cond b (line_of owner before l ∷ others) others)) bytes ↔ AreParts (HasValue o owner) fill (cond b (all_put own) [] ++ parts_in cs g) bytes
+      by own pieces context deeper false ends = deeper position bytes ends
       by own pieces context deeper true ends =
           let x : SegmentLine = line_of owner before l in
-          let following : ℕ = line_end at x.alignment l in
-          let one : (first : List ℕ) → AreLine p fill at x first ↔ AreParts (HasValue o owner) fill (all_put own) first = λ first. parts_law E p o fill at x names own first h context ends.0 pieces in (
+          let following : ℕ = line_end position x.alignment l in
+          let one : (first : List ℕ) → AreLine p fill position x first ↔ AreParts (HasValue o owner) fill (all_put own) first = λ first. parts_law E p o fill position x names own first h context ends.0 pieces in (
             λ k. parts_joined (HasValue o owner) fill (all_put own) (parts_in cs g) bytes (k.0, k.1, (one k.0).0 k.2, (deeper following k.1 ends.1).0 k.3, k.4),
             λ k. (let s = parts_split (HasValue o owner) fill (all_put own) (parts_in cs g) bytes k in (s.0, s.1, (one s.0).1 s.2, (deeper following s.1 ends.1).1 s.3, s.4)),
           )
 
 -- A module's lines in a segment, from a multiple of their alignment on, have the bytes of what its statements put into the
 -- section.
-pub section_law : (E : Type 0) → (p : Program) (o : Objects E) (fill begin owner g : ℕ) (y : Layout) (cs : List Content) (bytes : List ℕ) → AreObjects p o → o.symbols owner ≡ table_of y → ((place : ℕ) (l : LaidOutStatement) → slice_get y.laid place ≡ Some l → o.contexts owner place ≡ l.context) → IsSoundLayoutOf y → IsMultiple begin (largest_multiple (lines_at g (lines_after owner [] y.laid))) → (module_resolution y.laid).found ≡ Ok cs → AreBytes p fill begin (map line (lines_at g (lines_after owner [] y.laid))) bytes ↔ AreParts (HasValue o owner) fill (parts_in cs g) bytes
+pub section_law : (E : Type 0) → (p : Program) (o : Objects E) (fill begin owner g : ℕ) (y : Layout) (cs : List Content) (bytes : List ℕ) → AreObjects p o → o.symbols owner ≡ table_of y → ((index : ℕ) (l : LaidOutStatement) → slice_get y.laid index ≡ Some l → o.contexts owner index ≡ l.context) → HasNoLineErrors y → IsMultiple begin (largest_multiple (lines_at g (lines_after owner [] y.laid))) → (module_resolution y.laid).found ≡ Ok cs → AreBytes p fill begin (map line (lines_at g (lines_after owner [] y.laid))) bytes ↔ AreParts (HasValue o owner) fill (parts_in cs g) bytes
 section_law E p o fill begin owner g y cs bytes h table contexts d m e =
     let lines : List SegmentLine = lines_at g (lines_after owner [] y.laid) in
     let begins : begin + 0 ≡ begin = omega arith in

@@ -17,8 +17,8 @@ use Rattle.whole65.proofs.Positions.{named, Distinct, alike}
 use Rattle.whole65.proofs.Multiples.{equal}
 use Rattle.whole65.proofs.Statements.{AreStated, a_line, are_stated, no_line, stated}
 use Rattle.whole65.specs.Modules.{table_of}
-use Rattle.whole65.specs.Offsets.{IsSoundLayoutOf}
-use Rattle.whole65.specs.Segments.{has_section, segment_name, stands_in}
+use Rattle.whole65.specs.Offsets.{HasNoLineErrors}
+use Rattle.whole65.specs.Segments.{has_section, segment_name, is_in_segment}
 use Rattle.object65.specs.declared.object.Origin.{Origin}
 use Rattle.object65.specs.declared.object.Section.{Section}
 use Rattle.ast65.proofs.Lists.{same_bytes}
@@ -91,7 +91,7 @@ lines_asked z names (l ∷ ls) _ (a_line ds cs found more) = grind (arith, commo
 pub asked_are : (y : Layout) (cs : List Content) → (module_resolution y.laid).found ≡ Ok cs → segments_asked cs ≡ map (λ l. l.context.segment) (filter (λ l. needs_section l.stated) y.laid)
 asked_are y cs e = lines_asked (table_of y) [] y.laid cs (are_stated y cs e)
 
-asked_there : (y : Layout) (name : List ℕ) (ls : List LaidOutStatement) → list_any (λ l. stands_in y name l && needs_section l.stated) ls ≡ list_any (λ g. bytes_eq (segment_name y g) name) (map (λ l. l.context.segment) (filter (λ l. needs_section l.stated) ls))
+asked_there : (y : Layout) (name : List ℕ) (ls : List LaidOutStatement) → list_any (λ l. is_in_segment y name l && needs_section l.stated) ls ≡ list_any (λ g. bytes_eq (segment_name y g) name) (map (λ l. l.context.segment) (filter (λ l. needs_section l.stated) ls))
 asked_there y name [] = refl
 asked_there y name (l ∷ ls) = grind (arith, common_steps, (asked_there y name ls))
 
@@ -105,7 +105,7 @@ pub record AreKeys (y : Layout) (keys : List ℕ) : Type 0 where
   pub standing : AllByRecursion (λ g. g < length y.cursor.segments) keys
   pub has : (name : List ℕ) → has_section y name ≡ list_any (λ g. bytes_eq (segment_name y g) name) keys
 
-pub keys_of : (y : Layout) (cs : List Content) → IsSoundLayoutOf y → (module_resolution y.laid).found ≡ Ok cs → AreKeys y (section_keys cs)
+pub keys_of : (y : Layout) (cs : List Content) → HasNoLineErrors y → (module_resolution y.laid).found ≡ Ok cs → AreKeys y (section_keys cs)
 keys_of y cs d e =
     let asked = asked_are y cs e in
     record {

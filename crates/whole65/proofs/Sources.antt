@@ -19,7 +19,7 @@ use Rattle.whole65.proofs.SameValues.{bind_ok}
 use Rattle.whole65.proofs.Offsets.{EndsAt, all_end, placed}
 use Rattle.whole65.proofs.Statements.{AreStated, a_line, are_stated, no_line}
 use Rattle.whole65.specs.Modules.{table_of}
-use Rattle.whole65.specs.Offsets.{lines_at, IsSoundLayoutOf, IsMultiple}
+use Rattle.whole65.specs.Offsets.{lines_at, HasNoLineErrors, IsMultiple}
 use Rattle.whole65.specs.Segments.{SegmentLine, end_of, line, lines_after, has_section, items_from, largest_multiple, lines_in, part_of, rounding, segment_name, items_of}
 use Rattle.std.specs.Int.{next_multiple_of}
 use Rattle.std.specs.Option.{option_map_or}
@@ -80,15 +80,15 @@ module _ (z : Symbols) (owner g : ℕ) where
   abbrev here : List LaidOutStatement → List LaidOutStatement → List SegmentLine
   here before ls = lines_at g (lines_after owner before ls)
 
-  lines_long : (before ls : List LaidOutStatement) (names : List (List ℕ)) (cs : List Content) (at : ℕ) → EndsAt at (here before ls) → AreMeasured ls → AreStated z names ls cs → end_of at (map line (here before ls)) ≡ at + sum_by part_len (parts_in cs g)
-  lines_long before [] names _ at ends measured no_line = sym (zero_more at)
-  lines_long before (l ∷ ls) names _ at ends measured (a_line ds cs found more) =
+  lines_long : (before ls : List LaidOutStatement) (names : List (List ℕ)) (cs : List Content) (position : ℕ) → EndsAt position (here before ls) → AreMeasured ls → AreStated z names ls cs → end_of position (map line (here before ls)) ≡ position + sum_by part_len (parts_in cs g)
+  lines_long before [] names _ position ends measured no_line = sym (zero_more position)
+  lines_long before (l ∷ ls) names _ position ends measured (a_line ds cs found more) =
       let one = measured 0 l refl in
       let own : sum_by part_len (parts_in ds g) ≡ cond (nat_eq l.context.segment g) l.length 0 = slots_long z names one.0 l g ds one.1 found in
       grind (arith, common_steps, (λ (n : ℕ) (ends : EndsAt n (here (before ++ l ∷ []) ls)). lines_long (before ++ l ∷ []) ls (names ++ exported_names (all_said ds)) cs n ends (λ i x e. measured (suc i) x e) more))
 
 -- It is as long as they are.
-pub length_law : (y : Layout) (owner g : ℕ) (cs : List Content) (origins : SourceLocation → Origin) (sections imports : List ℕ) → IsSoundLayoutOf y → IsSoundLayout y → (module_resolution y.laid).found ≡ Ok cs → section_len (section_of origins y.cursor.segments sections imports cs g) ≡ end_of 0 (map line (lines_at g (lines_after owner [] y.laid)))
+pub length_law : (y : Layout) (owner g : ℕ) (cs : List Content) (origins : SourceLocation → Origin) (sections imports : List ℕ) → HasNoLineErrors y → IsSoundLayout y → (module_resolution y.laid).found ≡ Ok cs → section_len (section_of origins y.cursor.segments sections imports cs g) ≡ end_of 0 (map line (lines_at g (lines_after owner [] y.laid)))
 length_law y owner g cs origins sections imports d s e =
     let parts = joined_parts_long origins sections imports (parts_in cs g) in
     let lines = lines_long (table_of y) owner g [] y.laid [] cs 0 (all_end owner g d) (λ i l at. (symbols_of (take i y.laid), s.measured i l at)) (are_stated y cs e) in
@@ -177,19 +177,19 @@ after_source y m h owner name g = go (has_section y name) refl
 -- ---- Where a part begins and ends.
 
 -- the lines of a name are those of its segment's number
-pub in_segment : (owner : ℕ) (y : Layout) (g : ℕ) → IsSoundLayoutOf y → g < length y.cursor.segments → lines_in owner y (segment_name y g) ≡ lines_at g (lines_after owner [] y.laid)
+pub in_segment : (owner : ℕ) (y : Layout) (g : ℕ) → HasNoLineErrors y → g < length y.cursor.segments → lines_in owner y (segment_name y g) ≡ lines_at g (lines_after owner [] y.laid)
 in_segment owner y g d lt = by_number owner y g (named d).distinct lt [] y.laid (named d).standing
 
-pub section_begin : (y : Layout) (owner key at : ℕ) (origins : SourceLocation → Origin) (sections imports : List ℕ) (cs : List Content) → IsSoundLayoutOf y → rounded_up at (linked.align_of (section_of origins y.cursor.segments sections imports cs key)) ≡ next_multiple_of at (largest_multiple (lines_at key (lines_after owner [] y.laid)))
-section_begin y owner key at origins sections imports cs d = grind (arith, common_steps, power_positive, largest_power, powers_at, placed, alignment_law, rounding_law)
+pub section_begin : (y : Layout) (owner key position : ℕ) (origins : SourceLocation → Origin) (sections imports : List ℕ) (cs : List Content) → HasNoLineErrors y → rounded_up position (linked.align_of (section_of origins y.cursor.segments sections imports cs key)) ≡ next_multiple_of position (largest_multiple (lines_at key (lines_after owner [] y.laid)))
+section_begin y owner key position origins sections imports cs d = grind (arith, common_steps, power_positive, largest_power, powers_at, placed, alignment_law, rounding_law)
 
-pub begin_is_multiple : (y : Layout) (owner key at : ℕ) → IsSoundLayoutOf y → IsMultiple (next_multiple_of at (largest_multiple (lines_at key (lines_after owner [] y.laid)))) (largest_multiple (lines_at key (lines_after owner [] y.laid)))
-begin_is_multiple y owner key at d =
+pub begin_is_multiple : (y : Layout) (owner key position : ℕ) → HasNoLineErrors y → IsMultiple (next_multiple_of position (largest_multiple (lines_at key (lines_after owner [] y.laid)))) (largest_multiple (lines_at key (lines_after owner [] y.laid)))
+begin_is_multiple y owner key position d =
     let lines : List SegmentLine = lines_at key (lines_after owner [] y.laid) in
-    rounded at (largest_multiple lines) (power_positive (largest_multiple lines) (largest_power lines (powers_at key (lines_after owner [] y.laid) (placed owner d).powers)))
+    rounded position (largest_multiple lines) (power_positive (largest_multiple lines) (largest_power lines (powers_at key (lines_after owner [] y.laid) (placed owner d).powers)))
 
 -- the part of a module that has a section
-pub whole_part : (y : Layout) (owner key : ℕ) (name : List ℕ) → IsSoundLayoutOf y → key < length y.cursor.segments → segment_name y key ≡ name → has_section y name ≡ true → part_of owner y name ≡ rounding (largest_multiple (lines_at key (lines_after owner [] y.laid))) ∷ map line (lines_at key (lines_after owner [] y.laid))
+pub whole_part : (y : Layout) (owner key : ℕ) (name : List ℕ) → HasNoLineErrors y → key < length y.cursor.segments → segment_name y key ≡ name → has_section y name ≡ true → part_of owner y name ≡ rounding (largest_multiple (lines_at key (lines_after owner [] y.laid))) ∷ map line (lines_at key (lines_after owner [] y.laid))
 whole_part y owner key name d lt called has = grind (arith, common_steps, in_segment)
 
 pub no_part : (y : Layout) (owner : ℕ) (name : List ℕ) → has_section y name ≡ false → part_of owner y name ≡ []

@@ -31,14 +31,14 @@ use Rattle.whole65.proofs.Statements.{AreStated, Stated, a_line, all_put, are_st
 use Rattle.whole65.proofs.Sources.{contents_of, begin_is_multiple, whole_part}
 use Rattle.whole65.proofs.LinkedObjects.{linked_objects, context_in, symbols_at, AreParts}
 use Rattle.whole65.specs.Modules.{exports_of, forced_of, global_context, context_or, table_of}
-use Rattle.whole65.specs.Objects.{AreObjects, HasNone, HasValue, IsGivenBy, Objects}
+use Rattle.whole65.specs.Objects.{AreObjects, HasNoValue, HasValue, HasProviderValue, Objects}
 use Rattle.whole65.specs.Objects as objects
 use Rattle.whole65.specs.Programs as whole
 use Rattle.whole65.specs.Programs.{length_of, program_of}
-use Rattle.whole65.specs.Segments.{line_of, lines_after, SegmentLine, asked_by, end_of, has_section, items_from, items_of, largest_multiple, line, need_of, needs_of, part_of, rounding, segment_name, segments_of}
+use Rattle.whole65.specs.Segments.{line_of, lines_after, SegmentLine, requested_segments, end_of, has_section, items_from, items_of, largest_multiple, line, need_of, needs_of, part_of, rounding, segment_name, segments_of}
 use Rattle.whole65.specs.Sources.{AreSources, IsSource}
 use Rattle.whole65.specs.Values.{Program, by_nobody}
-use Rattle.whole65.specs.Whole.{HasAssertion, HasExport, IsProvided, AreAsserted, AreExported, AreForced, AreRow}
+use Rattle.whole65.specs.Whole.{HasAssertion, HasExport, IsProvided, PassAssertions, HaveExportValues, HaveForcedImports, AreRow}
 use Rattle.std.specs.Int.{next_multiple_of}
 use Rattle.std.specs.Str.{bytes_eq}
 use Rattle.std.proofs.lemmas.List.Folds.{list_any-append}
@@ -120,22 +120,22 @@ module _ (s : Script) (placement : Placement) (ys : List Layout) (ms : List Modu
   IsValuedCheck (Asserted act place words f) = HasSome f
 
   -- an import that comes to a value has a name that is given
-  one_given : (turns k : ℕ) (w : ℤ) → o.imports turns owner k ≡ Ok w → OfKey (IsProvided p) z.imports k
-  one_given turns k w e = by (slice_get z.imports k) refl (subst (λ r. objects.ImportHasValue p o owner k (slice_get (symbols_at r).imports k)) at_y ((sources_law s placement ys ms h).given owner k))
+  one_given : (export_depth k : ℕ) (w : ℤ) → o.imports export_depth owner k ≡ Ok w → OfKey (IsProvided p) z.imports k
+  one_given export_depth k w e = by (slice_get z.imports k) refl (subst (λ r. objects.ImportHasValue p o owner k (slice_get (symbols_at r).imports k)) at_y ((sources_law s placement ys ms h).given owner k))
     where
       by : (r : Option (List ℕ)) → slice_get z.imports k ≡ r → objects.ImportHasValue p o owner k r → IsProvided p (name_of z.imports k)
-      by None q given = absurd (given turns w e)
+      by None q given = absurd (given export_depth w e)
       by (Some x) q given = λ none.
           let called : p.provider x ≡ by_nobody = ap (λ r. p.provider (unwrap_or r [])) (sym q) ∙ none in
-          let never : HasNone o owner k = subst (IsGivenBy p o owner k x) called given in
-          never turns w e
+          let never : HasNoValue o owner k = subst (HasProviderValue p o owner k x) called given in
+          never export_depth w e
 
-  each_given : (turns : ℕ) (ks : List ℕ) → AllByRecursion (λ k. (w : ℤ) × (o.imports turns owner k ≡ Ok w)) ks → AllByRecursion (OfKey (IsProvided p) z.imports) ks
-  each_given turns [] k = tt
-  each_given turns (x ∷ ks) k = (one_given turns x k.0.0 k.0.1, each_given turns ks k.1)
+  each_given : (export_depth : ℕ) (ks : List ℕ) → AllByRecursion (λ k. (w : ℤ) × (o.imports export_depth owner k ≡ Ok w)) ks → AllByRecursion (OfKey (IsProvided p) z.imports) ks
+  each_given export_depth [] k = tt
+  each_given export_depth (x ∷ ks) k = (one_given export_depth x k.0.0 k.0.1, each_given export_depth ks k.1)
 
   form_given : (f : Form) → HasSome f → AllByRecursion (OfKey (IsProvided p) z.imports) (imports_in f)
-  form_given f (v, (turns, e)) = each_given turns (imports_in f) (valued_imports_law ValueFault NoValue (o.bases owner) (o.imports turns owner) f v e)
+  form_given f (v, (export_depth, e)) = each_given export_depth (imports_in f) (valued_imports_law ValueFault NoValue (o.bases owner) (o.imports export_depth owner) f v e)
 
   part_given : (x : Part) → IsValuedPart x → OfPart (IsProvided p) z.imports x
   part_given x k = grind (arith, common_steps, form_given)
@@ -207,7 +207,7 @@ module _ (s : Script) (placement : Placement) (ys : List Layout) (ms : List Modu
 
 -- ---- From the link.
 
-forced_all : (p : Program) (ys : List Layout) (ms : List Module) → AreSources ys ms → AllByRecursion (IsProvided p) (flat_map (λ (m : Module). m.object.imports) ms) → AreForced p ys
+forced_all : (p : Program) (ys : List Layout) (ms : List Module) → AreSources ys ms → AllByRecursion (IsProvided p) (flat_map (λ (m : Module). m.object.imports) ms) → HaveForcedImports p ys
 forced_all p [] [] h k = tt
 forced_all p (y ∷ ys) (m ∷ ms) h k =
     let both = all_parts (IsProvided p) m.object.imports (flat_map (λ (m : Module). m.object.imports) ms) k in
@@ -216,7 +216,7 @@ forced_all p _ _ h k = absurd h
 
 -- Where a link leaves no name open, the names that have to be given in the whole program are: the script's imports, and those
 -- that modules import whether or not they use them.
-pub given_law : (s : Script) (placement : Placement) (ys : List Layout) (ms : List Module) → let p : Program = program_of s placement ys in AreSources ys ms → place_of s (needs_of ys) ≡ Ok placement → unresolved_names s (linked.program_of ms) ≡ [] → AllByRecursion (IsProvided p) (symbol_imports s.symbols) × AreForced p ys
+pub given_law : (s : Script) (placement : Placement) (ys : List Layout) (ms : List Module) → let p : Program = program_of s placement ys in AreSources ys ms → place_of s (needs_of ys) ≡ Ok placement → unresolved_names s (linked.program_of ms) ≡ [] → AllByRecursion (IsProvided p) (symbol_imports s.symbols) × HaveForcedImports p ys
 given_law s placement ys ms h placed none = grind (arith, common_steps, none_open, forced_all)
 
 -- ---- A segment with a section has a row.
@@ -225,7 +225,7 @@ row_exists : (rows : List SegmentRow) (ys : List Layout) (names : List (List ℕ
 row_exists rows ys [] name h e = absurd cc
 row_exists rows ys (n ∷ names) name h e = grind (arith, common_steps, (row_exists rows ys names name h.1), same_bytes)
 
-any_at : (name : List ℕ) (ys : List Layout) (i : ℕ) (y : Layout) → slice_get ys i ≡ Some y → list_any (λ k. bytes_eq name k) (asked_by y) ≡ true → list_any (λ k. bytes_eq name k) (flat_map asked_by ys) ≡ true
+any_at : (name : List ℕ) (ys : List Layout) (i : ℕ) (y : Layout) → slice_get ys i ≡ Some y → list_any (λ k. bytes_eq name k) (requested_segments y) ≡ true → list_any (λ k. bytes_eq name k) (flat_map requested_segments ys) ≡ true
 any_at name [] i y at e = absurd cc
 any_at name (x ∷ ys) zero y at e = grind (arith, common_steps, list_any-append)
 any_at name (x ∷ ys) (suc i) y at e = grind (arith, common_steps, (any_at name ys i y at e), list_any-append)
@@ -238,14 +238,14 @@ row_of P (r ∷ rows) name h e = grind (arith, common_steps, (row_of P rows name
 
 -- ---- A module's part of a segment's bytes.
 
-part_bytes : (p : Program) (fill : ℕ) (name : List ℕ) (rest : List Layout) (owner at i : ℕ) (bytes : List ℕ) (y : Layout) → slice_get rest i ≡ Some y → AreBytes p fill at (items_from owner rest name) bytes → (begin : ℕ) × (own : List ℕ) × AreBytes p fill begin (part_of (owner + i) y name) own
-part_bytes p fill name [] owner at i bytes y e h = absurd cc
-part_bytes p fill name (x ∷ rest) owner at zero bytes y e h =
-    let (own, others, first, more, all) = bytes_split p fill at (part_of owner x name) (items_from (suc owner) rest name) bytes h in
-    (at, own, grind (arith, common_steps))
-part_bytes p fill name (x ∷ rest) owner at (suc i) bytes y e h =
-    let (own, others, first, more, all) = bytes_split p fill at (part_of owner x name) (items_from (suc owner) rest name) bytes h in
-    let (begin, mine, there) = part_bytes p fill name rest (suc owner) (end_of at (part_of owner x name)) i others y e more in
+part_bytes : (p : Program) (fill : ℕ) (name : List ℕ) (rest : List Layout) (owner position i : ℕ) (bytes : List ℕ) (y : Layout) → slice_get rest i ≡ Some y → AreBytes p fill position (items_from owner rest name) bytes → (begin : ℕ) × (own : List ℕ) × AreBytes p fill begin (part_of (owner + i) y name) own
+part_bytes p fill name [] owner position i bytes y e h = absurd cc
+part_bytes p fill name (x ∷ rest) owner position zero bytes y e h =
+    let (own, others, first, more, all) = bytes_split p fill position (part_of owner x name) (items_from (suc owner) rest name) bytes h in
+    (position, own, grind (arith, common_steps))
+part_bytes p fill name (x ∷ rest) owner position (suc i) bytes y e h =
+    let (own, others, first, more, all) = bytes_split p fill position (part_of owner x name) (items_from (suc owner) rest name) bytes h in
+    let (begin, mine, there) = part_bytes p fill name rest (suc owner) (end_of position (part_of owner x name)) i others y e more in
     (begin, mine, grind (arith, common_steps))
 
 -- ---- To the link.
@@ -275,21 +275,21 @@ module _ (s : Script) (placement : Placement) (ys : List Layout) (ms : List Modu
       let has : has_section y name ≡ true = keys.has name ∙ held (λ k. bytes_eq (segment_name y k) name) g (section_keys cs) key (itself name) in
       let asking : List LaidOutStatement = filter (λ (l : LaidOutStatement). needs_section l.stated) y.laid in
       let shown : list_any (nat_eq g) (map (λ (l : LaidOutStatement). l.context.segment) asking) ≡ true = ap (list_any (nat_eq g)) (sym (asked_are y cs c.found)) ∙ asked in
-      let by_name : list_any (λ k. bytes_eq name k) (asked_by y) ≡ true = grind (arith, common_steps, (names_asked y asking), any_map, (held (λ k. bytes_eq name (segment_name y k)) g (map (λ (l : LaidOutStatement). l.context.segment) asking) shown (itself name))) in
-      let needed : list_any (λ k. bytes_eq name k) (segments_of ys) ≡ true = any_new name (flat_map asked_by ys) [] ∙ any_at name ys owner y at_y by_name in
+      let by_name : list_any (λ k. bytes_eq name k) (requested_segments y) ≡ true = grind (arith, common_steps, (names_asked y asking), any_map, (held (λ k. bytes_eq name (segment_name y k)) g (map (λ (l : LaidOutStatement). l.context.segment) asking) shown (itself name))) in
+      let needed : list_any (λ k. bytes_eq name k) (segments_of ys) ≡ true = any_new name (flat_map requested_segments ys) [] ∙ any_at name ys owner y at_y by_name in
       let (r, row, called) = row_of (AreRow whole_program ys bytes) s.rows name rows (row_exists s.rows ys (segments_of ys) name (rows_there s (needs_of ys) placement placed) needed) in
       let all : AreBytes whole_program r.fill_value 0 (items_of ys name) (bytes r) = subst (λ n. AreBytes whole_program r.fill_value 0 (items_of ys n) (bytes r)) called row in
-      let (at, own, part) = part_bytes whole_program r.fill_value name ys 0 0 owner (bytes r) y at_y all in
+      let (position, own, part) = part_bytes whole_program r.fill_value name ys 0 0 owner (bytes r) y at_y all in
       let first : 0 + owner ≡ owner = omega arith in
       let lines : List SegmentLine = lines_at g (lines_after owner [] y.laid) in
-      let begin : ℕ = next_multiple_of at (largest_multiple lines) in
-      let mine : AreBytes whole_program r.fill_value at (rounding (largest_multiple lines) ∷ map line lines) own =
-      subst (λ xs. AreBytes whole_program r.fill_value at xs own) (whole_part y owner g name d below refl has) (subst (λ n. AreBytes whole_program r.fill_value at (part_of n y name) own) first part) in
-      let contexts : (place : ℕ) (x : LaidOutStatement) → slice_get y.laid place ≡ Some x → linked_ones.contexts owner place ≡ x.context = λ place x e. ap (λ r. context_in r place) at_y ∙ ap (context_or (global_context y)) e in
-      let parts : AreParts (HasValue linked_ones owner) r.fill_value (parts_in cs g) mine.1 = (section_law ValueFault whole_program linked_ones r.fill_value begin owner g y cs mine.1 (sources_law s placement ys ms h) (ap symbols_at at_y) contexts d (begin_is_multiple y owner g at d) c.found).0 mine.3 in
+      let begin : ℕ = next_multiple_of position (largest_multiple lines) in
+      let mine : AreBytes whole_program r.fill_value position (rounding (largest_multiple lines) ∷ map line lines) own =
+      subst (λ xs. AreBytes whole_program r.fill_value position xs own) (whole_part y owner g name d below refl has) (subst (λ n. AreBytes whole_program r.fill_value position (part_of n y name) own) first part) in
+      let contexts : (index : ℕ) (x : LaidOutStatement) → slice_get y.laid index ≡ Some x → linked_ones.contexts owner index ≡ x.context = λ index x e. ap (λ r. context_in r index) at_y ∙ ap (context_or (global_context y)) e in
+      let parts : AreParts (HasValue linked_ones owner) r.fill_value (parts_in cs g) mine.1 = (section_law ValueFault whole_program linked_ones r.fill_value begin owner g y cs mine.1 (sources_law s placement ys ms h) (ap symbols_at at_y) contexts d (begin_is_multiple y owner g position d) c.found).0 mine.3 in
       parts_valued owner y at_y r.fill_value (parts_in cs g) mine.1 parts
 
-  modules_given : (rest : List Layout) (ns : List Module) (owner : ℕ) → AreSources rest ns → ((i : ℕ) → slice_get rest i ≡ slice_get ys (owner + i)) → AreForced whole_program rest → AreExported whole_program owner rest → AreAsserted whole_program owner rest → AllByRecursion (IsProvided whole_program) (flat_map (λ (m : Module). m.object.imports) ns)
+  modules_given : (rest : List Layout) (ns : List Module) (owner : ℕ) → AreSources rest ns → ((i : ℕ) → slice_get rest i ≡ slice_get ys (owner + i)) → HaveForcedImports whole_program rest → HaveExportValues whole_program owner rest → PassAssertions whole_program owner rest → AllByRecursion (IsProvided whole_program) (flat_map (λ (m : Module). m.object.imports) ns)
   modules_given [] [] owner k up forced exported asserted = tt
   modules_given [] (m ∷ ns) owner k up forced exported asserted = absurd k
   modules_given (y ∷ rest) [] owner k up forced exported asserted = absurd k
@@ -303,5 +303,5 @@ module _ (s : Script) (placement : Placement) (ys : List Layout) (ms : List Modu
 
 -- A link leaves no name open where they are given, and all that has to have a value in the whole program has one: rows, exports
 -- and assertions.
-pub resolved_law : (s : Script) (placement : Placement) (ys : List Layout) (ms : List Module) (bytes : RowBytes) → let p : Program = program_of s placement ys in AreSources ys ms → place_of s (needs_of ys) ≡ Ok placement → AllByRecursion (IsProvided p) (symbol_imports s.symbols) → AreForced p ys → AreExported p 0 ys → AreAsserted p 0 ys → AllByRecursion (AreRow p ys bytes) s.rows → unresolved_names s (linked.program_of ms) ≡ []
+pub resolved_law : (s : Script) (placement : Placement) (ys : List Layout) (ms : List Module) (bytes : RowBytes) → let p : Program = program_of s placement ys in AreSources ys ms → place_of s (needs_of ys) ≡ Ok placement → AllByRecursion (IsProvided p) (symbol_imports s.symbols) → HaveForcedImports p ys → HaveExportValues p 0 ys → PassAssertions p 0 ys → AllByRecursion (AreRow p ys bytes) s.rows → unresolved_names s (linked.program_of ms) ≡ []
 resolved_law s placement ys ms bytes h placed own forced exported asserted rows = grind (arith, common_steps, none_open, modules_given)

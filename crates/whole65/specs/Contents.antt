@@ -31,21 +31,23 @@ counted_from width address v = v
 abbrev pub AreStored : Width → ℤ → List ℕ → Type 0
 AreStored width v bytes = (fits_width width v ≡ true) × (bytes ≡ value_bytes width v)
 
--- the bytes of an element of a list of data
-abbrev pub AreItem : Program → SegmentLine → Width → Item → List ℕ → Type 0
-AreItem p x width (item.Value e) bytes = (v : ℤ) × Value p x.owner x.place e v × AreStored width v bytes
-AreItem p x width (item.StringLiteral own) bytes = bytes ≡ own
+-- the bytes of an element of a list of data: a stored value, or the string's own bytes
+abbrev pub AreDataItem : Program → SegmentLine → Width → Item → List ℕ → Type 0
+AreDataItem p x width (item.Value e) bytes = (v : ℤ) × Value p x.owner x.index e v × AreStored width v bytes
+AreDataItem p x width (item.StringLiteral own) bytes = bytes ≡ own
 
-abbrev pub AreItems : Program → SegmentLine → Width → List Item → List ℕ → Type 0
-AreItems p x width [] bytes = bytes ≡ []
-AreItems p x width (i ∷ is) bytes =
-    (own : List ℕ) × (rest : List ℕ) × AreItem p x width i own × AreItems p x width is rest × (bytes ≡ own ++ rest)
+-- the bytes of a list of data: the first element's own bytes, and then the rest
+abbrev pub AreDataItems : Program → SegmentLine → Width → List Item → List ℕ → Type 0
+AreDataItems p x width [] bytes = bytes ≡ []
+AreDataItems p x width (i ∷ is) bytes =
+    (own : List ℕ) × (rest : List ℕ) × AreDataItem p x width i own × AreDataItems p x width is rest × (bytes ≡ own ++ rest)
 
 -- ---- Instructions.
 
+-- the stored value of an instruction's operand; no byte if the mode has no operand
 abbrev pub AreOperand : Program → SegmentLine → Option Width → Option Tree → List ℕ → Type 0
 AreOperand p x (Some width) (Some e) bytes =
-    (v : ℤ) × Value p x.owner x.place e v × AreStored width (counted_from width (p.address x.owner x.place) v) bytes
+    (v : ℤ) × Value p x.owner x.index e v × AreStored width (counted_from width (p.address x.owner x.index) v) bytes
 AreOperand p x width e bytes = bytes ≡ []
 
 abbrev pub code_bytes : Option ℕ → List ℕ
@@ -60,31 +62,32 @@ AreInstruction p x m o _ bytes = bytes ≡ []
 
 -- ---- Statements.
 
--- the byte that fills room: the row's, where the statement names none
+-- the byte of reserved space: the statement's, or else the fill value of the segment's row
 abbrev pub filling : ℕ → EncodingChoice → ℕ
 filling fill (FillByte byte) = byte
 filling fill _ = fill
 
--- the bytes of a statement at a position, where the row has this fill value
+-- the bytes of a statement at a position, given the fill value of the segment's row
 abbrev pub AreLine : Program → ℕ → ℕ → SegmentLine → List ℕ → Type 0
-AreLine p fill at x bytes = go x.laid.stated
+AreLine p fill position x bytes = go x.laid.stated
   where
     go : Statement → Type 0
     go (Instruction m o) = AreInstruction p x m o x.laid.settled bytes
-    go (Values width items) = AreItems p x width items bytes
+    go (Values width items) = AreDataItems p x width items bytes
     go (Reserve n v) = bytes ≡ replicate x.laid.length (filling fill x.laid.settled)
-    go (Align n v) = bytes ≡ replicate (line_end at x.alignment x.laid - at) (filling fill x.laid.settled)
+    go (Align n v) = bytes ≡ replicate (line_end position x.alignment x.laid - position) (filling fill x.laid.settled)
     go (Incbin file start len) = bytes ≡ file_bytes x.laid.length file x.laid.settled
     go _ = bytes ≡ []
 
 -- ---- Segments.
 
-abbrev pub ArePlaced : Program → ℕ → ℕ → segments.Item → List ℕ → Type 0
-ArePlaced p fill at (rounding alignment) bytes = bytes ≡ replicate (end_after at (rounding alignment) - at) fill
-ArePlaced p fill at (line x) bytes = AreLine p fill at x bytes
+-- the bytes of an item of a segment's list, at a position: the fill up to a multiple, or the bytes of a statement
+abbrev pub AreItemBytes : Program → ℕ → ℕ → segments.Item → List ℕ → Type 0
+AreItemBytes p fill position (rounding alignment) bytes = bytes ≡ replicate (end_after position (rounding alignment) - position) fill
+AreItemBytes p fill position (line x) bytes = AreLine p fill position x bytes
 
--- the bytes of a segment's list, from a position on
+-- the bytes of the items of a segment's list, the first of which is at a position
 abbrev pub AreBytes : Program → ℕ → ℕ → List segments.Item → List ℕ → Type 0
-AreBytes p fill at [] bytes = bytes ≡ []
-AreBytes p fill at (x ∷ xs) bytes =
-    (own : List ℕ) × (rest : List ℕ) × ArePlaced p fill at x own × AreBytes p fill (end_after at x) xs rest × (bytes ≡ own ++ rest)
+AreBytes p fill position [] bytes = bytes ≡ []
+AreBytes p fill position (x ∷ xs) bytes =
+    (own : List ℕ) × (rest : List ℕ) × AreItemBytes p fill position x own × AreBytes p fill (end_after position x) xs rest × (bytes ≡ own ++ rest)

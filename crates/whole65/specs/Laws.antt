@@ -9,7 +9,7 @@ use Rattle.semantics65.specs.Numbering.{IsSoundLayout}
 use Rattle.semantics65.specs.Symbols.{LaidOutStatement}
 use Rattle.semantics65.specs.Layout.{Layout, segment_at}
 use Rattle.semantics65.specs.Norms.{norm}
-use Rattle.whole65.specs.Offsets.{ArePowers, IsSoundLayoutOf, lines_at}
+use Rattle.whole65.specs.Offsets.{ArePowers, HasNoLineErrors, lines_at}
 use Rattle.whole65.specs.Sources.{AreSources, IsSource}
 use Rattle.whole65.specs.Segments.{end_of, largest_multiple, line, lines_after, need_of, needs_of}
 use Rattle.link65.specs.Programs.{Module, Cell, fragment_cells, segment_of}
@@ -32,26 +32,26 @@ use Rattle.whole65.specs.Whole.{AreRow}
 -- an expression has one value at most
 abbrev pub ValueIsUnique : Type 0
 ValueIsUnique =
-    (p : Program) (owner place : ℕ) (e : Tree) (v w : ℤ) →
-    Value p owner place e v → Value p owner place e w → v ≡ w
+    (p : Program) (owner index : ℕ) (e : Tree) (v w : ℤ) →
+    Value p owner index e v → Value p owner index e w → v ≡ w
 
 -- an expression that is needed for its own value has none
 abbrev pub CircularLaw : Type 0
-CircularLaw = (p : Program) (x : LocatedExpr) (v : ℤ) → NeedsValueOf p x x → Value p x.owner x.place x.tree v → ⊥
+CircularLaw = (p : Program) (x : LocatedExpr) (v : ℤ) → NeedsValueOf p x x → Value p x.owner x.index x.tree v → ⊥
 
 -- Wherever sections lie, an expression that has a normal form has the value of that form, and none where the form has none:
 -- names are replaced by their definitions, operations are folded, and imports have the values of exports.
 abbrev pub SameValuesLaw : Type 0 → Type 0
 SameValuesLaw E =
-    (p : Program) (o : Objects E) → AreObjects p o → (depth owner place : ℕ) (e : Tree) (f : Form) (v : ℤ) →
-    norm depth (o.symbols owner) (o.contexts owner place) e ≡ Ok f → Value p owner place e v ↔ HasValue o owner f v
+    (p : Program) (o : Objects E) → AreObjects p o → (depth owner index : ℕ) (e : Tree) (f : Form) (v : ℤ) →
+    norm depth (o.symbols owner) (o.contexts owner index) e ≡ Ok f → Value p owner index e v ↔ HasValue o owner f v
 
 -- The offset of a statement in its section is its position after the lines before it in its segment; the
 -- section's size is the position after all of them, and its alignment the largest of their multiples.
 pub record AreOffsets (y : Layout) (owner : ℕ) : Type 0 where
   pub offset :
-      (place : ℕ) (l : LaidOutStatement) → slice_get y.laid place ≡ Some l →
-      l.context.offset ≡ end_of 0 (map line (lines_at l.context.segment (lines_after owner [] (take place y.laid))))
+      (index : ℕ) (l : LaidOutStatement) → slice_get y.laid index ≡ Some l →
+      l.context.offset ≡ end_of 0 (map line (lines_at l.context.segment (lines_after owner [] (take index y.laid))))
   pub size :
       (g : ℕ) →
       (segment_at y.cursor.segments g).end ≡ end_of 0 (map line (lines_at g (lines_after owner [] y.laid)))
@@ -61,7 +61,7 @@ pub record AreOffsets (y : Layout) (owner : ℕ) : Type 0 where
   pub powers : ArePowers (lines_after owner [] y.laid)
 
 abbrev pub OffsetLaw : Type 0
-OffsetLaw = (y : Layout) (owner : ℕ) → IsSoundLayoutOf y → AreOffsets y owner
+OffsetLaw = (y : Layout) (owner : ℕ) → HasNoLineErrors y → AreOffsets y owner
 
 -- A segment of the link needs what the list of all its lines needs: as many bytes, and its largest alignment.
 abbrev pub NeedsLaw : Type 0
@@ -72,7 +72,7 @@ NeedsLaw =
 -- a layout without errors that fits an object is the source of its object, and of that object's version 1
 abbrev pub SourceLaw : Type 0
 SourceLaw =
-    (y : Layout) (name : List ℕ) (o : Object) → IsSoundLayoutOf y → IsSoundLayout y → object_of y ≡ Ok o →
+    (y : Layout) (name : List ℕ) (o : Object) → HasNoLineErrors y → IsSoundLayout y → object_of y ≡ Ok o →
     IsSource y (record { name = name; object = o }) × IsSource y (record { name = name; object = in_version_one o })
 
 -- A script places linked modules where it places their whole program.

@@ -11,43 +11,43 @@ use Rattle.semantics65.specs.Layout.{Layout}
 use Rattle.semantics65.specs.Symbols as names
 use Rattle.whole65.specs.Values.{SymbolBinding, label_at, constant_at, import_of}
 
--- A module is its laid statements. A statement is named by its place among them.
+-- A module is its laid-out statements. A statement is referred to by its index among them.
 abbrev pub table_of : Layout → Symbols
 table_of y = symbols_of y.laid
 
 -- ---- The statements of definitions.
 
--- the indices of the statements that make definitions, in the order of the definitions, where the first
--- statement has this index
-abbrev pub defining_from : ℕ → List LaidOutStatement → List ℕ
-defining_from place [] = []
-defining_from place (l ∷ ls) = map (λ d. place) (definitions_of l) ++ defining_from (suc place) ls
+-- For each definition of these statements, in order: the index of the statement that makes it. The first statement has the
+-- index `index`.
+abbrev pub definers_from : ℕ → List LaidOutStatement → List ℕ
+definers_from index [] = []
+definers_from index (l ∷ ls) = map (λ d. index) (definitions_of l) ++ definers_from (suc index) ls
 
--- ---- What an operand means.
+-- ---- The binding of an operand.
 
--- a definition by the statement at a place: a constant, or else a label
+-- the binding to the definition that the statement with this index makes: a constant if it has a value, otherwise a label
 abbrev pub definition_at : ℕ → Option LaidOutStatement → Option SymbolBinding
-definition_at place None = None
-definition_at place (Some l) = go (value_defined l.stated)
+definition_at index None = None
+definition_at index (Some l) = go (value_defined l.stated)
   where
     go : Option Tree → Option SymbolBinding
-    go (Some e) = Some (constant_at place e)
-    go None = Some (label_at place)
+    go (Some e) = Some (constant_at index e)
+    go None = Some (label_at index)
 
 abbrev pub statement_at : List LaidOutStatement → Option ℕ → Option SymbolBinding
 statement_at ls None = None
-statement_at ls (Some place) = definition_at place (slice_get ls place)
+statement_at ls (Some index) = definition_at index (slice_get ls index)
 
 abbrev pub import_named : Option (List ℕ) → Option SymbolBinding
 import_named None = None
 import_named (Some n) = Some (import_of n)
 
 abbrev pub meaning_by : Layout → Result names.Binding AsmFault → Option SymbolBinding
-meaning_by y (Ok (names.defined_at d)) = statement_at y.laid (slice_get (defining_from 0 y.laid) d)
+meaning_by y (Ok (names.defined_at d)) = statement_at y.laid (slice_get (definers_from 0 y.laid) d)
 meaning_by y (Ok (names.imported_as k)) = import_named (slice_get (table_of y).imports k)
 meaning_by y (Err e) = None
 
--- after the last statement, in the global scope and in no segment
+-- the context after the last statement: in the global scope and in no segment
 abbrev pub global_context : Layout → Context
 global_context y = record {
   scope = 0;
@@ -63,11 +63,11 @@ context_or other None = other
 context_or other (Some l) = l.context
 
 abbrev pub context_at : Layout → ℕ → Context
-context_at y place = context_or (global_context y) (slice_get y.laid place)
+context_at y index = context_or (global_context y) (slice_get y.laid index)
 
--- the meaning of an operand at a statement, among all statements of the module
+-- the binding of an operand of a statement, by the symbol table of the whole module
 abbrev pub means_in : Layout → ℕ → Tree → Option SymbolBinding
-means_in y place e = meaning_by y (names.binding_of (table_of y) (context_at y place) e)
+means_in y index e = meaning_by y (names.binding_of (table_of y) (context_at y index) e)
 
 -- ---- The exports and imports of a module.
 
@@ -76,11 +76,12 @@ exported_by (Export names) = names
 exported_by (Global own names) = names
 exported_by _ = []
 
--- the module defines the name in its global scope
+-- whether the module defines the name in its global scope
 abbrev pub is_defined : Layout → List ℕ → Bool
 is_defined y n = is_some (definition_index (table_of y) (named 0 n))
 
--- the names that a module exports, each once
+-- The names that a module exports, each once: those that `.export` or `.global` lists and the module defines. A name that
+-- `.global` lists and the module doesn't define is an import.
 abbrev pub exports_of : Layout → List (List ℕ)
 exports_of y = with_new [] (filter (is_defined y) (flat_map (λ l. exported_by l.stated) y.laid))
 
@@ -88,6 +89,6 @@ abbrev pub forced_by : Statement → List (List ℕ)
 forced_by (ForceImport names) = names
 forced_by _ = []
 
--- the names that a module imports whether or not it uses them
+-- the names that a module imports even if it doesn't use them
 abbrev pub forced_of : Layout → List (List ℕ)
 forced_of y = flat_map (λ l. forced_by l.stated) y.laid

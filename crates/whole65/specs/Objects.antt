@@ -1,4 +1,4 @@
--- Modules as linking sees them: forms in place of expressions, values by a placement and through exports.
+-- Modules as the linker sees them: forms instead of expressions, and values from a placement and from exports of other modules.
 use Rattle.std.specs.Prelude.{◌≡◌, ◌≢◌, ℕ, zero, suc, ℤ, pos, ◌+ℤ◌, false, List, [], ◌∷◌, slice_get, Option, Some, None, Result, Ok, Err}
 use Rattle.syntax65.specs.Trees.{Tree, name}
 use Rattle.base65.specs.Values.{wrap_signed}
@@ -11,81 +11,90 @@ use Rattle.semantics65.specs.Symbols.{binding_of, Definition, Symbols}
 use Rattle.semantics65.specs.Norms.{norm}
 use Rattle.whole65.specs.Values.{Provider, by_module, by_script, by_nobody, SymbolBinding, label_at, constant_at, import_of, Program}
 
--- Of each module, by index: its symbol table, the positions of its statements, and the results of its
--- sections and imports. The error of an import is left open.
+-- For each module, by its index `owner`: its symbol table, the contexts of its statements, the addresses of its sections and
+-- the values of its imports. `E` is the type of an import's error.
 pub record Objects (E : Type 0) : Type 0 where
-  -- that an operation has no value
+  -- the error of an operation without a value
   pub none : E
   pub symbols : (owner : ℕ) → Symbols
-  pub contexts : (owner place : ℕ) → Context
-  -- the place of the statement that makes the definition of a number
-  pub places : (owner definition : ℕ) → ℕ
-  -- the address at which the section of a segment begins
+  pub contexts : (owner index : ℕ) → Context
+  -- the index of the statement that makes the definition with this index
+  pub definers : (owner definition : ℕ) → ℕ
+  -- the address at which the module's section of a segment begins
   pub bases : (owner segment : ℕ) → ℤ
-  -- the result of an import, given its number, through fewer than this many nested exports
-  pub imports : (turns owner number : ℕ) → Result ℤ E
+  -- the value of the import with this number, if a chain of at most this many exports leads to one; otherwise an error
+  pub imports : (export_depth owner number : ℕ) → Result ℤ E
 
--- the value of a form of a module, through at most this many nested exports
+-- the value of a form of a module, if chains of at most this many exports lead to the values of its imports; otherwise an error
 abbrev pub form_value : {E : Type 0} → Objects E → ℕ → ℕ → Form → Result ℤ E
-form_value o turns owner f = value_in o.none (o.bases owner) (o.imports turns owner) f
+form_value o export_depth owner f = value_in o.none (o.bases owner) (o.imports export_depth owner) f
 
--- ---- What names mean.
+-- ---- The bindings of names.
 
-abbrev pub value_shown : ℕ → Option Tree → Option SymbolBinding
-value_shown place None = Some (label_at place)
-value_shown place (Some e) = Some (constant_at place e)
+-- the binding to a definition with this optional value by the statement with this index: a constant, or without a value a label
+abbrev pub value_binding : ℕ → Option Tree → Option SymbolBinding
+value_binding index None = Some (label_at index)
+value_binding index (Some e) = Some (constant_at index e)
 
--- the definition of a statement at a place
-abbrev pub definition_shown : ℕ → Option Definition → Option SymbolBinding
-definition_shown place None = None
-definition_shown place (Some d) = value_shown place d.value
+-- the binding to a definition that the statement with this index makes
+abbrev pub definition_binding : ℕ → Option Definition → Option SymbolBinding
+definition_binding index None = None
+definition_binding index (Some d) = value_binding index d.value
 
-abbrev pub import_shown : Option (List ℕ) → Option SymbolBinding
-import_shown None = None
-import_shown (Some x) = Some (import_of x)
+-- the binding to an import of this name
+abbrev pub import_binding : Option (List ℕ) → Option SymbolBinding
+import_binding None = None
+import_binding (Some x) = Some (import_of x)
 
-abbrev pub meaning_shown : {E : Type 0} → Objects E → ℕ → Result names.Binding AsmFault → Option SymbolBinding
-meaning_shown o owner (Err e) = None
-meaning_shown o owner (Ok (names.defined_at d)) = definition_shown (o.places owner d) (slice_get (o.symbols owner).definitions d)
-meaning_shown o owner (Ok (names.imported_as k)) = import_shown (slice_get (o.symbols owner).imports k)
+-- the program's binding for a binding of the module's symbol table
+abbrev pub symbol_binding : {E : Type 0} → Objects E → ℕ → Result names.Binding AsmFault → Option SymbolBinding
+symbol_binding o owner (Err e) = None
+symbol_binding o owner (Ok (names.defined_at d)) = definition_binding (o.definers owner d) (slice_get (o.symbols owner).definitions d)
+symbol_binding o owner (Ok (names.imported_as k)) = import_binding (slice_get (o.symbols owner).imports k)
 
 -- ---- The values of imports.
 
--- never to a value
-abbrev pub HasNone : {E : Type 0} → Objects E → ℕ → ℕ → Type 0
-HasNone o owner k = (turns : ℕ) (v : ℤ) → o.imports turns owner k ≢ Ok v
+-- the import `k` of a module has no value
+abbrev pub HasNoValue : {E : Type 0} → Objects E → ℕ → ℕ → Type 0
+HasNoValue o owner k = (export_depth : ℕ) (v : ℤ) → o.imports export_depth owner k ≢ Ok v
 
--- the result of a name's export by a module, one export deeper
+-- The import `k` of a module has the value of the export `x` of the providing module. The chain of exports that leads to the
+-- import's value is one longer than that of the export's form. (`name false (x ∷ [])` is the plain name `x`, without a leading
+-- `::`.)
 pub record IsExport {E : Type 0} (p : Program) (o : Objects E) (owner k : ℕ) (x : List ℕ) (provider : ℕ) : Type 0 where
   pub depth : ℕ
   pub form : Form
   pub normal : norm depth (o.symbols provider) (o.contexts provider (p.global provider)) (name false (x ∷ [])) ≡ Ok form
   pub first : (v : ℤ) → o.imports zero owner k ≢ Ok v
-  pub later : (turns : ℕ) → o.imports (suc turns) owner k ≡ form_value o turns provider form
+  pub later : (export_depth : ℕ) → o.imports (suc export_depth) owner k ≡ form_value o export_depth provider form
 
--- to what the provider of its name says
-abbrev pub IsGivenBy : {E : Type 0} → Program → Objects E → ℕ → ℕ → List ℕ → Provider → Type 0
-IsGivenBy p o owner k x (by_module provider) = IsExport p o owner k x provider
-IsGivenBy p o owner k x (by_script v) = (turns : ℕ) → o.imports turns owner k ≡ Ok v
-IsGivenBy p o owner k x by_nobody = HasNone o owner k
+-- the import `k` of the name `x` has the value that the provider gives: that of an export, a number of the script, or none
+abbrev pub HasProviderValue : {E : Type 0} → Program → Objects E → ℕ → ℕ → List ℕ → Provider → Type 0
+HasProviderValue p o owner k x (by_module provider) = IsExport p o owner k x provider
+HasProviderValue p o owner k x (by_script v) = (export_depth : ℕ) → o.imports export_depth owner k ≡ Ok v
+HasProviderValue p o owner k x by_nobody = HasNoValue o owner k
 
+-- the same by the program's provider of the import's name; an import without a name has no value
 abbrev pub ImportHasValue : {E : Type 0} → Program → Objects E → ℕ → ℕ → Option (List ℕ) → Type 0
-ImportHasValue p o owner k None = HasNone o owner k
-ImportHasValue p o owner k (Some x) = IsGivenBy p o owner k x (p.provider x)
+ImportHasValue p o owner k None = HasNoValue o owner k
+ImportHasValue p o owner k (Some x) = HasProviderValue p o owner k x (p.provider x)
 
--- ---- Objects of the modules of a program, placed alike.
+-- ---- Objects that agree with a program.
+
+-- The objects are those of the program's modules: operands have the same bindings, definitions the contexts of their
+-- statements, statements the same addresses, and imports the values that their providers give.
 pub record AreObjects {E : Type 0} (p : Program) (o : Objects E) : Type 0 where
   pub means :
-      (owner place : ℕ) (e : Tree) →
-      p.means owner place e ≡ meaning_shown o owner (binding_of (o.symbols owner) (o.contexts owner place) e)
+      (owner index : ℕ) (e : Tree) →
+      p.means owner index e ≡ symbol_binding o owner (binding_of (o.symbols owner) (o.contexts owner index) e)
   pub contexts :
       (owner definition : ℕ) (d : Definition) → slice_get (o.symbols owner).definitions definition ≡ Some d →
-      o.contexts owner (o.places owner definition) ≡ d.context
+      o.contexts owner (o.definers owner definition) ≡ d.context
   pub addresses :
-      (owner place : ℕ) →
-      p.address owner place ≡ wrap_signed (o.bases owner (o.contexts owner place).segment +ℤ pos (o.contexts owner place).offset)
+      (owner index : ℕ) →
+      p.address owner index ≡ wrap_signed (o.bases owner (o.contexts owner index).segment +ℤ pos (o.contexts owner index).offset)
   pub given : (owner k : ℕ) → ImportHasValue p o owner k (slice_get (o.symbols owner).imports k)
 
--- through some number of exports a form has a value
+-- a form of a module has a value, through chains of some number of exports
 abbrev pub HasValue : {E : Type 0} → Objects E → ℕ → Form → ℤ → Type 0
-HasValue o owner f v = (turns : ℕ) × (form_value o turns owner f ≡ Ok v)
+HasValue o owner f v = (export_depth : ℕ) × (form_value o export_depth owner f ≡ Ok v)

@@ -1,4 +1,4 @@
--- Where the sections of modules begin in their segments, and what offsets rest on.
+-- The positions at which sections of modules begin in their segments, and the premises of laws about offsets.
 use Rattle.std.specs.Prelude.{◌≡◌, ◌<◌, ℕ, zero, suc, ◌*◌, ◌^◌, List, [], ◌∷◌, filter, nat_eq, None}
 use Rattle.std.specs.Int.{next_multiple_of}
 use Rattle.std.specs.List.{AllByRecursion}
@@ -21,22 +21,24 @@ pub record IsPower (n : ℕ) : Type 0 where
 abbrev pub ArePowers : List SegmentLine → Type 0
 ArePowers xs = AllByRecursion (λ x. IsPower x.alignment) xs
 
--- statements laid out in order, none of which has an error at its line
-pub data IsSoundLayoutOf : Layout → Type 0 where
-  begun : IsSoundLayoutOf nothing_laid
+-- Statements laid out in order, none of which has an error at its line. (`IsSoundLayout` of semantics65 states something else:
+-- that names and sizes fit into an object, and that lengths are those of the layout rules.)
+pub data HasNoLineErrors : Layout → Type 0 where
+  begun : HasNoLineErrors nothing_laid
   following :
       (y : Layout) (place : SourceLocation) (x : Statement) →
-      IsSoundLayoutOf y → line_fault (symbols_of y.laid) y.cursor x ≡ None → IsSoundLayoutOf (layout_after y place x)
+      HasNoLineErrors y → line_fault (symbols_of y.laid) y.cursor x ≡ None → HasNoLineErrors (layout_after y place x)
 
--- the lines of a module in its segment of this number
+-- the lines of a module in its segment with this index
 abbrev pub lines_at : ℕ → List SegmentLine → List SegmentLine
 lines_at g xs = filter (λ x. nat_eq x.laid.context.segment g) xs
 
--- where the section of the module at a place begins, in a segment that has reached a position before the first module
+-- The position at which the section of one of these modules begins: of that after the first `count`. The first module has the
+-- index `owner`, and the segment ends at a position before it.
 abbrev pub begin_from : ℕ → ℕ → List Layout → List ℕ → ℕ → ℕ
-begin_from at owner [] name count = at
-begin_from at owner (y ∷ ys) name zero = next_multiple_of at (largest_multiple (lines_in owner y name))
-begin_from at owner (y ∷ ys) name (suc count) = begin_from (end_of at (part_of owner y name)) (suc owner) ys name count
+begin_from position owner [] name count = position
+begin_from position owner (y ∷ ys) name zero = next_multiple_of position (largest_multiple (lines_in owner y name))
+begin_from position owner (y ∷ ys) name (suc count) = begin_from (end_of position (part_of owner y name)) (suc owner) ys name count
 
 -- the position at which the section of a module begins
 abbrev pub begin_of : List Layout → List ℕ → ℕ → ℕ

@@ -14,9 +14,9 @@ use Rattle.whole65.specs.Modules.{exports_of, means_in}
 use Rattle.whole65.specs.Segments.{position_of, segment_name}
 use Rattle.whole65.specs.Values.{Provider, by_module, by_script, by_nobody, SymbolBinding, Program}
 
--- ---- Who gives a name.
+-- ---- The providers of names.
 
--- by the definition of that name, if there is one
+-- the script, if it has a definition of the name; otherwise another provider
 abbrev pub provider_or : Provider → Option ScriptSymbol → Provider
 provider_or other None = other
 provider_or other (Some d) = by_script d.value
@@ -24,23 +24,23 @@ provider_or other (Some d) = by_script d.value
 abbrev pub definition_of : List ScriptSymbol → List ℕ → Option ScriptSymbol
 definition_of ds name = find (λ d. bytes_eq d.name name) ds
 
--- the first module, from a place on, that exports a name
+-- the first of these modules that exports a name, the first module having the index `owner`; otherwise another provider
 abbrev pub exporter_from : ℕ → List Layout → List ℕ → Provider → Provider
 exporter_from owner [] name other = other
 exporter_from owner (y ∷ ys) name other = if is_among (exports_of y) name then by_module owner else exporter_from (suc owner) ys name other
 
--- The provider of a name: the script, if it defines or exports it; else a module that exports it; else the weak name of the script
--- of these.
+-- The provider of a name: the script, if it defines or exports the name; otherwise the first module that exports it; otherwise
+-- the script, if it has a weak definition of the name; otherwise nobody.
 abbrev pub provider_of : Script → Placement → List Layout → List ℕ → Provider
 provider_of s p ys name =
     provider_or (exporter_from 0 ys name (provider_or by_nobody (definition_of (weak_symbols s.symbols) name)))
     (definition_of (script_definitions s p) name)
 
--- ---- Where statements lie.
+-- ---- The addresses of statements.
 
 abbrev pub means_at : Option Layout → ℕ → Tree → Option SymbolBinding
-means_at None place e = None
-means_at (Some y) place e = means_in y place e
+means_at None index e = None
+means_at (Some y) index e = means_in y index e
 
 abbrev pub length_of : Option Layout → ℕ
 length_of None = 0
@@ -48,22 +48,23 @@ length_of (Some y) = length y.laid
 
 -- the run address of the segment's row plus the position in the segment
 abbrev pub address_in : Script → Placement → List Layout → ℕ → ℕ → List ℕ → ℤ
-address_in s p ys owner place name = wrap_signed (pos (run_of s.rows p.rows name + position_of ys name owner place))
+address_in s p ys owner index name = wrap_signed (pos (run_of s.rows p.rows name + position_of ys name owner index))
 
+-- the address of a statement; 0 if there is no such statement
 abbrev pub statement_address : Script → Placement → List Layout → ℕ → ℕ → Option Layout → Option LaidOutStatement → ℤ
-statement_address s p ys owner place (Some y) (Some l) = address_in s p ys owner place (segment_name y l.context.segment)
-statement_address s p ys owner place _ _ = pos 0
+statement_address s p ys owner index (Some y) (Some l) = address_in s p ys owner index (segment_name y l.context.segment)
+statement_address s p ys owner index _ _ = pos 0
 
 abbrev pub laid_at : Option Layout → ℕ → Option LaidOutStatement
-laid_at None place = None
-laid_at (Some y) place = slice_get y.laid place
+laid_at None index = None
+laid_at (Some y) index = slice_get y.laid index
 
 -- ---- The program.
 
 abbrev pub program_of : Script → Placement → List Layout → Program
 program_of s p ys = record {
-  means = λ owner place. means_at (slice_get ys owner) place;
+  means = λ owner index. means_at (slice_get ys owner) index;
   global = λ owner. length_of (slice_get ys owner);
   provider = provider_of s p ys;
-  address = λ owner place. statement_address s p ys owner place (slice_get ys owner) (laid_at (slice_get ys owner) place);
+  address = λ owner index. statement_address s p ys owner index (slice_get ys owner) (laid_at (slice_get ys owner) index);
 }

@@ -9,10 +9,10 @@ use Rattle.ast65.specs.declared.language.Statement.{Statement}
 use Rattle.ast65.specs.declared.language.Statement.TheVariants.{Align}
 use Rattle.semantics65.specs.Layout.{Layout, multiple_of, segment_at}
 
--- a statement, the module that has it and its place there
+-- a statement, the index of its module, and its index in the module
 pub record SegmentLine : Type 0 where
   pub owner : ℕ
-  pub place : ℕ
+  pub index : ℕ
   -- the operand of an `.align`; 1 for other statements
   pub alignment : ℕ
   pub laid : LaidOutStatement
@@ -28,30 +28,31 @@ pub data Item : Type 0 where
 abbrev pub segment_name : Layout → ℕ → List ℕ
 segment_name y g = (segment_at y.cursor.segments g).name
 
--- a module's statement, after those before it
+-- a statement of a module, given the statements before it
 abbrev pub line_of : ℕ → List LaidOutStatement → LaidOutStatement → SegmentLine
 line_of owner before l = record {
   owner = owner;
-  place = length before;
+  index = length before;
   alignment = multiple_of (symbols_of before) l.context l.stated;
   laid = l;
 }
 
--- a module's statements as lines, after those before
+-- statements of a module as lines, given the statements before them
 abbrev pub lines_after : ℕ → List LaidOutStatement → List LaidOutStatement → List SegmentLine
 lines_after owner before [] = []
 lines_after owner before (l ∷ ls) = line_of owner before l ∷ lines_after owner (before ++ l ∷ []) ls
 
-abbrev pub stands_in : Layout → List ℕ → LaidOutStatement → Bool
-stands_in y name l = bytes_eq (segment_name y l.context.segment) name
+-- whether a statement of a module is in the segment of a name
+abbrev pub is_in_segment : Layout → List ℕ → LaidOutStatement → Bool
+is_in_segment y name l = bytes_eq (segment_name y l.context.segment) name
 
 -- the lines of a module in the segment of a name
 abbrev pub lines_in : ℕ → Layout → List ℕ → List SegmentLine
-lines_in owner y name = filter (λ x. stands_in y name x.laid) (lines_after owner [] y.laid)
+lines_in owner y name = filter (λ x. is_in_segment y name x.laid) (lines_after owner [] y.laid)
 
--- the module has a section of this name: one of its lines there asks for it
+-- whether the module has a section of this name: one of its lines there requests it
 abbrev pub has_section : Layout → List ℕ → Bool
-has_section y name = list_any (λ l. stands_in y name l && needs_section l.stated) y.laid
+has_section y name = list_any (λ l. is_in_segment y name l && needs_section l.stated) y.laid
 
 -- the largest multiple to which lines are aligned
 abbrev pub largest_multiple : List SegmentLine → ℕ
@@ -63,7 +64,7 @@ abbrev pub part_of : ℕ → Layout → List ℕ → List Item
 part_of owner y name =
     if has_section y name then rounding (largest_multiple (lines_in owner y name)) ∷ map line (lines_in owner y name) else []
 
--- the one list of a segment, of the modules from a place on
+-- the list of a segment, of these modules; the first module has the index `owner`
 abbrev pub items_from : ℕ → List Layout → List ℕ → List Item
 items_from owner [] name = []
 items_from owner (y ∷ ys) name = part_of owner y name ++ items_from (suc owner) ys name
@@ -73,44 +74,47 @@ items_of ys name = items_from 0 ys name
 
 -- ---- Positions.
 
+-- the position after a statement that begins at a position
 abbrev pub line_end : ℕ → ℕ → LaidOutStatement → ℕ
-line_end at alignment l = go l.stated
+line_end position alignment l = go l.stated
   where
     go : Statement → ℕ
-    go (Align n v) = next_multiple_of at alignment
-    go _ = at + l.length
+    go (Align n v) = next_multiple_of position alignment
+    go _ = position + l.length
 
 -- the position after an item that begins at a position
 abbrev pub end_after : ℕ → Item → ℕ
-end_after at (rounding alignment) = next_multiple_of at alignment
-end_after at (line x) = line_end at x.alignment x.laid
+end_after position (rounding alignment) = next_multiple_of position alignment
+end_after position (line x) = line_end position x.alignment x.laid
 
+-- the position after items, the first of which begins at a position
 abbrev pub end_of : ℕ → List Item → ℕ
-end_of at [] = at
-end_of at (x ∷ xs) = end_of (end_after at x) xs
+end_of position [] = position
+end_of position (x ∷ xs) = end_of (end_after position x) xs
 
+-- whether an item is the statement with this index in the module `owner`
 abbrev pub is_line : ℕ → ℕ → Item → Bool
-is_line owner place (rounding alignment) = false
-is_line owner place (line x) = x.owner == owner && x.place == place
+is_line owner index (rounding alignment) = false
+is_line owner index (line x) = x.owner == owner && x.index == index
 
--- the items before the statement at a place of a module
+-- the items before the statement with this index in the module `owner`
 abbrev pub items_before : ℕ → ℕ → List Item → List Item
-items_before owner place [] = []
-items_before owner place (x ∷ xs) = if is_line owner place x then [] else x ∷ items_before owner place xs
+items_before owner index [] = []
+items_before owner index (x ∷ xs) = if is_line owner index x then [] else x ∷ items_before owner index xs
 
 -- the position of a statement in the list of a segment
 abbrev pub position_of : List Layout → List ℕ → ℕ → ℕ → ℕ
-position_of ys name owner place = end_of 0 (items_before owner place (items_of ys name))
+position_of ys name owner index = end_of 0 (items_before owner index (items_of ys name))
 
--- ---- What segments need.
+-- ---- The sizes and alignments of segments.
 
--- the segment of each line of a module that asks for a section, in order, with repetitions
-abbrev pub asked_by : Layout → List (List ℕ)
-asked_by y = map (λ l. segment_name y l.context.segment) (filter (λ l. needs_section l.stated) y.laid)
+-- the segment of each statement of a module that requests a section, in source order, with repetitions
+abbrev pub requested_segments : Layout → List (List ℕ)
+requested_segments y = map (λ l. segment_name y l.context.segment) (filter (λ l. needs_section l.stated) y.laid)
 
--- the segments of all modules, each once, in the order in which modules first show them
+-- the segments in which a module requests a section, each once, in the order of the first requests
 abbrev pub segments_of : List Layout → List (List ℕ)
-segments_of ys = with_new [] (flat_map asked_by ys)
+segments_of ys = with_new [] (flat_map requested_segments ys)
 
 abbrev pub item_multiple : Item → ℕ
 item_multiple (rounding alignment) = alignment
@@ -120,6 +124,7 @@ abbrev pub alignment_of : List Item → ℕ
 alignment_of [] = 1
 alignment_of (x ∷ xs) = max (item_multiple x) (alignment_of xs)
 
+-- the input of placement: a segment's size and alignment
 abbrev pub need_of : List Layout → List ℕ → SegmentNeed
 need_of ys name = record { name = name; size = end_of 0 (items_of ys name); align = alignment_of (items_of ys name) }
 

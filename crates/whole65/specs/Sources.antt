@@ -6,11 +6,12 @@ use Rattle.semantics65.specs.Layout.{Layout}
 use Rattle.semantics65.specs.Numbering.{IsSoundLayout}
 use Rattle.link65.specs.Programs.{Module}
 use Rattle.semantics65.specs.Module.{object_of}
-use Rattle.whole65.specs.Offsets.{IsSoundLayoutOf}
+use Rattle.whole65.specs.Offsets.{HasNoLineErrors}
 
--- a module's object is that of laid statements, of which no line has an error, and whose names and sizes fit an object, or that of version 1 of the same statements
+-- A module's object is the object of these laid-out statements, or version 1 of it. No line has an error, and the names and
+-- sizes fit into an object.
 pub record IsSource (y : Layout) (m : Module) : Type 0 where
-  pub laid_out : IsSoundLayoutOf y
+  pub laid_out : HasNoLineErrors y
   pub sound : IsSoundLayout y
   pub written : Object
   pub object : object_of y ≡ Ok written

@@ -22,7 +22,8 @@ use Rattle.whole65.specs.Values.{Program, Value, by_nobody}
 
 -- ---- Names and expressions that must have a value even if they aren't used.
 
--- each name that a module exports has a value, in the module's global scope
+-- A name that a module exports has a value in the module's global scope. (`name false (x ∷ [])` is the plain name `x`, without
+-- a leading `::`.)
 abbrev pub HasExport : Program → ℕ → List ℕ → Type 0
 HasExport p owner x = (v : ℤ) × Value p owner (p.global owner) (name false (x ∷ [])) v
 
@@ -35,28 +36,29 @@ abbrev pub HasAssertion : Program → SegmentLine → Type 0
 HasAssertion p x = go x.laid.stated
   where
     go : Statement → Type 0
-    go (Assert e act words) = (v : ℤ) × Value p x.owner x.place e v × AssertionHolds act v
+    go (Assert e act words) = (v : ℤ) × Value p x.owner x.index e v × AssertionHolds act v
     go _ = ⊤
 
 -- a module or the script provides the name
 abbrev pub IsProvided : Program → List ℕ → Type 0
 IsProvided p x = p.provider x ≢ by_nobody
 
--- the declarations of a module hold: forced names are provided, exports have values, assertions pass
-pub record IsSaid (p : Program) (owner : ℕ) (y : Layout) : Type 0 where
+-- the program satisfies the declarations of a module: forced imports are provided, exports have values, assertions hold
+pub record SatisfiesDeclarations (p : Program) (owner : ℕ) (y : Layout) : Type 0 where
   pub forced : AllByRecursion (IsProvided p) (forced_of y)
   pub exports : AllByRecursion (HasExport p owner) (exports_of y)
   pub assertions : AllByRecursion (HasAssertion p) (lines_after owner [] y.laid)
 
-abbrev pub AreSaid : Program → ℕ → List Layout → Type 0
-AreSaid p owner [] = ⊤
-AreSaid p owner (y ∷ ys) = IsSaid p owner y × AreSaid p (suc owner) ys
+-- the same for these modules, the first of which has the index `owner`
+abbrev pub SatisfiesAllDeclarations : Program → ℕ → List Layout → Type 0
+SatisfiesAllDeclarations p owner [] = ⊤
+SatisfiesAllDeclarations p owner (y ∷ ys) = SatisfiesDeclarations p owner y × SatisfiesAllDeclarations p (suc owner) ys
 
 -- ---- The image.
 
--- the names of which none may be given twice: the script's, then the modules' exports
-abbrev pub given_names : Script → List Layout → List (List ℕ)
-given_names s ys = script_names s ++ flat_map exports_of ys
+-- the names that the script provides, weak names aside, and then those that the modules export: no name may occur twice
+abbrev pub provided_names : Script → List Layout → List (List ℕ)
+provided_names s ys = script_names s ++ flat_map exports_of ys
 
 -- the bytes of a row's segment
 abbrev pub AreRow : Program → List Layout → RowBytes → SegmentRow → Type 0
@@ -65,7 +67,7 @@ AreRow p ys bytes r = AreBytes p r.fill_value 0 (items_of ys r.name) (bytes r)
 -- the image of a placed program
 pub record IsPlacedImage (output : List ℕ) (s : Script) (ys : List Layout) (placement : Placement) (p : Program) (files : List OutputFile) : Type 0 where
   pub imports : AllByRecursion (IsProvided p) (symbol_imports s.symbols)
-  pub said : AreSaid p 0 ys
+  pub declarations : SatisfiesAllDeclarations p 0 ys
   -- the bytes of each row, whether or not they are in a file
   pub bytes : RowBytes
   pub rows : AllByRecursion (AreRow p ys bytes) s.rows
@@ -73,28 +75,32 @@ pub record IsPlacedImage (output : List ℕ) (s : Script) (ys : List Layout) (pl
 
 -- Laid out and evaluated as one program, the modules have this image: a list of files by name.
 pub record IsWholeProgramImage (output : List ℕ) (s : Script) (ys : List Layout) (files : List OutputFile) : Type 0 where
-  pub once : first_again [] (given_names s ys) ≡ None
+  pub once : first_again [] (provided_names s ys) ≡ None
   pub placement : Placement
   pub placed : place_of s (needs_of ys) ≡ Ok placement
   pub image : IsPlacedImage output s ys placement (program_of s placement ys) files
 
--- The exports of modules, the first of which has this place, have values.
-abbrev pub AreExported : Program → ℕ → List Layout → Type 0
-AreExported p owner [] = ⊤
-AreExported p owner (y ∷ ys) = AllByRecursion (HasExport p owner) (exports_of y) × AreExported p (suc owner) ys
+-- ---- The conditions of an image, each for all modules.
 
--- The assertions of modules, the first of which has this place, have values and pass.
-abbrev pub AreAsserted : Program → ℕ → List Layout → Type 0
-AreAsserted p owner [] = ⊤
-AreAsserted p owner (y ∷ ys) = AllByRecursion (HasAssertion p) (lines_after owner [] y.laid) × AreAsserted p (suc owner) ys
+-- Definitions for proofs only: `IsWholeProgramImage` doesn't depend on them.
 
--- The names that modules import whether or not they use them are given.
-abbrev pub AreForced : Program → List Layout → Type 0
-AreForced p [] = ⊤
-AreForced p (y ∷ ys) = AllByRecursion (IsProvided p) (forced_of y) × AreForced p ys
+-- the exports of these modules have values; the first module has the index `owner`
+abbrev pub HaveExportValues : Program → ℕ → List Layout → Type 0
+HaveExportValues p owner [] = ⊤
+HaveExportValues p owner (y ∷ ys) = AllByRecursion (HasExport p owner) (exports_of y) × HaveExportValues p (suc owner) ys
 
--- The bytes of the rows of a placed program, and its files.
-pub record HasImage (output : List ℕ) (s : Script) (ys : List Layout) (placement : Placement) (p : Program) (files : List OutputFile) : Type 0 where
+-- the assertions of these modules have values and hold; the first module has the index `owner`
+abbrev pub PassAssertions : Program → ℕ → List Layout → Type 0
+PassAssertions p owner [] = ⊤
+PassAssertions p owner (y ∷ ys) = AllByRecursion (HasAssertion p) (lines_after owner [] y.laid) × PassAssertions p (suc owner) ys
+
+-- the names that modules import even if they don't use them are provided
+abbrev pub HaveForcedImports : Program → List Layout → Type 0
+HaveForcedImports p [] = ⊤
+HaveForcedImports p (y ∷ ys) = AllByRecursion (IsProvided p) (forced_of y) × HaveForcedImports p ys
+
+-- the rows of a placed program have bytes, and its memory areas give these files
+pub record HasRowsAndFiles (output : List ℕ) (s : Script) (ys : List Layout) (placement : Placement) (p : Program) (files : List OutputFile) : Type 0 where
   pub bytes : RowBytes
   pub rows : AllByRecursion (AreRow p ys bytes) s.rows
   pub image : AddsAreas output (IsAreaFile s.rows placement bytes) 0 s.areas [] files

@@ -1,4 +1,5 @@
--- The files that ca65 and ar65 write meet the premises on inputs.
+-- Laws of outputs: the files that ca65 and ar65 write are object files of sources and libraries of such members, as laws of
+-- inputs require.
 use Rattle.std.specs.Prelude.{◌≡◌, ℕ, ◌≤◌, List, length, IfSome, Ok}
 use Rattle.std.specs.FinMap.{get}
 use Rattle.std.specs.List.{AllByRecursion}

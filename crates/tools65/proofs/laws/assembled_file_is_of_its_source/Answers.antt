@@ -1,5 +1,5 @@
 use Rattle.tools65.proofs.Archived.{assembled_file}
-use Rattle.tools65.proofs.laws.written_file_is_kept.Goals as goal
+use Rattle.tools65.proofs.laws.assembled_file_is_of_its_source.Goals as goal
 
 pub returns : goal.returns
 returns c = assembled_file

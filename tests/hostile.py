@@ -19,7 +19,7 @@ S1 = (
 )
 # The limits of a run; a list of 20,000 names takes more.
 LITTLE, MUCH = 32 << 20, 256 << 20
-CHAIN = 20000
+CHAIN, USED = 20000, 8000
 
 
 class Tests:
@@ -166,13 +166,36 @@ def long_chains(tests):
     linked(tests, "a chain of 20,000 exports", b"\7", "main", "m1", "m2", memory=MUCH)
 
 
+def used_chains(tests):
+    """Tests that 8,000 lines which use the first of 8,000 constants, each the value of the next, take at most ten seconds of a processor."""
+    chain = [f"a{at} = a{at + 1}" for at in range(USED)]
+    uses, last = ["lda a0"] * USED, f"a{USED} = 7"
+    inner = [line for at in range(USED) for line in (f"c{at} = {'g' if not at else f'c{at - 1} + 1'}", f"lda c{at}")]
+    circular = (1, b"", b"b.s:1: Error: circular definition\n")
+    sources = {
+        "used before it ends": ([*chain, *uses, last], QUIET),
+        "used while it grows": ([line for pair in zip(chain, uses) for line in pair] + [last], QUIET),
+        "used when it has ended": ([*chain, last, *uses], QUIET),
+        "that is circular": ([*chain, f"a{USED} = a0", *uses], circular),
+        "over an undefined name": ([*chain, *uses], (1, b"", f"b.s:{USED}: Error: undefined name: a{USED}\n".encode())),
+        "over an import": ([".import f", "b0 = f + 1", *(f"b{at} = b{at - 1}" for at in range(1, USED)), *[f"lda b{USED - 1}"] * USED], QUIET),
+        "in a scope over an outer constant": (["g = 1", ".scope", *inner, ".endscope"], QUIET),
+    }
+    for name, (lines, wanted) in sources.items():
+        put("b.s", "\n".join(lines) + "\n")
+        before = resource.getrusage(resource.RUSAGE_CHILDREN).ru_utime
+        ran = tests.run(MUCH, "ca65", "b.s")
+        seconds = resource.getrusage(resource.RUSAGE_CHILDREN).ru_utime - before
+        tests.check(f"a chain of {USED} constants {name}", (ran, seconds <= 10), (wanted, True))
+
+
 def main():
     tests = Tests(os.path.abspath(sys.argv[1]))
     folder = tempfile.mkdtemp(prefix="hostile-")
     os.chdir(folder)
     try:
         put("s.cfg", S1)
-        for part in (long_lines, deep_forms, promises, large_areas, long_chains):
+        for part in (long_lines, deep_forms, promises, large_areas, long_chains, used_chains):
             part(tests)
     finally:
         os.chdir("/")

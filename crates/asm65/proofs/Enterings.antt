@@ -57,7 +57,7 @@ fed a x = record a { sections = x }
 pub fed_enters : (old : Assembler) (x : Sections) (place : SourceLocation) (s : Context) (p : Piece) (c : Content) → c.said ≡ [] → AppendsSlot old.sections x (resolved c) → IsSettled (table_of old.symbols) place s p c → EmitsPieces place s (p ∷ []) old (fed old x)
 fed_enters old x place s p c quiet feeds settled count t h =
     let there : IsSettled t.symbols place s p c = subst (λ y. IsSettled y place s p c) h.symbols settled in
-    (with_content t c, (with_content t c, at_once c there, refl), holds_entered count t old (fed old x) h (record { symbols = refl; known = refl; cursor = refl; texts = refl }) c quiet feeds)
+    (with_content t c, (with_content t c, at_once c there, refl), holds_entered count t old (fed old x) h (record { symbols = refl; cursor = refl; texts = refl }) c quiet feeds)
 
 -- what needs no value
 pub given_enters : (old : Assembler) (x : Sections) (place : SourceLocation) (s : Context) (p : Part) → AppendsSlot old.sections x (resolved (section_part s.segment p)) → EmitsPieces place s (given p ∷ []) old (fed old x)
@@ -122,7 +122,7 @@ numbers_enter old x place s width ns bytes value_part feeds count t h =
     let known = subst (λ (b : List ℕ). AppendsSlot old.sections x (resolved (section_part s.segment (Known b)))) value_part.bytes feeds in (
       all_entered t (runs s.segment f ns),
       numbers_put place s t width ns value_part.fit,
-      holds_all count t old (fed old x) h (record { symbols = refl; known = refl; cursor = refl; texts = refl }) (runs s.segment f ns) (runs_say s.segment f ns) (runs_stand s.segment f ns old.sections x known),
+      holds_all count t old (fed old x) h (record { symbols = refl; cursor = refl; texts = refl }) (runs s.segment f ns) (runs_say s.segment f ns) (runs_stand s.segment f ns old.sections x known),
     )
 
 -- ---- Assertions.

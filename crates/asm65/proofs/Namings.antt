@@ -8,15 +8,13 @@ use Rattle.symbols65.specs.Views.{table_of, with_definition, with_names, with_sc
 use Rattle.symbols65.specs.Measuring.{AreInside}
 use Rattle.asm65.specs.declared.assembler.Assembler.{Assembler}
 use Rattle.asm65.specs.Internal.AssemblerState.{Represents, is_put, AreBefore, EmitsPieces, known_where, KeepsTables, KeepsPut, DefersMentions, EmitsThenDefines, all_awaiting, is_for_zero_page, label_at, laid_as}
-use Rattle.std.specs.Prelude.{Some, Bool, OnOk, Result, Ok, Err, true, false, Option}
+use Rattle.std.specs.Prelude.{Some, OnOk, Result, Ok, Err, true, false, Option}
 use Rattle.std.proofs.lemmas.List.{take_all}
 use Rattle.ast65.proofs.Lists.{map_length}
 use Rattle.syntax65.specs.declared.source_location.SourceLocation.{SourceLocation}
-use Rattle.semantics65.specs.Norms.{Extends}
 use Rattle.semantics65.specs.Layout as layout
 use Rattle.semantics65.specs.Symbols.{Definition, Scope, Symbols, cheap_in, named, unnamed_at, with_new}
 use Rattle.semantics65.specs.Module as piece
-use Rattle.symbols65.specs.Resolving.{IsTable}
 use Rattle.std.specs.declared.alloc.AllocError.{AllocError}
 use Rattle.syntax65.specs.declared.lexing.tokens.AddressSize.{AddressSize}
 use Rattle.syntax65.specs.declared.lexing.tokens.AddressSize.TheVariants as size
@@ -42,10 +40,9 @@ known_held count t a s h at =
 -- ---- More names.
 
 -- a state with more names is held, where its table is
-pub holds_grown : (count : ℕ) (t : State) (old new : Assembler) (y : Symbols) → Represents count t old → KeepsPut old new → table_of new.symbols ≡ y → IsTable (table_of new.symbols) new.known.states.items → AreInside count y.scopes → AreBefore t.cursor.unnamed y.definitions → Represents count (record t { symbols = y }) new
-holds_grown count t old new y h keeps symbols known inside unnamed = record {
+pub holds_grown : (count : ℕ) (t : State) (old new : Assembler) (y : Symbols) → Represents count t old → KeepsPut old new → table_of new.symbols ≡ y → AreInside count y.scopes → AreBefore t.cursor.unnamed y.definitions → Represents count (record t { symbols = y }) new
+holds_grown count t old new y h keeps symbols inside unnamed = record {
   symbols = symbols;
-  known = subst (λ (z : Symbols). IsTable z new.known.states.items) symbols known;
   cursor = keeps.cursor ∙ h.cursor;
   counted = h.counted;
   inside = inside;
@@ -54,14 +51,6 @@ holds_grown count t old new y h keeps symbols known inside unnamed = record {
   unsaid = h.unsaid;
   out = ap (λ x. x.out) keeps.texts ∙ h.out;
   err = ap (λ x. x.err) keeps.texts ∙ h.err;
-}
-
-pub more_defined : (y : Symbols) (d : Definition) → Extends y (with_definition y d)
-more_defined y d = record {
-  later_definitions = d ∷ [];
-  definitions = refl;
-  later_scopes = [];
-  scopes = sym (append-nil y.scopes);
 }
 
 -- ---- Pieces that wait one behind the other.
@@ -80,7 +69,6 @@ all_taken f xs i le = take_all i (map f xs) (rw (map_length f xs) le)
 pub keeps_both : (a b c : Assembler) → KeepsTables a b → KeepsTables b c → KeepsTables a c
 keeps_both a b c h k = record {
   symbols = k.symbols ∙ h.symbols;
-  known = k.known ∙ h.known;
   cursor = k.cursor ∙ h.cursor;
   texts = k.texts ∙ h.texts;
 }
@@ -118,15 +106,15 @@ puts_beside place s t u (p ∷ ps) h =
     let rest = puts_beside place s h.0 u ps h.2 in
     record { symbols = rest.symbols ∙ one.symbols; cursor = rest.cursor ∙ one.cursor; out = rest.out ∙ one.out; err = rest.err ∙ one.err }
 
-pub turns_after : (place : SourceLocation) (s : Context) (ps : List piece.Piece) (becomes : Symbols → Symbols) (old mid new : Assembler) → EmitsPieces place s ps old mid → KeepsPut mid new → table_of new.symbols ≡ becomes (table_of mid.symbols) → IsTable (table_of new.symbols) new.known.states.items → EmitsThenDefines place s ps becomes old new
-turns_after place s ps becomes old mid new enters keeps table known count t h inside unnamed =
+pub turns_after : (place : SourceLocation) (s : Context) (ps : List piece.Piece) (becomes : Symbols → Symbols) (old mid new : Assembler) → EmitsPieces place s ps old mid → KeepsPut mid new → table_of new.symbols ≡ becomes (table_of mid.symbols) → EmitsThenDefines place s ps becomes old new
+turns_after place s ps becomes old mid new enters keeps table count t h inside unnamed =
     let x = enters count t h in
     let u : State = x.0 in
     let held : Represents count u mid = x.2 in
     let beside = puts_beside place s t u ps x.1 in (
       u,
       x.1,
-      holds_grown count u mid new (becomes t.symbols) held keeps (table ∙ ap becomes (held.symbols ∙ beside.symbols)) known
+      holds_grown count u mid new (becomes t.symbols) held keeps (table ∙ ap becomes (held.symbols ∙ beside.symbols))
           inside
           (subst (λ (w : layout.Cursor). AreBefore w.unnamed (becomes t.symbols).definitions) (sym beside.cursor) unnamed),
     )
@@ -143,29 +131,9 @@ turns_as place s ps f g old new same turns count t h inside unnamed =
     let x = turns count t h (subst (λ (y : Symbols). AreInside count y.scopes) (sym e) inside) (subst (λ (y : Symbols). AreBefore t.cursor.unnamed y.definitions) (sym e) unnamed) in
     (x.0, x.1, subst (λ (y : Symbols). Represents count (record x.0 { symbols = y }) new) e x.2)
 
-pub more_opened : (y : Symbols) (c : Scope) → Extends y (with_scope y c)
-more_opened y c = record {
-  later_definitions = [];
-  definitions = sym (append-nil y.definitions);
-  later_scopes = c ∷ [];
-  scopes = refl;
-}
-
-pub more_imported : (y : Symbols) (b : Bool) (names : List (List ℕ)) → Extends y (with_names y b names)
-more_imported y b names = record {
-  later_definitions = [];
-  definitions = sym (append-nil y.definitions);
-  later_scopes = [];
-  scopes = sym (append-nil y.scopes);
-}
-
 pub where_ok : {A E P Q : Type 0} (r : Result A E) → (P → Q) → OnOk r P → OnOk r Q
 where_ok (Ok x) f p = f p
 where_ok (Err e) f p = tt
-
-pub on_both : {A E P Q R : Type 0} (r : Result A E) → (P → Q → R) → OnOk r P → OnOk r Q → OnOk r R
-on_both (Ok x) f p q = f p q
-on_both (Err e) f p q = tt
 
 -- ---- The names of a statement.
 

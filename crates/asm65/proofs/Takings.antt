@@ -1,6 +1,6 @@
 -- One statement behind the others.
 use Rattle.std.proofs.Common.{◌≡◌, ◌∙◌, ℕ, zero, suc, ◌+◌, ◌≤◌, List, [], ◌∷◌, ◌++◌, refl, sym, ap, subst, append-nil, arith, true, false, Option, Some, None}
-use Rattle.std.specs.Prelude.{Bool, ◌&&◌, ◌||◌, Result, IfSome, length, OnOk, Ok, Err, slice_get, if◌then◌else◌}
+use Rattle.std.specs.Prelude.{Bool, ◌&&◌, ◌||◌, IfSome, length, Ok, Err, slice_get, if◌then◌else◌}
 use Rattle.std.proofs.lemmas.Bool.Decides.{nat_tests}
 use Rattle.base65.specs.Outcome.{Unless}
 use Rattle.syntax65.specs.declared.source_location.SourceLocation.{SourceLocation}
@@ -20,10 +20,9 @@ use Rattle.symbols65.proofs.Measures.{faults_are, unless_then}
 use Rattle.semantics65.proofs.Segments.{all_more, all_same}
 use Rattle.sources65.specs.Machine.{PieceStep, PieceSteps, State, StepsWithoutError, StepsTo, UnlessFault, at_once, with_content, with_symbols, later, symbols_after}
 use Rattle.semantics65.specs.Module.{out_of, warning_of, Piece, pieces_of}
-use Rattle.symbols65.specs.declared.resolving.cache.NormCache.{NormCache}
-use Rattle.symbols65.specs.Resolving.{IsTable}
 use Rattle.symbols65.specs.Views.{table_of}
 use Rattle.symbols65.proofs.Words.{position_none}
+use Rattle.symbols65.specs.declared.table.symbols.Symbols.{Symbols as SymbolTable}
 use Rattle.asm65.specs.declared.assembler.Assembler.{Assembler}
 use Rattle.asm65.specs.declared.texts.ConsoleOutput.{ConsoleOutput}
 use Rattle.asm65.specs.Internal.AssemblerState.{AreBefore, Represents, IsBefore, IsNew, IsMeasuredAt, EmitsThenDefines, asked_of, laid_as, state_after_layout}
@@ -36,6 +35,20 @@ use Rattle.ast65.specs.Faults.{is_failure, is_memory, is_system_error}
 use Rattle.ast65.specs.declared.language.Statement.TheVariants.{Incbin, IncbinPath}
 use Rattle.sources65.specs.Reading.{bytes_for, with_bytes}
 use Rattle.asm65.specs.Internal.RunState.{IsRefusedUnread}
+
+-- what searches find in a symbol table changes no state that an assembler represents
+pub represents_searched : (count : ℕ) (t : State) (old : Assembler) (symbols : SymbolTable) → table_of symbols ≡ table_of old.symbols → Represents count t old → Represents count t (record old { symbols = symbols })
+represents_searched count t old symbols same h = record {
+  symbols = same ∙ h.symbols;
+  cursor = h.cursor;
+  counted = h.counted;
+  inside = h.inside;
+  unnamed = h.unnamed;
+  sections = h.sections;
+  unsaid = h.unsaid;
+  out = h.out;
+  err = h.err;
+}
 
 -- ---- Unnamed labels.
 
@@ -128,33 +141,12 @@ asked_beside segment x t = by (needs_section x)
 wider : (count more : ℕ) (cs : List Scope) → AreInside count cs → AreInside (count + more) cs
 wider count more cs h = all_same (λ (c : Scope). c.within ≤ count) (λ (c : Scope). c.within ≤ count + more) (λ c le. omega (arith, le)) cs h
 
--- another table of forms
-pub holds_known : (count : ℕ) (t : State) (a : Assembler) (k : NormCache) → Represents count t a → IsTable (table_of a.symbols) k.states.items → Represents count t (record a { known = k })
-holds_known count t a k h table = record {
-  symbols = h.symbols;
-  known = subst (λ (y : Symbols). IsTable y k.states.items) h.symbols table;
-  cursor = h.cursor;
-  counted = h.counted;
-  inside = h.inside;
-  unnamed = h.unnamed;
-  sections = h.sections;
-  unsaid = h.unsaid;
-  out = h.out;
-  err = h.err;
-}
-
--- the same where a call that found forms wasn't refused
-pub held_on : (count : ℕ) (t : State) (a : Assembler) (k : NormCache) (r : Result (Unit {0}) AsmFault) → Represents count t a → OnOk r (IsTable (table_of a.symbols) k.states.items) → OnOk r (Represents count t (record a { known = k }))
-held_on count t a k (Ok u) h table = holds_known count t a k h table
-held_on count t a k (Err e) h table = tt
-
 pub holds_stepped : (count : ℕ) (t : State) (place : SourceLocation) (x : Statement) (a : Assembler) (v : Cursor) (said : ConsoleOutput) → Represents count (asked_of (context_of t.cursor).segment x t) a → v ≡ cursor_after t.symbols t.cursor x → IsCounted (count + opened_by x) (cursor_after t.symbols t.cursor x) → said.out ≡ a.texts.out ++ out_of x → said.err ≡ a.texts.err ++ warning_of place x → Represents (count + opened_by x) (state_after_layout t place x) (record a { cursor = v; texts = said })
 holds_stepped count t place x a v said h cursor counted out err =
     let u : State = asked_of (context_of t.cursor).segment x t in
     let same : u.cursor ≡ t.cursor = (asked_beside (context_of t.cursor).segment x t).cursor in
     record {
       symbols = h.symbols;
-      known = h.known;
       cursor = cursor;
       counted = counted;
       inside = wider count (opened_by x) u.symbols.scopes h.inside;

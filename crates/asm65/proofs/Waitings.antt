@@ -1,5 +1,5 @@
 -- What an assembler holds when one more piece waits or is put at once.
-use Rattle.std.proofs.Common.{◌≡◌, ◌∙◌, ℕ, List, [], ◌∷◌, ◌++◌, map, sym, ap, subst, refl}
+use Rattle.std.proofs.Common.{◌≡◌, ◌∙◌, ℕ, List, [], ◌∷◌, ◌++◌, map, ap, refl}
 use Rattle.std.proofs.lemmas.Grind.{flat_map-append}
 use Rattle.std.proofs.lemmas.List.{map-append}
 use Rattle.semantics65.specs.Contents.{Content}
@@ -11,8 +11,6 @@ use Rattle.emit65.specs.declared.sections.Sections.{Sections}
 use Rattle.semantics65.specs.Numbering.{all_said}
 use Rattle.emit65.specs.SectionContents.{AppendsSlot, RepresentsSlots, contents_so_far, so_far}
 use Rattle.emit65.proofs.Slots.{held_contents}
-use Rattle.symbols65.specs.declared.resolving.cache.NormCache.{NormCache}
-use Rattle.symbols65.specs.Resolving.{IsTable}
 use Rattle.symbols65.specs.Views.{table_of}
 use Rattle.asm65.specs.declared.assembler.Assembler.{Assembler}
 use Rattle.asm65.specs.Internal.AssemblerState.{EmitsPieces, Represents, KeepsTables, DefersPiece}
@@ -37,7 +35,6 @@ module _ (count : ℕ) (t : State) (old new : Assembler) (h : Represents count t
   pub holds_slots : (xs : List Slot) → all_said (contents_so_far xs) ≡ [] → FeedsAll old.sections new.sections xs → Represents count (with_slots t xs) new
   holds_slots xs quiet feeds = record {
     symbols = ap table_of keeps.symbols ∙ h.symbols;
-    known = subst (λ (k : NormCache). IsTable t.symbols k.states.items) (sym keeps.known) h.known;
     cursor = keeps.cursor ∙ h.cursor;
     counted = h.counted;
     inside = h.inside;

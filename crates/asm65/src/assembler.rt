@@ -11,8 +11,8 @@ use emit65::Sections;
 use expand65::Knows;
 use semantics65::Context;
 use std::alloc::{AllocError, Global};
-use symbols65::constants::constant_now;
-use symbols65::{Cursor, NormCache, Symbols, definition_of};
+use symbols65::constants::constant;
+use symbols65::{Cursor, Symbols, definition_of};
 use syntax65::{Expr, Name};
 
 /// What is known of names and expressions at a context, by the definitions before it.
@@ -26,7 +26,7 @@ impl Knows for Knowledge<'_> {
     ghost meaning = { λ k. known_where (table_of k.symbols.now) k.context };
 
     fn value(&self, alloc: Global, expr: &Expr) -> Result<Option<i64>, AllocError> {
-        constant_now(alloc, self.symbols, self.context, expr)
+        constant(alloc, self.symbols, self.context, expr)
     }
 
     fn defined(&self, name: &Name) -> bool {
@@ -38,8 +38,6 @@ impl Knows for Knowledge<'_> {
 #[derive(Drop)]
 pub struct Assembler {
     pub symbols: Symbols,
-    /// The forms of constants found so far by the symbol table.
-    pub known: NormCache,
     pub cursor: Cursor,
     /// Section contents, declarations and pending fixups.
     pub sections: Sections,
@@ -53,7 +51,6 @@ impl Assembler {
     {
         Ok(Assembler {
             symbols: Symbols::new(alloc, seed),
-            known: NormCache::new(alloc),
             cursor: Cursor::start(alloc)?,
             sections: Sections::new(alloc, seed),
             texts: ConsoleOutput::new(alloc),

@@ -57,25 +57,17 @@ fn bytes_beside<S: Store>(
 
 /// Refuses a part of a file for what is wrong with it whatever the file has.
 #[inline(never)]
-fn check_range(
-    alloc: Global,
-    assembler: &mut Assembler,
-    range: IncbinRange<'_>,
-) -> Result<(), AsmFault>
-    requires { IsRepresentable assembler.old }
-    ensures checked { (count : ℕ) (t : State) → Represents count t assembler.old →
+fn check_range(alloc: Global, assembler: &Assembler, range: IncbinRange<'_>) -> Result<(), AsmFault>
+    ensures checked { (count : ℕ) (t : State) → Represents count t assembler.now →
         Refines is_memory (λ u. u) result (unless_fault (unread_fault t.symbols t.cursor
         range.entry.start.now range.entry.len.now) tt) }
-    ensures held { (count : ℕ) (t : State) → Represents count t assembler.old →
-        OnOk result (Represents count t assembler.new) }
-    ensures texts { assembler.new.texts ≡ assembler.old.texts }
     ensures inside { IfErr result (λ e. is_failure e ≡ false) }
 {
     let before = LineState {
         symbols: &assembler.symbols,
         cursor: &assembler.cursor,
     };
-    check_unread(alloc, before, &mut assembler.known, range)
+    check_unread(alloc, before, range)
 }
 
 /// A statement with the bytes that it takes from a file. The file is read only where nothing is wrong with the

@@ -8,7 +8,6 @@ ghost use Rattle.semantics65.specs.Numbering.{all_said, AreSound};
 ghost use Rattle.sources65.specs.Machine.{State, outcome_of_state, resolution_of_state};
 ghost use Rattle.semantics65.specs.Module.{Outcome, Slot, deferred};
 ghost use Rattle.emit65.specs.SectionContents.{RepresentsSlots, contents_so_far, fixup_of, names_of, slot_of};
-ghost use Rattle.symbols65.specs.Resolving.{IsTable};
 ghost use Rattle.symbols65.specs.Views.{table_of};
 ghost use Rattle.asm65.specs.Assembly.{RefinesOutcome, has_failed, in_places, is_from_outside};
 ghost use Rattle.asm65.specs.Internal.AssemblerState.{Represents};
@@ -237,7 +236,6 @@ fn answered(alloc: Global, answer: Result<Object, Diagnostic>, texts: ConsoleOut
 
 /// Returns the result after the last line: the object, or the first error of a fixup.
 pub fn finish_assembly(alloc: Global, assembler: Assembler) -> Assembly
-    requires { IsTable (table_of assembler.symbols) assembler.known.states.items }
     ensures concluded { (count : ℕ) (t : State) → Represents count t assembler →
         RefinesOutcome (outcome_of_state t None) result }
     ensures good { IfOk result.result (λ o. (count : ℕ) (t : State) → Represents count t assembler →
@@ -250,12 +248,18 @@ pub fn finish_assembly(alloc: Global, assembler: Assembler) -> Assembly
 {
     let Assembler {
         symbols,
-        known,
         cursor,
         sections,
         texts,
     } = assembler;
     let ConsoleOutput { out, err } = texts;
+    let Ok(known) = NormCache::new(alloc, &symbols) else {
+        return answered(
+            alloc,
+            Err(Diagnostic::without_memory()),
+            ConsoleOutput { out, err },
+        );
+    };
     let mut ending = ResolveState {
         known,
         exported: IndexSet::with_hasher(alloc, *symbols.imports.hasher()),

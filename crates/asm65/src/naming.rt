@@ -1,14 +1,14 @@
 //! Names that statements define, open, import and export.
 
-ghost use Rattle.std.specs.Prelude.{◌≡◌, None, OnOk, length, IfOk, map, ◌∷◌, [], Some, ◌++◌, false, true};
+ghost use Rattle.std.specs.Prelude.{◌≡◌, None, OnOk, length, IfOk, IfSome, map, ◌∷◌, [], Some, ◌++◌, false, true};
 ghost use Rattle.semantics65.specs.Symbols.{definition_index, Key as DefinedKey, named};
 ghost use Rattle.symbols65.specs.Tables.{KeepsFinal, definition_seen, key_of};
 ghost use Rattle.symbols65.specs.Views.{table_of, with_definition, with_names, with_scope};
 ghost use Rattle.std.specs.Option.{option_map};
 ghost use Rattle.semantics65.specs.Layout.{opened_twice};
-ghost use Rattle.symbols65.specs.Resolving.{IsTable};
 ghost use Rattle.asm65.specs.Internal.AssemblerState.{EmitsPieces, KeepsPut, IsNew, is_put, laid_as, KeepsTables, name_use_piece, is_for_zero_page, label_at, DefersMentions, EmitsThenDefines};
 ghost use Rattle.symbols65.specs.Evaluations.{HasFinal, first_tree};
+ghost use Rattle.symbols65.specs.Resolving.{IsBlocked};
 ghost use Rattle.emit65.specs.SectionContents.{piece_of};
 ghost use Rattle.sources65.specs.Machine.{symbols_after};
 ghost use Rattle.semantics65.specs.Views.{place_at};
@@ -25,7 +25,7 @@ use emit65::FixupKind;
 use object65::Norm;
 use semantics65::Context;
 use std::alloc::{AllocError, Global};
-use symbols65::{Definition, Key, StatementLayout, define};
+use symbols65::{Definition, Key, StatementLayout, Symbols, blocker_of, define};
 use syntax65::{AddressSize, Expr};
 
 /// How a statement mentions a name.
@@ -50,6 +50,16 @@ fn piece_of(alloc: Global, mention: NameUse, name: &[u8]) -> Result<FixupKind, A
     }
 }
 
+/// Returns the blocker of a constant. A constant with a final form has none.
+fn blocker(symbols: &Symbols, context: Context, value: &Expr, form: &Option<Norm>) -> Option<usize>
+    ensures { IfSome result (IsBlocked (table_of symbols.now) context value.now) }
+{
+    match form {
+        Some(_) => None,
+        None => blocker_of(symbols, context, value),
+    }
+}
+
 impl Assembler {
     /// A new key is defined.
     pub fn define(
@@ -58,21 +68,16 @@ impl Assembler {
         key: Key<'_>,
         definition: Definition,
     ) -> Result<(), AllocError>
-        requires known { IsTable (table_of self.old.symbols) self.old.known.states.items }
         requires new { definition_index (table_of self.old.symbols) (key_of key) ≡ None }
         requires form { KeepsFinal (table_of self.old.symbols)
             (length (table_of self.old.symbols).definitions)
-            (definition_seen (key_of key) definition) definition.form }
+            (definition_seen (key_of key) definition) definition }
         ensures table { OnOk result (table_of self.new.symbols ≡
             with_definition (table_of self.old.symbols)
             (definition_seen (key_of key.entry) definition)) }
-        ensures known { OnOk result
-            (IsTable (table_of self.new.symbols) self.new.known.states.items) }
         ensures keeps { KeepsPut self.old self.new }
     {
-        let keeps_found = self.known.keeps_with(&self.symbols, key);
-        define(alloc, &mut self.symbols, key, definition)?;
-        self.known.grow(keeps_found)
+        define(alloc, &mut self.symbols, key, definition)
     }
 
     /// A scope is opened within another, which has none of this name.
@@ -83,7 +88,6 @@ impl Assembler {
         name: Option<&[u8]>,
         is_proc: bool,
     ) -> Result<(), AllocError>
-        requires known { IsTable (table_of self.old.symbols) self.old.known.states.items }
         requires new { opened_twice (table_of self.old.symbols).scopes within
             (option_map (λ n. n.now) name) ≡ None }
         ensures table { OnOk result (table_of self.new.symbols ≡
@@ -92,17 +96,10 @@ impl Assembler {
               name = option_map (λ n. n.now) name.entry;
               is_proc = is_proc;
             })) }
-        ensures known { OnOk result
-            (IsTable (table_of self.new.symbols) self.new.known.states.items) }
         ensures keeps { KeepsPut self.old self.new }
     {
-        let keeps_found = self.known.keeps_opened(&self.symbols);
         self.symbols
-            .open_scope(alloc, within as usize, name, is_proc)?;
-        if !keeps_found {
-            self.known.forget();
-        }
-        Ok(())
+            .open_scope(alloc, within as usize, name, is_proc)
     }
 
     /// Names are imported, perhaps for the zero page.
@@ -112,14 +109,10 @@ impl Assembler {
         names: &[ListVec<u8>],
         is_zero_page: bool,
     ) -> Result<(), AllocError>
-        requires known { IsTable (table_of self.old.symbols) self.old.known.states.items }
         ensures table { OnOk result (table_of self.new.symbols ≡
             with_names (table_of self.old.symbols) is_zero_page names.now) }
-        ensures known { OnOk result
-            (IsTable (table_of self.new.symbols) self.new.known.states.items) }
         ensures keeps { KeepsPut self.old self.new }
     {
-        // What means something already means the same with more imports.
         self.symbols.import(alloc, names, is_zero_page)
     }
 
@@ -175,7 +168,6 @@ impl Assembler {
         value: Expr,
         form: Option<Norm>,
     ) -> Result<(), AllocError>
-        requires known { IsTable (table_of self.old.symbols) self.old.known.states.items }
         requires new { definition_index (table_of self.old.symbols) (named site.context.scope name.now) ≡ None }
         requires form { HasFinal (table_of self.old.symbols) site.context (Some value) form }
         ensures { OnOk result (EmitsThenDefines (place_at site.entry.at)
@@ -191,11 +183,13 @@ impl Assembler {
         let context = site.context;
         self.enter_constant(alloc, site, &value, &form)?;
         let scope = context.scope as usize;
+        let blocker = blocker(&self.symbols, context, &value, &form);
         let definition = Definition {
             value: Some(value),
             context,
             size,
             form,
+            blocker,
         };
         self.define(alloc, Key::Named { scope, name }, definition)
     }
@@ -211,12 +205,14 @@ fn is_for_zero_page(size: AddressSize) -> bool
 fn label(context: Context, size: AddressSize) -> Definition
     ensures seen { (k : DefinedKey) → definition_seen k result ≡ label_at k context size }
     ensures form { result.form ≡ None }
+    ensures blocker { result.blocker ≡ None }
 {
     Definition {
         value: None,
         context,
         size,
         form: None,
+        blocker: None,
     }
 }
 
@@ -230,7 +226,6 @@ impl Assembler {
         context: Context,
         size: AddressSize,
     ) -> Result<(), AllocError>
-        requires known { IsTable (table_of self.old.symbols) self.old.known.states.items }
         requires new { definition_index (table_of self.old.symbols) (key_of key) ≡ None }
         ensures { OnOk result ((place : SourceLocation) → EmitsThenDefines place context []
             (λ y. with_definition y (label_at (key_of key.entry) context size))
@@ -247,7 +242,6 @@ impl Assembler {
         context: Context,
         name: Option<&[u8]>,
     ) -> Result<(), AllocError>
-        requires known { IsTable (table_of self.old.symbols) self.old.known.states.items }
         requires new { opened_twice (table_of self.old.symbols).scopes context.scope
             (option_map (λ n. n.now) name) ≡ None }
         ensures { OnOk result ((place : SourceLocation) → EmitsThenDefines place context []
@@ -270,7 +264,6 @@ impl Assembler {
         size: AddressSize,
         name: &[u8],
     ) -> Result<(), AllocError>
-        requires known { IsTable (table_of self.old.symbols) self.old.known.states.items }
         requires new { definition_index (table_of self.old.symbols) (named context.scope name.now) ≡ None }
         requires unopened { opened_twice (table_of self.old.symbols).scopes context.scope
             (Some name.now) ≡ None }
@@ -295,7 +288,6 @@ impl Assembler {
         size: AddressSize,
         names: &[ListVec<u8>],
     ) -> Result<(), AllocError>
-        requires { IsTable (table_of self.old.symbols) self.old.known.states.items }
         ensures { OnOk result (EmitsThenDefines
             (place_at site.entry.at) site.entry.context
             (map (name_use_piece mention) names.now)
@@ -313,7 +305,6 @@ impl Assembler {
         site: PieceContext<'_>,
         names: &[ListVec<u8>],
     ) -> Result<(), AllocError>
-        requires { IsTable (table_of self.old.symbols) self.old.known.states.items }
         ensures { OnOk result (EmitsThenDefines
             (place_at site.entry.at) site.entry.context
             (map imported names.now ++ map demanded names.now)
@@ -334,7 +325,6 @@ impl Assembler {
         statement: Statement,
         form: Option<Norm>,
     ) -> Result<(), AllocError>
-        requires known { IsTable (table_of self.old.symbols) self.old.known.states.items }
         requires new { IsNew (table_of self.old.symbols) site.context statement }
         requires named { is_put statement ≡ false }
         requires form { HasFinal (table_of self.old.symbols) site.context

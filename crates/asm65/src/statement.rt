@@ -15,7 +15,6 @@ ghost use Rattle.semantics65.specs.Contents.{operand_tree};
 ghost use Rattle.semantics65.specs.Module.{instruction_pieces, pieces_of};
 ghost use Rattle.sources65.specs.Reading.{RepresentsOrFails};
 ghost use Rattle.symbols65.specs.Evaluations.{HasFinal, HaveFinals, items_in, first_tree};
-ghost use Rattle.symbols65.specs.Resolving.{IsTable};
 ghost use Rattle.symbols65.specs.Views.{table_of};
 ghost use Rattle.asm65.specs.Internal.AssemblerState.{EmitsPieces, Represents, KeepsTables, RequestsSection, IsRepresentable, IsNew, IsMeasuredAt, IsRefused, EmitsThenDefines, laid_as, state_after_layout};
 
@@ -33,6 +32,7 @@ use semantics65::{Context, EncodingChoice, LocationRef};
 use std::alloc::{AllocError, Global};
 use symbols65::{
     Analysis, LineState, StatementLayout, lay_out_statement, measure_instruction, needs_section,
+    search_operand, search_statement,
 };
 use syntax65::{Mnemonic, Mode, opcode};
 
@@ -168,7 +168,6 @@ impl Assembler {
         analysis: Analysis,
         statement: Statement,
     ) -> Result<(), AllocError>
-        requires known { IsTable (table_of self.old.symbols) self.old.known.states.items }
         requires new { IsNew (table_of self.old.symbols) site.context statement }
         requires form { HasFinal (table_of self.old.symbols) site.context
             (first_tree statement) analysis.form }
@@ -235,8 +234,6 @@ impl Assembler {
             self.new) }
         ensures refused { (count : ℕ) (t : State) → Represents count t self.old → IfErr result
             (IsRefused t statement.now) }
-        ensures known { OnOk result
-            (IsTable (table_of self.new.symbols) self.new.known.states.items) }
         ensures new { IfOk result (λ p. IsNew (table_of self.new.symbols) p.context statement.now) }
         ensures form { IfOk result (λ p. HasFinal (table_of self.new.symbols) p.context
             (first_tree statement.now) p.analysis.form) }
@@ -249,7 +246,7 @@ impl Assembler {
             symbols: &self.symbols,
             cursor: &self.cursor,
         };
-        let analysis = lay_out_statement(alloc, before, &mut self.known, statement)?;
+        let analysis = lay_out_statement(alloc, before, statement)?;
         let context = self.cursor.context();
         self.request_section(context.segment, statement)?;
         self.texts.record_output(at, statement)?;
@@ -284,7 +281,7 @@ impl Assembler {
             symbols: &self.symbols,
             cursor: &self.cursor,
         };
-        let analysis = measure_instruction(alloc, before, &mut self.known, mnemonic, operand)?;
+        let analysis = measure_instruction(alloc, before, mnemonic, operand)?;
         let context = self.cursor.context();
         self.sections.request_section(context.segment)?;
         self.cursor.advance_by(analysis.measured.length);
@@ -307,6 +304,7 @@ impl Assembler {
         ensures texts { IfErr result (λ e. is_system_error e ≡ false → self.new.texts ≡ self.old.texts) }
         ensures inside { IfErr result (λ e. is_failure e ≡ false) }
     {
+        search_operand(alloc, &mut self.symbols, self.cursor.context(), &operand)?;
         match self.place_instruction(alloc, mnemonic, &operand) {
             Ok(LaidOut { context, analysis }) => {
                 let site = PieceContext { at, context };
@@ -332,6 +330,7 @@ impl Assembler {
         ensures texts { IfErr result (λ e. is_system_error e ≡ false → self.new.texts ≡ self.old.texts) }
         ensures inside { IfErr result (λ e. is_failure e ≡ false) }
     {
+        search_statement(alloc, &mut self.symbols, self.cursor.context(), &statement)?;
         match self.lay_out(alloc, at, &statement) {
             Ok(LaidOut { context, analysis }) => {
                 self.emit_statement(alloc, PieceContext { at, context }, analysis, statement)?;

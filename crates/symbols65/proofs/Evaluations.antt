@@ -3,7 +3,6 @@ use Rattle.std.proofs.lemmas.Grind.{common_steps}
 use Rattle.std.proofs.Common.{◌≡◌, ◌∙◌, ◌⊎◌, inl, inr, ◌<◌, ◌++◌, ℕ, zero, suc, get_or, List, [], ◌∷◌, length, Bool, true, false, Option, Some, None, Result, Ok, Err, refl, sym, ap, subst, arith, append-nil}
 use Rattle.std.specs.Prelude.{ℤ, IfOk, is_some, pos, slice_get, if◌then◌else◌}
 use Rattle.std.specs.Option.{option_and_then}
-use Rattle.std.specs.Result.{result_ok}
 use Rattle.base65.specs.Outcome.{◌>>=◌, Unless}
 use Rattle.base65.specs.declared.values.Op1.{Op1}
 use Rattle.base65.specs.declared.values.Op2.{Op2}
@@ -18,7 +17,7 @@ use Rattle.semantics65.specs.declared.laid.Context.{Context}
 use Rattle.semantics65.specs.declared.laid.EncodingChoice.TheVariants.{FillByte}
 use Rattle.semantics65.specs.Layout.{lost_scope, lost_scopes, operand_trees, optional_tree, or_then, trees_of, unless_fault}
 use Rattle.semantics65.specs.Norms.{address_of, constant_in, byte_count, fill_settled, optional_value, fold_result, form_of_meaning, larger, literal_in, norm, norm_of, size_by, size_of, size_of_meaning, size_of_value, takes_byte}
-use Rattle.semantics65.specs.Symbols.{Binding, Scope, Symbols, defined_at, binding_of}
+use Rattle.semantics65.specs.Symbols.{Binding, Scope, Symbols, binding_of}
 use Rattle.ast65.specs.declared.language.Item.{Item}
 use Rattle.ast65.specs.declared.language.Operand.{Operand}
 use Rattle.ast65.specs.declared.language.Operand.TheVariants as operands
@@ -27,15 +26,12 @@ use Rattle.ast65.specs.declared.language.Statement.TheVariants as statement
 use Rattle.object65.specs.declared.object.Width.{Width}
 use Rattle.semantics65.specs.Contents.{operand_tree}
 use Rattle.symbols65.specs.Evaluations.{AreEvaluations, EvaluatesTree, HasFinal, HaveFinals, IsEvaluated, IsEvaluation, first_tree, item_tree, items_in, second_tree}
-use Rattle.symbols65.specs.Resolving.{IsFinalWithin, IsReference, MeansAlways, attempt_definition, binary_form, known_form, plain, plain_in, prefix_form}
-use Rattle.symbols65.specs.Views.{known_by, table_of}
+use Rattle.symbols65.specs.Resolving.{IsFinalWithin, IsReference, binary_form, plain, plain_in, prefix_form}
 use Rattle.symbols65.specs.declared.constants.Evaluation.{Evaluation}
 use Rattle.symbols65.specs.declared.measuring.trees.Evaluations.{Evaluations}
-use Rattle.symbols65.specs.declared.resolving.attempt.FormSource.TheVariants.{Finals}
-use Rattle.symbols65.specs.declared.table.symbols.Symbols as code
-use Rattle.symbols65.proofs.Finals.{binary_stays, operand_stays, prefix_stays}
-use Rattle.symbols65.proofs.Hanging.{extends_itself}
+use Rattle.symbols65.proofs.Finals.{binary_stays, prefix_stays}
 use Rattle.symbols65.proofs.Measures.{left_after, refused_first, refused_same, unless_then}
+use Rattle.symbols65.proofs.Turns.{extends_itself}
 use Rattle.symbols65.proofs.Words.{get_more}
 use Rattle.symbols65.proofs.Sizing.{binary_plain, folded_plain, plain_again, plain_known, plain_twice, plain_value, prefix_plain}
 
@@ -172,18 +168,15 @@ module _ (y : Symbols) (s : Context) (own : AddressSize) where
       (λ no. absurd cc)
       (ap (λ a. size_by a (constant_in y s e)) (sized ∙ ap (size_of_meaning y) (sym is)) ∙ sym (reference_size e h))
 
--- what means the same whatever statements follow, and has a final form
-pub final_found : (t : code.Symbols) (s : Context) (own : AddressSize) (e : Tree) (j : ℕ) (f : Form) (r : Evaluation) (other : AddressSize) → IsReference e → MeansAlways (table_of t) s e j →
-    attempt_definition (λ q v. known_form j (known_by t Finals j)) (slice_get (table_of t).definitions j) ≡ Ok f → other ≡ size_of_meaning (table_of t) (Ok (defined_at j)) →
-    IsMadeOf r (Some f) true other → IsEvaluation (table_of t) s own e r
-final_found t s own e j f r other h means at sized m =
-    let y : Symbols = table_of t in
-    let keeps : IsFinalWithin (length y.definitions) y s e f = operand_stays t s e j f means at in
-    let now : norm_of y s e ≡ Ok f = keeps y (extends_itself y) in
-    made y s own e r (Some f) true other m
-    (sym (ap plain_in now))
-    (λ yes g is. (let same : f ≡ g = cc in subst (IsFinalWithin (length y.definitions) y s e) same keeps))
-    (ap (λ a. size_by a (constant_in y s e)) (sized ∙ ap (size_of_meaning y) (sym (means.1 y (extends_itself y)))) ∙ sym (reference_size y s own e h))
+module _ (y : Symbols) (s : Context) (own : AddressSize) where
+  -- what means something, and has a final form
+  pub final_found : (e : Tree) (means : Binding) (f : Form) (r : Evaluation) (other : AddressSize) → IsReference e → binding_of y s e ≡ Ok means → IsFinalWithin (length y.definitions) y s e f → other ≡ size_of_meaning y (Ok means) →
+      IsMadeOf r (Some f) true other → IsEvaluation y s own e r
+  final_found e means f r other h is keeps sized m =
+      made y s own e r (Some f) true other m
+      (sym (ap plain_in (keeps y (extends_itself y))))
+      (λ yes g at. (let same : f ≡ g = cc in subst (IsFinalWithin (length y.definitions) y s e) same keeps))
+      (ap (λ a. size_by a (constant_in y s e)) (sized ∙ ap (size_of_meaning y) (sym is)) ∙ sym (reference_size y s own e h))
 
 -- ---- Names whose scope isn't there.
 

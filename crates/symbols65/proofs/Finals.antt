@@ -1,6 +1,6 @@
 -- What stays whatever statements follow.
 use Rattle.std.proofs.lemmas.Grind.{common_steps}
-use Rattle.std.proofs.Common.{◌≡◌, ℕ, zero, suc, ◌+◌, ◌-◌, ◌≤◌, Bool, true, false, List, [], ◌∷◌, length, take, position, is_some, Option, Some, None, IfSome, IfOk, slice_get, Result, Ok, Err, refl, sym, ap, ◌∙◌, arith}
+use Rattle.std.proofs.Common.{◌≡◌, ℕ, zero, suc, ◌+◌, ◌-◌, ◌≤◌, Bool, true, false, List, [], ◌∷◌, length, take, position, Option, Some, None, IfSome, IfOk, slice_get, Result, Ok, Err, refl, sym, ap, ◌∙◌, arith}
 use Rattle.std.specs.Prelude.{nat_le, if◌then◌else◌}
 use Rattle.std.proofs.lemmas.Bool.Decides.{nat_tests}
 use Rattle.std.proofs.lemmas.List.{length-append, take-append-le}
@@ -12,21 +12,22 @@ use Rattle.syntax65.specs.Trees.{Tree, number, here, name, cheap, forward, backw
 use Rattle.object65.specs.Form.{Form}
 use Rattle.object65.specs.Folding.{fold1, fold2}
 use Rattle.object65.specs.declared.folding.FormFault.{FormFault}
+use Rattle.ast65.specs.declared.fault.AsmFault.{AsmFault}
 use Rattle.ast65.specs.declared.fault.AsmFault.TheVariants.{NoSuchLabel, NoSuchScope, Undefined}
 use Rattle.semantics65.specs.declared.laid.Context.{Context}
-use Rattle.semantics65.specs.Symbols.{defined_at, enclosing, first_found, last_of, binding_of, member_meaning, or_else, or_fault, outward_from, scope_from, scopes_of, display_name, unnamed_meaning, Definition, Key, Symbols, cheap_in, definition_index, import_index, named, same_key, unnamed_at}
+use Rattle.semantics65.specs.Symbols.{defined_at, enclosing, first_found, last_of, binding_of, member_meaning, or_else, or_fault, outward_from, scope_from, scopes_from, scopes_of, display_name, unnamed_meaning, Definition, Key, Symbols, cheap_in, definition_index, import_index, named, same_key, unnamed_at}
 use Rattle.semantics65.specs.Norms.{fold_result, form_of_definition, form_of_meaning, norm, norm_of, Extends}
-use Rattle.symbols65.specs.declared.resolving.attempt.FormSource.TheVariants.{Finals}
-use Rattle.symbols65.specs.declared.resolving.attempt.State.{State}
-use Rattle.symbols65.specs.declared.resolving.attempt.State.TheVariants.{Found}
+use Rattle.symbols65.specs.declared.table.symbols.Definition as held
+use Rattle.symbols65.specs.declared.table.symbols.InternedKey.{InternedKey}
 use Rattle.symbols65.specs.declared.table.symbols.Symbols as code
-use Rattle.symbols65.specs.Resolving.{IsFinalWithin, IsReference, binary_form, prefix_form, attempt_definition, attempt_value, known_form, plain_part, MeansAlways, MeansFinally, EachOperand}
-use Rattle.symbols65.specs.Views.{known_by, table_of}
+use Rattle.symbols65.specs.Tables.{definition_in, key_in}
+use Rattle.std.specs.Option.{option_map, unwrap_or}
+use Rattle.symbols65.specs.Resolving.{IsFinalWithin, binary_form, prefix_form, attempt_definition, attempt_value, known_form, plain_part, MeansAlways}
+use Rattle.symbols65.specs.Views.{final_form, key_at, table_of, words_of}
 use Rattle.symbols65.proofs.Scopes.{name_is, name_meaning}
-use Rattle.symbols65.proofs.Words.{first_within, get_stays, position_stays}
-use Rattle.symbols65.proofs.Hanging.{extends_itself}
+use Rattle.symbols65.proofs.Words.{first_passes, first_within, get_mapped, get_stays, position_stays}
 use Rattle.symbols65.proofs.Settling.{final_among}
-use Rattle.symbols65.proofs.Turns.{expression_course, expression_is, ok_later}
+use Rattle.symbols65.proofs.Turns.{extends_itself, expression_course, expression_is, ok_later}
 
 -- ---- Definitions.
 
@@ -39,7 +40,7 @@ by_key y s e k j at means = (first_within (λ d. same_key d.key k) y.definitions
 
 -- ---- Operands.
 
-pub own_name : (y : Symbols) (s : Context) (n : List ℕ) (j : ℕ) → definition_index y (named s.scope n) ≡ Some j → MeansAlways y s (name false (n ∷ [])) j
+own_name : (y : Symbols) (s : Context) (n : List ℕ) (j : ℕ) → definition_index y (named s.scope n) ≡ Some j → MeansAlways y s (name false (n ∷ [])) j
 own_name y s n i h = by_key y s (name false (n ∷ [])) (named s.scope n) i h (λ z j more e. ap (λ o. or_fault (Undefined n) o (import_index z n)) (innermost z s.scope s.scope j e))
   where
     innermost : (z : Symbols) (m q j : ℕ) → definition_index z (named q n) ≡ Some j → first_found (λ s. definition_index z (named s n)) (outward_from z.scopes m q) ≡ Some j
@@ -47,15 +48,15 @@ own_name y s n i h = by_key y s (name false (n ∷ [])) (named s.scope n) i h (�
     innermost z zero (suc i) j e = ap (λ o. or_else o None) e
     innermost z (suc m) (suc i) j e = ap (λ o. or_else o (first_found (λ s. definition_index z (named s n)) (outward_from z.scopes m (enclosing z.scopes (suc i))))) e
 
-pub own_label : (y : Symbols) (s : Context) (n : List ℕ) (j : ℕ) → definition_index y (cheap_in s.region n) ≡ Some j → MeansAlways y s (cheap n) j
+own_label : (y : Symbols) (s : Context) (n : List ℕ) (j : ℕ) → definition_index y (cheap_in s.region n) ≡ Some j → MeansAlways y s (cheap n) j
 own_label y s n i h = by_key y s (cheap n) (cheap_in s.region n) i h (λ z j more e. ap (λ o. or_fault (Undefined n) o None) e)
 
-pub label_before : (y : Symbols) (s : Context) (n j : ℕ) → n ≤ s.unnamed → definition_index y (unnamed_at (s.unnamed - n)) ≡ Some j → MeansAlways y s (backward n) j
+label_before : (y : Symbols) (s : Context) (n j : ℕ) → n ≤ s.unnamed → definition_index y (unnamed_at (s.unnamed - n)) ≡ Some j → MeansAlways y s (backward n) j
 label_before y s n i le h = by_key y s (backward n) (unnamed_at (s.unnamed - n)) i h (λ z j more e.
     (let yes : nat_le n s.unnamed ≡ true = grind (arith, nat_tests, le) in
     ap (λ b. if b then unnamed_meaning z (s.unnamed - n) else Err NoSuchLabel) yes ∙ ap (λ o. or_fault NoSuchLabel o None) e))
 
-pub own_member : (y : Symbols) (s : Context) (global : Bool) (parts : List (List ℕ)) (q j : ℕ) → plain_part global parts ≡ None → s.opened ≤ length y.scopes →
+own_member : (y : Symbols) (s : Context) (global : Bool) (parts : List (List ℕ)) (q j : ℕ) → plain_part global parts ≡ None → s.opened ≤ length y.scopes →
     scope_from (take s.opened y.scopes) s.scope global (scopes_of parts) ≡ Some q → definition_index y (named q (last_of parts)) ≡ Some j → MeansAlways y s (name global parts) j
 own_member y s global parts q i plain le found h = by_key y s (name global parts) (named q (last_of parts)) i h (λ z j more e.
     name_is z s global parts ∙ ap (name_meaning z s global parts) plain
@@ -66,6 +67,63 @@ own_member y s global parts q i plain le found h = by_key y s (name global parts
     member : (z : Symbols) (q j : ℕ) → definition_index z (named q (last_of parts)) ≡ Some j → member_meaning z (last_of parts) (Undefined (display_name global parts)) (NoSuchScope (display_name global parts)) (Some q) ≡ Ok (defined_at j)
     member z zero j e = ap (λ o. or_fault (Undefined (display_name global parts)) o (import_index z (last_of parts))) e
     member z (suc i) j e = ap (λ o. or_fault (Undefined (display_name global parts)) o None) e
+
+-- ---- Operands by the definitions that they mean.
+
+found_is : (z : AsmFault) (o other : Option ℕ) (j : ℕ) → or_fault z o other ≡ Ok (defined_at j) → o ≡ Some j
+found_is z None None j e = absurd cc
+found_is z None (Some k) j e = absurd cc
+found_is z (Some i) other j e = (let same : i ≡ j = cc in ap Some same)
+
+found_in : (f : ℕ → Option ℕ) (ss : List ℕ) (j : ℕ) → first_found f ss ≡ Some j → (q : ℕ) × (f q ≡ Some j)
+found_in f [] j e = absurd cc
+found_in f (q ∷ ss) j e = by (f q) refl e (λ rest. found_in f ss j rest)
+  where
+    by : (o : Option ℕ) → f q ≡ o → or_else o (first_found f ss) ≡ Some j → (first_found f ss ≡ Some j → (r : ℕ) × (f r ≡ Some j)) → (r : ℕ) × (f r ≡ Some j)
+    by None is e rest = rest e
+    by (Some i) is e rest = (q, is ∙ e)
+
+-- a name that the scope of its use defines
+pub plain_final : (y : Symbols) (s : Context) (n m : List ℕ) (j : ℕ) (d : Definition) → slice_get y.definitions j ≡ Some d → d.key ≡ named s.scope m → binding_of y s (name false (n ∷ [])) ≡ Ok (defined_at j) → MeansAlways y s (name false (n ∷ [])) j
+plain_final y s n m j d at key means =
+    let found = found_is (Undefined n) (first_found (λ q. definition_index y (named q n)) (scopes_from y.scopes s.scope)) (import_index y n) j means in
+    let (q, is) = found_in (λ q. definition_index y (named q n)) (scopes_from y.scopes s.scope) j found in
+    let (e, there, passes) = first_passes (λ d. same_key d.key (named q n)) y.definitions j is in
+    let same : e ≡ d = (let both : Some e ≡ Some d = sym there ∙ at in cc) in
+    let test : same_key (named s.scope m) (named q n) ≡ true = ap (λ k. same_key k (named q n)) (sym (ap (λ (x : Definition). x.key) same ∙ key)) ∙ passes in
+    own_name y s n j (ap (λ r. definition_index y (named r n)) (scope_is q test) ∙ is)
+  where
+    scope_is : (q : ℕ) → same_key (named s.scope m) (named q n) ≡ true → s.scope ≡ q
+    scope_is q e = grind (arith, common_steps, nat_tests)
+
+pub own_final : (t : code.Symbols) (s : Context) (n m : List ℕ) (j : ℕ) → key_at t j ≡ named s.scope m → binding_of (table_of t) s (name false (n ∷ [])) ≡ Ok (defined_at j) → MeansAlways (table_of t) s (name false (n ∷ [])) j
+own_final t s n m j key means = by (slice_get t.definitions.entries j) refl key
+  where
+    by : (o : Option (InternedKey × held.Definition)) → slice_get t.definitions.entries j ≡ o → unwrap_or (option_map (λ e. key_in (words_of t) e.0) o) (unnamed_at 0) ≡ named s.scope m → MeansAlways (table_of t) s (name false (n ∷ [])) j
+    by None is e = absurd cc
+    by (Some e) is k = plain_final (table_of t) s n m j (definition_in (words_of t) e) (get_mapped (definition_in (words_of t)) t.definitions.entries j e is) k means
+
+member_is : (y : Symbols) (n : List ℕ) (absent lost : AsmFault) (o : Option ℕ) (j : ℕ) → member_meaning y n absent lost o ≡ Ok (defined_at j) → (q : ℕ) × (o ≡ Some q) × (definition_index y (named q n) ≡ Some j)
+member_is y n absent lost None j e = absurd cc
+member_is y n absent lost (Some zero) j e = (zero, refl, found_is absent (definition_index y (named zero n)) (import_index y n) j e)
+member_is y n absent lost (Some (suc i)) j e = (suc i, refl, found_is absent (definition_index y (named (suc i) n)) None j e)
+
+-- a name with `::`, whose scopes were opened before
+pub scoped_final : (y : Symbols) (s : Context) (global : Bool) (parts : List (List ℕ)) (j : ℕ) → plain_part global parts ≡ None → s.opened ≤ length y.scopes → binding_of y s (name global parts) ≡ Ok (defined_at j) → MeansAlways y s (name global parts) j
+scoped_final y s global parts j plain le means =
+    let scoped = sym (name_is y s global parts ∙ ap (name_meaning y s global parts) plain) ∙ means in
+    let (q, is, at) = member_is y (last_of parts) (Undefined (display_name global parts)) (NoSuchScope (display_name global parts)) (scope_from (take s.opened y.scopes) s.scope global (scopes_of parts)) j scoped in
+    own_member y s global parts q j plain le is at
+
+pub cheap_final : (y : Symbols) (s : Context) (n : List ℕ) (j : ℕ) → binding_of y s (cheap n) ≡ Ok (defined_at j) → MeansAlways y s (cheap n) j
+cheap_final y s n j means = own_label y s n j (found_is (Undefined n) (definition_index y (cheap_in s.region n)) None j means)
+
+pub backward_final : (y : Symbols) (s : Context) (n j : ℕ) → binding_of y s (backward n) ≡ Ok (defined_at j) → MeansAlways y s (backward n) j
+backward_final y s n j means = by (nat_le n s.unnamed) refl means
+  where
+    by : (b : Bool) → nat_le n s.unnamed ≡ b → (if b then unnamed_meaning y (s.unnamed - n) else Err NoSuchLabel) ≡ Ok (defined_at j) → MeansAlways y s (backward n) j
+    by true is e = label_before y s n j (grind (arith, nat_tests)) (found_is NoSuchLabel (definition_index y (unnamed_at (s.unnamed - n))) None j e)
+    by false is e = absurd cc
 
 -- ---- Expressions.
 
@@ -85,28 +143,28 @@ binary_stays n y s op e g (Some x) (Some w) h k f q = λ z more.
     ∙ ap (λ r. r >>= (λ v. fold_result (fold2 op x v))) (k w refl z more)
     ∙ folds (fold2 op x w) f q
 
-value_ok : (n : ℕ) (z : Symbols) (j : ℕ) (k : Option State) (d : Definition) (f : Form) → ((g : Form) → k ≡ Some (Found g) → form_of_definition (norm n z) (Some d) ≡ Ok g) → (v : Option Tree) → d.value ≡ v → attempt_value (λ q e. known_form j k) d.context v ≡ Ok f → form_of_definition (norm n z) (Some d) ≡ Ok f
+value_ok : (n : ℕ) (z : Symbols) (j : ℕ) (k : Option Form) (d : Definition) (f : Form) → ((g : Form) → k ≡ Some g → form_of_definition (norm n z) (Some d) ≡ Ok g) → (v : Option Tree) → d.value ≡ v → attempt_value (λ q e. known_form j k) d.context v ≡ Ok f → form_of_definition (norm n z) (Some d) ≡ Ok f
 value_ok n z j k d f h x w q = grind (arith, common_steps)
 
 module _ (t : code.Symbols) (s : Context) where
   abbrev pub y : Symbols
   y = table_of t
 
-  meant_ok : (z : Symbols) → Extends y z → (u : Tree) (j : ℕ) → MeansAlways y s u j → (f : Form) → attempt_definition (λ q e. known_form j (known_by t Finals j)) (slice_get y.definitions j) ≡ Ok f → (binding_of z s u >>= form_of_meaning (norm (length y.definitions) z) z) ≡ Ok f
+  meant_ok : (z : Symbols) → Extends y z → (u : Tree) (j : ℕ) → MeansAlways y s u j → (f : Form) → attempt_definition (λ q e. known_form j (final_form t j)) (slice_get y.definitions j) ≡ Ok f → (binding_of z s u >>= form_of_meaning (norm (length y.definitions) z) z) ≡ Ok f
   meant_ok z more u j (lt, means) f h =
       ap (λ m. m >>= form_of_meaning (norm (length y.definitions) z) z) (means z more)
       ∙ ap (λ ds. form_of_definition (norm (length y.definitions) z) (slice_get ds j)) more.definitions
       ∙ ap (form_of_definition (norm (length y.definitions) z)) (get_stays y.definitions more.later_definitions j lt)
       ∙ by (slice_get y.definitions j) refl h
     where
-      by : (o : Option Definition) → slice_get y.definitions j ≡ o → attempt_definition (λ q e. known_form j (known_by t Finals j)) o ≡ Ok f → form_of_definition (norm (length y.definitions) z) o ≡ Ok f
+      by : (o : Option Definition) → slice_get y.definitions j ≡ o → attempt_definition (λ q e. known_form j (final_form t j)) o ≡ Ok f → form_of_definition (norm (length y.definitions) z) o ≡ Ok f
       by None is e = absurd cc
       by (Some d) is e =
           let at : slice_get z.definitions j ≡ Some d = ap (λ ds. slice_get ds j) more.definitions ∙ get_stays y.definitions more.later_definitions j lt ∙ is in
-          value_ok (length y.definitions) z j (known_by t Finals j) d f (λ g k. ap (form_of_definition (norm (length y.definitions) z)) (sym at) ∙ final_among t z more (length y.definitions) j g lt k) d.value refl e
+          value_ok (length y.definitions) z j (final_form t j) d f (λ g k. ap (form_of_definition (norm (length y.definitions) z)) (sym at) ∙ final_among t z more (length y.definitions) j g lt k) d.value refl e
 
   -- so an operand that means the same keeps the form that is final
-  pub operand_stays : (e : Tree) (j : ℕ) (f : Form) → MeansAlways y s e j → attempt_definition (λ q v. known_form j (known_by t Finals j)) (slice_get y.definitions j) ≡ Ok f → IsFinalWithin (length y.definitions) y s e f
+  pub operand_stays : (e : Tree) (j : ℕ) (f : Form) → MeansAlways y s e j → attempt_definition (λ q v. known_form j (final_form t j)) (slice_get y.definitions j) ≡ Ok f → IsFinalWithin (length y.definitions) y s e f
   operand_stays (number v) j f m h = absurd (let no = m.1 y (extends_itself y) in cc)
   operand_stays here j f m h = absurd (let no = m.1 y (extends_itself y) in cc)
   operand_stays (unary op e) j f m h = absurd (let no = m.1 y (extends_itself y) in cc)
@@ -126,13 +184,6 @@ within_final y s e f h z more =
 
 pub by_place : (P : ℕ → Type 0) (o : Option ℕ) → ((j : ℕ) → o ≡ Some j → P j) → IfSome o P
 by_place x y h = grind (arith, common_steps)
-
-pub some_place : (y : Symbols) (s : Context) (e : Tree) (o : Option ℕ) → IfSome o (MeansAlways y s e) → is_some o ≡ true → MeansFinally y s e
-some_place y s e None h q = absurd cc
-some_place y s e (Some j) h q = (j, h)
-
-pub operands_of : (P : Tree → Type 0) (e : Tree) → IsReference e → P e → EachOperand P e
-operands_of x y r p = grind (arith, common_steps)
 
 pub more_ok : {A E : Type 0} (P Q : A → Type 0) (r : Result A E) → ((x : A) → P x → Q x) → IfOk r P → IfOk r Q
 more_ok x y z h p = grind (arith, common_steps)

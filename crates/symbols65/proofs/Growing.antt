@@ -9,6 +9,8 @@ use Rattle.std.proofs.lemmas.Iterator.Adapters.{position_from-zero}
 use Rattle.std.proofs.lemmas.Bool.Decides.{nat_tests}
 use Rattle.std.proofs.lemmas.Option.{slice_get_within}
 use Rattle.indexmap.specs.IndexMap.{insert_entry}
+use Rattle.symbols65.specs.declared.table.symbols.SearchEntry.{SearchEntry}
+use Rattle.symbols65.specs.declared.table.symbols.SearchEntry.TheVariants.{NoForm}
 use Rattle.semantics65.specs.Symbols as l
 use Rattle.semantics65.specs.Symbols.{Key, named, cheap_in, unnamed_at}
 use Rattle.semantics65.specs.Layout.{opened_twice}
@@ -18,7 +20,7 @@ use Rattle.symbols65.specs.declared.table.symbols.ScopeKey.{ScopeKey}
 use Rattle.symbols65.specs.declared.table.symbols.ScopeKey.TheVariants as opening
 use Rattle.symbols65.specs.declared.table.symbols.Definition.{Definition}
 use Rattle.semantics65.specs.Norms.{Extends}
-use Rattle.symbols65.specs.Tables.{AreCounted, AreDistinct, AreFinal, AreInnerKnown, AreNumbered, IsPrefixOf, HasNumber, IsCounted, IsInnerKnown, IsOpening, KeepsFinal, definition_in, entry_of, first_number, key_in, same_opening, scope_by, scope_opened, table_without_imports, word_at, word_of, word_opened}
+use Rattle.symbols65.specs.Tables.{AreCounted, AreDistinct, AreFinal, AreInnerKnown, AreNumbered, KeepsSearches, IsPrefixOf, HasNumber, IsCounted, IsInnerKnown, IsOpening, KeepsFinal, definition_in, entry_at, entry_of, first_number, key_in, same_opening, scope_by, scope_opened, table_in, table_without_imports, word_at, word_of, word_opened}
 use Rattle.symbols65.proofs.Words.{position_none, first_within, first_passes, get_more, map_same, position_same, position_stays, finds_opened, get_word, keys_get}
 use Rattle.ast65.proofs.Lists.{same_bytes}
 
@@ -83,9 +85,28 @@ module _ (ws more : List (List ℕ)) where
   pub final_more : (es : List (InternedKey × Definition)) (ss : List (ScopeKey × Bool)) → AreNumbered word_of ws (keys_of es) → AreNumbered word_opened ws (keys_of ss) → AreFinal ws es ss → AreFinal (ws ++ more) es ss
   final_more es ss entered scoped h = grind (arith, common_steps, definitions_stay, scopes_stay)
 
+  pub searched_more : (es : List (InternedKey × Definition)) (ss : List (ScopeKey × Bool)) (imports zero_page : List (List ℕ)) (searched : ℕ → Option SearchEntry) → AreNumbered word_of ws (keys_of es) → AreNumbered word_opened ws (keys_of ss) →
+      KeepsSearches (table_in ws es ss imports zero_page) searched → KeepsSearches (table_in (ws ++ more) es ss imports zero_page) searched
+  searched_more es ss imports zero_page searched entered scoped h =
+      let Holds : l.Symbols → Type 0 = λ y. KeepsSearches y searched in
+      subst Holds (ap (λ cs. record { definitions = map (definition_in (ws ++ more)) es; scopes = cs; imports = imports; zero_page = zero_page }) (sym (scopes_stay ss scoped)))
+      (subst Holds (ap (λ ds. record { definitions = ds; scopes = map (scope_opened ws) ss; imports = imports; zero_page = zero_page }) (sym (definitions_stay es entered))) h)
+
 -- what a new table of words gives
 pub begun : (P : List (List ℕ) → Type 0) (ws new : List (List ℕ)) → IsPrefixOf ws new → ((more : List (List ℕ)) → P (ws ++ more)) → P new
 begun P ws new h k = subst P (sym h.1) (k h.0)
+
+-- ---- What searches have found.
+
+-- where there is no entry, all that is kept holds
+pub none_searched : (y : l.Symbols) (searched : ℕ → Option SearchEntry) → ((j : ℕ) → searched j ≡ None) → KeepsSearches y searched
+none_searched y searched none = (
+  (
+    λ j f at. (let never : None ≡ Some (Some f) = sym (ap (entry_at (length y.definitions)) (none j)) ∙ at in absurd cc),
+    λ j at. (let never : None ≡ Some None = sym (ap (entry_at (length y.definitions)) (none j)) ∙ at in absurd cc),
+  ),
+  λ j n at. (let never : None ≡ Some (NoForm n) = sym (none j) ∙ at in absurd cc),
+)
 
 -- ---- One definition or scope more.
 
@@ -113,11 +134,11 @@ module _ (ws : List (List ℕ)) (es : List (InternedKey × Definition)) (ss : Li
   less_scope : (s : ScopeKey × Bool) (z : l.Symbols) → Extends (table_without_imports ws es (ss ++ s ∷ [])) z → Extends (table_without_imports ws es ss) z
   less_scope s z h = grind (arith, common_steps)
 
-  pub final_pushed : (e : InternedKey × Definition) → AreFinal ws es ss → KeepsFinal (table_without_imports ws es ss) (length es) (definition_in ws e) e.1.form → AreFinal ws (es ++ e ∷ []) ss
+  pub final_pushed : (e : InternedKey × Definition) → AreFinal ws es ss → KeepsFinal (table_without_imports ws es ss) (length es) (definition_in ws e) e.1 → AreFinal ws (es ++ e ∷ []) ss
   final_pushed e h own = grind (arith, common_steps, less_definition, get_more)
 
   pub final_scoped : (s : ScopeKey × Bool) → AreFinal ws es ss → AreFinal ws es (ss ++ s ∷ [])
-  final_scoped s h = λ j d at f is z extends. h j d at f is z (less_scope s z extends)
+  final_scoped s h = λ j d at. (λ f is z extends. (h j d at).0 f is z (less_scope s z extends), λ r is z extends none. (h j d at).1 r is z (less_scope s z extends) none)
 
 -- ---- The entry of a key.
 

@@ -1,28 +1,35 @@
--- Constants that wait for one another.
+-- A search for the form of an expression: constants that wait for one another.
 use Rattle.std.proofs.Common.{◌≡◌, ◌≢◌, ℕ, zero, suc, ◌+◌, ◌*◌, ◌<◌, ◌≤◌, refl, sym, ap, ◌∙◌, subst, arith, List, [], ◌∷◌, ◌++◌, length, Option, Some, None, slice_get, Bool, true, false, nat_eq, Result, Ok, Err, ◌⊎◌, inl, inr, length-append}
 use Rattle.std.specs.Prelude.{slice_set, ⊤}
 use Rattle.std.proofs.lemmas.Bool.Decides.{nat_tests}
 use Rattle.std.proofs.lemmas.Grind.{common_steps}
 use Rattle.std.proofs.lemmas.List.Sums.{sum_by-set}
 use Rattle.std.proofs.lemmas.Option.{gets, slice_get_within, slice_get_past}
+use Rattle.base65.specs.Outcome.{Unless}
 use Rattle.object65.specs.Form.{Form}
 use Rattle.ast65.specs.declared.fault.AsmFault.{AsmFault}
 use Rattle.ast65.specs.declared.fault.AsmFault.TheVariants.{Circular}
+use Rattle.semantics65.specs.Symbols.{Symbols, or_else}
 use Rattle.symbols65.specs.declared.resolving.attempt.State.{State}
-use Rattle.symbols65.specs.declared.resolving.attempt.State.TheVariants.{Unknown, Waiting, BlockedOn, Found}
+use Rattle.symbols65.specs.declared.resolving.attempt.State.TheVariants.{Unknown, Waiting, Found}
 use Rattle.symbols65.specs.declared.resolving.attempt.AttemptError.{AttemptError}
 use Rattle.symbols65.specs.declared.resolving.attempt.AttemptError.TheVariants.{Needs, Fault}
-use Rattle.semantics65.specs.Symbols.{Symbols}
-use Rattle.symbols65.specs.Resolving.{IsTable, KeepsFound, StaysFound, is_open, may_be_looked_for, unknown, BlocksAreSound, EventuallyEquals, IsBlockedOn, InheritsErrors, IsSameOrBlockedOn, tried_at, tried_last}
-use Rattle.symbols65.specs.Views.{is_found}
-use Rattle.symbols65.proofs.Hanging.{extends_itself}
-use Rattle.base65.specs.Outcome.{Unless}
-use Rattle.symbols65.proofs.Turns.{Course, IsCourse, constant_course, constant_is, ok_later, circular_before}
-use Rattle.symbols65.proofs.Meanings.{keeps_fewer, tried_at_stays}
-use Rattle.symbols65.proofs.Tries.{Near, Agrees, IsAttempt, at_turn, attempt_at, last_course}
-use Rattle.semantics65.specs.Norms.{Extends}
+use Rattle.symbols65.specs.declared.table.symbols.Symbols as code
+use Rattle.symbols65.specs.Resolving.{FoundBy, IsTable, found_form, is_open, is_unknown, tried_at, tried_last, unknown}
+use Rattle.symbols65.specs.Views.{final_form, known_in, table_of}
+use Rattle.symbols65.proofs.Chains.{Among, IsChain, among_cases, among_last, among_more, chain_less, chain_more, chain_passes, last_course, met_again}
+use Rattle.symbols65.proofs.Lasts.{last_tried}
+use Rattle.symbols65.proofs.Settling.{known_found}
+use Rattle.symbols65.proofs.Turns.{Course, EventuallyEquals, IsCourse, circular_before, constant_course, constant_is, ok_later}
+use Rattle.symbols65.proofs.Tries.{Near, Agrees, IsAttempt, at_turn, attempt_at, attempt_last}
 
 -- ---- One constant needs another.
+
+-- the errors of a constant are those of what needs it, and *circular* passes on
+pub record InheritsErrors (table : Symbols) (v : Course) (j : ℕ) : Type 0 where
+  pub faults : (e : AsmFault) → EventuallyEquals (constant_course table j) (Err e) → EventuallyEquals v (Err e)
+  pub circular : (n : ℕ) → constant_course table j n ≡ Err Circular → v (suc n) ≡ Err Circular
+  pub starts : constant_course table j 0 ≡ Err Circular
 
 near_so : (r s : Result Form AsmFault) → Near ⊥ r s → r ≡ s
 near_so r s x = grind (arith, common_steps)
@@ -30,7 +37,7 @@ near_so r s x = grind (arith, common_steps)
 near_circular : (r : Result Form AsmFault) → Near ⊤ r (Err Circular) → r ≡ Err Circular
 near_circular r x = grind (arith, common_steps)
 
-pub leads_from : (c : ℕ) (table : Symbols) (known : ℕ → Option State) (v : Course) (a : Result Form AttemptError) (j : ℕ) → IsAttempt c table known v a → a ≡ Err (Needs j) → InheritsErrors table v j
+leads_from : (c : ℕ) (table : Symbols) (known : ℕ → Option Form) (v : Course) (a : Result Form AttemptError) (j : ℕ) → IsAttempt c table known v a → a ≡ Err (Needs j) → InheritsErrors table v j
 leads_from c table known v a j t e = record {
   faults = λ z (n, h). (suc (c + n), λ k le. later z n h k le);
   circular = λ k h. (let P : Result Form AttemptError → Type 0 = λ x. Agrees ⊤ (at_turn table k) x (v (suc k)) in near_circular (v (suc k)) (subst P e (t.ever k) Circular h));
@@ -41,120 +48,11 @@ leads_from c table known v a j t e = record {
     later z n h zero le = absurd (omega (arith, le))
     later z n h (suc k) le = (let P : Result Form AttemptError → Type 0 = λ x. Agrees ⊥ (at_turn table k) x (v (suc k)) in near_so (v (suc k)) (Err z) (subst P e (t.later k (omega (arith, le))) z (h k (omega (arith, le)))))
 
--- what comes to the faults of a constant comes to those to which that comes
-leads_over : (table : Symbols) (v : Course) (j k : ℕ) → InheritsErrors table v j → InheritsErrors table (constant_course table j) k → InheritsErrors table v k
-leads_over table v j k l m = record {
-  faults = λ z comes. l.faults z (m.faults z comes);
-  circular = λ n e. l.circular n (circular_before (constant_course table j) (constant_is table j) n (suc n) (omega arith) (m.circular n e));
-  starts = m.starts;
-}
-
-pub leads_on : (table : Symbols) (v : Course) (j k : ℕ) → InheritsErrors table v j → IsSameOrBlockedOn table j k → InheritsErrors table v k
-leads_on table v j k l (inl e) = subst (InheritsErrors table v) e l
-leads_on table v j k l (inr h) = leads_over table v j k l (h table (extends_itself table))
-
-pub hangs_over : (y : Symbols) (i j k : ℕ) → IsBlockedOn y i j → IsBlockedOn y j k → IsBlockedOn y i k
-hangs_over y i j k h g = λ z more. leads_over z (constant_course z i) j k (h z more) (g z more)
-
-pub reaches_over : (y : Symbols) (i j k : ℕ) → IsSameOrBlockedOn y i j → IsBlockedOn y j k → IsSameOrBlockedOn y i k
-reaches_over y i j k (inl e) g = inr (subst (λ (q : ℕ). IsBlockedOn y q k) (sym e) g)
-reaches_over y i j k (inr h) g = inr (hangs_over y i j k h g)
-
-pub fault_from : (c : ℕ) (table : Symbols) (known : ℕ → Option State) (v : Course) (a : Result Form AttemptError) (z : AsmFault) → IsAttempt c table known v a → a ≡ Err (Fault z) → (k : ℕ) → c ≤ k → v (suc k) ≡ Err z
+fault_from : (c : ℕ) (table : Symbols) (known : ℕ → Option Form) (v : Course) (a : Result Form AttemptError) (z : AsmFault) → IsAttempt c table known v a → a ≡ Err (Fault z) → (k : ℕ) → c ≤ k → v (suc k) ≡ Err z
 fault_from c table known v a z t e k le = (let P : Result Form AttemptError → Type 0 = λ x. Agrees ⊥ (at_turn table k) x (v (suc k)) in near_so (v (suc k)) (Err z) (subst P e (t.later k le)))
 
-pub form_from : (c : ℕ) (table : Symbols) (known : ℕ → Option State) (v : Course) (a : Result Form AttemptError) (f : Form) → IsAttempt c table known v a → a ≡ Ok f → (k : ℕ) → c ≤ k → v (suc k) ≡ Ok f
+form_from : (c : ℕ) (table : Symbols) (known : ℕ → Option Form) (v : Course) (a : Result Form AttemptError) (f : Form) → IsAttempt c table known v a → a ≡ Ok f → (k : ℕ) → c ≤ k → v (suc k) ≡ Ok f
 form_from c table known v a f t e k le = (let P : Result Form AttemptError → Type 0 = λ x. Agrees ⊥ (at_turn table k) x (v (suc k)) in near_so (v (suc k)) (Ok f) (subst P e (t.later k le)))
-
--- ---- Chains.
-
--- the expression waits for the first, and so on
-abbrev pub IsChain : Symbols → Course → List ℕ → Type 0
-IsChain table v [] = ⊤
-IsChain table v (w ∷ ws) = InheritsErrors table v w × IsChain table (constant_course table w) ws
-
-chain_more : (table : Symbols) (v : Course) (ws : List ℕ) (j : ℕ) → IsChain table v ws → InheritsErrors table (last_course table v ws) j → IsChain table v (ws ++ j ∷ [])
-chain_more table v [] j h l = (l, tt)
-chain_more table v (w ∷ ws) j (m, h) l = (m, chain_more table (constant_course table w) ws j h l)
-
-chain_less : (table : Symbols) (v : Course) (ws : List ℕ) (j : ℕ) → IsChain table v (ws ++ j ∷ []) → IsChain table v ws
-chain_less table v [] j h = tt
-chain_less table v (w ∷ ws) j (m, h) = (m, chain_less table (constant_course table w) ws j h)
-
-last_of_more : (table : Symbols) (v : Course) (ws : List ℕ) (j : ℕ) → last_course table v (ws ++ j ∷ []) ≡ constant_course table j
-last_of_more table v [] j = refl
-last_of_more table v (w ∷ ws) j = last_of_more table (constant_course table w) ws j
-
-chain_fault : (table : Symbols) (v : Course) (ws : List ℕ) (z : AsmFault) → IsChain table v ws → EventuallyEquals (last_course table v ws) (Err z) → EventuallyEquals v (Err z)
-chain_fault table v [] z h e = e
-chain_fault table v (w ∷ ws) z (l, h) e = l.faults z (chain_fault table (constant_course table w) ws z h e)
-
-chain_circular : (table : Symbols) (v : Course) (ws : List ℕ) (k : ℕ) → IsChain table v ws → last_course table v ws k ≡ Err Circular → v (length ws + k) ≡ Err Circular
-chain_circular table v [] k h e = let same : 0 + k ≡ k = omega arith in ap v same ∙ e
-chain_circular table v (w ∷ ws) k (l, h) e = grind (arith, common_steps, (chain_circular table (constant_course table w) ws k h e), constant_course)
-
--- ---- A constant that is met again.
-
-abbrev pub Among : ℕ → List ℕ → Type 0
-Among x [] = ⊥
-Among x (w ∷ ws) = (x ≡ w) ⊎ Among x ws
-
-among_more : (x w : ℕ) (ws : List ℕ) → Among x ws → Among x (ws ++ w ∷ [])
-among_more x w [] h = absurd h
-among_more x w (v ∷ ws) (inl e) = inl e
-among_more x w (v ∷ ws) (inr h) = inr (among_more x w ws h)
-
-among_last : (x w : ℕ) (ws : List ℕ) → x ≡ w → Among x (ws ++ w ∷ [])
-among_last x w [] e = inl e
-among_last x w (v ∷ ws) e = inr (among_last x w ws e)
-
-among_cases : (x w : ℕ) (ws : List ℕ) → Among x (ws ++ w ∷ []) → Among x ws ⊎ (x ≡ w)
-among_cases x w [] (inl e) = inr e
-among_cases x w [] (inr h) = absurd h
-among_cases x w (v ∷ ws) (inl e) = inl (inl e)
-among_cases x w (v ∷ ws) (inr h) = grind (arith, common_steps, (among_cases x w ws h))
-
--- each stands there once
-abbrev pub AreOnce : List ℕ → Type 0
-AreOnce [] = ⊤
-AreOnce (w ∷ ws) = (Among w ws → ⊥) × AreOnce ws
-
-once_more : (j : ℕ) (ws : List ℕ) → AreOnce ws → (Among j ws → ⊥) → AreOnce (ws ++ j ∷ [])
-once_more j [] h new = ((λ a. a), tt)
-once_more j (w ∷ ws) (one, h) new = ((λ a. other (among_cases w j ws a)), once_more j ws h (λ a. new (inr a)))
-  where
-    other : (Among w ws ⊎ (w ≡ j)) → ⊥
-    other (inl a) = one a
-    other (inr e) = new (inl (sym e))
-
-once_less : (j : ℕ) (ws : List ℕ) → AreOnce (ws ++ j ∷ []) → AreOnce ws × (Among j ws → ⊥)
-once_less j [] h = (tt, λ a. a)
-once_less j (w ∷ ws) (one, h) =
-    let (rest, new) = once_less j ws h in
-    (((λ a. one (among_more w j ws a)), rest), by new)
-  where
-    by : (Among j ws → ⊥) → Among j (w ∷ ws) → ⊥
-    by new (inl e) = one (among_last w j ws (sym e))
-    by new (inr a) = new a
-
--- the constant j is circular d turns after the last that waits
-abbrev pub After : Symbols → ℕ → ℕ → Course → Type 0
-After table d j v = (k : ℕ) → v k ≡ Err Circular → constant_course table j (d + k) ≡ Err Circular
-
-among_after : (table : Symbols) (v : Course) (ws : List ℕ) (j : ℕ) → IsChain table v ws → Among j ws → (d : ℕ) × After table d j (last_course table v ws)
-among_after table v [] j h m = absurd m
-among_after table v (w ∷ ws) j (l, h) (inl e) = (length ws, λ k q. ap (λ x. constant_course table x (length ws + k)) e ∙ chain_circular table (constant_course table w) ws k h q)
-among_after table v (w ∷ ws) j (l, h) (inr m) = among_after table (constant_course table w) ws j h m
-
-always : (table : Symbols) (j d : ℕ) → constant_course table j 0 ≡ Err Circular → ((k : ℕ) → constant_course table j k ≡ Err Circular → constant_course table j (d + suc k) ≡ Err Circular) → (k : ℕ) → constant_course table j k ≡ Err Circular
-always table j d s h zero = s
-always table j d s h (suc k) = circular_before (constant_course table j) (constant_is table j) (suc k) (d + suc k) (omega arith) (h k (always table j d s h k))
-
-pub met_again : (table : Symbols) (v : Course) → IsCourse v → (ws : List ℕ) (j : ℕ) → IsChain table v ws → InheritsErrors table (last_course table v ws) j → Among j ws → (n : ℕ) → v (suc n) ≡ Err Circular
-met_again table v s ws j h l m n =
-    let (d, after) = among_after table v ws j h m in
-    let ever = always table j d l.starts (λ k e. after (suc k) (l.circular k e)) in
-    circular_before v s (suc n) (length ws + suc n) (omega arith) (chain_circular table v ws (suc n) h (l.circular n (ever n)))
 
 -- ---- The table.
 
@@ -164,206 +62,185 @@ get_same states j x lt = grind (arith, common_steps, gets)
 get_other : (states : List State) (i j : ℕ) (x : State) → i ≢ j → slice_get (slice_set states j x) i ≡ slice_get states i
 get_other states i j x other = grind (arith, common_steps, gets)
 
-pub record IsPursuit (table : Symbols) (states : List State) (v : Course) (ws : List ℕ) : Type 0 where
-  pub turns : ℕ
-  pub long : length states ≡ length table.definitions
-  pub room : turns + length ws + unknown states ≤ length table.definitions
-  pub found : StaysFound turns table (slice_get states)
-  pub chain : IsChain table v ws
-  pub marked : (j : ℕ) → slice_get states j ≡ Some Waiting → Among j ws
-  pub inside : (j : ℕ) → Among j ws → j < length states
-  pub waits : (j : ℕ) → Among j ws → slice_get states j ≡ Some Waiting
-  pub once : AreOnce ws
-  pub hung : BlocksAreSound table states
+module _ (t : code.Symbols) where
+  abbrev y : Symbols
+  y = table_of t
 
-pub pursuit_starts : (table : Symbols) (states : List State) (v : Course) → IsTable table states → IsPursuit table states v []
-pursuit_starts table states v t = grind (arith, common_steps)
+  abbrev count : ℕ
+  count = length (table_of t).definitions
 
-pub pursuit_ends : (table : Symbols) (states : List State) (v : Course) → IsPursuit table states v [] → IsTable table states
-pursuit_ends table states v p = grind (arith, common_steps)
+  -- the constants that wait, of which each needs the next, and the forms found so far
+  pub record IsPursuit (states : List State) (v : Course) (ws : List ℕ) : Type 0 where
+    pub turns : ℕ
+    pub long : length states ≡ count
+    pub found : FoundBy turns y (λ j. found_form (slice_get states j))
+    pub chain : IsChain y (InheritsErrors y) v ws
+    pub marked : (j : ℕ) → slice_get states j ≡ Some Waiting → Among j ws
+    pub inside : (j : ℕ) → Among j ws → j < length states
 
-open_is : (o : Option State) → may_be_looked_for o ≡ true → (x : State) × (o ≡ Some x) × (is_open x ≡ 1)
-open_is x e = grind (arith, common_steps)
+  pub pursuit_starts : (states : List State) (v : Course) → IsTable y states → IsPursuit states v []
+  pursuit_starts states v h = record {
+    turns = h.turns;
+    long = h.long;
+    found = h.found;
+    chain = tt;
+    marked = λ j q. absurd (h.idle j q);
+    inside = λ j q. absurd q;
+  }
 
-pub open_within : (states : List State) (j : ℕ) → may_be_looked_for (slice_get states j) ≡ true → j < length states
-open_within states j e = let (x, is, one) = open_is (slice_get states j) e in slice_get_within states j x is
+  pub pursuit_ends : (states : List State) (v : Course) (ws : List ℕ) → IsPursuit states v ws → ws ≡ [] → IsTable y states
+  pursuit_ends states v ws p e = record {
+    long = p.long;
+    turns = p.turns;
+    found = p.found;
+    idle = λ j q. (let none : Among j [] = subst (Among j) e (p.marked j q) in absurd none);
+  }
 
-fewer : (states : List State) (j : ℕ) → may_be_looked_for (slice_get states j) ≡ true → unknown (slice_set states j Waiting) + 1 ≡ unknown states
-fewer states j e = grind (arith, common_steps, open_is, sum_by-set, slice_get_within, common_steps, gets)
+  unknown_is : (o : Option State) → is_unknown o ≡ true → o ≡ Some Unknown
+  unknown_is (Some Unknown) e = refl
+  unknown_is (Some Waiting) e = absurd cc
+  unknown_is (Some (Found f)) e = absurd cc
+  unknown_is None e = absurd cc
 
-no_more : (states : List State) (j : ℕ) (f : Form) → j < length states → unknown (slice_set states j (Found f)) ≤ unknown states
-no_more states j f lt =
-    let change = sum_by-set is_open states j (Found f) Unknown lt in
-    omega (arith, change)
+  pub open_within : (states : List State) (j : ℕ) → is_unknown (slice_get states j) ≡ true → j < length states
+  open_within states j e = slice_get_within states j Unknown (unknown_is (slice_get states j) e)
 
--- what is put into a table and hangs on nothing leaves what hangs
-hung_set : (table : Symbols) (states : List State) (j : ℕ) (x : State) → j < length states → ((k : ℕ) → x ≡ BlockedOn k → ⊥) → BlocksAreSound table states → BlocksAreSound table (slice_set states j x)
-hung_set table states j x lt isnt h = λ i k e. by i k e (nat_eq i j) refl
-  where
-    by : (i k : ℕ) → slice_get (slice_set states j x) i ≡ Some (BlockedOn k) → (b : Bool) → nat_eq i j ≡ b → IsBlockedOn table i k
-    by i k e true b =
-        let one : i ≡ j = grind (arith, nat_tests) in
-        let now : slice_get (slice_set states j x) i ≡ Some x = ap (slice_get (slice_set states j x)) one ∙ get_same states j x lt in
-        let same : x ≡ BlockedOn k = (let both : Some x ≡ Some (BlockedOn k) = sym now ∙ e in cc) in
-        absurd (isnt k same)
-    by i k e false b =
-        let other : i ≢ j = grind (arith, nat_tests) in
-        h i k (sym (get_other states i j x other) ∙ e)
+  fewer : (states : List State) (j : ℕ) → is_unknown (slice_get states j) ≡ true → unknown (slice_set states j Waiting) + 1 ≡ unknown states
+  fewer states j e = grind (arith, common_steps, unknown_is, sum_by-set, slice_get_within, common_steps, gets)
 
--- a constant is needed that is neither found nor waits
-pub pursuit_down : (table : Symbols) (states : List State) (v : Course) (ws : List ℕ) (j : ℕ) (p : IsPursuit table states v ws) → InheritsErrors table (last_course table v ws) j → may_be_looked_for (slice_get states j) ≡ true → IsPursuit table (slice_set states j Waiting) v (ws ++ j ∷ [])
-pursuit_down table states v ws j p l e = record {
-  turns = p.turns;
-  long = (let long = p.long in grind (arith, common_steps));
-  room = (let room = p.room in let less = fewer states j e in simp length-append (omega (arith, room, less)));
-  found = λ z more k i f q. p.found z more (keeps_fewer table z (slice_get (slice_set states j Waiting)) (slice_get states) (λ i g at. (g, get_other states i j Waiting (λ same. unfound (ap (slice_get states) (sym same) ∙ at)) ∙ at)) k) i f (before i (Found f) (λ w. cc) q);
-  chain = chain_more table v ws j p.chain l;
-  marked = λ i q. marks i q (nat_eq i j) refl;
-  inside = λ i q. (let same : length (slice_set states j Waiting) ≡ length states = grind (arith, common_steps) in rw same (inner i (among_cases i j ws q)));
-  waits = λ i q. waiting i (among_cases i j ws q);
-  once = once_more j ws p.once (λ a. unwaiting (p.waits j a));
-  hung = hung_set table states j Waiting lt (λ k q. cc) p.hung;
-}
-  where
-    lt : j < length states
-    lt = open_within states j e
+  no_more : (states : List State) (j : ℕ) (f : Form) → j < length states → unknown (slice_set states j (Found f)) ≤ unknown states
+  no_more states j f lt =
+      let change = sum_by-set is_open states j (Found f) Unknown lt in
+      omega (arith, change)
 
-    unfound : {f : Form} → slice_get states j ≡ Some (Found f) → ⊥
-    unfound at = (let never : may_be_looked_for (slice_get states j) ≡ false = ap may_be_looked_for at in absurd cc)
+  -- what is at an index after one was written
+  after_set : (Q : Option State → Type 0) (states : List State) (i j : ℕ) (x : State) → j < length states → Q (slice_get (slice_set states j x) i) → ((i ≡ j) × Q (Some x)) ⊎ ((i ≢ j) × Q (slice_get states i))
+  after_set Q states i j x lt q = go (nat_eq i j) refl
+    where
+      go : (b : Bool) → nat_eq i j ≡ b → ((i ≡ j) × Q (Some x)) ⊎ ((i ≢ j) × Q (slice_get states i))
+      go true b =
+          let one : i ≡ j = grind (arith, nat_tests) in
+          inl (one, subst Q (ap (slice_get (slice_set states j x)) one ∙ get_same states j x lt) q)
+      go false b =
+          let other : i ≢ j = grind (arith, nat_tests) in
+          inr (other, subst Q (get_other states i j x other) q)
 
-    unwaiting : slice_get states j ≡ Some Waiting → ⊥
-    unwaiting at = (let never : may_be_looked_for (slice_get states j) ≡ false = ap may_be_looked_for at in absurd cc)
+  -- a constant is needed that is neither found nor pending
+  pub pursuit_needs : (states : List State) (v : Course) (ws more : List ℕ) (j : ℕ) → IsPursuit states v ws → InheritsErrors y (last_course y v ws) j → is_unknown (slice_get states j) ≡ true → more ≡ ws ++ j ∷ [] → IsPursuit (slice_set states j Waiting) v more
+  pursuit_needs states v ws more j p l e pushed = subst (IsPursuit (slice_set states j Waiting) v) (sym pushed) record {
+    turns = p.turns;
+    long = (let long = p.long in grind (arith, common_steps));
+    found = λ i f q. founds i f (after_set (λ o. found_form o ≡ Some f) states i j Waiting lt q);
+    chain = chain_more y (InheritsErrors y) v ws j p.chain l;
+    marked = λ i q. marks i (after_set (λ o. o ≡ Some Waiting) states i j Waiting lt q);
+    inside = λ i q. (let same : length (slice_set states j Waiting) ≡ length states = grind (arith, common_steps) in rw same (inner i (among_cases i j ws q)));
+  }
+    where
+      lt : j < length states
+      lt = open_within states j e
 
-    waiting : (i : ℕ) → (Among i ws ⊎ (i ≡ j)) → slice_get (slice_set states j Waiting) i ≡ Some Waiting
-    waiting i (inl a) = get_other states i j Waiting (λ same. unwaiting (ap (slice_get states) (sym same) ∙ p.waits i a)) ∙ p.waits i a
-    waiting i (inr same) = ap (slice_get (slice_set states j Waiting)) same ∙ get_same states j Waiting lt
+      founds : (i : ℕ) (f : Form) → ((i ≡ j) × (found_form (Some Waiting) ≡ Some f)) ⊎ ((i ≢ j) × (found_form (slice_get states i) ≡ Some f)) → constant_course y i p.turns ≡ Ok f
+      founds i f (inl (one, never)) = absurd cc
+      founds i f (inr (other, q)) = p.found i f q
 
-    before : (i : ℕ) (x : State) → (x ≡ Waiting → ⊥) → slice_get (slice_set states j Waiting) i ≡ Some x → slice_get states i ≡ Some x
-    before i x differs q = go (nat_eq i j) refl
-      where
-        go : (b : Bool) → nat_eq i j ≡ b → slice_get states i ≡ Some x
-        go true b =
-            let one : i ≡ j = grind (arith, nat_tests) in
-            let now : slice_get (slice_set states j Waiting) i ≡ Some Waiting = ap (slice_get (slice_set states j Waiting)) one ∙ get_same states j Waiting lt in
-            let same : x ≡ Waiting = cc in
-            absurd (differs same)
-        go false b =
-            let other : i ≢ j = grind (arith, nat_tests) in
-            sym (get_other states i j Waiting other) ∙ q
+      marks : (i : ℕ) → ((i ≡ j) × (Some Waiting ≡ Some Waiting)) ⊎ ((i ≢ j) × (slice_get states i ≡ Some Waiting)) → Among i (ws ++ j ∷ [])
+      marks i (inl (one, q)) = among_last i j ws one
+      marks i (inr (other, q)) = among_more i j ws (p.marked i q)
 
-    marks : (i : ℕ) → slice_get (slice_set states j Waiting) i ≡ Some Waiting → (b : Bool) → nat_eq i j ≡ b → Among i (ws ++ j ∷ [])
-    marks i q true b = let one : i ≡ j = grind (arith, nat_tests) in among_last i j ws one
-    marks i q false b =
-        let other : i ≢ j = grind (arith, nat_tests) in
-        among_more i j ws (p.marked i (sym (get_other states i j Waiting other) ∙ q))
+      inner : (i : ℕ) → (Among i ws ⊎ (i ≡ j)) → i < length states
+      inner i (inl h) = p.inside i h
+      inner i (inr e) = rw e lt
 
-    inner : (i : ℕ) → (Among i ws ⊎ (i ≡ j)) → i < length states
-    inner i (inl h) = p.inside i h
-    inner i (inr e) = rw e lt
+  -- the attempt at the last that waits, by what is known
+  abbrev pub turns_of : (states : List State) (v : Course) (ws : List ℕ) → IsPursuit states v ws → ℕ
+  turns_of states v ws p = p.turns + count
 
--- the form of the last that waits is found
-pub pursuit_up : (table : Symbols) (states : List State) (v : Course) (ws : List ℕ) (j : ℕ) (f : Form) (p : IsPursuit table states v (ws ++ j ∷ [])) → tried_at (slice_get states) table j ≡ Ok f → IsPursuit table (slice_set states j (Found f)) v ws
-pursuit_up table states v ws j f p e = record {
-  turns = suc p.turns;
-  long = (let long = p.long in grind (arith, common_steps));
-  room = (let room : p.turns + length (ws ++ j ∷ []) + unknown states ≤ length table.definitions = p.room in let more = no_more states j f lt in let grown : length (ws ++ j ∷ []) ≡ length ws + 1 = length-append ws (j ∷ []) in omega (arith, room, more, grown));
-  found = λ z more k i g q. founds z more k i g q (nat_eq i j) refl;
-  chain = chain_less table v ws j p.chain;
-  marked = λ i q. marks i q (nat_eq i j) refl;
-  inside = λ i q. (let same : length (slice_set states j (Found f)) ≡ length states = grind (arith, common_steps) in rw same (p.inside i (among_more i j ws q)));
-  waits = λ i q. get_other states i j (Found f) (λ same. (once_less j ws p.once).1 (subst (λ (x : ℕ). Among x ws) same q)) ∙ p.waits i (among_more i j ws q);
-  once = (once_less j ws p.once).0;
-  hung = hung_set table states j (Found f) lt (λ k q. cc) p.hung;
-}
-  where
-    lt : j < length states
-    lt = p.inside j (among_last j j ws refl)
+  pub pursuit_known : (states : List State) (v : Course) (ws : List ℕ) (p : IsPursuit states v ws) → FoundBy (turns_of states v ws p) y (known_in t states)
+  pursuit_known states v ws p = known_found t p.turns (λ j. found_form (slice_get states j)) p.found
 
-    waiting : slice_get states j ≡ Some Waiting
-    waiting = p.waits j (among_last j j ws refl)
+  pub pursuit_attempt : (states : List State) (v : Course) (ws : List ℕ) (a : Result Form AttemptError) (p : IsPursuit states v ws) → IsAttempt (turns_of states v ws p) y (known_in t states) v a → IsAttempt (turns_of states v ws p) y (known_in t states) (last_course y v ws) (tried_last (tried_at (known_in t states) y) a ws)
+  pursuit_attempt states v ws a p h = attempt_last (turns_of states v ws p) y (known_in t states) (pursuit_known states v ws p) v a h ws
 
-    -- what was found is kept, too
-    kept : (z : Symbols) → KeepsFound table (slice_get (slice_set states j (Found f))) z → KeepsFound table (slice_get states) z
-    kept z k = keeps_fewer table z (slice_get (slice_set states j (Found f))) (slice_get states) (λ i g at. (g, get_other states i j (Found f) (λ same. (let both : Some Waiting ≡ Some (Found g) = sym waiting ∙ ap (slice_get states) (sym same) ∙ at in absurd cc)) ∙ at)) k
+  -- the form of the last that waits is found
+  pursuit_up : (states : List State) (v : Course) (ws : List ℕ) (j : ℕ) (f : Form) (p : IsPursuit states v (ws ++ j ∷ [])) → tried_at (known_in t states) y j ≡ Ok f → IsPursuit (slice_set states j (Found f)) v ws
+  pursuit_up states v ws j f p e = record {
+    turns = suc (p.turns + count);
+    long = (let long = p.long in grind (arith, common_steps));
+    found = λ i g q. founds i g (after_set (λ o. found_form o ≡ Some g) states i j (Found f) lt q);
+    chain = chain_less y (InheritsErrors y) v ws j p.chain;
+    marked = λ i q. marks i (after_set (λ o. o ≡ Some Waiting) states i j (Found f) lt q);
+    inside = λ i q. (let same : length (slice_set states j (Found f)) ≡ length states = grind (arith, common_steps) in rw same (p.inside i (among_more i j ws q)));
+  }
+    where
+      lt : j < length states
+      lt = p.inside j (among_last j j ws refl)
 
-    founds : (z : Symbols) → Extends table z → KeepsFound table (slice_get (slice_set states j (Found f))) z → (i : ℕ) (g : Form) → slice_get (slice_set states j (Found f)) i ≡ Some (Found g) → (b : Bool) → nat_eq i j ≡ b → constant_course z i (suc p.turns) ≡ Ok g
-    founds z more k i g q true b =
-        let one : i ≡ j = grind (arith, nat_tests) in
-        let now : slice_get (slice_set states j (Found f)) i ≡ Some (Found f) = ap (slice_get (slice_set states j (Found f))) one ∙ get_same states j (Found f) lt in
-        let same : f ≡ g = cc in
-        let own = k j f (get_same states j (Found f) lt) in
-        let there : tried_at (slice_get states) z j ≡ Ok f = tried_at_stays table z more (slice_get states) j own f e in
-        ap (λ x. constant_course z x (suc p.turns)) one
-        ∙ form_from p.turns z (slice_get states) (constant_course z j) (tried_at (slice_get states) z j) f (attempt_at p.turns z (slice_get states) (p.found z more (kept z k)) j) there p.turns (omega arith)
-        ∙ ap Ok same
-    founds z more k i g q false b =
-        let other : i ≢ j = grind (arith, nat_tests) in
-        ok_later (constant_course z i) (constant_is z i) p.turns (suc p.turns) g (omega arith) (p.found z more (kept z k) i g (sym (get_other states i j (Found f) other) ∙ q))
+      own : constant_course y j (suc (p.turns + count)) ≡ Ok f
+      own = form_from (p.turns + count) y (known_in t states) (constant_course y j) (tried_at (known_in t states) y j) f (attempt_at (p.turns + count) y (known_in t states) (known_found t p.turns (λ j. found_form (slice_get states j)) p.found) j) e (p.turns + count) (omega arith)
 
-    marks : (i : ℕ) → slice_get (slice_set states j (Found f)) i ≡ Some Waiting → (b : Bool) → nat_eq i j ≡ b → Among i ws
-    marks i q true b =
-        let one : i ≡ j = grind (arith, nat_tests) in
-        let now : slice_get (slice_set states j (Found f)) i ≡ Some (Found f) = ap (slice_get (slice_set states j (Found f))) one ∙ get_same states j (Found f) lt in
-        absurd cc
-    marks i q false b =
-        let other : i ≢ j = grind (arith, nat_tests) in
-        rest (among_cases i j ws (p.marked i (sym (get_other states i j (Found f) other) ∙ q)))
-      where
-        rest : (Among i ws ⊎ (i ≡ j)) → Among i ws
-        rest (inl h) = h
-        rest (inr same) = let other : i ≢ j = grind (arith, nat_tests) in absurd (other same)
+      founds : (i : ℕ) (g : Form) → ((i ≡ j) × (found_form (Some (Found f)) ≡ Some g)) ⊎ ((i ≢ j) × (found_form (slice_get states i) ≡ Some g)) → constant_course y i (suc (p.turns + count)) ≡ Ok g
+      founds i g (inl (one, q)) = (let same : f ≡ g = cc in ap (λ x. constant_course y x (suc (p.turns + count))) one ∙ own ∙ ap Ok same)
+      founds i g (inr (other, q)) = ok_later (constant_course y i) (constant_is y i) p.turns (suc (p.turns + count)) g (omega arith) (p.found i g q)
 
--- a fault of the last that waits is the expression's
-pub pursuit_faults : (table : Symbols) (states : List State) (v : Course) (ws : List ℕ) (a : Result Form AttemptError) (z : AsmFault) (p : IsPursuit table states v ws) → IsAttempt p.turns table (slice_get states) (last_course table v ws) a → a ≡ Err (Fault z) → EventuallyEquals v (Err z)
-pursuit_faults table states v ws a z p t e = chain_fault table v ws z p.chain (suc p.turns, λ k le. later k le)
-  where
-    later : (k : ℕ) → suc p.turns ≤ k → last_course table v ws k ≡ Err z
-    later zero le = absurd (omega (arith, le))
-    later (suc k) le = fault_from p.turns table (slice_get states) (last_course table v ws) a z t e k (omega (arith, le))
+      marks : (i : ℕ) → ((i ≡ j) × (Some (Found f) ≡ Some Waiting)) ⊎ ((i ≢ j) × (slice_get states i ≡ Some Waiting)) → Among i ws
+      marks i (inl (one, never)) = absurd cc
+      marks i (inr (other, q)) = rest (among_cases i j ws (p.marked i q))
+        where
+          rest : (Among i ws ⊎ (i ≡ j)) → Among i ws
+          rest (inl h) = h
+          rest (inr same) = absurd (other same)
 
--- the last that waits leads to what it needs, and so to that on which this hangs
-pub pursuit_leads : (table : Symbols) (states : List State) (v : Course) (ws : List ℕ) (a : Result Form AttemptError) (i j : ℕ) (p : IsPursuit table states v ws) → IsAttempt p.turns table (slice_get states) (last_course table v ws) a → a ≡ Err (Needs i) → IsSameOrBlockedOn table i j → InheritsErrors table (last_course table v ws) j
-pursuit_leads table states v ws a i j p t e reaches = leads_on table (last_course table v ws) i j (leads_from p.turns table (slice_get states) (last_course table v ws) a i t e) reaches
+  pub pursuit_pops : (states : List State) (v : Course) (ws others : List ℕ) (first : Result Form AttemptError) (j : ℕ) (f : Form) → IsPursuit states v ws → tried_last (tried_at (known_in t states) y) first ws ≡ Ok f → ws ≡ others ++ j ∷ [] → IsPursuit (slice_set states j (Found f)) v others
+  pursuit_pops states v ws others first j f p e q =
+      let P : List ℕ → Type 0 = λ z. IsPursuit states v z → tried_last (tried_at (known_in t states) y) first z ≡ Ok f → IsPursuit (slice_set states j (Found f)) v others in
+      subst P (sym q) (λ p e. pursuit_up states v others j f p (sym (last_tried (tried_at (known_in t states) y) others first j) ∙ e)) p e
 
--- what it leads to waits, where it may not be looked for
-pub pursuit_meets : (table : Symbols) (states : List State) (v : Course) → IsCourse v → (ws : List ℕ) (j : ℕ) (p : IsPursuit table states v ws) → InheritsErrors table (last_course table v ws) j → (is_found (slice_get states j) ≡ true → ⊥) → (o : Option State) → slice_get states j ≡ o → may_be_looked_for o ≡ false → v (suc (length table.definitions)) ≡ Err Circular
-pursuit_meets table states v s ws j p l unfound None q known = grind (arith, common_steps, common_steps, gets, slice_get_past)
-pursuit_meets table states v s ws j p l unfound (Some Unknown) q known = absurd cc
-pursuit_meets table states v s ws j p l unfound (Some (BlockedOn k)) q known = absurd cc
-pursuit_meets table states v s ws j p l unfound (Some Waiting) q known = met_again table v s ws j p.chain l (p.marked j q) (length table.definitions)
-pursuit_meets table states v s ws j p l unfound (Some (Found f)) q known = absurd (unfound (ap is_found q))
+  pub pursuit_inside : (states : List State) (v : Course) (ws others : List ℕ) (j : ℕ) → IsPursuit states v ws → ws ≡ others ++ j ∷ [] → j < length states
+  pursuit_inside states v ws others j p q = p.inside j (subst (Among j) (sym q) (among_last j j others refl))
 
-pub pursuit_needs : (table : Symbols) (states : List State) (v : Course) (ws more : List ℕ) (j : ℕ) (p : IsPursuit table states v ws) → InheritsErrors table (last_course table v ws) j → may_be_looked_for (slice_get states j) ≡ true → more ≡ ws ++ j ∷ [] → IsPursuit table (slice_set states j Waiting) v more
-pursuit_needs table states v ws more j p l q pushed = grind (arith, common_steps, pursuit_down)
+  -- the last that waits leads to what it needs
+  pub pursuit_leads : (states : List State) (v : Course) (ws : List ℕ) (a : Result Form AttemptError) (j : ℕ) (p : IsPursuit states v ws) → IsAttempt (turns_of states v ws p) y (known_in t states) (last_course y v ws) a → a ≡ Err (Needs j) → InheritsErrors y (last_course y v ws) j
+  pursuit_leads states v ws a j p h e = leads_from (p.turns + count) y (known_in t states) (last_course y v ws) a j h e
 
--- the expression's form is found
-pub pursuit_done : (table : Symbols) (states : List State) (v : Course) (ws : List ℕ) (a : Result Form AttemptError) (f : Form) (p : IsPursuit table states v ws) → IsAttempt p.turns table (slice_get states) (last_course table v ws) a → a ≡ Ok f → ws ≡ [] → v (suc (length table.definitions)) ≡ Ok f
-pursuit_done table states v ws a f p t e q =
-    let room = p.room in
-    let P : List ℕ → Type 0 = λ z. last_course table v z (suc (length table.definitions)) ≡ Ok f in
-    subst P q (form_from p.turns table (slice_get states) (last_course table v ws) a f t e (length table.definitions) (omega (arith, room)))
+  -- a fault of the last that waits is the expression's
+  pub pursuit_faults : (states : List State) (v : Course) (ws : List ℕ) (a : Result Form AttemptError) (z : AsmFault) (p : IsPursuit states v ws) → IsAttempt (turns_of states v ws p) y (known_in t states) (last_course y v ws) a → a ≡ Err (Fault z) → EventuallyEquals v (Err z)
+  pursuit_faults states v ws a z p h e = chain_passes y (InheritsErrors y) (λ v k. EventuallyEquals v (Err z)) (λ v j k l q. l.faults z q) v ws 0 p.chain (suc (p.turns + count), λ k le. later k le)
+    where
+      later : (k : ℕ) → suc (p.turns + count) ≤ k → last_course y v ws k ≡ Err z
+      later zero le = absurd (omega (arith, le))
+      later (suc k) le = fault_from (p.turns + count) y (known_in t states) (last_course y v ws) a z h e k (omega (arith, le))
 
-pub pursuit_table : (table : Symbols) (states : List State) (v : Course) (ws : List ℕ) → IsPursuit table states v ws → ws ≡ [] → IsTable table states
-pursuit_table table states v ws p q = pursuit_ends table states v (subst (IsPursuit table states v) q p)
+  -- what it needs is pending, if its form isn't unknown
+  pub pursuit_meets : (states : List State) (v : Course) → IsCourse v → (ws : List ℕ) (j : ℕ) (p : IsPursuit states v ws) → InheritsErrors y (last_course y v ws) j → ((f : Form) → known_in t states j ≡ Some f → ⊥) → is_unknown (slice_get states j) ≡ false → v (suc count) ≡ Err Circular
+  pursuit_meets states v s ws j p l unfound known = by (slice_get states j) refl known
+    where
+      found_known : (f : Form) (o : Option Form) → ((g : Form) → or_else o (Some f) ≡ Some g → ⊥) → ⊥
+      found_known f None none = none f refl
+      found_known f (Some g) none = none g refl
 
-pub pursuit_inside : (table : Symbols) (states : List State) (v : Course) (ws others : List ℕ) (j : ℕ) → IsPursuit table states v ws → ws ≡ others ++ j ∷ [] → j < length states
-pursuit_inside table states v ws others j p q = p.inside j (subst (Among j) (sym q) (among_last j j others refl))
+      by : (o : Option State) → slice_get states j ≡ o → is_unknown o ≡ false → v (suc count) ≡ Err Circular
+      by None q known = let long = p.long in let starts = l.starts in grind (arith, common_steps, common_steps, gets, slice_get_past)
+      by (Some Unknown) q known = absurd cc
+      by (Some Waiting) q known =
+          circular_before v s (suc count) (length ws + suc count) (omega arith)
+          (met_again y (InheritsErrors y) (λ v k. v k ≡ Err Circular) (λ v j k l e. l.circular k e) (λ j n k le e. circular_before (constant_course y j) (constant_is y j) k n le e) (λ v j l. l.starts) v ws j p.chain l (p.marked j q) count)
+      by (Some (Found f)) q known = absurd (found_known f (final_form t j) (λ g e. unfound g (ap (λ o. or_else (final_form t j) (found_form o)) q ∙ e)))
 
-pub pursuit_pops : (table : Symbols) (states : List State) (v : Course) (ws others : List ℕ) (first : Result Form AttemptError) (j : ℕ) (f : Form) → IsPursuit table states v ws → tried_last (slice_get states) table first ws ≡ Ok f → ws ≡ others ++ j ∷ [] → IsPursuit table (slice_set states j (Found f)) v others
-pursuit_pops table states v ws others first j f p e q =
-    let P : List ℕ → Type 0 = λ z. IsPursuit table states v z → tried_last (slice_get states) table first z ≡ Ok f → IsPursuit table (slice_set states j (Found f)) v others in
-    subst P (sym q) (λ p e. pursuit_up table states v others j f p (sym (last_tried others first) ∙ e)) p e
-  where
-    last_tried : (others : List ℕ) (first : Result Form AttemptError) → tried_last (slice_get states) table first (others ++ j ∷ []) ≡ tried_at (slice_get states) table j
-    last_tried [] first = refl
-    last_tried (w ∷ ws) first = last_tried ws (tried_at (slice_get states) table w)
+  -- the expression's form is found
+  pub pursuit_done : (states : List State) (v : Course) (ws : List ℕ) (a : Result Form AttemptError) (f : Form) (p : IsPursuit states v ws) → IsAttempt (turns_of states v ws p) y (known_in t states) (last_course y v ws) a → a ≡ Ok f → ws ≡ [] → EventuallyEquals v (Ok f)
+  pursuit_done states v ws a f p h e q =
+      (suc (p.turns + count), λ k le. later k le)
+    where
+      later : (k : ℕ) → suc (p.turns + count) ≤ k → v k ≡ Ok f
+      later zero le = absurd (omega (arith, le))
+      later (suc k) le = subst (λ (z : List ℕ). last_course y v z (suc k) ≡ Ok f) q (form_from (p.turns + count) y (known_in t states) (last_course y v ws) a f h e k (omega (arith, le)))
+
+  pub down_smaller : (states : List State) (ws more : List ℕ) (j : ℕ) → is_unknown (slice_get states j) ≡ true → more ≡ ws ++ j ∷ [] → 2 * unknown (slice_set states j Waiting) + length more < 2 * unknown states + length ws
+  down_smaller states ws more j e pushed = grind (arith, common_steps, fewer, length-append)
+
+  pub up_smaller : (states : List State) (ws others : List ℕ) (j : ℕ) (f : Form) → j < length states → ws ≡ others ++ j ∷ [] → 2 * unknown (slice_set states j (Found f)) + length others < 2 * unknown states + length ws
+  up_smaller states ws others j f lt q = grind (arith, common_steps, no_more, length-append)
 
 pub unless_more : {P Q : Type 0} (b : Bool) → (P → Q) → Unless b P → Unless b Q
 unless_more true f h = tt
 unless_more false f h = f h
-
-pub down_smaller : (states : List State) (ws more : List ℕ) (j : ℕ) → may_be_looked_for (slice_get states j) ≡ true → more ≡ ws ++ j ∷ [] → 2 * unknown (slice_set states j Waiting) + length more < 2 * unknown states + length ws
-down_smaller states ws more j e pushed = grind (arith, common_steps, fewer, length-append)
-
-pub up_smaller : (states : List State) (ws others : List ℕ) (j : ℕ) (f : Form) → j < length states → ws ≡ others ++ j ∷ [] → 2 * unknown (slice_set states j (Found f)) + length others < 2 * unknown states + length ws
-up_smaller states ws others j f lt q = grind (arith, common_steps, no_more, length-append)

@@ -5,16 +5,19 @@ use Rattle.std.proofs.Math.Path.{fun_ext}
 use Rattle.std.specs.Prelude.{Bool, true, false, cond, ◌||◌, Some, None}
 use Rattle.std.specs.List.{list_any, position_from, AllByRecursion}
 use Rattle.std.proofs.lemmas.Iterator.Adapters.{position_from-zero}
-use Rattle.std.proofs.lemmas.List.{length-append, map-append}
+use Rattle.std.proofs.lemmas.List.{append-nil, drop_all, length-append, map-append, take_all}
 use Rattle.semantics65.specs.declared.contents.Segment.{Segment}
 use Rattle.std.specs.Str.{bytes_eq}
 use Rattle.object65.specs.Objects.{section_limit}
 use Rattle.symbols65.specs.declared.cursor.Cursor.TheInside.{Inside}
 use Rattle.semantics65.specs.Layout.{segment_after, grown_at, place_of, segment_at}
 use Rattle.symbols65.specs.Internal.Cursors.{AreWithin, IsSoundCursor}
-use Rattle.symbols65.proofs.Knowns.{written_over}
 use Rattle.ast65.proofs.Lists.{bytes_swap, position_mapped}
 use Rattle.semantics65.proofs.Segments.{all_more, all_same, grown_length, grown_names}
+
+-- a list written over by one as long is that one
+written_over : {A : Type 0} (n : ℕ) (xs ys : List A) → length xs ≡ length ys → n ≡ length ys → take n (xs ++ drop (length xs) ys) ≡ xs
+written_over n xs ys same long = ap (λ zs. take n (xs ++ zs)) (drop_all (length xs) ys (omega (arith, same))) ∙ ap (take n) (append-nil xs) ∙ take_all n xs (omega (arith, same, long))
 
 pub segment_is : (gs : List Segment) (i : ℕ) (g : Segment) → i < length gs → g ≡ get_or gs i g → g ≡ segment_at gs i
 segment_is [] i g lt e = absurd (omega arith)

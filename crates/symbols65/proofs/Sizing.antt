@@ -1,12 +1,10 @@
 -- Forms that are numbers or addresses.
-use Rattle.std.proofs.Common.{◌≡◌, ◌∙◌, ◌⊎◌, inl, inr, length, Option, Some, None, refl, sym, ap, arith, Bool, true, false, Result, Ok, Err}
-use Rattle.std.specs.Prelude.{ℤ, pos, nat_le, if◌then◌else◌}
+use Rattle.std.proofs.Common.{ℕ, suc, ◌≡◌, ◌∙◌, ◌⊎◌, inl, inr, Option, Some, None, refl, sym, ap, arith, Bool, true, false, Result, Ok, Err}
+use Rattle.std.specs.Prelude.{nat_le, if◌then◌else◌}
 use Rattle.syntax65.specs.Trees.{Tree, number, here, name, cheap, forward, backward, unary, binary}
-use Rattle.syntax65.specs.declared.lexing.tokens.AddressSize.{AddressSize}
-use Rattle.syntax65.specs.declared.lexing.tokens.AddressSize.TheVariants as size
 use Rattle.semantics65.specs.declared.laid.Context.{Context}
 use Rattle.semantics65.specs.Symbols.{Binding, binding_of, Symbols}
-use Rattle.semantics65.specs.Norms.{constant_in, form_of_meaning, literal_in, fold_result, larger, norm, norm_of, size_by, size_of, size_of_meaning, size_of_value, takes_byte}
+use Rattle.semantics65.specs.Norms.{form_of_meaning, literal_in, fold_result, norm}
 use Rattle.symbols65.specs.Resolving.{binary_form, plain, plain_in, prefix_form}
 use Rattle.std.proofs.lemmas.Grind.{common_steps}
 use Rattle.std.specs.Option.{option_and_then}
@@ -147,12 +145,12 @@ plain_again (Err e) = refl
 -- ---- Operands.
 
 -- an operand that means something has the form of that
-pub operand_norm : (y : Symbols) (s : Context) (e : Tree) (m : Binding) → binding_of y s e ≡ Ok m → norm_of y s e ≡ form_of_meaning (norm (length y.definitions) y) y m
-operand_norm y s (number v) m h = absurd cc
-operand_norm y s here m h = absurd cc
-operand_norm y s (unary op e) m h = absurd cc
-operand_norm y s (binary op e g) m h = absurd cc
-operand_norm y s (name global parts) m h = ap (λ r. r >>= form_of_meaning (norm (length y.definitions) y) y) h
-operand_norm y s (cheap n) m h = ap (λ r. r >>= form_of_meaning (norm (length y.definitions) y) y) h
-operand_norm y s (forward n) m h = ap (λ r. r >>= form_of_meaning (norm (length y.definitions) y) y) h
-operand_norm y s (backward n) m h = ap (λ r. r >>= form_of_meaning (norm (length y.definitions) y) y) h
+pub operand_norm : (n : ℕ) (y : Symbols) (s : Context) (e : Tree) (m : Binding) → binding_of y s e ≡ Ok m → norm (suc n) y s e ≡ form_of_meaning (norm n y) y m
+operand_norm n y s (number v) m h = absurd cc
+operand_norm n y s here m h = absurd cc
+operand_norm n y s (unary op e) m h = absurd cc
+operand_norm n y s (binary op e g) m h = absurd cc
+operand_norm n y s (name global parts) m h = ap (λ r. r >>= form_of_meaning (norm n y) y) h
+operand_norm n y s (cheap q) m h = ap (λ r. r >>= form_of_meaning (norm n y) y) h
+operand_norm n y s (forward q) m h = ap (λ r. r >>= form_of_meaning (norm n y) y) h
+operand_norm n y s (backward q) m h = ap (λ r. r >>= form_of_meaning (norm n y) y) h

@@ -8,14 +8,13 @@ use Rattle.object65.specs.Form.{Form}
 use Rattle.object65.specs.Folding.{fold1, fold2}
 use Rattle.ast65.specs.declared.fault.AsmFault.{AsmFault}
 use Rattle.ast65.specs.declared.fault.AsmFault.TheVariants.{Circular}
-use Rattle.symbols65.specs.declared.resolving.attempt.State.{State}
-use Rattle.symbols65.specs.declared.resolving.attempt.State.TheVariants.{Found}
 use Rattle.symbols65.specs.declared.resolving.attempt.AttemptError.{AttemptError}
 use Rattle.symbols65.specs.declared.resolving.attempt.AttemptError.TheVariants.{Needs, Fault}
 use Rattle.semantics65.specs.declared.laid.Context.{Context}
 use Rattle.semantics65.specs.Symbols.{Symbols, Definition, Binding, binding_of}
 use Rattle.semantics65.specs.Norms.{fold_result, form_by, form_of_definition, form_of_meaning, norm}
 use Rattle.symbols65.specs.Resolving.{IsReference, attempt_result, attempt_definition, meaning_form, operand_form, tried_by, form_attempt, tried_at, tried_last, FoundBy}
+use Rattle.symbols65.proofs.Chains.{last_course}
 use Rattle.symbols65.proofs.Turns.{NormCache, Course, expression_course, constant_course, constant_is, ok_later, ok_before}
 
 -- the first is the second, or, where that may be, circular
@@ -49,16 +48,16 @@ agrees_by C v a b s h (binary op e g) =
 -- ---- Constants.
 
 -- each form of the table is what its constant comes to
-abbrev pub Fits : Type 0 → (ℕ → Result Form AsmFault) → (ℕ → Option State) → Type 0
-Fits C v known = (j : ℕ) (f : Form) → known j ≡ Some (Found f) → Near C (v j) (Ok f)
+abbrev pub Fits : Type 0 → (ℕ → Result Form AsmFault) → (ℕ → Option Form) → Type 0
+Fits C v known = (j : ℕ) (f : Form) → known j ≡ Some f → Near C (v j) (Ok f)
 
 abbrev pub at_turn : Symbols → ℕ → ℕ → Result Form AsmFault
 at_turn table k j = constant_course table j k
 
-agrees_meaning : (C : Type 0) (table : Symbols) (known : ℕ → Option State) (k : ℕ) → Fits C (at_turn table k) known → (m : Result Binding AsmFault) → Agrees C (at_turn table k) (attempt_result m >>= meaning_form known table) (m >>= form_of_meaning (norm k table) table)
+agrees_meaning : (C : Type 0) (table : Symbols) (known : ℕ → Option Form) (k : ℕ) → Fits C (at_turn table k) known → (m : Result Binding AsmFault) → Agrees C (at_turn table k) (attempt_result m >>= meaning_form known table) (m >>= form_of_meaning (norm k table) table)
 agrees_meaning x table known k t y = grind (arith, common_steps)
 
-agrees_tried : (C : Type 0) (table : Symbols) (known : ℕ → Option State) (k : ℕ) → Fits C (at_turn table k) known → (s : Context) (e : Tree) → Agrees C (at_turn table k) (form_attempt known table s e) (expression_course table s e (suc k))
+agrees_tried : (C : Type 0) (table : Symbols) (known : ℕ → Option Form) (k : ℕ) → Fits C (at_turn table k) known → (s : Context) (e : Tree) → Agrees C (at_turn table k) (form_attempt known table s e) (expression_course table s e (suc k))
 agrees_tried C table known k t s e =
     agrees_by C (at_turn table k) (operand_form known table s) (λ u. binding_of table s u >>= form_of_meaning (norm k table) table) s
     (λ u. agrees_meaning C table known k t (binding_of table s u)) e
@@ -66,7 +65,7 @@ agrees_tried C table known k t s e =
 agrees_definition : (C : Type 0) (v : ℕ → Result Form AsmFault) (a : Context → Tree → Result Form AttemptError) (b : Context → Tree → Result Form AsmFault) → ((s : Context) (e : Tree) → Agrees C v (a s e) (b s e)) → (o : Option Definition) → Agrees C v (attempt_definition a o) (form_of_definition b o)
 agrees_definition x v a b h y = grind (arith, common_steps)
 
-agrees_at : (C : Type 0) (table : Symbols) (known : ℕ → Option State) (k : ℕ) → Fits C (at_turn table k) known → (j : ℕ) → Agrees C (at_turn table k) (tried_at known table j) (constant_course table j (suc k))
+agrees_at : (C : Type 0) (table : Symbols) (known : ℕ → Option Form) (k : ℕ) → Fits C (at_turn table k) known → (j : ℕ) → Agrees C (at_turn table k) (tried_at known table j) (constant_course table j (suc k))
 agrees_at C table known k t j = agrees_definition C (at_turn table k) (form_attempt known table) (norm (suc k) table) (λ s e. agrees_tried C table known k t s e) (slice_get table.definitions j)
 
 -- ---- Which constants are needed.
@@ -93,61 +92,56 @@ only_by P a s h (binary op e g) =
     (λ f. only_then P (tried_by a s g) (λ k. attempt_result (fold_result (fold2 op f k))) (only_by P a s h g) (λ k. only_stopped P (fold_result (fold2 op f k))))
 
 -- a constant whose form isn't found
-pub record Lacks (table : Symbols) (known : ℕ → Option State) (j : ℕ) : Type 0 where
+pub record Lacks (table : Symbols) (known : ℕ → Option Form) (j : ℕ) : Type 0 where
   pub starts : constant_course table j 0 ≡ Err Circular
   pub inside : (slice_get table.definitions j ≡ None) → ⊥
-  pub unfound : (f : Form) → known j ≡ Some (Found f) → ⊥
+  pub unfound : (f : Form) → known j ≡ Some f → ⊥
 
-lacks_meaning : (table : Symbols) (known : ℕ → Option State) (m : Result Binding AsmFault) → OnlyNeeds (Lacks table known) (attempt_result m >>= meaning_form known table)
+lacks_meaning : (table : Symbols) (known : ℕ → Option Form) (m : Result Binding AsmFault) → OnlyNeeds (Lacks table known) (attempt_result m >>= meaning_form known table)
 lacks_meaning table known x = grind (arith, common_steps)
 
-lacks_tried : (table : Symbols) (known : ℕ → Option State) (s : Context) (e : Tree) → OnlyNeeds (Lacks table known) (form_attempt known table s e)
+lacks_tried : (table : Symbols) (known : ℕ → Option Form) (s : Context) (e : Tree) → OnlyNeeds (Lacks table known) (form_attempt known table s e)
 lacks_tried table known s e = only_by (Lacks table known) (operand_form known table s) s (λ u. lacks_meaning table known (binding_of table s u)) e
 
 lacks_by_definition : (P : ℕ → Type 0) (a : Context → Tree → Result Form AttemptError) → ((s : Context) (e : Tree) → OnlyNeeds P (a s e)) → (o : Option Definition) → OnlyNeeds P (attempt_definition a o)
 lacks_by_definition x a h y = grind (arith, common_steps)
 
-lacks_at : (table : Symbols) (known : ℕ → Option State) (j : ℕ) → OnlyNeeds (Lacks table known) (tried_at known table j)
+lacks_at : (table : Symbols) (known : ℕ → Option Form) (j : ℕ) → OnlyNeeds (Lacks table known) (tried_at known table j)
 lacks_at table known j = lacks_by_definition (Lacks table known) (form_attempt known table) (λ s e. lacks_tried table known s e) (slice_get table.definitions j)
 
 -- ---- Attempts with a table.
 
 -- what an attempt says of a course
-pub record IsAttempt (c : ℕ) (table : Symbols) (known : ℕ → Option State) (v : Course) (a : Result Form AttemptError) : Type 0 where
+pub record IsAttempt (c : ℕ) (table : Symbols) (known : ℕ → Option Form) (v : Course) (a : Result Form AttemptError) : Type 0 where
   pub later : (k : ℕ) → c ≤ k → Agrees ⊥ (at_turn table k) a (v (suc k))
   pub ever : (k : ℕ) → Agrees ⊤ (at_turn table k) a (v (suc k))
   pub lacks : OnlyNeeds (Lacks table known) a
 
-fits_later : (c : ℕ) (table : Symbols) (known : ℕ → Option State) → FoundBy c table known → (k : ℕ) → c ≤ k → Fits ⊥ (at_turn table k) known
+fits_later : (c : ℕ) (table : Symbols) (known : ℕ → Option Form) → FoundBy c table known → (k : ℕ) → c ≤ k → Fits ⊥ (at_turn table k) known
 fits_later c table known h k le = λ j f q. inr (ok_later (constant_course table j) (constant_is table j) c k f le (h j f q))
 
-fits_ever : (c : ℕ) (table : Symbols) (known : ℕ → Option State) → FoundBy c table known → (k : ℕ) → Fits ⊤ (at_turn table k) known
+fits_ever : (c : ℕ) (table : Symbols) (known : ℕ → Option Form) → FoundBy c table known → (k : ℕ) → Fits ⊤ (at_turn table k) known
 fits_ever c table known h k = λ j f q. near (ok_before (constant_course table j) (constant_is table j) k c f (h j f q))
   where
     near : {r s : Result Form AsmFault} → NormCache r s → Near ⊤ r s
     near (inl e) = inl (tt, e)
     near (inr e) = inr e
 
-pub attempt_first : (c : ℕ) (table : Symbols) (known : ℕ → Option State) → FoundBy c table known → (s : Context) (e : Tree) → IsAttempt c table known (expression_course table s e) (form_attempt known table s e)
+pub attempt_first : (c : ℕ) (table : Symbols) (known : ℕ → Option Form) → FoundBy c table known → (s : Context) (e : Tree) → IsAttempt c table known (expression_course table s e) (form_attempt known table s e)
 attempt_first c table known h s e = record {
   later = λ k le. agrees_tried ⊥ table known k (fits_later c table known h k le) s e;
   ever = λ k. agrees_tried ⊤ table known k (fits_ever c table known h k) s e;
   lacks = lacks_tried table known s e;
 }
 
-pub attempt_at : (c : ℕ) (table : Symbols) (known : ℕ → Option State) → FoundBy c table known → (j : ℕ) → IsAttempt c table known (constant_course table j) (tried_at known table j)
+pub attempt_at : (c : ℕ) (table : Symbols) (known : ℕ → Option Form) → FoundBy c table known → (j : ℕ) → IsAttempt c table known (constant_course table j) (tried_at known table j)
 attempt_at c table known h j = record {
   later = λ k le. agrees_at ⊥ table known k (fits_later c table known h k le) j;
   ever = λ k. agrees_at ⊤ table known k (fits_ever c table known h k) j;
   lacks = lacks_at table known j;
 }
 
--- the course of the last that waits
-abbrev pub last_course : Symbols → Course → List ℕ → Course
-last_course table v [] = v
-last_course table v (w ∷ ws) = last_course table (constant_course table w) ws
-
-pub attempt_last : (c : ℕ) (table : Symbols) (known : ℕ → Option State) → FoundBy c table known → (v : Course) (a : Result Form AttemptError) → IsAttempt c table known v a → (ws : List ℕ) → IsAttempt c table known (last_course table v ws) (tried_last known table a ws)
+pub attempt_last : (c : ℕ) (table : Symbols) (known : ℕ → Option Form) → FoundBy c table known → (v : Course) (a : Result Form AttemptError) → IsAttempt c table known v a → (ws : List ℕ) → IsAttempt c table known (last_course table v ws) (tried_last (tried_at known table) a ws)
 attempt_last c table known h v a t [] = t
 attempt_last c table known h v a t (w ∷ ws) = attempt_last c table known h (constant_course table w) (tried_at known table w) (attempt_at c table known h w) ws
 

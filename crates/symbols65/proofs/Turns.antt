@@ -1,6 +1,6 @@
 -- Normal forms at different numbers of turns.
 use Rattle.std.proofs.lemmas.Grind.{common_steps}
-use Rattle.std.proofs.Common.{◌≡◌, ℕ, zero, suc, ◌+◌, ◌-◌, ◌≤◌, refl, sym, ap, ◌∙◌, arith, Option, Some, None, slice_get, Result, Ok, Err, ◌⊎◌, inl, inr, ◌≢◌, List, [], ◌∷◌, length, Bool, true, false, nat_eq}
+use Rattle.std.proofs.Common.{◌≡◌, ℕ, zero, suc, ◌+◌, ◌-◌, ◌≤◌, refl, sym, ap, ◌∙◌, arith, Option, Some, None, slice_get, Result, Ok, Err, ◌⊎◌, inl, inr, ◌≢◌, List, [], ◌∷◌, length, Bool, true, false, nat_eq, append-nil}
 use Rattle.base65.specs.Outcome.{◌>>=◌}
 use Rattle.syntax65.specs.Trees.{Tree, number, here, name, cheap, forward, backward, unary, binary}
 use Rattle.object65.specs.Form.{Form}
@@ -14,7 +14,11 @@ use Rattle.std.proofs.Math.Path.{fun_ext}
 use Rattle.std.specs.Prelude.{sum_by}
 use Rattle.std.proofs.lemmas.Bool.Decides.{nat_tests}
 use Rattle.std.proofs.lemmas.List.Sums.{sum_by-cons}
-use Rattle.symbols65.specs.Resolving.{EventuallyEquals}
+use Rattle.semantics65.specs.Norms.{Extends}
+
+-- a table extends itself
+pub extends_itself : (y : Symbols) → Extends y y
+extends_itself y = record { later_definitions = []; definitions = sym (append-nil y.definitions); later_scopes = []; scopes = sym (append-nil y.scopes) }
 
 -- ---- Normal forms at different numbers of turns.
 
@@ -65,6 +69,10 @@ expression_course table s e n = norm n table s e
 -- the course of what the statement at a place defines
 abbrev pub constant_course : Symbols → ℕ → Course
 constant_course table j n = form_of_definition (norm n table) (slice_get table.definitions j)
+
+-- the result with more and more nested expressions
+abbrev pub EventuallyEquals : Course → Result Form AsmFault → Type 0
+EventuallyEquals v r = (n : ℕ) × ((k : ℕ) → n ≤ k → v k ≡ r)
 
 pub expression_is : (table : Symbols) (s : Context) (e : Tree) → IsCourse (expression_course table s e)
 expression_is table s e n = norm_known n table s e
@@ -215,13 +223,27 @@ module _ (y : Symbols) where
       let same : suc d + n ≡ d + suc n = omega arith in
       form_still n h s e ∙ still_further d (suc n) (still_later n h) s e ∙ ap (λ (k : ℕ). norm (suc k) y s e) (sym same)
 
-  -- what an expression comes to is its normal form
-  pub comes_to_norm : (s : Context) (e : Tree) (r : Result Form AsmFault) → EventuallyEquals (expression_course y s e) r → norm_of y s e ≡ r
-  comes_to_norm s e r (n, h) =
+  -- more turns than there are definitions make no difference
+  pub norm_is_last : (d : ℕ) (s : Context) (e : Tree) → norm_of y s e ≡ norm (suc (d + length y.definitions)) y s e
+  norm_is_last d s e =
       let whole : ℕ = length y.definitions in
       let (m, le, still) = still_somewhere whole 0 (at_most_all 0 y.definitions) in
       let there : whole - m + m ≡ whole = omega (arith, le) in
-      let far : n + whole - m + m ≡ n + whole = omega (arith, le) in
+      let far : d + whole - m + m ≡ d + whole = omega (arith, le) in
       sym (still_further (whole - m) m still s e ∙ ap (λ (k : ℕ). norm (suc k) y s e) there)
-      ∙ still_further (n + whole - m) m still s e ∙ ap (λ (k : ℕ). norm (suc k) y s e) far
-      ∙ h (suc (n + whole)) (omega arith)
+      ∙ still_further (d + whole - m) m still s e ∙ ap (λ (k : ℕ). norm (suc k) y s e) far
+
+  pub constant_is_last : (d j : ℕ) → constant_course y j (suc (length y.definitions)) ≡ constant_course y j (suc (d + length y.definitions))
+  constant_is_last d j = by (slice_get y.definitions j)
+    where
+      by : (o : Option Definition) → form_of_definition (norm (suc (length y.definitions)) y) o ≡ form_of_definition (norm (suc (d + length y.definitions)) y) o
+      by None = refl
+      by (Some q) = value q.value
+        where
+          value : (v : Option Tree) → form_of_value (norm (suc (length y.definitions)) y) q.context v ≡ form_of_value (norm (suc (d + length y.definitions)) y) q.context v
+          value None = refl
+          value (Some e) = norm_is_last d q.context e
+
+  -- what an expression comes to is its normal form
+  pub comes_to_norm : (s : Context) (e : Tree) (r : Result Form AsmFault) → EventuallyEquals (expression_course y s e) r → norm_of y s e ≡ r
+  comes_to_norm s e r (n, h) = norm_is_last n s e ∙ h (suc (n + length y.definitions)) (omega arith)

@@ -9,6 +9,8 @@ use Rattle.std.proofs.lemmas.Option.{slice_get_within}
 use Rattle.std.specs.Map.{keys_of}
 use Rattle.std.specs.Str.{bytes_eq}
 use Rattle.std.proofs.lemmas.Slice.Eq.{bytes_eq-Decides}
+use Rattle.semantics65.specs.Norms.{Extends}
+use Rattle.semantics65.specs.Symbols as l
 use Rattle.semantics65.specs.Symbols.{Key, Scope, named, cheap_in, unnamed_at, same_key, is_named}
 use Rattle.ast65.proofs.Lists.{bytes_swap, position_mapped, same_bytes}
 use Rattle.symbols65.specs.declared.table.symbols.InternedKey.{InternedKey}
@@ -16,8 +18,14 @@ use Rattle.symbols65.specs.declared.table.symbols.InternedKey.TheVariants as ent
 use Rattle.symbols65.specs.declared.table.symbols.ScopeKey.{ScopeKey}
 use Rattle.symbols65.specs.declared.table.symbols.ScopeKey.TheVariants as opening
 use Rattle.symbols65.specs.declared.table.symbols.Definition.{Definition}
-use Rattle.symbols65.specs.Tables.{AreCounted, AreInnerKnown, AreNumbered, IsCounted, definition_in, entry_of, first_number, key_in, same_entry, same_opening, scope_by, scope_opened, word_at, word_of, word_opened, IsPrefixOf}
+use Rattle.symbols65.specs.Tables.{AreCounted, AreInnerKnown, AreNumbered, IsCounted, definition_in, entry_of, first_number, key_in, same_entry, same_opening, scope_by, scope_opened, table_without_imports, word_at, word_of, word_opened, IsPrefixOf}
+use Rattle.symbols65.specs.Views.{table_of, words_of}
+use Rattle.symbols65.specs.declared.table.symbols.Symbols.{Symbols}
 use Rattle.indexmap.specs.IndexSet.{insert_key}
+
+-- what extends a table extends it without its imports
+pub without_imports : (t : Symbols) (z : l.Symbols) → Extends (table_of t) z → Extends (table_without_imports (words_of t) t.definitions.entries t.scopes.entries) z
+without_imports t z h = record { later_definitions = h.later_definitions; definitions = h.definitions; later_scopes = h.later_scopes; scopes = h.scopes }
 
 -- ---- Tests.
 

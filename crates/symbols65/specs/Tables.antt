@@ -1,5 +1,5 @@
 -- What the parts of a table in memory stand for.
-use Rattle.std.specs.Prelude.{◌≡◌, ◌<◌, ◌^◌, ℕ, suc, List, [], ◌++◌, map, get_or, slice_get, Bool, true, false, Option, Some, None, option_map, position, ◌==◌, ◌&&◌}
+use Rattle.std.specs.Prelude.{◌≡◌, ◌<◌, ◌≤◌, ◌^◌, ℕ, suc, nat_eq, if◌then◌else◌, List, [], ◌++◌, length, map, get_or, slice_get, Bool, true, false, Option, Some, None, option_map, position, ◌==◌, ◌&&◌}
 use Rattle.std.specs.Coded.{Coded-set, coded_option}
 use Rattle.std.specs.Result.{result_ok}
 use Rattle.std.specs.Str.{bytes_eq}
@@ -13,7 +13,10 @@ use Rattle.symbols65.specs.declared.table.symbols.InternedKey.TheVariants as ent
 use Rattle.symbols65.specs.declared.table.symbols.ScopeKey.{ScopeKey}
 use Rattle.symbols65.specs.declared.table.symbols.ScopeKey.TheVariants as opening
 use Rattle.symbols65.specs.declared.table.symbols.Definition.{Definition}
-use Rattle.semantics65.specs.Norms.{Extends, form_of_value, norm}
+use Rattle.symbols65.specs.declared.table.symbols.SearchEntry.{SearchEntry}
+use Rattle.symbols65.specs.declared.table.symbols.SearchEntry.TheVariants.{KnownForm, NoForm}
+use Rattle.semantics65.specs.Norms.{Extends, defined_form, form_of_value, norm, norm_of}
+use Rattle.symbols65.specs.Plains.{plain_in}
 
 abbrev pub key_of : code.Key → l.Key
 key_of (key.Named scope name) = named scope name.now
@@ -98,16 +101,65 @@ scope_opened ws s = scope_by ws s.0 s.1
 abbrev pub table_without_imports : List (List ℕ) → List (InternedKey × Definition) → List (ScopeKey × Bool) → l.Symbols
 table_without_imports ws es ss = record { definitions = map (definition_in ws) es; scopes = map (scope_opened ws) ss; imports = []; zero_page = [] }
 
--- the form that is kept with what is defined at a place is final: it has this form whatever statements follow
-abbrev pub KeepsFinal : l.Symbols → ℕ → l.Definition → Option Form → Type 0
-KeepsFinal y j d kept = (f : Form) → kept ≡ Some f → (z : l.Symbols) → Extends y z → result_ok (form_of_value (norm (suc j) z) d.context d.value) ≡ Some f
+-- the final form of the definition at an index: it has this form whatever statements follow
+abbrev pub HasFinalForm : l.Symbols → ℕ → l.Definition → Option Form → Type 0
+HasFinalForm y j d form = (f : Form) → form ≡ Some f → (z : l.Symbols) → Extends y z → result_ok (form_of_value (norm (suc j) z) d.context d.value) ≡ Some f
 
--- each form that is kept is final
+-- the blocker of a definition: it has no number and no address if this constant has none, whatever statements follow
+abbrev pub HasBlocker : l.Symbols → l.Definition → Option ℕ → Type 0
+HasBlocker y d blocker =
+    (r : ℕ) → blocker ≡ Some r → (z : l.Symbols) → Extends y z → plain_in (defined_form z r) ≡ None →
+    plain_in (form_of_value (norm_of z) d.context d.value) ≡ None
+
+-- what is kept with the definition at an index is so whatever statements follow
+abbrev pub KeepsFinal : l.Symbols → ℕ → l.Definition → Definition → Type 0
+KeepsFinal y j d kept = HasFinalForm y j d kept.form × HasBlocker y d kept.blocker
+
+-- each definition does
 abbrev pub AreFinal : List (List ℕ) → List (InternedKey × Definition) → List (ScopeKey × Bool) → Type 0
-AreFinal ws es ss = (j : ℕ) (e : InternedKey × Definition) → slice_get es j ≡ Some e → KeepsFinal (table_without_imports ws es ss) j (definition_in ws e) e.1.form
+AreFinal ws es ss = (j : ℕ) (e : InternedKey × Definition) → slice_get es j ≡ Some e → KeepsFinal (table_without_imports ws es ss) j (definition_in ws e) e.1
 
 pub AreFinal-prop : (ws : List (List ℕ)) (es : List (InternedKey × Definition)) (ss : List (ScopeKey × Bool)) → IsProp (AreFinal ws es ss)
-AreFinal-prop ws es ss = λ p q i j e at f is z more. Coded-set (coded_option form_code) _ _ (p j e at f is z more) (q j e at f is z more) i
+AreFinal-prop ws es ss = λ p q i j e at. (
+  λ f is z more. Coded-set (coded_option form_code) _ _ ((p j e at).0 f is z more) ((q j e at).0 f is z more) i,
+  λ r is z more none. Coded-set (coded_option form_code) _ _ ((p j e at).1 r is z more none) ((q j e at).1 r is z more none) i,
+)
+
+-- ---- Entries of searches.
+
+-- the table of these parts
+abbrev pub table_in : List (List ℕ) → List (InternedKey × Definition) → List (ScopeKey × Bool) → List (List ℕ) → List (List ℕ) → l.Symbols
+table_in ws es ss imports zero_page = record (table_without_imports ws es ss) { imports = imports; zero_page = zero_page }
+
+-- what an entry says by this many definitions: a mark made by fewer says nothing
+abbrev pub entry_at : ℕ → Option SearchEntry → Option (Option Form)
+entry_at count None = None
+entry_at count (Some (KnownForm f)) = Some (Some f)
+entry_at count (Some (NoForm n)) = if nat_eq n count then Some None else None
+
+abbrev pub entries_at : ℕ → (ℕ → Option SearchEntry) → ℕ → Option (Option Form)
+entries_at count searched j = entry_at count (searched j)
+
+-- no mark was made by more definitions
+abbrev pub ArePast : ℕ → (ℕ → Option SearchEntry) → Type 0
+ArePast count searched = (j n : ℕ) → searched j ≡ Some (NoForm n) → n ≤ count
+
+-- Entries of searches, by the index of a constant, hold: the constant has the normal form that is recorded or, if an
+-- entry has none, neither a number nor an address.
+abbrev pub AreSearched : l.Symbols → (ℕ → Option (Option Form)) → Type 0
+AreSearched y searched =
+    ((j : ℕ) (f : Form) → searched j ≡ Some (Some f) → result_ok (defined_form y j) ≡ Some f)
+    × ((j : ℕ) → searched j ≡ Some None → plain_in (defined_form y j) ≡ None)
+
+pub AreSearched-prop : (y : l.Symbols) (searched : ℕ → Option (Option Form)) → IsProp (AreSearched y searched)
+AreSearched-prop y searched = λ p q i. (
+  λ j f at. Coded-set (coded_option form_code) _ _ (p.0 j f at) (q.0 j f at) i,
+  λ j at. Coded-set (coded_option form_code) _ _ (p.1 j at) (q.1 j at) i,
+)
+
+-- what is kept of searches in a symbol table
+abbrev pub KeepsSearches : l.Symbols → (ℕ → Option SearchEntry) → Type 0
+KeepsSearches y searched = AreSearched y (entries_at (length y.definitions) searched) × ArePast (length y.definitions) searched
 
 -- ---- How keys are looked up.
 

@@ -1,14 +1,15 @@
 -- The models of the symbol table in memory and of the forms known by it.
-use Rattle.std.specs.Prelude.{◌≡◌, ℕ, List, [], ◌∷◌, ◌++◌, map, slice_get, slice_set, Bool, true, false, Option, Some, option_map, if◌then◌else◌, ◌==◌}
-use Rattle.std.specs.List.{list_any}
+use Rattle.std.specs.Prelude.{◌≡◌, ℕ, List, [], ◌∷◌, ◌++◌, map, slice_get, Bool, Option, Some, None, option_map, if◌then◌else◌, nat_eq}
 use Rattle.std.specs.Option.{option_and_then, unwrap_or}
 use Rattle.semantics65.specs.Symbols as l
-use Rattle.semantics65.specs.Symbols.{Definition, Scope, unnamed_at, with_new}
+use Rattle.semantics65.specs.Symbols.{Definition, Scope, or_else, unnamed_at, with_new}
+use Rattle.object65.specs.Form.{Form}
+use Rattle.indexmap.specs.IndexMap.{IndexMap, get}
+use Rattle.symbols65.specs.Resolving.{found_form}
 use Rattle.symbols65.specs.Tables.{key_in, table_without_imports}
 use Rattle.symbols65.specs.declared.resolving.attempt.State.{State}
-use Rattle.symbols65.specs.declared.resolving.attempt.State.TheVariants.{Found, Unknown}
-use Rattle.symbols65.specs.declared.resolving.attempt.FormSource.{FormSource}
-use Rattle.symbols65.specs.declared.resolving.attempt.FormSource.TheVariants as source
+use Rattle.symbols65.specs.declared.table.symbols.SearchEntry.{SearchEntry}
+use Rattle.symbols65.specs.declared.table.symbols.SearchEntry.TheVariants.{KnownForm}
 use Rattle.symbols65.specs.declared.table.symbols.Symbols.{Symbols}
 
 -- each name once
@@ -41,23 +42,26 @@ with_names y is_zero_page names =
 
 -- ---- By what the forms of constants are known.
 
--- the final form that is kept with a definition, or what a table has
-abbrev pub known_by : Symbols → FormSource → ℕ → Option State
-known_by t source.Finals j =
-    option_and_then (λ d. option_map Found d.form) (option_map (λ e. e.1) (slice_get t.definitions.entries j))
-known_by t (source.Table states) j = slice_get states.now j
+-- the final form that is kept with a definition
+abbrev pub final_form : Symbols → ℕ → Option Form
+final_form t j = option_and_then (λ d. d.form) (option_map (λ e. e.1) (slice_get t.definitions.entries j))
 
--- ---- The indices of a table of forms that are resolved, and the table without the deferred ones.
+-- that, or the form that a search has found
+abbrev pub known_by : Symbols → (ℕ → Option Form) → ℕ → Option Form
+known_by t found j = or_else (final_form t j) (found j)
 
-abbrev pub is_found : Option State → Bool
-is_found (Some (Found f)) = true
-is_found _ = false
+abbrev pub known_in : Symbols → List State → ℕ → Option Form
+known_in t states = known_by t (λ j. found_form (slice_get states j))
 
--- each place whose form is found is noted
-abbrev pub AreNoted : List State → List ℕ → Type 0
-AreNoted states noted = (j : ℕ) → is_found (slice_get states j) ≡ true → list_any (λ i. i == j) noted ≡ true
+-- the form that an entry of a search has
+abbrev pub entry_form : Option SearchEntry → Option Form
+entry_form (Some (KnownForm f)) = Some f
+entry_form _ = None
 
--- the table in which nothing is known at these places
-abbrev pub without : List State → List ℕ → List State
-without states [] = states
-without states (w ∷ ws) = without (slice_set states w Unknown) ws
+-- what is known while a search for a number or an address has these entries
+abbrev pub known_among : {S : Type 0} → Symbols → IndexMap ℕ SearchEntry S → ℕ → Option Form
+known_among t met = known_by t (λ j. entry_form (get nat_eq met j))
+
+-- a search has one entry more, and the others that it had
+abbrev pub IsRecorded : {S : Type 0} → IndexMap ℕ SearchEntry S → IndexMap ℕ SearchEntry S → ℕ → SearchEntry → Type 0
+IsRecorded old new index entry = (j : ℕ) → get nat_eq new j ≡ (if nat_eq index j then Some entry else get nat_eq old j)

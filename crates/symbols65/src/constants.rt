@@ -1,26 +1,25 @@
 //! Evaluates expressions at a line: forms, address sizes, constant values, and the addressing
 //! modes of instructions.
 
-ghost use Rattle.std.specs.Prelude.{◌≡◌, Ok, OnOk, IfOk, IfSome, Option, Some, length, if◌then◌else◌};
+ghost use Rattle.std.specs.Prelude.{◌≡◌, Ok, IfOk, IfSome, Option, Some, if◌then◌else◌};
 ghost use Rattle.syntax65.specs.Trees.{Tree, binary, name, unary};
 ghost use Rattle.semantics65.specs.Contents.{operand_tree};
 ghost use Rattle.semantics65.specs.Layout.{context_of, lost_scope, own_size};
-ghost use Rattle.semantics65.specs.Norms.{literal_in, constant_in, norm_of, larger, size_by, size_of, size_of_meaning, size_of_value, form_of_meaning, norm, takes_byte, address_mode, first_of, is_branch, mode_for, mode_of};
+ghost use Rattle.semantics65.specs.Norms.{literal_in, constant_in, larger, size_by, size_of, size_of_meaning, size_of_value, takes_byte, address_mode, first_of, is_branch, mode_for, mode_of};
 ghost use Rattle.symbols65.specs.Evaluations.{EvaluatesTree, HasFinal, IsEvaluated, IsEvaluation};
 ghost use Rattle.symbols65.specs.Measuring.{ChecksStatement};
-ghost use Rattle.symbols65.specs.Resolving.{IsReference, IsTable, meaning_in, plain, plain_in};
+ghost use Rattle.symbols65.specs.Resolving.{IsReference, meaning_in, plain};
 ghost use Rattle.symbols65.specs.Views.{table_of};
 ghost use Rattle.std.specs.Option.{option_and_then};
-ghost use Rattle.semantics65.specs.Symbols.{Symbols as Table, binding_of};
+ghost use Rattle.semantics65.specs.Symbols.{Symbols as Table};
 ghost use Rattle.syntax65.specs.declared.lexing.tokens.AddressSize.{AddressSize};
 ghost use Rattle.syntax65.specs.declared.lexing.tokens.AddressSize.TheVariants.{ZeroPage};
 ghost use Rattle.semantics65.specs.declared.laid.Context.{Context};
 
 use crate::measuring::LineState;
 use crate::resolving::{
-    AttemptError, Binding, FormSource, NormCache, State, address, binary_form, defined,
-    final_place, meaning_at, norm, pass_on_memory, plain_part, prefix_form, scope_of, scopes_in,
-    settled, shown,
+    Binding, address, binary_form, final_meaning, find_plain, meaning_at, meant_plain, plain,
+    plain_part, prefix_form, scope_of, scopes_in, shown,
 };
 use crate::table::Symbols;
 use ast65::{AsmFault, Index, Operand};
@@ -40,31 +39,8 @@ fn literal(form: &Norm) -> Option<i64>
     }
 }
 
-/// The value of an expression where it is constant by a symbol table.
+/// Returns the value of an expression if it is constant by the definitions so far.
 pub fn constant(
-    alloc: Global,
-    symbols: &Symbols,
-    known: &mut NormCache,
-    context: Context,
-    value: &Expr,
-) -> Result<Option<i64>, AllocError>
-    requires { IsTable (table_of symbols.now) known.old.states.items }
-    ensures value { IfOk result (λ v. v ≡ constant_in (table_of symbols.now) context value.now) }
-    ensures table { OnOk result (IsTable (table_of symbols.now) known.new.states.items) }
-{
-    match norm(alloc, symbols, known, context, value) {
-        Ok(form) => Ok(literal(&form)),
-        Err(fault) => {
-            pass_on_memory(&fault)?;
-            // An expression without a form is no constant.
-            Ok(None)
-        }
-    }
-}
-
-/// The same where no table of forms is kept: one is made only where the final forms of what the operands mean now aren't
-/// enough.
-pub fn constant_now(
     alloc: Global,
     symbols: &Symbols,
     context: Context,
@@ -72,16 +48,9 @@ pub fn constant_now(
 ) -> Result<Option<i64>, AllocError>
     ensures { IfOk result (λ v. v ≡ constant_in (table_of symbols.now) context value.now) }
 {
-    match settled(alloc, symbols, context, value) {
-        Ok(form) => Ok(literal(&form)),
-        Err(AttemptError::Fault(fault)) => {
-            pass_on_memory(&fault)?;
-            Ok(None)
-        }
-        Err(AttemptError::Needs(_)) => {
-            let mut known = NormCache::unknown(alloc, symbols)?;
-            constant(alloc, symbols, &mut known, context, value)
-        }
+    match find_plain(alloc, symbols, context, value)? {
+        Some(form) => Ok(literal(&form)),
+        None => Ok(None),
     }
 }
 
@@ -141,19 +110,6 @@ pub struct Evaluation {
     pub size: AddressSize,
 }
 
-/// A form again, if it is a number or an address.
-fn plain(form: &Norm) -> Option<Norm>
-    ensures { result ≡ plain form.now }
-{
-    match form.node() {
-        Node::NumberNode(value) => Some(Norm::new(Node::NumberNode(*value))),
-        Node::SectionOffset(section, offset) => Some(Norm::new(Node::SectionOffset(
-            *section, *offset,
-        ))),
-        _ => None,
-    }
-}
-
 /// An evaluation by a form, which may be final, and by the size that the expression has without a value.
 fn evaluation_of(form: Option<Norm>, is_final: bool, other: AddressSize) -> Evaluation
     ensures form { result.form ≡ (if is_final then form else option_and_then plain form) }
@@ -179,108 +135,26 @@ fn evaluation_of(form: Option<Norm>, is_final: bool, other: AddressSize) -> Eval
     }
 }
 
-/// The form of what is meant, if it is known already, and if it is a number or an address.
-fn known_plain(symbols: &Symbols, states: &[State], meaning: Binding) -> Option<Option<Norm>>
-    requires { IsTable (table_of symbols.now) states.now }
-    ensures { IfSome result (λ f. f ≡ plain_in (form_of_meaning
-        (norm (length (table_of symbols.now).definitions) (table_of symbols.now))
-        (table_of symbols.now) (meaning_in meaning))) }
-{
-    let Binding::Defined(place) = meaning else {
-        return Some(None);
-    };
-    let definition = symbols.definition(place)?;
-    if definition.value.is_none() {
-        return Some(Some(address(definition.context)));
-    }
-    if let Some(form) = &definition.form {
-        return Some(plain(form));
-    }
-    match states.get(place) {
-        Some(State::Found(form)) => Some(plain(form)),
-        _ => None,
-    }
-}
-
-/// The form of an operand that means this, if it is a number or an address.
-fn meant_plain(
-    alloc: Global,
-    symbols: &Symbols,
-    known: &mut NormCache,
-    context: Context,
-    operand: &Expr,
-    meaning: Binding,
-) -> Result<Option<Norm>, AllocError>
-    requires table { IsTable (table_of symbols.now) known.old.states.items }
-    requires meaning { binding_of (table_of symbols.now) context operand.now
-        ≡ Ok (meaning_in meaning) }
-    ensures form { IfOk result (λ f. f ≡ plain_in
-        (norm_of (table_of symbols.now) context operand.now)) }
-    ensures table { OnOk result (IsTable (table_of symbols.now) known.new.states.items) }
-{
-    if let Some(form) = known_plain(symbols, &known.states, meaning) {
-        return Ok(form);
-    }
-    match known.find(alloc, symbols, context, operand) {
-        Ok(form) => Ok(plain(&form)),
-        Err(fault) => {
-            pass_on_memory(&fault)?;
-            Ok(None)
-        }
-    }
-}
-
-/// The evaluation of a reference whose form is final, if that is evident already.
-fn evaluate_final(
-    alloc: Global,
-    symbols: &Symbols,
-    context: Context,
-    operand: &Expr,
-) -> Result<Option<Evaluation>, AllocError>
-    requires { IsReference operand.now }
-    ensures { IfOk result (λ o. IfSome o (λ v. (own : AddressSize) →
-        IsEvaluation (table_of symbols.now) context own operand.now v)) }
-{
-    let Some(place) = final_place(symbols, context, operand) else {
-        return Ok(None);
-    };
-    match defined(alloc, symbols, FormSource::Finals, place) {
-        Ok(form) => {
-            let size = size_of_meaning(symbols, Binding::Defined(place));
-            Ok(Some(evaluation_of(Some(form), true, size)))
-        }
-        Err(AttemptError::Needs(_)) => Ok(None),
-        Err(AttemptError::Fault(fault)) => {
-            pass_on_memory(&fault)?;
-            Ok(None)
-        }
-    }
-}
-
-/// The evaluation of a reference.
+/// Evaluates a reference.
 fn evaluate_reference(
     alloc: Global,
     before: LineState<'_>,
-    known: &mut NormCache,
     operand: &Expr,
 ) -> Result<Evaluation, AllocError>
-    requires table { IsTable (table_of before.symbols.now) known.old.states.items }
-    requires reference { IsReference operand.now }
-    ensures found { IfOk result (IsEvaluation (table_of before.entry.symbols.now)
+    requires { IsReference operand.now }
+    ensures { IfOk result (IsEvaluation (table_of before.entry.symbols.now)
         (context_of before.entry.cursor.now) (own_size before.entry.cursor.now) operand.now) }
-    ensures table { OnOk result
-        (IsTable (table_of before.entry.symbols.now) known.new.states.items) }
 {
     let context = before.cursor.context();
-    if let Some(found) = evaluate_final(alloc, before.symbols, context, operand)? {
-        return Ok(found);
-    }
     let Some(meaning) = meaning_at(before.symbols, context, operand) else {
         // A name without a meaning may be defined anywhere.
         return Ok(evaluation_of(None, false, AddressSize::Absolute));
     };
     let other = size_of_meaning(before.symbols, meaning);
-    let form = meant_plain(alloc, before.symbols, known, context, operand, meaning)?;
+    if let Some(form) = final_meaning(alloc, before.symbols, context, operand, meaning)? {
+        return Ok(evaluation_of(Some(form), true, other));
+    }
+    let form = meant_plain(alloc, before.symbols, meaning)?;
     Ok(evaluation_of(form, false, other))
 }
 
@@ -339,17 +213,9 @@ fn check_name(
 
 /// Evaluates an expression in the context of a statement, in one walk; the error is its first
 /// name with `::` whose scope doesn't exist.
-pub fn evaluate(
-    alloc: Global,
-    before: LineState<'_>,
-    known: &mut NormCache,
-    value: &Expr,
-) -> Result<Evaluation, AsmFault>
-    requires { IsTable (table_of before.symbols.now) known.old.states.items }
-    ensures found { EvaluatesTree (table_of before.entry.symbols.now)
+pub fn evaluate(alloc: Global, before: LineState<'_>, value: &Expr) -> Result<Evaluation, AsmFault>
+    ensures { EvaluatesTree (table_of before.entry.symbols.now)
         (context_of before.entry.cursor.now) (own_size before.entry.cursor.now) value.now result }
-    ensures table { OnOk result
-        (IsTable (table_of before.entry.symbols.now) known.new.states.items) }
 {
     match value.kind() {
         ExprKind::Number(number) => {
@@ -366,20 +232,20 @@ pub fn evaluate(
             size: before.cursor.segment().size,
         }),
         ExprKind::Prefix(op, part) => {
-            let part = evaluate(alloc, before, known, part)?;
+            let part = evaluate(alloc, before, part)?;
             Ok(evaluate_prefix(alloc, *op, part)?)
         }
         ExprKind::Binary(op, operands) => {
-            let left = evaluate(alloc, before, known, &operands.left)?;
-            let right = evaluate(alloc, before, known, &operands.right)?;
+            let left = evaluate(alloc, before, &operands.left)?;
+            let right = evaluate(alloc, before, &operands.right)?;
             Ok(evaluate_binary(alloc, *op, left, right)?)
         }
         ExprKind::Scoped(name) => {
             check_name(alloc, before.symbols, before.cursor.scope() as usize, name)?;
-            Ok(evaluate_reference(alloc, before, known, value)?)
+            Ok(evaluate_reference(alloc, before, value)?)
         }
         ExprKind::Plain(_) | ExprKind::Cheap(_) | ExprKind::Forward(_) | ExprKind::Backward(_) => {
-            Ok(evaluate_reference(alloc, before, known, value)?)
+            Ok(evaluate_reference(alloc, before, value)?)
         }
     }
 }

@@ -12,10 +12,10 @@ mod table;
 pub use cursor::Cursor;
 pub use measuring::{
     Analysis, LineState, StatementLayout, check_unread, lay_out_statement, measure_instruction,
-    needs_section,
+    needs_section, search_operand, search_statement,
 };
 pub use resolving::{
-    Binding, NormCache, State, binding_of, defined_norm, definition_of, norm, operand_form,
+    Binding, NormCache, binding_of, blocker_of, defined_norm, definition_of, norm, operand_form,
     plain_part, scope_of, scopes_in, shown,
 };
 pub use table::{Definition, InternedKey, Key, ScopeKey, Symbols, define};

@@ -5,7 +5,7 @@ mod kinds;
 mod rooms;
 mod trees;
 
-ghost use Rattle.std.specs.Prelude.{◌≡◌, ◌+◌, ◌≤◌, false, nat_lt, IfOk, OnOk};
+ghost use Rattle.std.specs.Prelude.{◌≡◌, ◌+◌, ◌≤◌, false, nat_lt, IfOk};
 ghost use Rattle.base65.specs.Outcome.{Refines};
 ghost use Rattle.object65.specs.Objects.{section_limit};
 ghost use Rattle.ast65.specs.Faults.{is_memory};
@@ -13,7 +13,6 @@ ghost use Rattle.semantics65.specs.declared.laid.EncodingChoice.TheVariants.{Und
 ghost use Rattle.ast65.specs.declared.language.Statement.TheVariants.{Instruction};
 ghost use Rattle.semantics65.specs.Contents.{operand_tree};
 ghost use Rattle.semantics65.specs.Layout.{own_size, context_of, unless_fault};
-ghost use Rattle.symbols65.specs.Resolving.{IsTable};
 ghost use Rattle.symbols65.specs.Views.{table_of};
 ghost use Rattle.symbols65.specs.Evaluations.{AreEvaluations, HasFinal, HaveFinals, first_tree, items_in};
 ghost use Rattle.symbols65.specs.Measuring.{count_if_it_fits, layout_result, naming_fault};
@@ -22,10 +21,10 @@ pub use self::bytes::check_unread;
 use self::bytes::instruction;
 pub use self::kinds::needs_section;
 use self::kinds::{check_defined, check_opened, check_outside, place};
+pub use self::trees::{search_operand, search_statement};
 use self::trees::{Evaluations, evaluate_optional, evaluate_trees, operand_value};
 use crate::constants::final_form;
 use crate::cursor::Cursor;
-use crate::resolving::NormCache;
 use crate::table::Symbols;
 use ast65::{AsmFault, Operand, Statement};
 use object65::Norm;
@@ -66,23 +65,19 @@ pub struct Analysis {
 fn check_naming(
     alloc: Global,
     before: LineState<'_>,
-    known: &mut NormCache,
     statement: &Statement,
 ) -> Result<Evaluations, AsmFault>
-    requires { IsTable (table_of before.symbols.now) known.old.states.items }
     ensures naming { Refines is_memory (λ _. tt {0}) result (unless_fault (naming_fault
         (table_of before.entry.symbols.now) (context_of before.entry.cursor.now)
         statement.now) tt) }
     ensures found { IfOk result (AreEvaluations (table_of before.entry.symbols.now)
         (context_of before.entry.cursor.now) (own_size before.entry.cursor.now)
         statement.now) }
-    ensures table { OnOk result
-        (IsTable (table_of before.entry.symbols.now) known.new.states.items) }
 {
     let context = before.cursor.context();
     let scope = context.scope as usize;
     check_outside(scope, statement)?;
-    let found = evaluate_trees(alloc, before, known, statement)?;
+    let found = evaluate_trees(alloc, before, statement)?;
     check_opened(alloc, before.symbols, scope, statement)?;
     check_defined(alloc, before.symbols, context, statement)?;
     Ok(found)
@@ -121,10 +116,8 @@ fn nothing(cursor: &Cursor) -> StatementLayout
 pub fn lay_out_statement(
     alloc: Global,
     before: LineState<'_>,
-    known: &mut NormCache,
     statement: &Statement,
 ) -> Result<Analysis, AsmFault>
-    requires table { IsTable (table_of before.symbols.now) known.old.states.items }
     ensures measured { Refines is_memory (λ a. a.measured) result (layout_result
         (table_of before.entry.symbols.now) before.entry.cursor.now
         statement.now) }
@@ -134,10 +127,8 @@ pub fn lay_out_statement(
         (context_of before.entry.cursor.now) (first_tree statement.now) a.form) }
     ensures forms { IfOk result (λ a. HaveFinals (table_of before.entry.symbols.now)
         (context_of before.entry.cursor.now) (items_in statement.now) a.forms.items) }
-    ensures table { OnOk result
-        (IsTable (table_of before.entry.symbols.now) known.new.states.items) }
 {
-    let found = check_naming(alloc, before, known, statement)?;
+    let found = check_naming(alloc, before, statement)?;
     let measured = place(before, statement, &found)?;
     let Evaluations { first, forms, .. } = found;
     let form = final_form(first);
@@ -152,11 +143,9 @@ pub fn lay_out_statement(
 pub fn measure_instruction(
     alloc: Global,
     before: LineState<'_>,
-    known: &mut NormCache,
     mnemonic: Mnemonic,
     operand: &Operand,
 ) -> Result<Analysis, AsmFault>
-    requires table { IsTable (table_of before.symbols.now) known.old.states.items }
     ensures measured { Refines is_memory (λ a. a.measured) result (layout_result
         (table_of before.entry.symbols.now) before.entry.cursor.now
         (Instruction mnemonic operand.now)) }
@@ -164,10 +153,8 @@ pub fn measure_instruction(
         (context_of before.entry.cursor.now).offset + a.measured.length ≤ section_limit) }
     ensures form { IfOk result (λ a. HasFinal (table_of before.entry.symbols.now)
         (context_of before.entry.cursor.now) (operand_tree operand.now) a.form) }
-    ensures table { OnOk result
-        (IsTable (table_of before.entry.symbols.now) known.new.states.items) }
 {
-    let found = evaluate_optional(alloc, before, known, operand_value(operand))?;
+    let found = evaluate_optional(alloc, before, operand_value(operand))?;
     let measured = instruction(before.cursor, mnemonic, operand, &found)?;
     let form = final_form(found);
     Ok(Analysis {

@@ -12,16 +12,16 @@ ghost use Rattle.indexmap.specs.IndexMap.{keys, index_map_len};
 ghost use Rattle.semantics65.specs.Layout.{opened_twice};
 ghost use Rattle.semantics65.specs.Symbols.{with_new, enclosing, scope_in, parent_scope, definition_index, import_index, named};
 ghost use Rattle.symbols65.specs.Tables.{IsPrefixOf, HasNumber, IsOpening, first_number, same_opening, scope_by, word_opened, KeepsFinal, definition_seen, entry_of, key_of, same_entry};
+ghost use Rattle.symbols65.specs.Resolving.{IsUnknownName};
 ghost use Rattle.symbols65.specs.Views.{table_of, with_names, with_scope, words_of, key_at};
 ghost use Rattle.semantics65.specs.Norms.{is_zero_page_name};
-ghost use Rattle.symbols65.specs.Resolving.{IsUnknownName};
 
 use base65::{ListVec, Seed};
 pub use defining::define;
 use indexmap::{IndexMap, IndexSet};
 use smallvec::SmallVec;
 use std::alloc::{AllocError, Global};
-pub use symbols::{Definition, InternedKey, Key, ScopeKey, Symbols};
+pub use symbols::{Definition, InternedKey, Key, ScopeKey, SearchEntry, Symbols};
 use words::{InternedName, NameQuery};
 
 /// The number of a name, which is put in where it is new.
@@ -136,6 +136,13 @@ impl Symbols {
         self.word(name).is_none() && self.imported(name).is_none()
     }
 
+    /// Returns how many definitions there are.
+    pub fn definition_count(&self) -> usize
+        ensures { result ≡ length (table_of self.now).definitions }
+    {
+        self.definitions.len()
+    }
+
     pub fn place_opened(&self, opening: ScopeKey) -> Option<usize>
         ensures place { result ≡ position (same_opening opening) (keys self.now.scopes) }
         ensures within { IfSome result (λ i. i < index_map_len self.now.scopes) }
@@ -188,11 +195,21 @@ impl Symbols {
     pub fn definition(&self, place: usize) -> Option<&Definition>
         ensures definition { slice_get (table_of self.now).definitions place ≡ option_map (λ d. definition_seen (key_at self.now place) d.now) result }
         ensures entry { option_map (λ d. d.now) result ≡ option_map (λ e. e.1) (slice_get self.now.definitions.entries place) }
-        ensures forms { IfSome result (λ d. KeepsFinal (table_of self.now) place (definition_seen (key_at self.now place) d.now) d.now.form) }
+        ensures forms { IfSome result (λ d. KeepsFinal (table_of self.now) place (definition_seen (key_at self.now place) d.now) d.now) }
     {
         match self.definitions.get_index(place) {
             Some((_, definition)) => Some(definition),
             None => None,
+        }
+    }
+
+    /// Returns whether the definition at an index is that of a name directly in a scope.
+    pub fn is_in(&self, index: usize, scope: usize) -> bool
+        ensures { result ≡ true → (n : List ℕ) × (key_at self.now index ≡ named scope n) }
+    {
+        match self.definitions.get_index(index) {
+            Some((InternedKey::Named { scope: own, .. }, _)) => *own == scope,
+            _ => false,
         }
     }
 
@@ -251,7 +268,10 @@ impl Symbols {
     {
         match self.place_opened(opening) {
             Some(_) => Ok(()),
-            None => push_scope(&mut self.scopes, opening, is_proc),
+            None => {
+                self.searched.clear();
+                push_scope(&mut self.scopes, opening, is_proc)
+            }
         }
     }
 
@@ -278,6 +298,7 @@ impl Symbols {
     ) -> Result<(), AllocError>
         ensures { OnOk result (table_of self.new ≡ with_names (table_of self.old) is_zero_page names.now) }
     {
+        self.searched.clear();
         add_names(alloc, &mut self.imports, names)?;
         if is_zero_page {
             add_names(alloc, &mut self.zero_page, names)?;

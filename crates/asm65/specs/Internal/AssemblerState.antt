@@ -10,7 +10,6 @@ use Rattle.sources65.specs.Machine.{PieceSteps, State, with_fixup, with_content}
 use Rattle.semantics65.specs.Module as piece
 use Rattle.semantics65.specs.Numbering.{all_said}
 use Rattle.emit65.specs.SectionContents.{RepresentsSlots, AppendsSlot, contents_so_far}
-use Rattle.symbols65.specs.Resolving.{IsTable}
 use Rattle.symbols65.specs.Views.{table_of}
 use Rattle.asm65.specs.declared.assembler.Assembler.{Assembler}
 use Rattle.symbols65.specs.Measuring.{AreInside, IsCounted, measure_of, opening_limit}
@@ -51,7 +50,6 @@ AreBefore next ds = AllByRecursion (λ d. IsBefore next d.key) ds
 -- An assembler represents a state, after statements that opened at most this many scopes and regions.
 pub record Represents (count : ℕ) (t : State) (a : Assembler) : Type 0 where
   pub symbols : table_of a.symbols ≡ t.symbols
-  pub known : IsTable t.symbols a.known.states.items
   pub cursor : a.cursor ≡ t.cursor
   pub counted : IsCounted count t.cursor
   pub inside : AreInside count t.symbols.scopes
@@ -84,7 +82,6 @@ known_where y s = record {
 -- the same except for section contents and pending pieces
 pub record KeepsTables (old new : Assembler) : Type 0 where
   pub symbols : new.symbols ≡ old.symbols
-  pub known : new.known ≡ old.known
   pub cursor : new.cursor ≡ old.cursor
   pub texts : new.texts ≡ old.texts
 
@@ -159,7 +156,7 @@ pub record IsNew (y : Symbols) (s : Context) (x : Statement) : Type 0 where
   pub opened : opened_twice y.scopes s.scope (scope_name x) ≡ None
   pub defined : (k : Key) → key_defined s x ≡ Some k → definition_index y k ≡ None
 
--- the same, but for names and what is known of them
+-- the same, but for names
 pub record KeepsPut (old new : Assembler) : Type 0 where
   pub cursor : new.cursor ≡ old.cursor
   pub sections : new.sections ≡ old.sections

@@ -1,6 +1,6 @@
 //! Statements that place bytes which they name, or a part of a file.
 
-ghost use Rattle.std.specs.Prelude.{◌≡◌, ◌≤◌, IfOk, not, OnOk, Option, Some, ◌+◌, ◌<◌, MatchOption, sum_by};
+ghost use Rattle.std.specs.Prelude.{◌≡◌, ◌≤◌, IfOk, not, Option, Some, ◌+◌, ◌<◌, MatchOption, sum_by};
 ghost use Rattle.base65.specs.Outcome.{Refines};
 ghost use Rattle.ast65.specs.declared.fault.AsmFault.TheVariants.{BadPart};
 ghost use Rattle.ast65.specs.Faults.{is_memory};
@@ -9,7 +9,6 @@ ghost use Rattle.semantics65.specs.Contents.{operand_tree};
 ghost use Rattle.semantics65.specs.Layout.{context_of, own_size, when, unless_fault};
 ghost use Rattle.semantics65.specs.Norms.{byte_count, optional_value, item_len, mode_len};
 ghost use Rattle.symbols65.specs.Evaluations.{AreEvaluations, IsEvaluated};
-ghost use Rattle.symbols65.specs.Resolving.{IsTable};
 ghost use Rattle.symbols65.specs.Views.{table_of};
 ghost use Rattle.symbols65.specs.Measuring.{IsFound, is_within, layout_or_error, range_in_file, unread_fault};
 ghost use Rattle.object65.specs.Objects.{width_len};
@@ -22,7 +21,6 @@ use super::trees::{Evaluations, evaluate_two};
 use crate::constants::{Evaluation, mode, number};
 use crate::cursor::Cursor;
 use crate::measuring::{LineState, StatementLayout, fit, nothing};
-use crate::resolving::NormCache;
 use ast65::{AsmFault, IncbinRange, Item, Items, ItemsKind, Operand};
 use base65::ListVec;
 use object65::Width;
@@ -50,17 +48,13 @@ fn named(found: &Option<Evaluation>) -> Result<Option<i64>, AsmFault>
 pub fn check_unread(
     alloc: Global,
     before: LineState<'_>,
-    known: &mut NormCache,
     range: IncbinRange<'_>,
 ) -> Result<(), AsmFault>
-    requires table { IsTable (table_of before.symbols.now) known.old.states.items }
-    ensures checked { Refines is_memory (λ u. u) result (unless_fault (unread_fault
+    ensures { Refines is_memory (λ u. u) result (unless_fault (unread_fault
         (table_of before.entry.symbols.now) before.entry.cursor.now
         range.entry.start.now range.entry.len.now) tt) }
-    ensures table { OnOk result
-        (IsTable (table_of before.entry.symbols.now) known.new.states.items) }
 {
-    let found = evaluate_two(alloc, before, known, range.start.get(), range.len.get())?;
+    let found = evaluate_two(alloc, before, range.start.get(), range.len.get())?;
     named(&found.first)?;
     named(&found.second)?;
     Ok(())

@@ -1,21 +1,22 @@
 //! The expressions of statements, each of which is evaluated once.
 
-ghost use Rattle.std.specs.Prelude.{◌≡◌, IfOk, OnOk, Option, Some, [], ◌∷◌, ◌++◌};
+ghost use Rattle.std.specs.Prelude.{◌≡◌, IfOk, Option, Some, [], ◌∷◌, ◌++◌};
 ghost use Rattle.std.specs.Option.{option_map};
 ghost use Rattle.base65.specs.Outcome.{Refines};
 ghost use Rattle.ast65.specs.Faults.{is_memory};
 ghost use Rattle.semantics65.specs.Contents.{operand_tree};
 ghost use Rattle.semantics65.specs.Layout.{context_of, lost_scopes, item_trees, optional_tree, own_size, trees_of, unless_fault};
 ghost use Rattle.symbols65.specs.Evaluations.{AreEvaluations, HasFinal, HaveFinals, IsEvaluated, first_tree, item_tree, second_tree};
-ghost use Rattle.symbols65.specs.Resolving.{IsTable};
 ghost use Rattle.symbols65.specs.Views.{table_of};
 
 use crate::constants::{Evaluation, evaluate, final_form};
 use crate::measuring::LineState;
-use crate::resolving::NormCache;
+use crate::resolving::search_constants;
+use crate::table::Symbols;
 use ast65::{AsmFault, Item, Items, ItemsKind, Operand, Statement};
 use object65::Norm;
-use std::alloc::Global;
+use semantics65::Context;
+use std::alloc::{AllocError, Global};
 use syntax65::Expr;
 
 /// What is found of the expressions of a statement.
@@ -32,10 +33,8 @@ pub struct Evaluations {
 pub fn evaluate_optional(
     alloc: Global,
     before: LineState<'_>,
-    known: &mut NormCache,
     value: Option<&Expr>,
 ) -> Result<Option<Evaluation>, AsmFault>
-    requires { IsTable (table_of before.symbols.now) known.old.states.items }
     ensures scopes { Refines is_memory (λ _. tt {0}) result (unless_fault
         (lost_scopes (table_of before.entry.symbols.now).scopes
         (context_of before.entry.cursor.now).scope
@@ -43,12 +42,10 @@ pub fn evaluate_optional(
     ensures found { IfOk result (IsEvaluated (table_of before.entry.symbols.now)
         (context_of before.entry.cursor.now) (own_size before.entry.cursor.now)
         (option_map (λ e. e.now) value.entry)) }
-    ensures table { OnOk result
-        (IsTable (table_of before.entry.symbols.now) known.new.states.items) }
 {
     match value {
         Some(value) => {
-            let found = evaluate(alloc, before, known, value)?;
+            let found = evaluate(alloc, before, value)?;
             Ok(Some(found))
         }
         None => Ok(None),
@@ -98,21 +95,17 @@ fn second_value(statement: &Statement) -> Option<&Expr>
 fn evaluate_item(
     alloc: Global,
     before: LineState<'_>,
-    known: &mut NormCache,
     item: &Item,
 ) -> Result<Option<Norm>, AsmFault>
-    requires { IsTable (table_of before.symbols.now) known.old.states.items }
     ensures scopes { Refines is_memory (λ _. tt {0}) result (unless_fault
         (lost_scopes (table_of before.entry.symbols.now).scopes
         (context_of before.entry.cursor.now).scope (item_trees (item.now ∷ []))) tt) }
     ensures form { IfOk result (HasFinal (table_of before.entry.symbols.now)
         (context_of before.entry.cursor.now) (item_tree item.now)) }
-    ensures table { OnOk result
-        (IsTable (table_of before.entry.symbols.now) known.new.states.items) }
 {
     match item {
         Item::Value(value) => {
-            let found = evaluate_optional(alloc, before, known, Some(value))?;
+            let found = evaluate_optional(alloc, before, Some(value))?;
             Ok(final_form(found))
         }
         Item::StringLiteral(_) => Ok(None),
@@ -124,21 +117,17 @@ fn evaluate_item(
 fn evaluate_items(
     alloc: Global,
     before: LineState<'_>,
-    known: &mut NormCache,
     items: &[Item],
 ) -> Result<Vec<Option<Norm>>, AsmFault>
-    requires { IsTable (table_of before.symbols.now) known.old.states.items }
     ensures scopes { Refines is_memory (λ _. tt {0}) result (unless_fault
         (lost_scopes (table_of before.entry.symbols.now).scopes
         (context_of before.entry.cursor.now).scope (item_trees items.now)) tt) }
     ensures forms { IfOk result (λ forms. HaveFinals (table_of before.entry.symbols.now)
         (context_of before.entry.cursor.now) items.now forms.items) }
-    ensures table { OnOk result
-        (IsTable (table_of before.entry.symbols.now) known.new.states.items) }
 {
     let mut forms = Vec::with_capacity(alloc, items.len())?;
     for item in items {
-        let form = evaluate_item(alloc, before, known, item)?;
+        let form = evaluate_item(alloc, before, item)?;
         forms.push(form)?;
     }
     Ok(forms)
@@ -148,21 +137,17 @@ fn evaluate_items(
 fn evaluate_list(
     alloc: Global,
     before: LineState<'_>,
-    known: &mut NormCache,
     items: &Items,
 ) -> Result<Vec<Option<Norm>>, AsmFault>
-    requires { IsTable (table_of before.symbols.now) known.old.states.items }
     ensures scopes { Refines is_memory (λ _. tt {0}) result (unless_fault
         (lost_scopes (table_of before.entry.symbols.now).scopes
         (context_of before.entry.cursor.now).scope (item_trees items.now)) tt) }
     ensures forms { IfOk result (λ forms. HaveFinals (table_of before.entry.symbols.now)
         (context_of before.entry.cursor.now) items.now forms.items) }
-    ensures table { OnOk result
-        (IsTable (table_of before.entry.symbols.now) known.new.states.items) }
 {
     match items.kind() {
         ItemsKind::Numbers(_) => Ok(Vec::new(alloc)),
-        ItemsKind::Mixed(items) => evaluate_items(alloc, before, known, items.as_slice()),
+        ItemsKind::Mixed(items) => evaluate_items(alloc, before, items.as_slice()),
     }
 }
 
@@ -170,11 +155,9 @@ fn evaluate_list(
 pub fn evaluate_two(
     alloc: Global,
     before: LineState<'_>,
-    known: &mut NormCache,
     first: Option<&Expr>,
     second: Option<&Expr>,
 ) -> Result<Evaluations, AsmFault>
-    requires { IsTable (table_of before.symbols.now) known.old.states.items }
     ensures scopes { Refines is_memory (λ _. tt {0}) result (unless_fault
         (lost_scopes (table_of before.entry.symbols.now).scopes
         (context_of before.entry.cursor.now).scope
@@ -187,11 +170,9 @@ pub fn evaluate_two(
         (context_of before.entry.cursor.now) (own_size before.entry.cursor.now)
         (option_map (λ e. e.now) second.entry) found.second) }
     ensures forms { IfOk result (λ found. found.forms.items ≡ []) }
-    ensures table { OnOk result
-        (IsTable (table_of before.entry.symbols.now) known.new.states.items) }
 {
-    let first = evaluate_optional(alloc, before, known, first)?;
-    let second = evaluate_optional(alloc, before, known, second)?;
+    let first = evaluate_optional(alloc, before, first)?;
+    let second = evaluate_optional(alloc, before, second)?;
     Ok(Evaluations {
         first,
         second,
@@ -203,22 +184,18 @@ pub fn evaluate_two(
 pub fn evaluate_trees(
     alloc: Global,
     before: LineState<'_>,
-    known: &mut NormCache,
     statement: &Statement,
 ) -> Result<Evaluations, AsmFault>
-    requires { IsTable (table_of before.symbols.now) known.old.states.items }
     ensures scopes { Refines is_memory (λ _. tt {0}) result (unless_fault
         (lost_scopes (table_of before.entry.symbols.now).scopes
         (context_of before.entry.cursor.now).scope (trees_of statement.now)) tt) }
     ensures found { IfOk result (AreEvaluations (table_of before.entry.symbols.now)
         (context_of before.entry.cursor.now) (own_size before.entry.cursor.now)
         statement.now) }
-    ensures table { OnOk result
-        (IsTable (table_of before.entry.symbols.now) known.new.states.items) }
 {
     match statement {
         Statement::Values { items, .. } => {
-            let forms = evaluate_list(alloc, before, known, items)?;
+            let forms = evaluate_list(alloc, before, items)?;
             Ok(Evaluations {
                 first: None,
                 second: None,
@@ -228,7 +205,78 @@ pub fn evaluate_trees(
         _ => {
             let first = first_value(statement);
             let second = second_value(statement);
-            evaluate_two(alloc, before, known, first, second)
+            evaluate_two(alloc, before, first, second)
+        }
+    }
+}
+
+/// Searches for the constants in the elements of a list.
+fn search_items(
+    alloc: Global,
+    symbols: &mut Symbols,
+    context: Context,
+    items: &[Item],
+) -> Result<(), AllocError>
+    ensures { table_of symbols.new ≡ table_of symbols.old }
+{
+    for item in items {
+        if let Item::Value(value) = item {
+            search_constants(alloc, symbols, context, value)?;
+        }
+    }
+    Ok(())
+}
+
+/// Searches for the constants in an expression that may be left out.
+fn search_optional(
+    alloc: Global,
+    symbols: &mut Symbols,
+    context: Context,
+    value: Option<&Expr>,
+) -> Result<(), AllocError>
+    ensures { table_of symbols.new ≡ table_of symbols.old }
+{
+    match value {
+        Some(value) => search_constants(alloc, symbols, context, value),
+        None => Ok(()),
+    }
+}
+
+/// Searches for the constants in an instruction's operand, and keeps what is found in the symbol table.
+pub fn search_operand(
+    alloc: Global,
+    symbols: &mut Symbols,
+    context: Context,
+    operand: &Operand,
+) -> Result<(), AllocError>
+    ensures { table_of symbols.new ≡ table_of symbols.old }
+{
+    if !symbols.has_open {
+        return Ok(());
+    }
+    search_optional(alloc, symbols, context, operand_value(operand))
+}
+
+/// Searches for the constants in the expressions of a statement, and keeps what is found in the symbol table.
+pub fn search_statement(
+    alloc: Global,
+    symbols: &mut Symbols,
+    context: Context,
+    statement: &Statement,
+) -> Result<(), AllocError>
+    ensures { table_of symbols.new ≡ table_of symbols.old }
+{
+    if !symbols.has_open {
+        return Ok(());
+    }
+    match statement {
+        Statement::Values { items, .. } => match items.kind() {
+            ItemsKind::Numbers(_) => Ok(()),
+            ItemsKind::Mixed(items) => search_items(alloc, symbols, context, items.as_slice()),
+        },
+        _ => {
+            search_optional(alloc, symbols, context, first_value(statement))?;
+            search_optional(alloc, symbols, context, second_value(statement))
         }
     }
 }

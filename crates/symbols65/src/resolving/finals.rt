@@ -1,23 +1,25 @@
-//! Operands that mean the same whatever statements follow; and folding forms of which some may be missing.
+//! Operands that mean the same whatever statements follow, blockers of constants, and folding of
+//! forms of which some may be missing.
 
-ghost use Rattle.std.specs.Prelude.{IfSome, ◌≡◌, IfOk, Result, ◌∷◌, [], None, false, true};
-ghost use Rattle.symbols65.specs.Resolving.{MeansAlways, MeansFinally, EachOperand, binary_form, prefix_form, plain_part};
+ghost use Rattle.std.specs.Prelude.{IfSome, ◌≡◌, IfOk, Ok, Result, Some, slice_get, true};
+ghost use Rattle.symbols65.specs.Resolving.{IsBlocked, IsBlockedAt, MeansAlways, attempt_definition, binary_form, known_form, meaning_in, prefix_form};
 ghost use Rattle.std.specs.Result.{result_ok};
 ghost use Rattle.base65.specs.Outcome.{Refines};
 ghost use Rattle.object65.specs.Form.{Form};
 ghost use Rattle.object65.specs.Folding.{lacks_memory};
 ghost use Rattle.object65.specs.declared.folding.FormFault.{FormFault};
-ghost use Rattle.syntax65.specs.Trees.{name as name_tree};
-ghost use Rattle.symbols65.specs.Views.{table_of};
+ghost use Rattle.semantics65.specs.Symbols.{binding_of, defined_at};
+ghost use Rattle.symbols65.specs.Evaluations.{HasFinal};
+ghost use Rattle.symbols65.specs.Views.{final_form, table_of};
 
-use super::meaning::{last_in, plain_part, scopes_in};
-use super::scopes::scope_of;
-use crate::table::{Key, Symbols};
+use super::attempt::address;
+use super::meaning::{Binding, meaning_at, plain_part};
+use crate::table::Symbols;
 use base65::{Op1, Op2};
 use object65::{FormFault, Norm};
 use semantics65::Context;
 use std::alloc::{AllocError, Global};
-use syntax65::{Expr, ExprKind, Name};
+use syntax65::{Expr, ExprKind};
 
 /// What folding gives, if anything.
 fn folded(form: Result<Norm, FormFault>) -> Result<Option<Norm>, AllocError>
@@ -56,78 +58,98 @@ pub fn binary_form(
     }
 }
 
-/// The place of what a plain name means whatever follows: the very scope of the use defines it.
-fn own_name(symbols: &Symbols, context: Context, name: &[u8]) -> Option<usize>
-    ensures { IfSome result (MeansAlways (table_of symbols.now) context
-        (name_tree false (name.now ∷ []))) }
-{
-    let scope = context.scope as usize;
-    symbols.defined(Key::Named { scope, name })
-}
-
-/// The place of what a name with `::` means whatever follows: its scope was opened before the use and defines it.
-fn opened_member(symbols: &Symbols, context: Context, name: &Name) -> Option<usize>
-    ensures { plain_part name.now.is_global name.now.parts ≡ None → IfSome result
-        (MeansAlways (table_of symbols.now) context
-        (name_tree name.now.is_global name.now.parts)) }
-{
-    let parts = name.parts.as_slice();
-    let opened = context.opened as usize;
-    let scope = context.scope as usize;
-    if symbols.scope_count() < opened {
-        return None;
-    }
-    match scope_of(symbols, opened, scope, name.is_global, scopes_in(parts)) {
-        Some(inner) => {
-            let name = last_in(parts);
-            let scope = inner;
-            symbols.defined(Key::Named { scope, name })
-        }
-        None => None,
-    }
-}
-
-/// The place of the definition that an operand means whatever statements follow, where that is evident already: never
-/// of an import, of a reference further on, or of a name without `::` that is only defined further out.
-pub fn final_place(symbols: &Symbols, context: Context, operand: &Expr) -> Option<usize>
-    ensures { IfSome result
-        (MeansAlways (table_of symbols.now) context operand.now) }
+/// Returns whether an operand means this definition whatever statements follow. It does if the scope
+/// of the use defines a plain name, if the scope of a name with `::` was opened before, and for
+/// cheap labels and unnamed labels before the use.
+fn is_final(symbols: &Symbols, context: Context, operand: &Expr, index: usize) -> bool
+    ensures { result ≡ true →
+        binding_of (table_of symbols.now) context operand.now ≡ Ok (defined_at index) →
+        MeansAlways (table_of symbols.now) context operand.now index }
 {
     match operand.kind() {
-        ExprKind::Plain(name) => own_name(symbols, context, name.as_slice()),
+        ExprKind::Plain(_) => symbols.is_in(index, context.scope as usize),
         ExprKind::Scoped(name) => match plain_part(name) {
-            Some(part) => own_name(symbols, context, part),
-            None => opened_member(symbols, context, name),
+            Some(_) => symbols.is_in(index, context.scope as usize),
+            None => context.opened as usize <= symbols.scope_count(),
         },
-        ExprKind::Cheap(name) => {
-            let region = context.region as usize;
-            let name = name.as_slice();
-            symbols.defined(Key::Cheap { region, name })
-        }
-        ExprKind::Backward(steps) => {
-            let count = (context.unnamed as usize).checked_sub(*steps)?;
-            symbols.defined(Key::Unnamed(count))
-        }
+        ExprKind::Cheap(_) => true,
+        ExprKind::Backward(_) => true,
+        _ => false,
+    }
+}
+
+/// Returns the blocker of the definition at an index, or the definition itself, if it is a constant
+/// without a final form.
+fn blocker_at(symbols: &Symbols, index: usize) -> Option<usize>
+    ensures { IfSome result (IsBlockedAt (table_of symbols.now) index) }
+{
+    let definition = symbols.definition(index)?;
+    match (&definition.value, &definition.form) {
+        (Some(_), None) => Some(definition.blocker.unwrap_or(index)),
         _ => None,
     }
 }
 
-/// Returns whether each operand of an expression means the same whatever statements follow.
-pub fn are_final(symbols: &Symbols, context: Context, value: &Expr) -> bool
-    ensures { result ≡ true →
-        EachOperand (MeansFinally (table_of symbols.now) context) value.now }
+/// Returns a constant without whose number or address an expression has none, whatever statements
+/// follow, if one is evident already.
+pub fn blocker_of(symbols: &Symbols, context: Context, value: &Expr) -> Option<usize>
+    ensures { IfSome result (IsBlocked (table_of symbols.now) context value.now) }
 {
     match value.kind() {
-        ExprKind::Number(_) | ExprKind::Here => true,
-        ExprKind::Prefix(_, part) => are_final(symbols, context, part),
-        ExprKind::Binary(_, operands) => {
-            are_final(symbols, context, &operands.left)
-                && are_final(symbols, context, &operands.right)
-        }
+        ExprKind::Number(_) | ExprKind::Here => None,
+        ExprKind::Prefix(_, part) => blocker_of(symbols, context, part),
+        ExprKind::Binary(_, operands) => match blocker_of(symbols, context, &operands.left) {
+            Some(index) => Some(index),
+            None => blocker_of(symbols, context, &operands.right),
+        },
         ExprKind::Plain(_)
         | ExprKind::Scoped(_)
         | ExprKind::Cheap(_)
         | ExprKind::Forward(_)
-        | ExprKind::Backward(_) => { final_place(symbols, context, value).is_some() }
+        | ExprKind::Backward(_) => {
+            let Binding::Defined(index) = meaning_at(symbols, context, value)? else {
+                return None;
+            };
+            if !is_final(symbols, context, value, index) {
+                return None;
+            }
+            blocker_at(symbols, index)
+        }
     }
+}
+
+/// Returns the final form of the definition at an index, if it has one.
+fn defined_final(alloc: Global, symbols: &Symbols, index: usize) -> Result<Option<Norm>, AllocError>
+    ensures { IfOk result (λ o. IfSome o (λ f.
+        attempt_definition (λ s e. known_form index (final_form symbols.now index))
+        (slice_get (table_of symbols.now).definitions index) ≡ Ok f)) }
+{
+    let Some(definition) = symbols.definition(index) else {
+        return Ok(None);
+    };
+    match (&definition.value, &definition.form) {
+        (None, _) => Ok(Some(address(definition.context))),
+        (Some(_), Some(form)) => Ok(Some(Norm::copy_of(alloc, form)?)),
+        (Some(_), None) => Ok(None),
+    }
+}
+
+/// Returns the final form of an operand with this meaning, if that is evident already.
+pub fn final_meaning(
+    alloc: Global,
+    symbols: &Symbols,
+    context: Context,
+    operand: &Expr,
+    meaning: Binding,
+) -> Result<Option<Norm>, AllocError>
+    requires { binding_of (table_of symbols.now) context operand.now ≡ Ok (meaning_in meaning) }
+    ensures { IfOk result (HasFinal (table_of symbols.now) context (Some operand.now)) }
+{
+    let Binding::Defined(index) = meaning else {
+        return Ok(None);
+    };
+    if !is_final(symbols, context, operand, index) {
+        return Ok(None);
+    }
+    defined_final(alloc, symbols, index)
 }

@@ -1,12 +1,13 @@
 //! Definitions that are added to a symbol table.
 
-ghost use Rattle.std.specs.Prelude.{◌≡◌, ◌++◌, ◌∷◌, [], IfOk, None, OnErr, OnOk, Some, length, position, slice_get, true, ℕ};
-ghost use Rattle.indexmap.specs.IndexMap.{keys};
-ghost use Rattle.semantics65.specs.Symbols.{definition_index};
+ghost use Rattle.std.specs.Prelude.{◌≡◌, ◌++◌, ◌∷◌, [], IfOk, None, OnErr, OnOk, Some, false, length, nat_eq, position, slice_get, true, ℕ};
+ghost use Rattle.indexmap.specs.IndexMap.{get, keys};
+ghost use Rattle.semantics65.specs.Symbols.{Definition as TableDefinition, definition_index};
+ghost use Rattle.symbols65.specs.Resolving.{KeepsMeanings};
 ghost use Rattle.symbols65.specs.Tables.{IsCounted, IsInnerKnown, KeepsFinal, definition_in, definition_seen, entry_of, first_number, key_of, same_entry, word_of};
 ghost use Rattle.symbols65.specs.Views.{table_of, with_definition, words_of};
 
-use super::symbols::{Definition, InternedKey, Key, Symbols};
+use super::symbols::{Definition, InternedKey, Key, SearchEntry, Symbols};
 use base65::Seed;
 use indexmap::IndexMap;
 use semantics65::GLOBAL_SCOPE;
@@ -75,12 +76,46 @@ fn note(inner: &mut Vec<bool>, entry: InternedKey) -> Result<(), AllocError>
     }
 }
 
-/// Adds a definition whose entry has none.
-fn put(symbols: &mut Symbols, entry: InternedKey, definition: Definition) -> Result<(), AllocError>
+/// Returns whether a definition is a constant without a final form.
+fn is_open(definition: &Definition) -> bool {
+    definition.value.is_some() && definition.form.is_none()
+}
+
+/// Removes the entries of searches, unless they are to be kept.
+fn forget_unless(searched: &mut IndexMap<usize, SearchEntry>, keeps: bool)
+    ensures kept { keeps ≡ true → (j : ℕ) → get nat_eq searched.new j ≡ get nat_eq searched.old j }
+    ensures forgotten { keeps ≡ false → (j : ℕ) → get nat_eq searched.new j ≡ None }
+{
+    if !keeps {
+        searched.clear();
+    }
+}
+
+/// Returns whether each operand keeps its meaning if a key is defined that isn't yet: it does unless the key is a name
+/// that is defined in another scope, or imported.
+fn keeps_meanings(symbols: &Symbols, key: Key<'_>) -> bool
+    ensures { result ≡ true → (d : TableDefinition) → d.key ≡ key_of key.entry →
+        KeepsMeanings (table_of symbols.now) (with_definition (table_of symbols.now) d) }
+{
+    match key {
+        Key::Named { name, .. } => symbols.is_unknown(name),
+        _ => true,
+    }
+}
+
+/// Adds a definition whose key has none. The entries of searches are kept if operands keep their meanings.
+fn put(
+    symbols: &mut Symbols,
+    entry: InternedKey,
+    definition: Definition,
+    keeps: bool,
+) -> Result<(), AllocError>
     requires number { first_number (words_of symbols.old) (word_of entry) ≡ word_of entry }
     requires counted { IsCounted entry }
     requires form { KeepsFinal (table_of symbols.old) (length symbols.old.definitions.entries)
-        (definition_in (words_of symbols.old) (entry, definition)) definition.form }
+        (definition_in (words_of symbols.old) (entry, definition)) definition }
+    requires meanings { keeps ≡ true → KeepsMeanings (table_of symbols.old) (with_definition
+        (table_of symbols.old) (definition_in (words_of symbols.old) (entry, definition))) }
     ensures { OnOk result (position (same_entry entry) (keys symbols.old.definitions) ≡ None →
         table_of symbols.new ≡ with_definition (table_of symbols.old)
         (definition_in (words_of symbols.old) (entry, definition))) }
@@ -88,6 +123,8 @@ fn put(symbols: &mut Symbols, entry: InternedKey, definition: Definition) -> Res
     match symbols.place_of(entry) {
         Some(_) => Ok(()),
         None => {
+            forget_unless(&mut symbols.searched, keeps);
+            symbols.has_open = symbols.has_open || is_open(&definition);
             note(&mut symbols.inner, entry)?;
             push(&mut symbols.definitions, entry, definition)
         }
@@ -102,11 +139,12 @@ pub fn define(
     definition: Definition,
 ) -> Result<(), AllocError>
     requires { KeepsFinal (table_of symbols.old) (length (table_of symbols.old).definitions)
-        (definition_seen (key_of key) definition) definition.form }
+        (definition_seen (key_of key) definition) definition }
     ensures { OnOk result (definition_index (table_of symbols.old) (key_of key.entry) ≡ None →
         table_of symbols.new ≡ with_definition (table_of symbols.old)
         (definition_seen (key_of key.entry) definition)) }
 {
+    let keeps = keeps_meanings(symbols, key);
     let entry = entry(alloc, symbols, key)?;
-    put(symbols, entry, definition)
+    put(symbols, entry, definition, keeps)
 }

@@ -1,8 +1,8 @@
 //! The symbol table: its definitions, and the keys of its names.
 
-ghost use Rattle.std.specs.Prelude.{map};
-ghost use Rattle.indexmap.specs.IndexMap.{keys};
-ghost use Rattle.symbols65.specs.Tables.{AreCounted, AreDistinct, AreFinal, AreFinal-prop, AreInnerKnown, AreNumbered, word_of, word_opened};
+ghost use Rattle.std.specs.Prelude.{length, map, nat_eq};
+ghost use Rattle.indexmap.specs.IndexMap.{get, keys};
+ghost use Rattle.symbols65.specs.Tables.{AreCounted, AreDistinct, AreFinal, AreFinal-prop, AreInnerKnown, AreNumbered, AreSearched, AreSearched-prop, ArePast, entries_at, table_in, word_of, word_opened};
 
 use super::words::InternedName;
 use base65::Seed;
@@ -21,6 +21,8 @@ pub struct Definition {
     pub size: AddressSize,
     /// The form of a constant, where it is final: where it stays whatever statements follow.
     pub form: Option<Norm>,
+    /// A constant without whose number or address this one has none, whatever statements follow.
+    pub blocker: Option<usize>,
 }
 
 /// By what a definition is found.
@@ -49,6 +51,14 @@ pub enum ScopeKey {
     Nameless { within: usize, number: usize },
 }
 
+/// The entry of a search for a constant.
+#[derive(Drop)]
+pub enum SearchEntry {
+    KnownForm(Norm),
+    /// Its value is pending, or it is neither a number nor an address, by this many definitions.
+    NoForm(usize),
+}
+
 /// A symbol table.
 #[derive(Drop)]
 pub struct Symbols {
@@ -65,12 +75,18 @@ pub struct Symbols {
     pub zero_page: IndexSet<Vec<u8>, Seed>,
     /// Of each word whether a scope other than the global one defines it, as far as such words go.
     pub inner: Vec<bool>,
+    /// The entries of searches, by the index of their constant.
+    pub searched: IndexMap<usize, SearchEntry>,
+    /// Whether a constant has no final form. Unless one has none, there is nothing to search for.
+    pub has_open: bool,
     ghost entries_numbered: { AreNumbered word_of (map (λ k. k.items) words.keys) (keys definitions) },
     ghost counts_fit: { AreCounted (keys definitions) },
     ghost openings_numbered: { AreNumbered word_opened (map (λ k. k.items) words.keys) (keys scopes) },
     ghost inner_known: { AreInnerKnown (keys definitions) inner.items },
     ghost openings_distinct: { AreDistinct (keys scopes) },
     ghost forms_final: { AreFinal (map (λ k. k.items) words.keys) definitions.entries scopes.entries } by { AreFinal-prop (map (λ k. k.items) words.keys) definitions.entries scopes.entries },
+    ghost searches_hold: { AreSearched (table_in (map (λ k. k.items) words.keys) definitions.entries scopes.entries (map (λ k. k.items) imports.keys) (map (λ k. k.items) zero_page.keys)) (entries_at (length (table_in (map (λ k. k.items) words.keys) definitions.entries scopes.entries (map (λ k. k.items) imports.keys) (map (λ k. k.items) zero_page.keys)).definitions) (get nat_eq searched)) } by { AreSearched-prop (table_in (map (λ k. k.items) words.keys) definitions.entries scopes.entries (map (λ k. k.items) imports.keys) (map (λ k. k.items) zero_page.keys)) (entries_at (length (table_in (map (λ k. k.items) words.keys) definitions.entries scopes.entries (map (λ k. k.items) imports.keys) (map (λ k. k.items) zero_page.keys)).definitions) (get nat_eq searched)) },
+    ghost searches_past: { ArePast (length (table_in (map (λ k. k.items) words.keys) definitions.entries scopes.entries (map (λ k. k.items) imports.keys) (map (λ k. k.items) zero_page.keys)).definitions) (get nat_eq searched) },
 }
 
 impl Symbols {
@@ -89,6 +105,8 @@ impl Symbols {
             imports: IndexSet::with_hasher(alloc, seed),
             zero_page: IndexSet::with_hasher(alloc, seed),
             inner: Vec::new(alloc),
+            searched: IndexMap::new(alloc),
+            has_open: false,
         }
     }
 }

@@ -6,7 +6,6 @@ use Rattle.semantics65.specs.Symbols.{Symbols}
 use Rattle.symbols65.specs.Views.{table_of}
 use Rattle.symbols65.specs.Measuring.{unread_fault}
 use Rattle.asm65.proofs.Insides.{unread_inside}
-use Rattle.asm65.proofs.Takings.{held_on}
 use Rattle.asm65.proofs.files.check_range.Goals as goal
 
 pub returns-clause-checked : goal.returns-clause-checked
@@ -14,12 +13,9 @@ returns-clause-checked c = λ count t h.
     (let range = c.args.range in
     let P : Symbols → Type 0 = λ y. Refines is_memory (λ (u : Unit {0}). u) c.check_unread.result (unless_fault {A = Unit {0}} (unread_fault y c.args.assembler.now.cursor range.start.now range.len.now) tt) in
     let Q : Cursor → Type 0 = λ w. Refines is_memory (λ (u : Unit {0}). u) c.check_unread.result (unless_fault {A = Unit {0}} (unread_fault t.symbols w range.start.now range.len.now) tt) in
-    subst Q h.cursor (subst P h.symbols c.check_unread.ensures.checked))
-
-pub returns-clause-held : goal.returns-clause-held
-returns-clause-held c = λ count t h. held_on count t c.args.assembler.now c.check_unread.new.known c.check_unread.result h c.check_unread.ensures.table
+    subst Q h.cursor (subst P h.symbols c.check_unread.ensures))
 
 pub returns-clause-inside : goal.returns-clause-inside
 returns-clause-inside c =
     let range = c.args.range in
-    unread_inside c.check_unread.result (table_of c.args.assembler.now.symbols) c.args.assembler.now.cursor range.start.now range.len.now c.check_unread.ensures.checked
+    unread_inside c.check_unread.result (table_of c.args.assembler.now.symbols) c.args.assembler.now.cursor range.start.now range.len.now c.check_unread.ensures

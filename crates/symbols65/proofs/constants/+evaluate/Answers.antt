@@ -11,8 +11,8 @@ use Rattle.symbols65.specs.Views.{table_of}
 use Rattle.symbols65.proofs.Evaluations.{name_lost, none_lost}
 use Rattle.symbols65.proofs.constants.+evaluate.Goals as goal
 
-pub returns-in_err-check_name-in-Scoped-clause-found : goal.returns-in_err-check_name-in-Scoped-clause-found
-returns-in_err-check_name-in-Scoped-clause-found t c =
+pub returns-in_err-check_name-in-Scoped : goal.returns-in_err-check_name-in-Scoped
+returns-in_err-check_name-in-Scoped t c =
     let p = err_from_is_err_and c.from_residual-in_err-check_name-in-Scoped.result c.from_residual-in_err-check_name-in-Scoped.ensures.1 in
     let y = table_of c.args.before.symbols.now in
     let w = c.args.before.cursor.now in
@@ -23,8 +23,8 @@ returns-in_err-check_name-in-Scoped-clause-found t c =
     (name_lost y (context_of w) (own_size w) written e
     (subst (λ (k : ℕ). Unless (is_memory e) (unless_fault {A = Unit {0}} (lost_scope y.scopes k written) tt ≡ Err e)) c.scope.ensures c.in_err-check_name-in-Scoped.ensures)))
 
-pub returns-in_ok-evaluate_binary-in-Binary-clause-found : goal.returns-in_ok-evaluate_binary-in-Binary-clause-found
-returns-in_ok-evaluate_binary-in-Binary-clause-found t c =
+pub returns-in_ok-evaluate_binary-in-Binary : goal.returns-in_ok-evaluate_binary-in-Binary
+returns-in_ok-evaluate_binary-in-Binary t c =
     let y = table_of c.args.before.symbols.now in
     let w = c.args.before.cursor.now in
     let s = context_of w in
@@ -39,7 +39,7 @@ returns-in_ok-evaluate_binary-in-Binary-clause-found t c =
     ∙ sym (ap (λ v. binary c.in-Binary.op v.left c.in-Binary.operands.value.right) left)
     ∙ sym (ap (λ v. binary c.in-Binary.op e v.right) right) in
     let there : EvaluatesTree y s own (binary c.in-Binary.op e g) (Ok c.in_ok-evaluate_binary-in-Binary.field-0) = (
-      none_lost y s own c.in-Binary.op e g c.in_ok-left-in-Binary.ensures.found.0 c.in_ok-right-in-Binary.ensures.found.0,
-      c.in_ok-evaluate_binary-in-Binary.ensures y s own e g c.in_ok-left-in-Binary.ensures.found.1 c.in_ok-right-in-Binary.ensures.found.1,
+      none_lost y s own c.in-Binary.op e g c.in_ok-left-in-Binary.ensures.0 c.in_ok-right-in-Binary.ensures.0,
+      c.in_ok-evaluate_binary-in-Binary.ensures y s own e g c.in_ok-left-in-Binary.ensures.1 c.in_ok-right-in-Binary.ensures.1,
     ) in
     subst (λ (v : Tree). EvaluatesTree y s own v (Ok c.in_ok-evaluate_binary-in-Binary.field-0)) (sym whole) there

@@ -1,4 +1,4 @@
-use Rattle.std.proofs.Common.{◌≡◌, true, false}
+use Rattle.std.proofs.Common.{◌≡◌, true}
 use Rattle.symbols65.proofs.Evaluations.{binary_found}
 use Rattle.symbols65.proofs.constants.evaluate_binary.Goals as goal
 use Rattle.symbols65.proofs.constants.evaluate_binary.Goals.{then-left, else-left}

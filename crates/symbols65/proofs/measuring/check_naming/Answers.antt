@@ -1,4 +1,4 @@
-use Rattle.std.proofs.Common.{Option, Result, Ok, Err, subst, sym}
+use Rattle.std.proofs.Common.{Option, Result, Ok, Err, subst}
 use Rattle.std.specs.Prelude.{◌&&◌}
 use Rattle.std.proofs.lemmas.Result.{err_from_is_err_and}
 use Rattle.ast65.specs.declared.fault.AsmFault.{AsmFault}

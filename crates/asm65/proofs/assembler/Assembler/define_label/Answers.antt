@@ -3,7 +3,7 @@ use Rattle.symbols65.specs.Tables.{key_of}
 use Rattle.symbols65.specs.Views.{table_of, with_definition}
 use Rattle.asm65.specs.Internal.AssemblerState.{label_at}
 use Rattle.asm65.proofs.Enterings.{enters_none}
-use Rattle.asm65.proofs.Namings.{on_both, turns_after}
+use Rattle.asm65.proofs.Namings.{where_ok, turns_after}
 use Rattle.asm65.proofs.assembler.Assembler.define_label.Goals as goal
 
 pub returns : goal.returns
@@ -11,6 +11,6 @@ returns c =
     let old = c.args.self.now in
     let s = c.args.context in
     let d = label_at (key_of c.args.key) s c.args.size in
-    on_both c.define.result (λ table known place.
-    turns_after place s [] (λ y. with_definition y d) old old c.define.new.self (enters_none place s old) c.define.ensures.keeps (table ∙ ap (with_definition (table_of old.symbols)) (c.label.ensures.seen (key_of c.args.key))) known)
-    c.define.ensures.table c.define.ensures.known
+    where_ok c.define.result (λ table place.
+    turns_after place s [] (λ y. with_definition y d) old old c.define.new.self (enters_none place s old) c.define.ensures.keeps (table ∙ ap (with_definition (table_of old.symbols)) (c.label.ensures.seen (key_of c.args.key))))
+    c.define.ensures.table

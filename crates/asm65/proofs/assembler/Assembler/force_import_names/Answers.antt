@@ -4,7 +4,7 @@ use Rattle.semantics65.specs.Views.{place_in}
 use Rattle.semantics65.specs.Module.{Piece, demanded, imported}
 use Rattle.symbols65.specs.Views.{with_names}
 use Rattle.asm65.proofs.Enterings.{enters_both}
-use Rattle.asm65.proofs.Namings.{mentions_enter, on_both, turns_after}
+use Rattle.asm65.proofs.Namings.{mentions_enter, where_ok, turns_after}
 use Rattle.asm65.proofs.assembler.Assembler.force_import_names.Goals as goal
 
 pub returns : goal.returns
@@ -18,6 +18,6 @@ returns c =
     let ps : List Piece = map imported names in
     let qs : List Piece = map demanded names in
     let both = enters_both place s ps qs old first mid (mentions_enter place s ps old first c.in_ok-mention.ensures.mentioned) (mentions_enter place s qs first mid c.in_ok-mention-2.ensures.mentioned) in
-    on_both c.import.result (λ table known.
-    turns_after place s (ps ++ qs) (λ y. with_names y false names) old mid c.import.new.self both c.import.ensures.keeps table known)
-    c.import.ensures.table c.import.ensures.known
+    where_ok c.import.result (λ table.
+    turns_after place s (ps ++ qs) (λ y. with_names y false names) old mid c.import.new.self both c.import.ensures.keeps table)
+    c.import.ensures.table

@@ -2,7 +2,7 @@ use Rattle.std.proofs.Common.{◌∙◌, ap, map}
 use Rattle.semantics65.specs.Views.{place_in}
 use Rattle.symbols65.specs.Views.{table_of, with_names}
 use Rattle.asm65.specs.Internal.AssemblerState.{is_for_zero_page, name_use_piece}
-use Rattle.asm65.proofs.Namings.{mentions_enter, on_both, turns_after}
+use Rattle.asm65.proofs.Namings.{mentions_enter, where_ok, turns_after}
 use Rattle.asm65.proofs.assembler.Assembler.import_names.Goals as goal
 
 pub returns : goal.returns
@@ -14,6 +14,6 @@ returns c =
     let names = c.args.names.now in
     let ps = map (name_use_piece c.args.mention) names in
     let b = is_for_zero_page c.args.size in
-    on_both c.import.result (λ table known.
-    turns_after place s ps (λ y. with_names y b names) old mid c.import.new.self (mentions_enter place s ps old mid c.in_ok-mention.ensures.mentioned) c.import.ensures.keeps (table ∙ ap (λ z. with_names (table_of mid.symbols) z names) c.is_for_zero_page.ensures) known)
-    c.import.ensures.table c.import.ensures.known
+    where_ok c.import.result (λ table.
+    turns_after place s ps (λ y. with_names y b names) old mid c.import.new.self (mentions_enter place s ps old mid c.in_ok-mention.ensures.mentioned) c.import.ensures.keeps (table ∙ ap (λ z. with_names (table_of mid.symbols) z names) c.is_for_zero_page.ensures))
+    c.import.ensures.table

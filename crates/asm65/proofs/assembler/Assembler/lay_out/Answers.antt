@@ -18,7 +18,7 @@ use Rattle.asm65.specs.declared.assembler.Assembler.{Assembler}
 use Rattle.asm65.specs.Internal.AssemblerState.{AreBefore, Represents, IsNew, asked_of}
 use Rattle.asm65.proofs.Insides.{measured_inside}
 use Rattle.asm65.proofs.Placings.{more_counted, moved_after, placed_is, refused_is}
-use Rattle.asm65.proofs.Takings.{holds_known, holds_stepped, is_new}
+use Rattle.asm65.proofs.Takings.{holds_stepped, is_new}
 use Rattle.asm65.proofs.assembler.Assembler.lay_out.Goals as goal
 
 pub advance-requires-clause-numbers : goal.advance-requires-clause-numbers
@@ -59,8 +59,7 @@ returns-clause-holds c = λ count t h.
     let same : table_of mid.symbols ≡ y = ap table_of c.in_ok-request_section.ensures.tables.symbols in
     let site : mid.cursor ≡ w = c.in_ok-request_section.ensures.tables.cursor in
     let segment = ap (λ (s : Context). s.segment) c.context-context.ensures ∙ ap (λ (v : Cursor). (layout.context_of v).segment) h.cursor in
-    let knows = holds_known count t old c.lay_out_statement.new.known h c.in_ok-analysis.ensures.table in
-    let held : Represents count (asked_of (layout.context_of t.cursor).segment x t) mid = subst (λ (g : ℕ). Represents count (asked_of g x t) mid) segment (c.in_ok-request_section.ensures.asked count t knows) in
+    let held : Represents count (asked_of (layout.context_of t.cursor).segment x t) mid = subst (λ (g : ℕ). Represents count (asked_of g x t) mid) segment (c.in_ok-request_section.ensures.asked count t h) in
     let moved : c.advance.new.self ≡ layout.cursor_after t.symbols t.cursor x =
     c.in_ok-advance.ensures
     ∙ ap (λ (z : Symbols). cursor_with_bytes z mid.cursor x m.length m.alignment) same

@@ -4,7 +4,7 @@ use Rattle.std.specs.Option.{option_map}
 use Rattle.semantics65.specs.Symbols.{Scope}
 use Rattle.symbols65.specs.Views.{with_scope}
 use Rattle.asm65.proofs.Enterings.{enters_none}
-use Rattle.asm65.proofs.Namings.{on_both, turns_after}
+use Rattle.asm65.proofs.Namings.{where_ok, turns_after}
 use Rattle.asm65.proofs.assembler.Assembler.open_block.Goals as goal
 
 pub returns : goal.returns
@@ -12,6 +12,6 @@ returns c =
     let old = c.args.self.now in
     let s = c.args.context in
     let b : Scope = record { within = c.args.context.scope; name = option_map (λ n. n.now) c.args.name; is_proc = false } in
-    on_both c.open_scope.result (λ table known place.
-    turns_after place s [] (λ y. with_scope y b) old old c.open_scope.new.self (enters_none place s old) c.open_scope.ensures.keeps table known)
-    c.open_scope.ensures.table c.open_scope.ensures.known
+    where_ok c.open_scope.result (λ table place.
+    turns_after place s [] (λ y. with_scope y b) old old c.open_scope.new.self (enters_none place s old) c.open_scope.ensures.keeps table)
+    c.open_scope.ensures.table

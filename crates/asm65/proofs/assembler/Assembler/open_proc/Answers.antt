@@ -4,7 +4,7 @@ use Rattle.semantics65.specs.Symbols.{Definition, Scope, Symbols, named}
 use Rattle.symbols65.specs.Views.{table_of, with_definition, with_scope}
 use Rattle.asm65.specs.declared.assembler.Assembler.{Assembler}
 use Rattle.asm65.specs.Internal.AssemblerState.{label_at}
-use Rattle.asm65.proofs.Namings.{holds_grown, on_both}
+use Rattle.asm65.proofs.Namings.{holds_grown, where_ok}
 use Rattle.asm65.proofs.assembler.Assembler.open_proc.Goals as goal
 
 pub returns : goal.returns
@@ -16,9 +16,9 @@ returns c =
     let d : Definition = label_at key c.args.context c.args.size in
     let b : Scope = record { within = c.args.context.scope; name = Some c.args.name.now; is_proc = true } in
     let first : table_of mid.symbols ≡ with_definition (table_of old.symbols) d = c.in_ok-define.ensures.table ∙ ap (with_definition (table_of old.symbols)) (c.label.ensures.seen key) in
-    on_both c.open_scope.result (λ table known place count t h inside unnamed.
+    where_ok c.open_scope.result (λ table place count t h inside unnamed.
     (let y : Symbols = with_definition t.symbols d in
     let here : table_of mid.symbols ≡ y = first ∙ ap (λ (z : Symbols). with_definition z d) h.symbols in
-    let held = holds_grown count t old mid y h c.in_ok-define.ensures.keeps here c.in_ok-define.ensures.known h.inside unnamed in
-    (t, refl, holds_grown count (record t { symbols = y }) mid new (with_scope y b) held c.open_scope.ensures.keeps (table ∙ ap (λ (z : Symbols). with_scope z b) here) known inside unnamed)))
-    c.open_scope.ensures.table c.open_scope.ensures.known
+    let held = holds_grown count t old mid y h c.in_ok-define.ensures.keeps here h.inside unnamed in
+    (t, refl, holds_grown count (record t { symbols = y }) mid new (with_scope y b) held c.open_scope.ensures.keeps (table ∙ ap (λ (z : Symbols). with_scope z b) here) inside unnamed)))
+    c.open_scope.ensures.table

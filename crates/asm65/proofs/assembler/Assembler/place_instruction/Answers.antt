@@ -20,7 +20,7 @@ use Rattle.asm65.specs.declared.assembler.Assembler.{Assembler}
 use Rattle.asm65.specs.Internal.AssemblerState.{Represents, asked_of}
 use Rattle.asm65.proofs.Insides.{measured_inside}
 use Rattle.asm65.proofs.Placings.{more_counted, moved_after, placed_is, refused_is}
-use Rattle.asm65.proofs.Takings.{holds_known, holds_stepped}
+use Rattle.asm65.proofs.Takings.{holds_stepped}
 use Rattle.asm65.proofs.Waitings.{holds_entered}
 use Rattle.asm65.proofs.assembler.Assembler.place_instruction.Goals as goal
 
@@ -35,11 +35,9 @@ returns-clause-holds c = λ place count t h.
     let m : StatementLayout = c.in_ok-analysis.analysis.measured in
     let y : Symbols = table_of old.symbols in
     let w : Cursor = old.cursor in
-    let known : Assembler = record old { known = c.measure_instruction.new.known } in
-    let mid : Assembler = record known { sections = c.request_section.new.self } in
+    let mid : Assembler = record old { sections = c.request_section.new.self } in
     let segment = ap (λ (s : Context). s.segment) c.context-context.ensures ∙ ap (λ (v : Cursor). (layout.context_of v).segment) h.cursor in
-    let knows : Represents count t known = holds_known count t old c.measure_instruction.new.known h c.in_ok-analysis.ensures.table in
-    let asked : Represents count (with_content t (section_request c.context-context.result.segment)) mid = holds_entered count t known mid knows (record { symbols = refl; known = refl; cursor = refl; texts = refl }) (section_request c.context-context.result.segment) refl c.in_ok-request_section.ensures in
+    let asked : Represents count (with_content t (section_request c.context-context.result.segment)) mid = holds_entered count t old mid h (record { symbols = refl; cursor = refl; texts = refl }) (section_request c.context-context.result.segment) refl c.in_ok-request_section.ensures in
     let held : Represents count (asked_of (layout.context_of t.cursor).segment x t) mid = subst (λ (g : ℕ). Represents count (with_content t (section_request g)) mid) segment asked in
     let one : 1 ≡ m.alignment = ap (λ (k : StatementLayout). k.alignment) (is_measured y w x m c.in_ok-analysis.ensures.measured) in
     let moved : c.advance_by.new.self ≡ layout.cursor_after t.symbols t.cursor x =

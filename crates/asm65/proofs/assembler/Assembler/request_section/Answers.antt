@@ -14,4 +14,4 @@ returns-in_ok-request_section-clause-asked c = λ count t h.
     let new : Assembler = record old { sections = c.request_section.new.self } in
     let asks : needs_section c.args.statement.now ≡ true = sym c.needs_section.ensures ∙ c.if-needs_section.true in
     subst (λ (b : Bool). Represents count (if b then with_content t (section_request c.args.segment) else t) new) (sym asks)
-    (holds_entered count t old new h (record { symbols = refl; known = refl; cursor = refl; texts = refl }) (section_request c.args.segment) refl c.in_ok-request_section.ensures))
+    (holds_entered count t old new h (record { symbols = refl; cursor = refl; texts = refl }) (section_request c.args.segment) refl c.in_ok-request_section.ensures))

@@ -1,15 +1,13 @@
-use Rattle.std.proofs.Common.{arith, ◌≡◌, List, ℕ, ◌∷◌, [], map, sym, subst, ◌∙◌, Option}
+use Rattle.std.proofs.Common.{arith, ◌≡◌, List, ℕ, ◌∷◌, [], map, sym, subst, ◌∙◌}
 use Rattle.std.proofs.lemmas.Grind.{common_steps}
 use Rattle.std.specs.Vec.Iter.{into_iter_items}
 use Rattle.syntax65.specs.declared.source_location.SourceLocation.{SourceLocation}
-use Rattle.object65.specs.Form.{Form}
 use Rattle.object65.specs.declared.object.Width.{Width}
 use Rattle.semantics65.specs.Contents.{section_part, Known}
 use Rattle.ast65.specs.declared.language.Item.{Item}
 use Rattle.semantics65.specs.declared.laid.Context.{Context}
 use Rattle.semantics65.specs.Views.{place_in}
 use Rattle.semantics65.specs.Module.{item_piece, resolved}
-use Rattle.semantics65.specs.Symbols.{Symbols}
 use Rattle.emit65.specs.SectionContents.{AppendsSlot}
 use Rattle.symbols65.specs.Evaluations.{HaveFinals}
 use Rattle.symbols65.specs.Views.{table_of}

@@ -11,5 +11,5 @@ returns-clause-waits c =
     let old : Assembler = c.args.assembler.now in
     let new : Assembler = record old { sections = c.defer.new.self } in
     ok_then c.defer.result
-    (λ feeds count t h. holds_awaiting count t old new h (record { symbols = refl; known = refl; cursor = refl; texts = refl }) (record { place = place_in c.args.site.at.file.now c.args.site.at.line; context = c.args.site.context; piece = piece_of c.args.piece }) feeds)
+    (λ feeds count t h. holds_awaiting count t old new h (record { symbols = refl; cursor = refl; texts = refl }) (record { place = place_in c.args.site.at.file.now c.args.site.at.line; context = c.args.site.context; piece = piece_of c.args.piece }) feeds)
     c.defer.ensures

@@ -1,6 +1,5 @@
 use Rattle.std.proofs.lemmas.Grind.{common_steps}
-use Rattle.std.proofs.Common.{◌≡◌, ◌∙◌, arith, refl, sym, ap}
-use Rattle.std.specs.Prelude.{ℤ, pos, Bool, true, false, Some, if◌then◌else◌}
+use Rattle.std.proofs.Common.{◌∙◌, arith, sym}
 use Rattle.syntax65.specs.Trees.{Tree}
 use Rattle.syntax65.specs.declared.source_location.SourceLocation.{SourceLocation}
 use Rattle.object65.specs.Form.{Form}
@@ -8,7 +7,7 @@ use Rattle.semantics65.specs.Contents.{value_part}
 use Rattle.semantics65.specs.Norms.{IsFinal}
 use Rattle.semantics65.specs.declared.laid.Context.{Context}
 use Rattle.semantics65.specs.Views.{place_in}
-use Rattle.semantics65.specs.Module.{asserted, datum, operand, valued}
+use Rattle.semantics65.specs.Module.{datum, operand, valued}
 use Rattle.symbols65.specs.Views.{table_of}
 use Rattle.symbols65.proofs.Finals.{within_final}
 use Rattle.symbols65.proofs.Measures.{ok_with}

@@ -1,8 +1,7 @@
-use Rattle.std.proofs.Common.{◌≡◌, ◌∙◌, Option, Err, Ok, ap, refl, subst, sym}
-use Rattle.std.specs.Prelude.{◌++◌, ℕ, Result}
+use Rattle.std.proofs.Common.{◌≡◌, ◌∙◌, Option, ap, refl, subst, sym}
+use Rattle.std.specs.Prelude.{◌++◌, Result}
 use Rattle.std.proofs.lemmas.Result.{err_from_is_err_and}
 use Rattle.syntax65.specs.Trees.{Tree}
-use Rattle.syntax65.specs.declared.lexing.tokens.AddressSize.{AddressSize}
 use Rattle.ast65.specs.declared.fault.AsmFault.{AsmFault}
 use Rattle.semantics65.specs.Layout.{Cursor, context_of, lost_scopes, optional_tree, own_size, unless_fault}
 use Rattle.semantics65.specs.Symbols.{Symbols}
@@ -22,8 +21,8 @@ same_checks y w a start b len p q = sym (ap (λ x. checks y w x b) p ∙ ap (che
 same_found : (y : Symbols) (w : Cursor) (a start : Option Tree) (o : Option Evaluation) → a ≡ start → IsEvaluated y (context_of w) (own_size w) a o → IsEvaluated y (context_of w) (own_size w) start o
 same_found y w a start o p h = subst (λ (x : Option Tree). IsEvaluated y (context_of w) (own_size w) x o) p h
 
-pub returns-in_err-found-clause-checked : goal.returns-in_err-found-clause-checked
-returns-in_err-found-clause-checked c =
+pub returns-in_err-found : goal.returns-in_err-found
+returns-in_err-found c =
     let p = err_from_is_err_and c.from_residual.result c.from_residual.ensures.1 in
     let e = c.in_err-found.field-0.0 in
     let y = table_of c.args.before.symbols.now in
@@ -31,8 +30,8 @@ returns-in_err-found-clause-checked c =
     let range = c.args.range in
     rw (p.1, p.2) (unread_lost y w range.start.now range.len.now (context_of w) refl w.scope e refl (refused_same e _ _ (same_checks y w _ range.start.now _ range.len.now c.get.ensures c.get-2.ensures) c.in_err-found.ensures.scopes))
 
-pub returns-in_err-named-clause-checked : goal.returns-in_err-named-clause-checked
-returns-in_err-named-clause-checked c =
+pub returns-in_err-named : goal.returns-in_err-named
+returns-in_err-named c =
     let p = err_from_is_err_and c.from_residual-in_err-named.result c.from_residual-in_err-named.ensures.1 in
     let e = c.in_err-named.field-0.0 in
     let y = table_of c.args.before.symbols.now in
@@ -42,8 +41,8 @@ returns-in_err-named-clause-checked c =
     rw (p.1, p.2) (unread_start y w range.start.now range.len.now (context_of w) refl w.scope refl none e
     (c.in_err-named.ensures y (context_of w) (own_size w) range.start.now (same_found y w _ range.start.now c.in_ok-found.found.first c.get.ensures c.in_ok-found.ensures.first)))
 
-pub returns-in_err-named-2-clause-checked : goal.returns-in_err-named-2-clause-checked
-returns-in_err-named-2-clause-checked c =
+pub returns-in_err-named-2 : goal.returns-in_err-named-2
+returns-in_err-named-2 c =
     let p = err_from_is_err_and c.from_residual-in_err-named-2.result c.from_residual-in_err-named-2.ensures.1 in
     let e = c.in_err-named-2.field-0.0 in
     let y = table_of c.args.before.symbols.now in
@@ -53,8 +52,8 @@ returns-in_err-named-2-clause-checked c =
     rw (p.1, p.2) (unread_len y w range.start.now range.len.now (context_of w) refl w.scope refl none e
     (c.in_err-named-2.ensures y (context_of w) (own_size w) range.len.now (same_found y w _ range.len.now c.in_ok-found.found.second c.get-2.ensures c.in_ok-found.ensures.second)))
 
-pub returns-clause-checked : goal.returns-clause-checked
-returns-clause-checked c =
+pub returns : goal.returns
+returns c =
     let y = table_of c.args.before.symbols.now in
     let w = c.args.before.cursor.now in
     let s = context_of w in

@@ -1,8 +1,8 @@
-use Rattle.std.proofs.Common.{◌≡◌, ◌∙◌, ap, sym, Option}
+use Rattle.std.proofs.Common.{◌∙◌, ap, sym}
 use Rattle.std.specs.Prelude.{not, pos}
 use Rattle.std.proofs.lemmas.Result.{err_from_is_err_and}
 use Rattle.ast65.specs.declared.fault.AsmFault.TheVariants.{BadOperand}
-use Rattle.semantics65.specs.Layout.{context_of, is_byte_value, is_there, own_size, when, unless_fault}
+use Rattle.semantics65.specs.Layout.{context_of, is_byte_value, own_size, when}
 use Rattle.semantics65.specs.Norms.{fill_settled, optional_value}
 use Rattle.symbols65.proofs.Measures.{aligned_as, aligned_full, aligned_well, as_ok, bad_byte, bad_multiple, fill_refused, fill_there, is_multiple, no_multiple, none_there, refused_same}
 use Rattle.symbols65.proofs.measuring.rooms.align.Goals as goal

@@ -1,5 +1,5 @@
 use Rattle.std.proofs.lemmas.Grind.{common_steps}
-use Rattle.std.proofs.Common.{◌≡◌, ◌∙◌, arith, ap, not}
+use Rattle.std.proofs.Common.{◌∙◌, arith, ap, not}
 use Rattle.std.specs.Prelude.{pos}
 use Rattle.semantics65.specs.Norms.{byte_count}
 use Rattle.semantics65.specs.declared.laid.EncodingChoice.TheVariants.{FillByte}

@@ -1,8 +1,8 @@
-use Rattle.std.proofs.Common.{◌≡◌, ◌∙◌, ap, sym, Option}
+use Rattle.std.proofs.Common.{◌∙◌, ap, sym}
 use Rattle.std.specs.Prelude.{not, pos}
 use Rattle.std.proofs.lemmas.Result.{err_from_is_err_and}
 use Rattle.ast65.specs.declared.fault.AsmFault.TheVariants.{BadOperand}
-use Rattle.semantics65.specs.Layout.{context_of, is_byte_value, is_there, own_size, when, unless_fault}
+use Rattle.semantics65.specs.Layout.{context_of, is_byte_value, own_size, when}
 use Rattle.semantics65.specs.Norms.{fill_settled, optional_value}
 use Rattle.symbols65.proofs.Measures.{as_ok, bad_count, bad_fill, fill_refused, fill_there, refused_same, reserved_as, reserved_full, reserved_well}
 use Rattle.symbols65.proofs.measuring.rooms.reserve.Goals as goal

@@ -1,4 +1,4 @@
-use Rattle.std.proofs.Common.{◌≡◌, ◌∙◌, ap, drop, ◌∷◌, [], ◌+◌, length, length-append, arith}
+use Rattle.std.proofs.Common.{◌∙◌, ap, drop, ◌∷◌, [], ◌+◌, length, length-append, arith}
 use Rattle.std.proofs.lemmas.Result.{err_from_is_err_and}
 use Rattle.semantics65.specs.Layout.{context_of, item_trees, lost_scopes, unless_fault}
 use Rattle.symbols65.specs.Views.{table_of}
@@ -25,7 +25,6 @@ loop-item-preserved c =
     let long = c.loop-item.invariant.long in
     record {
       lost = c.loop-item.invariant.lost ∙ split ∙ left_after (lost_scopes y.scopes s.scope (item_trees (c.item-item.result ∷ []))) (lost_scopes y.scopes s.scope (item_trees (drop (i + 1) c.args.items.now))) tt _ c.in_ok-form.ensures.scopes;
-      table = c.in_ok-form.ensures.table;
       long = ap length c.in_ok-push.ensures.items ∙ length-append c.loop-item.forms.items (c.in_ok-form.form ∷ []) ∙ ap (λ n. n + 1) long;
       finals = rw c.in_ok-push.ensures.items (finals_more y s c.args.items.now c.loop-item.forms.items i c.item-item.result c.in_ok-form.form long (item_at c.args.items.now i c.item-item.result (omega arith) c.item-item.is) c.loop-item.invariant.finals c.in_ok-form.ensures.form);
     }

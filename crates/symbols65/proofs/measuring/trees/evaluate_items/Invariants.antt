@@ -1,7 +1,6 @@
 use Rattle.std.proofs.Common.{◌≡◌, drop, length}
 use Rattle.semantics65.specs.Layout.{context_of, item_trees, lost_scopes}
 use Rattle.symbols65.specs.Evaluations.{HaveFinals}
-use Rattle.symbols65.specs.Resolving.{IsTable}
 use Rattle.symbols65.specs.Views.{table_of}
 use Rattle.symbols65.proofs.measuring.trees.evaluate_items.Given as goal
 
@@ -9,7 +8,6 @@ abbrev pub invariant-loop-item : goal.invariant-loop-item
 invariant-loop-item l = record {
   lost : lost_scopes (table_of l.before.symbols.now).scopes (context_of l.before.cursor.now).scope (item_trees l.items)
       ≡ lost_scopes (table_of l.before.symbols.now).scopes (context_of l.before.cursor.now).scope (item_trees (drop l.item-index l.items));
-  table : IsTable (table_of l.before.symbols.now) l.known.states.items;
   long : length l.forms.items ≡ l.item-index;
   finals : HaveFinals (table_of l.before.symbols.now) (context_of l.before.cursor.now) l.items l.forms.items;
 }

@@ -2,7 +2,7 @@ use Rattle.std.proofs.Common.{◌∙◌, ◌++◌, List, Option, option_map, ap,
 use Rattle.base65.specs.Outcome.{Refines}
 use Rattle.ast65.specs.Faults.{is_memory}
 use Rattle.syntax65.specs.Trees.{Tree}
-use Rattle.semantics65.specs.Layout.{context_of, lost_scopes, optional_tree, own_size, trees_of, unless_fault}
+use Rattle.semantics65.specs.Layout.{context_of, lost_scopes, optional_tree, own_size, unless_fault}
 use Rattle.symbols65.specs.Evaluations.{first_tree}
 use Rattle.symbols65.specs.Views.{table_of}
 use Rattle.symbols65.proofs.Evaluations.{all_found, trees_are}
@@ -20,5 +20,4 @@ returns-in_default c =
     record {
       scopes = subst (λ (es : List Tree). Refines is_memory (λ _. tt {0}) c.evaluate_two.result (unless_fault (lost_scopes y.scopes s.scope es) tt)) same c.evaluate_two.ensures.scopes;
       found = all_found y s (own_size w) x first second c.evaluate_two.result c.first_value-first.ensures c.second_value-second.ensures c.evaluate_two.ensures.first c.evaluate_two.ensures.second c.evaluate_two.ensures.forms;
-      table = c.evaluate_two.ensures.table;
     }

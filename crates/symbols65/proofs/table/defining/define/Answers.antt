@@ -1,6 +1,7 @@
 use Rattle.std.proofs.Common.{◌≡◌, ◌∙◌, ℕ, length, sym, ap, subst}
 use Rattle.semantics65.specs.Symbols.{Key, Symbols, definition_index}
 use Rattle.ast65.proofs.Lists.{map_length, on_ok}
+use Rattle.symbols65.specs.Resolving.{KeepsMeanings}
 use Rattle.symbols65.specs.Tables.{KeepsFinal, definition_in, definition_seen, key_of}
 use Rattle.symbols65.specs.Views.{table_of, with_definition, words_of}
 use Rattle.symbols65.proofs.Growing.{entry_is}
@@ -15,9 +16,16 @@ put-requires-clause-form c =
     let t = c.entry.new.symbols in
     let key = (entry_is (words_of t) (key_of c.args.key) c.in_ok-entry.entry c.in_ok-entry.ensures.entry).1 in
     let long : length (table_of t).definitions ≡ length t.definitions.entries = map_length (definition_in (words_of t)) t.definitions.entries in
-    subst (λ (k : Key). KeepsFinal (table_of t) (length t.definitions.entries) (definition_seen k c.args.definition) c.args.definition.form) (sym key)
-    (subst (λ (n : ℕ). KeepsFinal (table_of t) n (definition_seen (key_of c.args.key) c.args.definition) c.args.definition.form) long
-    (subst (λ (y : Symbols). KeepsFinal y (length y.definitions) (definition_seen (key_of c.args.key) c.args.definition) c.args.definition.form) (sym c.in_ok-entry.ensures.table) c.requires))
+    subst (λ (k : Key). KeepsFinal (table_of t) (length t.definitions.entries) (definition_seen k c.args.definition) c.args.definition) (sym key)
+    (subst (λ (n : ℕ). KeepsFinal (table_of t) n (definition_seen (key_of c.args.key) c.args.definition) c.args.definition) long
+    (subst (λ (y : Symbols). KeepsFinal y (length y.definitions) (definition_seen (key_of c.args.key) c.args.definition) c.args.definition) (sym c.in_ok-entry.ensures.table) c.requires))
+
+pub put-requires-clause-meanings : goal.put-requires-clause-meanings
+put-requires-clause-meanings c = λ yes.
+    (let t = c.entry.new.symbols in
+    let d = definition_in (words_of t) (c.in_ok-entry.entry, c.args.definition) in
+    let own = (entry_is (words_of t) (key_of c.args.key) c.in_ok-entry.entry c.in_ok-entry.ensures.entry).1 in
+    subst (λ (y : Symbols). KeepsMeanings y (with_definition y d)) (sym c.in_ok-entry.ensures.table) (c.keeps_meanings-keeps.ensures yes d own))
 
 pub returns : goal.returns
 returns c =

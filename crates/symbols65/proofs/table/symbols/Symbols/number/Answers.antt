@@ -1,8 +1,8 @@
-use Rattle.std.proofs.Common.{◌≡◌, ◌∙◌, map, ap}
-use Rattle.symbols65.specs.Tables.{AreFinal, AreNumbered, definition_in, scope_opened, word_of, word_opened}
+use Rattle.std.proofs.Common.{◌≡◌, ◌∙◌, map, nat_eq, ap}
+use Rattle.symbols65.specs.Tables.{AreFinal, AreNumbered, KeepsSearches, definition_in, scope_opened, table_in, word_of, word_opened}
 use Rattle.symbols65.specs.Views.{words_of}
-use Rattle.indexmap.specs.IndexMap.{keys}
-use Rattle.symbols65.proofs.Growing.{begun, definitions_stay, final_more, numbered_more, scopes_stay}
+use Rattle.indexmap.specs.IndexMap.{get, keys}
+use Rattle.symbols65.proofs.Growing.{begun, definitions_stay, final_more, numbered_more, scopes_stay, searched_more}
 use Rattle.symbols65.proofs.table.symbols.Symbols.number.Goals as goal
 
 pub invariant_of-self : goal.invariant_of-self
@@ -13,6 +13,10 @@ invariant_of-self c =
     let ss = t.scopes.entries in
     let new = map (λ k. k.items) c.intern.new.words.keys in
     let more = c.intern.ensures.more in
+    let imports = map (λ k. k.items) t.imports.keys in
+    let zero_page = map (λ k. k.items) t.zero_page.keys in
+    let kept : KeepsSearches (table_in new es ss imports zero_page) (get nat_eq t.searched) = begun (λ l. KeepsSearches (table_in l es ss imports zero_page) (get nat_eq t.searched)) ws new more
+    (λ m. searched_more ws m es ss imports zero_page (get nat_eq t.searched) t.entries_numbered t.openings_numbered (t.searches_hold, t.searches_past)) in
     record {
       entries_numbered = begun (λ l. AreNumbered word_of l (keys t.definitions)) ws new more (λ m. numbered_more ws m word_of (keys t.definitions) t.entries_numbered);
       counts_fit = t.counts_fit;
@@ -20,6 +24,8 @@ invariant_of-self c =
       openings_numbered = begun (λ l. AreNumbered word_opened l (keys t.scopes)) ws new more (λ m. numbered_more ws m word_opened (keys t.scopes) t.openings_numbered);
       openings_distinct = t.openings_distinct;
       forms_final = begun (λ l. AreFinal l es ss) ws new more (λ m. final_more ws m es ss t.entries_numbered t.openings_numbered t.forms_final);
+      searches_hold = kept.0;
+      searches_past = kept.1;
     }
 
 pub returns-clause-table : goal.returns-clause-table

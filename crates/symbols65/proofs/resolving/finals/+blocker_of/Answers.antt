@@ -1,0 +1,33 @@
+use Rattle.std.proofs.Common.{◌≡◌, ◌∙◌, IfSome, Ok, ap, subst, sym}
+use Rattle.syntax65.specs.Kinds.{tree_of}
+use Rattle.syntax65.specs.Trees.{Tree, binary}
+use Rattle.std.specs.Option.{ok_or, option_map}
+use Rattle.semantics65.specs.Symbols.{binding_of, defined_at}
+use Rattle.symbols65.specs.Internal.Absences.{absence}
+use Rattle.symbols65.specs.Resolving.{IsBlocked, meaning_in}
+use Rattle.symbols65.specs.Views.{table_of}
+use Rattle.symbols65.proofs.Blockers.{if_some, operand_blocked, right_blocked}
+use Rattle.symbols65.proofs.resolving.finals.+blocker_of.Goals as goal
+
+pub returns-in-None : goal.returns-in-None
+returns-in-None t c =
+    let y = table_of c.args.symbols.now in
+    let s = c.args.context in
+    let e = c.in-Binary.operands.value.left in
+    let g = c.in-Binary.operands.value.right in
+    let whole : binary c.in-Binary.field-0 e g ≡ c.args.value.now = sym (ap tree_of c.in-Binary.is) ∙ c.kind.ensures in
+    let right : IfSome c.blocker_of-in-None.result (IsBlocked y s g) = subst (λ (v : Tree). IfSome c.blocker_of-in-None.result (IsBlocked y s v)) (ap (λ v. v.right) c.deref-in-None.ensures) c.blocker_of-in-None.ensures in
+    subst (λ (v : Tree). IfSome c.blocker_of-in-None.result (IsBlocked y s v)) whole
+    (if_some c.blocker_of-in-None.result (λ r h. right_blocked y s c.in-Binary.field-0 e g r h) right)
+
+pub returns-else-not-is_final : goal.returns-else-not-is_final
+returns-else-not-is_final t c =
+    let y = table_of c.args.symbols.now in
+    let s = c.args.context in
+    let e = c.args.value.now in
+    let j = c.in-Defined.index in
+    let means : binding_of y s e ≡ Ok (defined_at j) =
+    c.meaning_at.ensures
+    ∙ ap (λ o. ok_or (option_map meaning_in o) (absence y s e)) c.in_ok-index-in-Plain.was
+    ∙ ap (λ m. Ok (meaning_in m)) c.in-Defined.is in
+    if_some c.blocker_at.result (λ r h. operand_blocked y s e j r (c.is_final.ensures c.if-not-is_final.false means) h) c.blocker_at.ensures

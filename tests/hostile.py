@@ -177,7 +177,7 @@ def used_chains(tests):
         "used while it grows": ([line for pair in zip(chain, uses) for line in pair] + [last], QUIET),
         "used when it has ended": ([*chain, last, *uses], QUIET),
         "that is circular": ([*chain, f"a{USED} = a0", *uses], circular),
-        "over an undefined name": ([*chain, *uses], (1, b"", f"b.s:{USED}: Error: undefined name: a{USED}\n".encode())),
+        "over an undefined name": ([*chain, *uses], (1, b"", f"b.s:1: Error: undefined name: a{USED}\n".encode())),
         "over an import": ([".import f", "b0 = f + 1", *(f"b{at} = b{at - 1}" for at in range(1, USED)), *[f"lda b{USED - 1}"] * USED], QUIET),
         "in a scope over an outer constant": (["g = 1", ".scope", *inner, ".endscope"], QUIET),
     }

@@ -129,9 +129,7 @@ fn stopped(expander: Expander, assembler: Assembler, fault: AsmFault) -> Assembl
     ensures err { result.err ≡ assembler.texts.err }
 {
     // The name is handed on as it is, since no memory may be left for a copy.
-    let rewriter = expander.rewriter;
-    let reader = rewriter.reader;
-    let SourceLocation { file, line } = reader.place;
+    let SourceLocation { file, line } = expander.into_place();
     let ConsoleOutput { out, err } = assembler.texts;
     Assembly {
         result: Err(Diagnostic {

@@ -2,7 +2,7 @@
 
 ghost use Rattle.std.specs.Prelude.{◌≡◌, true, Err, ◌+◌, ◌<◌, ℕ, IfErr, IfOk, OnOk, false};
 ghost use Rattle.std.specs.List.{list_all};
-ghost use Rattle.object65.specs.Objects.{is_name, is_printed};
+ghost use Rattle.object65.specs.Objects.{is_name};
 ghost use Rattle.semantics65.specs.Numbering.{IsWellFormedStatement};
 ghost use Rattle.syntax65.specs.declared.source_location.SourceLocation.{SourceLocation};
 ghost use Rattle.ast65.specs.declared.language.Statement.TheVariants.{Instruction};
@@ -27,7 +27,7 @@ use crate::emission::values::enter_value;
 use ast65::{AsmFault, Operand, Statement};
 use base65::ListVec;
 use emit65::FixupKind;
-use object65::Norm;
+use object65::{Norm, is_name};
 use semantics65::{Context, EncodingChoice, LocationRef};
 use std::alloc::{AllocError, Global};
 use symbols65::{
@@ -36,21 +36,8 @@ use symbols65::{
 };
 use syntax65::{Mnemonic, Mode, opcode};
 
-/// How many bytes a name or a text has fewer than.
+/// How many bytes a text has fewer than.
 const LEN_LIMIT: usize = 256;
-
-fn is_printed(name: &[u8]) -> bool
-    ensures { result ≡ list_all is_printed name.now }
-{
-    name.iter().all(|b| 0x20 < *b && *b < 0x7f)
-}
-
-#[inline(never)]
-fn is_name(name: &[u8]) -> bool
-    ensures { result ≡ is_name name.now }
-{
-    !name.is_empty() && name.len() < LEN_LIMIT && is_printed(name)
-}
 
 #[inline(never)]
 fn are_names(names: &[ListVec<u8>]) -> bool

@@ -211,6 +211,15 @@ impl Expander {
         (place.file.as_str(), place.line)
     }
 
+    /// Returns the same location, with the file's name as it is and no copy of it.
+    pub fn into_place(self) -> SourceLocation
+        ensures { result ≡ place_of self }
+    {
+        let rewriter = self.rewriter;
+        let reader = rewriter.reader;
+        reader.place
+    }
+
     /// Expands up to the next statement or the end.
     #[inline(always)]
     fn advance<S: Store, K: Knows>(

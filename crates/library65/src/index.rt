@@ -1,11 +1,11 @@
 //! The index of a library, and the names that may occur in it.
 
 ghost use Rattle.std.specs.Prelude.{◌≡◌, map, ◌++◌, ◌∷◌, [], Ok, false};
-ghost use Rattle.object65.specs.Objects.{is_among, is_printed};
+ghost use Rattle.object65.specs.Objects.{is_among};
 ghost use Rattle.std.specs.List.{list_all};
 ghost use Rattle.base65.specs.Outcome.{Refines};
 ghost use Rattle.library65.specs.Fault.{is_memory};
-ghost use Rattle.library65.specs.Spelling.{is_among, is_folder, is_member_name, is_name, is_plain};
+ghost use Rattle.library65.specs.Spelling.{is_among, is_folder, is_member_name, is_plain};
 
 use crate::LibraryFault;
 use base65::{ListVec, is_utf8};
@@ -49,19 +49,6 @@ pub struct UnplacedEntry {
     pub size: u32,
     pub exports: ListVec<ListVec<u8>>,
     pub imports: ListVec<ListVec<u8>>,
-}
-
-fn is_printed_name(name: &[u8]) -> bool
-    ensures { result ≡ list_all is_printed name.now }
-{
-    name.iter().all(|b| 0x20 < *b && *b < 0x7f)
-}
-
-/// Returns whether an export or an import may have the name.
-pub fn is_symbol_name(name: &[u8]) -> bool
-    ensures { result ≡ is_name name.now }
-{
-    !name.is_empty() && name.len() < 256 && is_printed_name(name)
 }
 
 fn is_plain_name(name: &[u8]) -> bool

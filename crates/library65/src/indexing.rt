@@ -12,12 +12,13 @@ ghost use Rattle.library65.specs.Reading.{in_file, field_at, head_at, name_at, n
 ghost use Rattle.std.specs.List.{AllByRecursion};
 ghost use Rattle.library65.specs.declared.fault.LibraryFault.TheVariants.{FileError};
 
-use crate::index::{UnplacedEntry, has_name, is_file_name, is_symbol_name};
+use crate::index::{UnplacedEntry, has_name, is_file_name};
 use crate::{Entry, Index, LibraryFault};
 use base65::{ListVec, Store, read_full};
 use byteorder::{ByteOrder, LittleEndian};
 use indexmap::IndexSet;
 use object65::format::FILE_LIMIT;
+use object65::is_name;
 use std::alloc::Global;
 
 /// With these bytes a library begins.
@@ -104,7 +105,7 @@ fn read_symbols<S: Store>(
     let mut end = at + 4;
     for _ in 0..count {
         let (name, next) = read_name(alloc, store, file, end)?;
-        if !is_symbol_name(name.as_slice()) {
+        if !is_name(name.as_slice()) {
             return Err(LibraryFault::BadIndex);
         }
         names.push(name)?;

@@ -5,6 +5,7 @@ pub mod FormValue
 pub mod Internal
 pub mod Items
 pub mod Laws
+pub mod Lending
 pub mod Norm
 pub mod Objects
 pub mod Operators

@@ -1,7 +1,9 @@
 //! Normal forms of expressions.
 
 ghost use Rattle.std.specs.Prelude.{◌≡◌, ◌-◌, ◌^◌, min, IfOk};
+ghost use Rattle.std.specs.Borrow.{sem};
 ghost use Rattle.object65.specs.Form.{Form, nodes};
+ghost use Rattle.object65.specs.Lending.{LendsNode};
 ghost use Rattle.object65.specs.Norm.{form_of};
 
 use base65::{Op1, Op2};
@@ -84,6 +86,14 @@ impl Norm {
         ensures { form_of result.now ≡ self.now }
     {
         &self.node
+    }
+
+    /// The node at the top, which may be changed.
+    pub fn node_mut(&mut self) -> &mut Node
+        ensures* writes_back { sem 𝓛 (LendsNode self.entry result) }
+        ensures node { form_of result.now ≡ self.old }
+    {
+        &mut self.node
     }
 }
 

@@ -30,4 +30,5 @@ pub use record::{Item, Record};
 pub use record_reader::{RecordReader, read_record};
 pub use scan::Scan;
 pub use storing::{fits, put};
+pub use taking::is_name;
 pub use writing::write_object;

@@ -32,16 +32,18 @@ pub fn check(holds: bool, fault: ObjectFault) -> Result<(), ObjectFault>
 /// Names, each once, in the order in which they came.
 pub type Names = IndexSet<Vec<u8>, Seed>;
 
-fn is_printed_name(name: &[u8]) -> bool
+fn is_printed(name: &[u8]) -> bool
     ensures { result ≡ list_all is_printed name.now }
 {
     name.iter().all(|b| 0x20 < *b && *b < 0x7f)
 }
 
-fn is_well_formed_name(name: &[u8]) -> bool
+/// Returns whether an import, a section or an export may have the name.
+#[inline(never)]
+pub fn is_name(name: &[u8]) -> bool
     ensures { result ≡ is_name name.now }
 {
-    !name.is_empty() && name.len() < 256 && is_printed_name(name)
+    !name.is_empty() && name.len() < 256 && is_printed(name)
 }
 
 fn has_name(names: &Names, name: &[u8]) -> bool
@@ -55,7 +57,7 @@ pub fn check_name(names: &Names, name: &[u8]) -> Result<(), ObjectFault>
     ensures { result ≡ new_name (map (λ n. n.items) names.now.keys) name.now }
 {
     check(
-        is_well_formed_name(name) && !has_name(names, name),
+        is_name(name) && !has_name(names, name),
         ObjectFault::NotCanonical,
     )
 }

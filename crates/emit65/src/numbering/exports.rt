@@ -19,7 +19,6 @@ pub struct DeclarationTables {
 
 /// Adds an export, or an assertion.
 fn add_saying(
-    alloc: Global,
     numbers: &Numbers,
     declared: &mut DeclarationTables,
     saying: LocatedDeclaration,
@@ -33,11 +32,11 @@ fn add_saying(
     let origin = origin_of(numbers, saying.pos)?;
     match saying.said {
         Declaration::Exported { name, form } => {
-            let form = numbered(alloc, numbers, &form)?;
+            let form = numbered(numbers, form)?;
             declared.exports.push(Export { name, origin, form })
         }
         Declaration::Asserted { action, text, form } => {
-            let form = numbered(alloc, numbers, &form)?;
+            let form = numbered(numbers, form)?;
             declared.asserts.push(Assert {
                 action,
                 origin,
@@ -64,7 +63,7 @@ pub fn declared_by(
         asserts: ListVec::new(alloc),
     };
     for saying in declarations.into_vec() {
-        add_saying(alloc, numbers, &mut declared, saying)?;
+        add_saying(numbers, &mut declared, saying)?;
     }
     Ok(declared)
 }

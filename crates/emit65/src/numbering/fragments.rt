@@ -61,7 +61,6 @@ fn add_fill(joined: &mut FragmentMerger, count: u32) -> Result<(), AllocError>
 
 /// Adds what an entry puts.
 fn add_entry(
-    alloc: Global,
     numbers: &Numbers,
     joined: &mut FragmentMerger,
     entry: SectionEntry,
@@ -80,7 +79,7 @@ fn add_entry(
             form,
         } => {
             let origin = origin_of(numbers, pos)?;
-            let form = numbered(alloc, numbers, &form)?;
+            let form = numbered(numbers, form)?;
             begin(
                 joined,
                 Fragment::Value {
@@ -120,7 +119,7 @@ pub fn fragments_of(
         last: None,
     };
     for entry in entries.into_vec() {
-        add_entry(alloc, numbers, &mut joined, entry)?;
+        add_entry(numbers, &mut joined, entry)?;
     }
     all_of(joined)
 }

@@ -14,6 +14,7 @@ use indexmap::IndexSet;
 use object65::{Node, Norm, Origin};
 use semantics65::Declaration;
 use std::alloc::{AllocError, Global};
+use std::mem;
 
 /// The names of imports, each once. The key of one is its place.
 pub type Imports = IndexSet<Vec<u8>, Seed>;
@@ -61,29 +62,40 @@ pub fn origin_of(numbers: &Numbers, pos: SourcePos) -> Result<Origin, AllocError
     })
 }
 
-/// The form with the numbers of its sections and imports.
-pub fn numbered(alloc: Global, numbers: &Numbers, form: &Norm) -> Result<Norm, AllocError>
-    ensures form { IfOk result (λ f. f ≡ renumbered_form numbers.now.sections.keys numbers.now.imports.keys form.now) }
-    ensures bits { IfOk result FitsBits }
+/// Gives the sections and imports in a form their numbers.
+fn renumber(numbers: &Numbers, form: &mut Norm) -> Result<(), AllocError>
+    ensures form { OnOk result (form.new ≡ renumbered_form numbers.now.sections.keys numbers.now.imports.keys form.old) }
+    ensures bits { OnOk result (FitsBits form.new) }
 {
-    let node = match form.node() {
-        Node::NumberNode(value) => Node::NumberNode(*value),
+    let node = match mem::replace(form.node_mut(), Node::NumberNode(0)) {
+        Node::NumberNode(value) => Node::NumberNode(value),
         Node::SectionOffset(segment, offset) => Node::SectionOffset(
-            number_of(&numbers.sections, *segment)?,
-            *offset,
+            number_of(&numbers.sections, segment)?,
+            offset,
         ),
-        Node::ImportedName(key) => Node::ImportedName(number_of(&numbers.imports, *key)?),
-        Node::Prefix(op, part) => {
-            let part = numbered(alloc, numbers, part)?;
-            Node::Prefix(*op, Box::new(alloc, part)?)
+        Node::ImportedName(key) => Node::ImportedName(number_of(&numbers.imports, key)?),
+        Node::Prefix(op, mut part) => {
+            renumber(numbers, &mut part)?;
+            Node::Prefix(op, part)
         }
-        Node::Binary(op, left, right) => {
-            let left = numbered(alloc, numbers, left)?;
-            let right = numbered(alloc, numbers, right)?;
-            Node::Binary(*op, Box::new(alloc, left)?, Box::new(alloc, right)?)
+        Node::Binary(op, mut left, mut right) => {
+            renumber(numbers, &mut left)?;
+            renumber(numbers, &mut right)?;
+            Node::Binary(op, left, right)
         }
     };
-    Ok(Norm::new(node))
+    *form.node_mut() = node;
+    Ok(())
+}
+
+/// The form with the numbers of its sections and imports.
+pub fn numbered(numbers: &Numbers, form: Norm) -> Result<Norm, AllocError>
+    ensures form { IfOk result (λ f. f ≡ renumbered_form numbers.now.sections.keys numbers.now.imports.keys form) }
+    ensures bits { IfOk result FitsBits }
+{
+    let mut form = form;
+    renumber(numbers, &mut form)?;
+    Ok(form)
 }
 
 /// Adds the imports that a form holds.

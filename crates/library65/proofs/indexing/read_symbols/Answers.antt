@@ -36,8 +36,8 @@ returns-in_err-name-clause-read g c =
     let i = c.loop.counter in
     rw (p.1, p.2) (stops c.args.file.now (counted_at c.args.at) (symbols_at (n - i) c.loop.names c.loop.end) (name_at c.loop.end) (go_on n i c.loop.names) (symbols_more n i c.loop.names c.loop.end c.loop-test.true) _ _ c.in_err-name.field-0.0 c.loop.invariant.files c.loop.invariant.read c.in_err-name.ensures.read)
 
-pub returns-then-not-is_symbol_name-clause-read : goal.returns-then-not-is_symbol_name-clause-read
-returns-then-not-is_symbol_name-clause-read g c =
+pub returns-then-not-is_name-clause-read : goal.returns-then-not-is_name-clause-read
+returns-then-not-is_name-clause-read g c =
     let n = c.in_ok-count.count in
     let i = c.loop.counter in
     let bad : is_name c.in_ok-name.name ≡ false = search rules in
@@ -57,8 +57,8 @@ loop-preserved g c =
       read = rw (c.in_ok-push.ensures.ok) (rw good at read);
     }
 
-pub returns-then-not-is_symbol_name-clause-frame : goal.returns-then-not-is_symbol_name-clause-frame
-returns-then-not-is_symbol_name-clause-frame g c = grind (arith, common_steps)
+pub returns-then-not-is_name-clause-frame : goal.returns-then-not-is_name-clause-frame
+returns-then-not-is_name-clause-frame g c = grind (arith, common_steps)
 
 pub returns-in_err-count-clause-before : goal.returns-in_err-count-clause-before
 returns-in_err-count-clause-before g c =

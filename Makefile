@@ -3,7 +3,7 @@
 PREFIX ?= /usr/local
 PROGRAM := crates/bin65/out/bin65
 
-.PHONY: try example test program wrong-bodies install uninstall release bench clean
+.PHONY: try example test program mutants install uninstall release bench clean
 
 # Builds the program after every function below it is proved; does nothing if no source changed.
 program:
@@ -25,10 +25,10 @@ example: program
 test:
 	@python3 tests/all.py
 
-# Tries the mutants of wrong-bodies/: all, those of a crate (CRATE=asm65), or one (CRATE=asm65/NAME). If the kit keeps results of mutants,
+# Tries the mutants of mutants/: all, those of a crate (CRATE=asm65), or one (CRATE=asm65/NAME). If the kit keeps results of mutants,
 # those that an earlier run on this machine tried aren't tried again.
-wrong-bodies:
-	@python3 gate/wrong_bodies.py $(CRATE)
+mutants:
+	@python3 gate/try_mutants.py $(CRATE)
 
 bench: program
 	@python3 bench/run.py $(abspath $(PROGRAM))

@@ -191,7 +191,7 @@ def why_cited(root, text):
     for name, file in re.findall(r"^\|.* `(\w+)` \| `([\w/]+\.rt)` \|", text, re.M):
         if not re.search(rf"\bfn {name}\b", read(f"{root}/crates/{file}") if os.path.exists(f"{root}/crates/{file}") else ""):
             yield f"{file} has no function {name}"
-    for count, folder in re.findall(r"(\d+) in `(must-fail|wrong-bodies)/`", text):
+    for count, folder in re.findall(r"(\d+) in `(must-fail|mutants)/`", text):
         if int(count) != (there := len(glob.glob(f"{root}/crates/*/{folder}/*.edit"))):
             yield f"{folder}/ has {there} edits, not {count}"
 

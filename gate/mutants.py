@@ -14,7 +14,7 @@ import zlib
 
 import batches
 import kit
-import wrong_bodies
+import try_mutants
 
 PERIOD, HOURS = 1000, 4
 # The most mutants of changed functions that a gate tries; those that it leaves have their turn as the others have.
@@ -91,7 +91,7 @@ def chosen(rt, crates):
     every, changed, share = [], [], []
     for crate in crates:
         functions = changed_functions(crate, lines)
-        for edit in wrong_bodies.edits_of(crate, [], wrong_bodies.FOLDERS[:1]):
+        for edit in try_mutants.edits_of(crate, [], try_mutants.FOLDERS[:1]):
             name = name_of(crate, edit)
             if name in named:
                 every.append((crate, edit))
@@ -139,6 +139,6 @@ def not_refused(rt, crate, edits, jobs):
     with tempfile.TemporaryDirectory(prefix="mutants-") as kept:
         if not is_proved(rt, crate, edits, jobs, kept):
             return [f"{crate.name}: the functions that its mutants change are not proved as they are, so none was tried"]
-        refused = wrong_bodies.refused(rt, crate, edits, kept, jobs)
+        refused = try_mutants.refused(rt, crate, edits, kept, jobs)
     kit.say(f"{crate.name}: {len(refused)} of {len(edits)} mutants refused ({kit.minutes(time.time() - begun)})")
     return [f"{name_of(crate, it)}: NOT REFUSED: the crate is still proved with this mutant" for it in edits if it not in refused]

@@ -20,8 +20,8 @@ FAILURE = re.compile(r"FAILED|failed:|NOT |not proved|Error|error|: expected", r
 
 # Before the proofs: texts alone, in seconds.
 TEXTS = [
-    ("texts and layout", ["python3", "gate/texts.py"]),
-    ("what the code keeps", ["python3", "tests/kept.py"]),
+    ("texts and layout", ["python3", "gate/static_checks.py"]),
+    ("what the code keeps", ["python3", "tests/check_streaming.py"]),
     ("the tools of the gate", ["python3", "tests/gate.py"]),
     ("texts of others", ["python3", "tests/provenance.py"]),
     ("the renaming tool", ["python3", "tests/rename.py"]),

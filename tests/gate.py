@@ -166,7 +166,7 @@ def turns():
         "each has its turn": tried == {*names},
         "a landing tries few": most < 500 / 4,
         "none without a commit": not any(mutants.has_turn(it, 0, 0) for it in names),
-        "those of every gate are mutants": all(os.path.isfile(f"{kit.ROOT}/crates/{it.replace('/', '/wrong-bodies/')}.edit") for it in mutants.every_gate()),
+        "those of every gate are mutants": all(os.path.isfile(f"{kit.ROOT}/crates/{it.replace('/', '/mutants/')}.edit") for it in mutants.every_gate()),
     }
 
 

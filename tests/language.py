@@ -37,7 +37,7 @@ SYMBOLS {
 }
 """
 LONGEST = 600
-# Pages whose modules of definitions and files have to be there, as gate/texts.py looks at those of PROVED and ARCHITECTURE.
+# Pages whose modules of definitions and files have to be there, as gate/static_checks.py looks at those of PROVED and ARCHITECTURE.
 CITING = ("docs/THEOREM", "docs/one-program")
 PAGES = ("README", "docs/LANGUAGE", "docs/TUTORIAL", "docs/DEBUGGING", "docs/RELEASE", "docs/SCRIPTS", "docs/EDITORS", "docs/MESSAGES", "docs/FORMATS",
          "docs/THEOREM", "docs/one-program", "CONTRIBUTING", "CHANGELOG")

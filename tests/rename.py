@@ -57,7 +57,7 @@ is = 0
 pub returns-in-Gone-clause-read : goal.returns-in-Gone-clause-read
 returns-in-Gone-clause-read c = c.args.place.line ∙ c.in_ok-moved.ensures.moved
 """,
-    "crates/low65/wrong-bodies/no_line.edit": 'file: src/store.rt\nold: if place.line == 0 { Err(Fault::Gone) }\nnew: if true { Err(Fault::Gone) }\n',
+    "crates/low65/mutants/no_line.edit": 'file: src/store.rt\nold: if place.line == 0 { Err(Fault::Gone) }\nnew: if true { Err(Fault::Gone) }\n',
     "crates/high65/src/lib.rt": """ghost use Rattle.high65.specs.Failing.{Gives};
 use low65::{Fault, read_all};
 mod other;
@@ -112,7 +112,7 @@ CASES = {
     "a variant": ([VARIANT], [
         ("low65/src/store.rt", "{ Gone,", "{ Missing,"), ("low65/src/store.rt", "Fault::Gone", "Fault::Missing"),
         ("low65/specs/Outcome.antt", "{Gone}", "{Missing}"), ("low65/specs/Outcome.antt", "= Gone", "= Missing"),
-        ("low65/proofs/store/read_all/Answers.antt", "in-Gone", "in-Missing"), ("low65/wrong-bodies/no_line.edit", "::Gone", "::Missing"),
+        ("low65/proofs/store/read_all/Answers.antt", "in-Gone", "in-Missing"), ("low65/mutants/no_line.edit", "::Gone", "::Missing"),
         ("high65/src/lib.rt", "Fault::Gone", "Fault::Missing")]),
     "a function": ([FUNCTION], [
         ("low65/src/lib.rt", "read_all", "read_whole"), ("low65/src/store.rt", "fn read_all", "fn read_whole"),
@@ -128,7 +128,7 @@ CASES = {
     "a field and a variable": ([LINE, LINE.replace("field", "variable")], [
         ("low65/src/store.rt", "{ pub line:", "{ pub number:"), ("low65/src/store.rt", "let line", "let number"), ("low65/src/store.rt", "{ line,", "{ number,"),
         ("low65/src/store.rt", "place.line", "place.number"), ("low65/proofs/store/read_all/Answers.antt", "place.line", "place.number"),
-        ("low65/wrong-bodies/no_line.edit", "place.line", "place.number")]),
+        ("low65/mutants/no_line.edit", "place.line", "place.number")]),
     "a word": (["low65 high65\tword\t-\tfound\tvalue"], [
         *((f"low65/{file}", old, old.replace("found", "value")) for file, olds in {
             "src/store.rt": ["{Gives, found}", "moved { Gives found", "read { Gives found", "    found("],
@@ -136,7 +136,7 @@ CASES = {
         ("high65/src/lib.rt", "{found as", "{value as"), ("high65/specs/Failing.antt", "low.found", "low.value"), ("PROVED", "`found`", "`value`")]),
     "a module of code": (["low65\tsource-module\t-\tstore\tdisk"], [
         ("low65/src/lib.rt", "mod store", "mod disk"), ("low65/src/lib.rt", "use store", "use disk"), ("low65/specs/Outcome.antt", "declared.store", "declared.disk"),
-        ("low65/proofs/store/read_all/Answers.antt", "proofs.store", "proofs.disk"), ("low65/wrong-bodies/no_line.edit", "src/store.rt", "src/disk.rt"),
+        ("low65/proofs/store/read_all/Answers.antt", "proofs.store", "proofs.disk"), ("low65/mutants/no_line.edit", "src/store.rt", "src/disk.rt"),
         ("low65/src/store.rt", None, "low65/src/disk.rt"), ("low65/proofs/store/", None, "low65/proofs/disk/")]),
     "a module of definitions": (["low65\tspec-module\t-\tOutcome\tResults"], [
         ("low65/src/store.rt", "specs.Outcome", "specs.Results"), ("low65/specs/Lib.antt", "mod Outcome", "mod Results"),
@@ -168,7 +168,7 @@ script65 type reading.words ValueKind|script65 type - SegmentRow|script65 type -
 expand65 type - Replacement|expand65 method - replacement_for|semantics65 type - EncodingChoice
 semantics65 variant laid.EncodingChoice Undecided|semantics65 type - LocationRef|semantics65 definition Module piece_result
 semantics65 definition Symbols LaidOutStatement|asm65 source-module - statement|asm65 source-module - finish
-asm65 spec-module - Internal|output65 function - commit_outcome|symbols65 variant resolving.attempt.State BlockedOn
+asm65 spec-module - Internal|output65 function - commit_outcome|symbols65 variant table.symbols.SearchEntry KnownForm
 link65 type fault ModuleLocation|emit65 variant entries.SectionEntry DeclarationEntry|script65 method reading.entries.ConfigEntry flag_for
 * label - at_last_count|library65 function - MAGIC|library65 proof-module - Selections|* word - is_system_error
 expand65 field - pending|expand65 variable - pending"""

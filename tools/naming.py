@@ -4,7 +4,7 @@ import glob
 import os
 import re
 
-AREAS = {"src": "src", "specs": "specs", "proofs": "proofs", "must-fail": "edits", "wrong-bodies": "edits"}
+AREAS = {"src": "src", "specs": "specs", "proofs": "proofs", "must-fail": "edits", "mutants": "edits"}
 CHAR = r"b?'(?:\\(?:u\{\w+\}|x\w\w|.)|[^'\\\n])'"
 RUST = re.compile(r"""(?P<comment>//[^\n]*|/\*.*?\*/)|b?r(?P<h>#*)".*?"(?P=h)|b?"(?:\\.|[^"\\])*"|""" + CHAR, re.S)
 LINE = re.compile(r"""(?P<comment>//[^\n]*)|b?"(?:\\.|[^"\\\n])*"|""" + CHAR + r"|^(?:file:.*|old:|new:)", re.M)

@@ -3,20 +3,20 @@
 applied, whether the citations of the maintainers' pages exist, the words of definitions and comments, and whether a file contains text of an
 installed cc65's. Takes half a minute.
 
-usage: texts.py
+usage: static_checks.py
 The last line is 'N passed, M failed': one for each crate, its words, each mutant, claim and page."""
 import os
 import re
 import sys
 
 import check_docs
-import kept
+import check_streaming
 import kit
 import mutants
 import provenance
 import wording
 
-FOLDERS = ("must-fail", "wrong-bodies")
+FOLDERS = ("must-fail", "mutants")
 
 
 def why_stopped(rt, crate, crates):
@@ -42,12 +42,12 @@ def main():
     crates = kit.crates(rt)
     faults = [*check_docs.looked_at(kit.ROOT), *provenance.looked_at(kit.ROOT), *wording.looked_at(kit.ROOT)]
     for crate in crates:
-        faults.append((crate.name, why_stopped(rt, crate, crates) or kept.why_kept(crate.name, rt.rtlib.code_of(crate.folder))))
+        faults.append((crate.name, why_stopped(rt, crate, crates) or check_streaming.why_kept(crate.name, rt.rtlib.code_of(crate.folder))))
         for folder in FOLDERS:
             place = f"{crate.folder}/{folder}"
             edits = sorted(os.listdir(place)) if os.path.isdir(place) else []
             faults += [(f"{crate.name}/{folder}/{it}", rt.read_edit(f"{place}/{it}", crate.folder)[1]) for it in edits if it.endswith(".edit")]
-    edits = {name.replace("/wrong-bodies/", "/").removesuffix(".edit") for name, _ in faults}
+    edits = {name.replace("/mutants/", "/").removesuffix(".edit") for name, _ in faults}
     faults += [(f"gate/every_gate.txt: {it}", None if it in edits else "no mutant has this name") for it in mutants.every_gate()]
     for name, why in faults:
         if why:

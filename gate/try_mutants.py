@@ -1,10 +1,10 @@
 #!/usr/bin/env python3
-"""Tries mutants that a gate doesn't try each time: crates/NAME/wrong-bodies/*.edit. The prover must reject each.
+"""Tries mutants that a gate doesn't try each time: crates/NAME/mutants/*.edit. The prover must reject each.
 
-usage: wrong_bodies.py [--all] [--anew] [CRATE[/EDIT]..]
+usage: try_mutants.py [--all] [--anew] [CRATE[/EDIT]..]
 
 --all tries those of must-fail/ too, and --anew also those that an earlier run on this machine tried over the same files.
-WRONG_BODIES_JOBS sets the number of processors.
+MUTANT_JOBS sets the number of processors.
 Mutants are tried over the proofs kept for the unchanged crate: first many in one check (batches.py), then each undecided one alone, with the
 functions of the changed modules, and at last by the gate's own function. Results are kept per edit, so an interrupted run continues where it
 stopped. The last line is 'N refused, M not'."""
@@ -20,7 +20,7 @@ import batches
 import kit
 import prove
 
-FOLDERS = ("wrong-bodies", "must-fail")
+FOLDERS = ("mutants", "must-fail")
 
 
 def edits_of(crate, words, folders):
@@ -144,7 +144,7 @@ def means_refused(rt, kind):
 
 def try_all(rt, crates, tries, earlier):
     """Tries these edits, and returns for each whether it is rejected."""
-    lanes, begun = int(os.environ.get("WRONG_BODIES_JOBS", 0)) or kit.lanes(rt), time.time()
+    lanes, begun = int(os.environ.get("MUTANT_JOBS", 0)) or kit.lanes(rt), time.time()
     kit.say(f"{len(tries)} mutants of {len(crates)} crates, on {lanes} processors")
     before = listings(rt, crates)
 

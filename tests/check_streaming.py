@@ -1,13 +1,13 @@
 #!/usr/bin/env python3
-"""Tests gate/kept.py: types that hold what they may not are added to the text of the crates and must be rejected; the crates as they are must
+"""Tests gate/check_streaming.py: types that hold what they may not are added to the text of the crates and must be rejected; the crates as they are must
 pass. What no type shows is measured (tests/measured.py).
 
-usage: kept.py. The last line is 'N passed, M failed'."""
+usage: check_streaming.py. The last line is 'N passed, M failed'."""
 import os
 import sys
 
 sys.path.insert(0, f"{os.path.dirname(os.path.dirname(os.path.abspath(__file__)))}/gate")
-import kept  # noqa: E402
+import check_streaming  # noqa: E402
 import kit  # noqa: E402
 import results  # noqa: E402
 
@@ -52,9 +52,9 @@ def main():
     rt = kit.load()
     crates = {it.name: it for it in kit.crates(rt)}
     code = {name: rt.rtlib.code_of(crates[name].folder) for name in crates}
-    checks = {f"{it} as it is": kept.why_kept(it, code[it]) is None for it in kept.LINKER + kept.ASSEMBLER}
-    checks |= {f"link65: {name}": kept.why_kept("link65", f"{code['link65']} {text}") is not None for name, text in LINKERS.items()}
-    checks |= {f"asm65: {name}": kept.why_kept("asm65", f"{code['asm65']} {text}") is not None for name, text in ASSEMBLERS.items()}
+    checks = {f"{it} as it is": check_streaming.why_kept(it, code[it]) is None for it in check_streaming.LINKER + check_streaming.ASSEMBLER}
+    checks |= {f"link65: {name}": check_streaming.why_kept("link65", f"{code['link65']} {text}") is not None for name, text in LINKERS.items()}
+    checks |= {f"asm65: {name}": check_streaming.why_kept("asm65", f"{code['asm65']} {text}") is not None for name, text in ASSEMBLERS.items()}
     return results.report(checks)
 
 

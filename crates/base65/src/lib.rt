@@ -2,6 +2,7 @@
 //! small types that contracts see as lists.
 #![tactic(auto)]
 
+mod joining;
 mod list_vec;
 mod mem_store;
 mod numbers;
@@ -12,6 +13,7 @@ mod seed;
 mod store;
 mod values;
 
+pub use joining::{add_all, join};
 pub use list_vec::ListVec;
 pub use mem_store::MemStore;
 pub use numbers::digits;

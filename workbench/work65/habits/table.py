@@ -112,7 +112,7 @@ HABITS: Tuple[Habit, ...] = (
     Habit("cheap-twice", "`@l:`, a constant, `@l:`", LOOKS, "a constant doesn't end the region of a cheap label: rename one of the two, or put a label between them"),
     Habit("incbin-file", "`.incbin` of a file that isn't beside the source", LOOKS,
           "write the name relative to the folder of the file that has the .incbin"),
-    Habit("include-file", "`.include` in `inc/a.inc` of a file beside `main.s`", LOOKS,
+    Habit("include-file", "an `.include` in `inc/a.inc` that names a file beside `main.s`", LOOKS,
           "give the folder with -I, or write the name relative to the folder of the file that has the .include"),
     Habit("long-line", "a line of more than 4,096 bytes", LOOKS, "a line has at most 4,096 bytes: split its list into two statements", (),
           ("^.{4097}",)),

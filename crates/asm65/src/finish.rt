@@ -26,13 +26,13 @@ use object65::Object;
 use semantics65::{LocationRef, Segment};
 use std::alloc::{AllocError, Global};
 use std::mem;
-use symbols65::{NormCache, Symbols};
+use symbols65::{FormCache, Symbols, empty_cache};
 
 /// The results of resolving fixups so far.
 #[derive(Drop)]
 pub struct ResolveState {
     /// The forms of constants.
-    pub known: NormCache,
+    pub known: FormCache,
     pub exported: ExportedNames,
     /// What goes to standard error.
     pub err: ListVec<u8>,
@@ -253,15 +253,8 @@ pub fn finish_assembly(alloc: Global, assembler: Assembler) -> Assembly
         texts,
     } = assembler;
     let ConsoleOutput { out, err } = texts;
-    let Ok(known) = NormCache::new(alloc, &symbols) else {
-        return answered(
-            alloc,
-            Err(Diagnostic::without_memory()),
-            ConsoleOutput { out, err },
-        );
-    };
     let mut ending = ResolveState {
-        known,
+        known: empty_cache(alloc, &symbols),
         exported: IndexSet::with_hasher(alloc, *symbols.imports.hasher()),
         err,
     };

@@ -10,7 +10,7 @@ ghost use Rattle.semantics65.specs.declared.laid.Context.{Context as Site};
 ghost use Rattle.semantics65.specs.Symbols.{definition_index, named};
 ghost use Rattle.semantics65.specs.Views.{said_at};
 ghost use Rattle.semantics65.specs.Module.{asserted, piece_result, datum, quietly, value_result};
-ghost use Rattle.symbols65.specs.Resolving.{IsTable};
+ghost use Rattle.symbols65.specs.Tables.{IsTable};
 ghost use Rattle.symbols65.specs.Views.{table_of};
 ghost use Rattle.asm65.specs.Internal.RunState.{entry_at, HasDefined, made_at, declaration_result, place_here, StandsAt};
 ghost use Rattle.asm65.specs.declared.resolving.FixupLocation.{FixupLocation};
@@ -25,7 +25,7 @@ use indexmap::IndexSet;
 use object65::{Action, Norm, Width, fits, put};
 use semantics65::{Context, Declaration, GLOBAL_SCOPE};
 use std::alloc::{AllocError, Global};
-use symbols65::{Key, NormCache, Symbols, defined_norm, norm, operand_form};
+use symbols65::{FormCache, Key, Symbols, defined_norm, norm, operand_form};
 
 /// The names that were exported.
 pub type ExportedNames = IndexSet<Vec<u8>, Seed>;
@@ -200,20 +200,20 @@ fn enter_export(
 fn resolve_export(
     alloc: Global,
     symbols: &Symbols,
-    known: &mut NormCache,
+    known: &mut FormCache,
     exported: &mut ExportedNames,
     spot: FixupLocation<'_>,
     place: usize,
     name: ListVec<u8>,
 ) -> Result<ResolvedPiece, AsmFault>
-    requires table { IsTable (table_of symbols.now) known.old.states.items }
+    requires table { IsTable (table_of symbols.now) known.old }
     requires names { HasDefined (table_of symbols.now) (names_of exported.old) }
     requires place { definition_index (table_of symbols.now) (named 0 name) ≡ Some place }
     ensures made { (must : Bool) (s : Site) → Refines is_memory (made_at spot.entry) result
         (piece_result (table_of symbols.now) (names_of exported.old) (place_here spot.entry) s
         (piece_of (Export must name))) }
     ensures standing { IfOk result (StandsAt spot.entry.pos) }
-    ensures table { OnOk result (IsTable (table_of symbols.now) known.new.states.items) }
+    ensures table { OnOk result (IsTable (table_of symbols.now) known.new) }
     ensures names { OnOk result (HasDefined (table_of symbols.now) (names_of exported.new)) }
     ensures more { IfOk result (λ m. names_of exported.new ≡ names_of exported.old ++
         exported_names (made_at spot.entry m).content.said) }
@@ -229,18 +229,18 @@ fn resolve_export(
 pub fn resolve(
     alloc: Global,
     symbols: &Symbols,
-    known: &mut NormCache,
+    known: &mut FormCache,
     exported: &mut ExportedNames,
     spot: FixupLocation<'_>,
     fixup: Fixup,
 ) -> Result<ResolvedPiece, AsmFault>
-    requires table { IsTable (table_of symbols.now) known.old.states.items }
+    requires table { IsTable (table_of symbols.now) known.old }
     requires names { HasDefined (table_of symbols.now) (names_of exported.old) }
     ensures made { Refines is_memory (made_at spot.entry) result
         (piece_result (table_of symbols.now) (names_of exported.old) (place_here spot.entry)
         fixup.context (piece_of fixup.piece)) }
     ensures standing { IfOk result (StandsAt spot.entry.pos) }
-    ensures table { OnOk result (IsTable (table_of symbols.now) known.new.states.items) }
+    ensures table { OnOk result (IsTable (table_of symbols.now) known.new) }
     ensures names { OnOk result (HasDefined (table_of symbols.now) (names_of exported.new)) }
     ensures more { IfOk result (λ m. names_of exported.new ≡ names_of exported.old ++
         exported_names (made_at spot.entry m).content.said) }

@@ -11,8 +11,7 @@ use Rattle.semantics65.specs.Norms.{defined_form, form_of_definition, norm, norm
 use Rattle.semantics65.specs.Symbols.{Definition, Symbols, binding_of, defined_at}
 use Rattle.symbols65.specs.Resolving.{IsBlocked, IsBlockedAt, MeansAlways, binary_form, plain, plain_in, prefix_form}
 use Rattle.symbols65.specs.Tables.{HasBlocker}
-use Rattle.symbols65.proofs.Plains.{left_alone}
-use Rattle.symbols65.proofs.Sizing.{binary_plain, operand_norm, prefix_plain}
+use Rattle.symbols65.proofs.Sizing.{binary_plain, left_alone, operand_norm, prefix_plain}
 use Rattle.symbols65.proofs.Turns.{norm_is_last}
 use Rattle.symbols65.proofs.Words.{get_stays}
 

@@ -33,7 +33,7 @@ use Rattle.symbols65.proofs.Finals.{binary_stays, prefix_stays}
 use Rattle.symbols65.proofs.Measures.{left_after, refused_first, refused_same, unless_then}
 use Rattle.symbols65.proofs.Turns.{extends_itself}
 use Rattle.symbols65.proofs.Words.{get_more}
-use Rattle.symbols65.proofs.Sizing.{binary_plain, folded_plain, plain_again, plain_known, plain_twice, plain_value, prefix_plain}
+use Rattle.symbols65.proofs.Sizing.{binary_plain, folded_plain, left_alone, plain_again, plain_known, plain_twice, plain_value, prefix_plain}
 
 -- ---- Folding forms, of which some are held that are no number and no address.
 
@@ -43,10 +43,6 @@ prefix_drops op (Some f) = folded_plain (fold1 op f) ∙ sym (prefix_plain op (O
 
 prefix_held : (op : Op1) (o : Option Form) (r : Result Form AsmFault) → option_and_then plain o ≡ plain_in r → option_and_then plain (prefix_form op o) ≡ plain_in (r >>= (λ f. fold_result (fold1 op f)))
 prefix_held op o r h = prefix_drops op o ∙ ap (λ p. option_and_then plain (prefix_form op p)) h ∙ prefix_plain op r
-
-left_alone : (op : Op2) (o : Option Form) → binary_form op o None ≡ None
-left_alone op None = refl
-left_alone op (Some f) = refl
 
 binary_drops : (op : Op2) (o p : Option Form) → option_and_then plain (binary_form op o p) ≡ option_and_then plain (binary_form op (option_and_then plain o) (option_and_then plain p))
 binary_drops op None p = refl

@@ -101,10 +101,7 @@ begun P ws new h k = subst P (sym h.1) (k h.0)
 -- where there is no entry, all that is kept holds
 pub none_searched : (y : l.Symbols) (searched : ℕ → Option SearchEntry) → ((j : ℕ) → searched j ≡ None) → KeepsSearches y searched
 none_searched y searched none = (
-  (
-    λ j f at. (let never : None ≡ Some (Some f) = sym (ap (entry_at (length y.definitions)) (none j)) ∙ at in absurd cc),
-    λ j at. (let never : None ≡ Some None = sym (ap (entry_at (length y.definitions)) (none j)) ∙ at in absurd cc),
-  ),
+  λ j o at. (let never : None ≡ Some o = sym (ap (entry_at (length y.definitions)) (none j)) ∙ at in absurd cc),
   λ j n at. (let never : None ≡ Some (NoForm n) = sym (none j) ∙ at in absurd cc),
 )
 

@@ -19,7 +19,7 @@ use Rattle.semantics65.specs.declared.laid.Context.{Context}
 use Rattle.semantics65.specs.Norms.{defined_form, fold_result, form_by, form_of_definition, form_of_meaning, form_of_value, norm}
 use Rattle.semantics65.specs.Symbols.{Definition, Key, Binding, Symbols, cheap_in, definition_index, defined_at, first_found, import_index, imported_as, last_of, binding_of, member_meaning, named, or_else, or_fault, same_key, scope_from, scopes_from, scopes_of, display_name, unnamed_at, unnamed_meaning}
 use Rattle.symbols65.specs.Resolving.{IsUnknownName, KeepsMeanings, KeepsOperand, plain_part}
-use Rattle.symbols65.specs.Tables.{KeepsSearches, entry_at}
+use Rattle.symbols65.specs.Tables.{AreSearched, KeepsSearches, entries_at, entry_at}
 use Rattle.symbols65.specs.declared.table.symbols.SearchEntry.{SearchEntry}
 use Rattle.symbols65.specs.declared.table.symbols.SearchEntry.TheVariants.{KnownForm, NoForm}
 use Rattle.symbols65.specs.Views.{with_definition}
@@ -234,17 +234,14 @@ entry_stays c e f (Some (NoForm n)) q = by (nat_eq n e) q
 pub searches_kept : (y : Symbols) (old new : ℕ → Option SearchEntry) (keeps : Bool) → (keeps ≡ true → (j : ℕ) → new j ≡ old j) → (keeps ≡ false → (j : ℕ) → new j ≡ None) → KeepsSearches y old → KeepsSearches y new
 searches_kept y old new false same none h = none_searched y new (none refl)
 searches_kept y old new true same none (found, past) = (
-  (λ j f at. found.0 j f (ap (entry_at (length y.definitions)) (sym (same refl j)) ∙ at), λ j at. found.1 j (ap (entry_at (length y.definitions)) (sym (same refl j)) ∙ at)),
+  λ j o at. found j o (ap (entry_at (length y.definitions)) (sym (same refl j)) ∙ at),
   λ j n at. past j n (sym (same refl j) ∙ at),
 )
 
 -- it holds with one definition more, if operands keep their meanings: a mark says nothing then
 searches_stay : (y : Symbols) (d : Definition) → KeepsMeanings y (with_definition y d) → (searched : ℕ → Option SearchEntry) → KeepsSearches y searched → KeepsSearches (with_definition y d) searched
 searches_stay y d keeps searched (found, past) = (
-  (
-    λ j f at. form_stays y d keeps j f (found.0 j f (entry_stays (length y.definitions) (length (with_definition y d).definitions) f (searched j) at)),
-    λ j at. absurd (no_mark j (searched j) refl at),
-  ),
+  holds,
   λ j n at. (let before = past j n at in omega (arith, before, longer)),
 )
   where
@@ -259,6 +256,10 @@ searches_stay y d keeps searched (found, past) = (
         by : (b : Bool) → nat_eq n (length (with_definition y d).definitions) ≡ b → (o : Option (Option Form)) → o ≡ (if b then Some None else None) → o ≡ Some None → ⊥
         by true e o is' q = (let same : n ≡ length (with_definition y d).definitions = grind (arith, nat_tests) in let before = past j n is in omega (arith, same, before, longer))
         by false e o is' q = cc
+
+    holds : AreSearched (with_definition y d) (entries_at (length (with_definition y d).definitions) searched)
+    holds j (Some f) at = form_stays y d keeps j f (found j (Some f) (entry_stays (length y.definitions) (length (with_definition y d).definitions) f (searched j) at))
+    holds j None at = absurd (no_mark j (searched j) refl at)
 
 pub searches_pushed : (y : Symbols) (d : Definition) (old new : ℕ → Option SearchEntry) (keeps : Bool) → (keeps ≡ true → (j : ℕ) → new j ≡ old j) → (keeps ≡ false → (j : ℕ) → new j ≡ None) → (keeps ≡ true → KeepsMeanings y (with_definition y d)) → KeepsSearches y old → KeepsSearches (with_definition y d) new
 searches_pushed y d old new false same none meanings h = none_searched (with_definition y d) new (none refl)

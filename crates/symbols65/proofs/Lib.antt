@@ -1,15 +1,14 @@
-pub mod Beginnings
 pub mod Blockers
 pub mod Chains
-pub mod Following
+pub mod Entries
 pub mod Evaluations
 pub mod Finals
+pub mod Following
 pub mod Growing
 pub mod Keeping
 pub mod Lasts
 pub mod Measures
 pub mod Parts
-pub mod Plains
 pub mod Pursuits
 pub mod Scopes
 pub mod Segments

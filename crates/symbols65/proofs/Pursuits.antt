@@ -1,27 +1,29 @@
 -- A search for the form of an expression: constants that wait for one another.
-use Rattle.std.proofs.Common.{◌≡◌, ◌≢◌, ℕ, zero, suc, ◌+◌, ◌*◌, ◌<◌, ◌≤◌, refl, sym, ap, ◌∙◌, subst, arith, List, [], ◌∷◌, ◌++◌, length, Option, Some, None, slice_get, Bool, true, false, nat_eq, Result, Ok, Err, ◌⊎◌, inl, inr, length-append}
-use Rattle.std.specs.Prelude.{slice_set, ⊤}
-use Rattle.std.proofs.lemmas.Bool.Decides.{nat_tests}
+use Rattle.std.proofs.Common.{◌≡◌, ◌≢◌, ℕ, zero, suc, ◌+◌, ◌-◌, ◌<◌, ◌≤◌, refl, sym, ap, ◌∙◌, subst, arith, List, [], ◌∷◌, ◌++◌, length, Option, Some, None, is_some, slice_get, Bool, true, false, Result, Ok, Err, ◌⊎◌, inl, inr}
+use Rattle.std.specs.Prelude.{⊤}
+use Rattle.std.specs.Option.{option_and_then}
+use Rattle.std.specs.Result.{result_ok}
 use Rattle.std.proofs.lemmas.Grind.{common_steps}
-use Rattle.std.proofs.lemmas.List.Sums.{sum_by-set}
-use Rattle.std.proofs.lemmas.Option.{gets, slice_get_within, slice_get_past}
+use Rattle.std.proofs.lemmas.Option.{slice_get_within}
+use Rattle.std.proofs.Math.Path.{fun_ext}
 use Rattle.base65.specs.Outcome.{Unless}
 use Rattle.object65.specs.Form.{Form}
 use Rattle.ast65.specs.declared.fault.AsmFault.{AsmFault}
 use Rattle.ast65.specs.declared.fault.AsmFault.TheVariants.{Circular}
-use Rattle.semantics65.specs.Symbols.{Symbols, or_else}
-use Rattle.symbols65.specs.declared.resolving.attempt.State.{State}
-use Rattle.symbols65.specs.declared.resolving.attempt.State.TheVariants.{Unknown, Waiting, Found}
+use Rattle.semantics65.specs.Norms.{defined_form}
+use Rattle.semantics65.specs.Symbols.{Definition, Symbols, or_else}
 use Rattle.symbols65.specs.declared.resolving.attempt.AttemptError.{AttemptError}
 use Rattle.symbols65.specs.declared.resolving.attempt.AttemptError.TheVariants.{Needs, Fault}
+use Rattle.symbols65.specs.declared.table.symbols.SearchEntry.{SearchEntry}
 use Rattle.symbols65.specs.declared.table.symbols.Symbols as code
-use Rattle.symbols65.specs.Resolving.{FoundBy, IsTable, found_form, is_open, is_unknown, tried_at, tried_last, unknown}
-use Rattle.symbols65.specs.Views.{final_form, known_in, table_of}
-use Rattle.symbols65.proofs.Chains.{Among, IsChain, among_cases, among_last, among_more, chain_less, chain_more, chain_passes, last_course, met_again}
-use Rattle.symbols65.proofs.Lasts.{last_tried}
-use Rattle.symbols65.proofs.Settling.{known_found}
-use Rattle.symbols65.proofs.Turns.{Course, EventuallyEquals, IsCourse, circular_before, constant_course, constant_is, ok_later}
-use Rattle.symbols65.proofs.Tries.{Near, Agrees, IsAttempt, at_turn, attempt_at, attempt_last}
+use Rattle.symbols65.specs.Resolving.{FoundBy, plain, plain_in, tried_at}
+use Rattle.symbols65.specs.Tables.{AreSearched, entries_at}
+use Rattle.symbols65.specs.Views.{entry_form, final_form, known_by, table_of}
+use Rattle.symbols65.proofs.Chains.{Among, IsChain, among_after, among_cases, among_last, among_more, chain_less, chain_more, chain_passes, last_course, met_ever}
+use Rattle.symbols65.proofs.Entries.{Meets, entry_same, meets_cases}
+use Rattle.symbols65.proofs.Settling.{has_form, known_found}
+use Rattle.symbols65.proofs.Turns.{Course, EventuallyEquals, circular_before, constant_course, constant_is, constant_is_last, ok_later}
+use Rattle.symbols65.proofs.Tries.{Near, Agrees, IsAttempt, at_turn, attempt_at}
 
 -- ---- One constant needs another.
 
@@ -51,16 +53,14 @@ leads_from c table known v a j t e = record {
 fault_from : (c : ℕ) (table : Symbols) (known : ℕ → Option Form) (v : Course) (a : Result Form AttemptError) (z : AsmFault) → IsAttempt c table known v a → a ≡ Err (Fault z) → (k : ℕ) → c ≤ k → v (suc k) ≡ Err z
 fault_from c table known v a z t e k le = (let P : Result Form AttemptError → Type 0 = λ x. Agrees ⊥ (at_turn table k) x (v (suc k)) in near_so (v (suc k)) (Err z) (subst P e (t.later k le)))
 
-form_from : (c : ℕ) (table : Symbols) (known : ℕ → Option Form) (v : Course) (a : Result Form AttemptError) (f : Form) → IsAttempt c table known v a → a ≡ Ok f → (k : ℕ) → c ≤ k → v (suc k) ≡ Ok f
+pub form_from : (c : ℕ) (table : Symbols) (known : ℕ → Option Form) (v : Course) (a : Result Form AttemptError) (f : Form) → IsAttempt c table known v a → a ≡ Ok f → (k : ℕ) → c ≤ k → v (suc k) ≡ Ok f
 form_from c table known v a f t e k le = (let P : Result Form AttemptError → Type 0 = λ x. Agrees ⊥ (at_turn table k) x (v (suc k)) in near_so (v (suc k)) (Ok f) (subst P e (t.later k le)))
 
--- ---- The table.
+-- ---- The search.
 
-get_same : (states : List State) (j : ℕ) (x : State) → j < length states → slice_get (slice_set states j x) j ≡ Some x
-get_same states j x lt = grind (arith, common_steps, gets)
-
-get_other : (states : List State) (i j : ℕ) (x : State) → i ≢ j → slice_get (slice_set states j x) i ≡ slice_get states i
-get_other states i j x other = grind (arith, common_steps, gets)
+-- the forms that a search has found
+abbrev pub found_in : (ℕ → Option (Option Form)) → ℕ → Option Form
+found_in met j = option_and_then (λ o. o) (met j)
 
 module _ (t : code.Symbols) where
   abbrev y : Symbols
@@ -69,177 +69,202 @@ module _ (t : code.Symbols) where
   abbrev count : ℕ
   count = length (table_of t).definitions
 
-  -- the constants that wait, of which each needs the next, and the forms found so far
-  pub record IsPursuit (states : List State) (v : Course) (ws : List ℕ) : Type 0 where
+  -- The constants that are pending, of which each needs the next, and the forms that are found. A constant with an entry
+  -- and no form is pending, or had such an entry before the search.
+  pub record IsPursuit (before met : ℕ → Option (Option Form)) (v : Course) (ws : List ℕ) : Type 0 where
     pub turns : ℕ
-    pub long : length states ≡ count
-    pub found : FoundBy turns y (λ j. found_form (slice_get states j))
+    pub found : FoundBy turns y (found_in met)
     pub chain : IsChain y (InheritsErrors y) v ws
-    pub marked : (j : ℕ) → slice_get states j ≡ Some Waiting → Among j ws
-    pub inside : (j : ℕ) → Among j ws → j < length states
+    pub marked : (j : ℕ) → met j ≡ Some None → Among j ws ⊎ (before j ≡ Some None)
 
-  pub pursuit_starts : (states : List State) (v : Course) → IsTable y states → IsPursuit states v []
-  pursuit_starts states v h = record {
-    turns = h.turns;
-    long = h.long;
-    found = h.found;
+  pub pursuit_starts : (met : ℕ → Option (Option Form)) (v : Course) → AreSearched y met → IsPursuit met met v []
+  pursuit_starts met v h = record {
+    turns = suc count;
+    found = λ j f q. recorded j f (met j) refl q;
     chain = tt;
-    marked = λ j q. absurd (h.idle j q);
-    inside = λ j q. absurd q;
-  }
-
-  pub pursuit_ends : (states : List State) (v : Course) (ws : List ℕ) → IsPursuit states v ws → ws ≡ [] → IsTable y states
-  pursuit_ends states v ws p e = record {
-    long = p.long;
-    turns = p.turns;
-    found = p.found;
-    idle = λ j q. (let none : Among j [] = subst (Among j) e (p.marked j q) in absurd none);
-  }
-
-  unknown_is : (o : Option State) → is_unknown o ≡ true → o ≡ Some Unknown
-  unknown_is (Some Unknown) e = refl
-  unknown_is (Some Waiting) e = absurd cc
-  unknown_is (Some (Found f)) e = absurd cc
-  unknown_is None e = absurd cc
-
-  pub open_within : (states : List State) (j : ℕ) → is_unknown (slice_get states j) ≡ true → j < length states
-  open_within states j e = slice_get_within states j Unknown (unknown_is (slice_get states j) e)
-
-  fewer : (states : List State) (j : ℕ) → is_unknown (slice_get states j) ≡ true → unknown (slice_set states j Waiting) + 1 ≡ unknown states
-  fewer states j e = grind (arith, common_steps, unknown_is, sum_by-set, slice_get_within, common_steps, gets)
-
-  no_more : (states : List State) (j : ℕ) (f : Form) → j < length states → unknown (slice_set states j (Found f)) ≤ unknown states
-  no_more states j f lt =
-      let change = sum_by-set is_open states j (Found f) Unknown lt in
-      omega (arith, change)
-
-  -- what is at an index after one was written
-  after_set : (Q : Option State → Type 0) (states : List State) (i j : ℕ) (x : State) → j < length states → Q (slice_get (slice_set states j x) i) → ((i ≡ j) × Q (Some x)) ⊎ ((i ≢ j) × Q (slice_get states i))
-  after_set Q states i j x lt q = go (nat_eq i j) refl
-    where
-      go : (b : Bool) → nat_eq i j ≡ b → ((i ≡ j) × Q (Some x)) ⊎ ((i ≢ j) × Q (slice_get states i))
-      go true b =
-          let one : i ≡ j = grind (arith, nat_tests) in
-          inl (one, subst Q (ap (slice_get (slice_set states j x)) one ∙ get_same states j x lt) q)
-      go false b =
-          let other : i ≢ j = grind (arith, nat_tests) in
-          inr (other, subst Q (get_other states i j x other) q)
-
-  -- a constant is needed that is neither found nor pending
-  pub pursuit_needs : (states : List State) (v : Course) (ws more : List ℕ) (j : ℕ) → IsPursuit states v ws → InheritsErrors y (last_course y v ws) j → is_unknown (slice_get states j) ≡ true → more ≡ ws ++ j ∷ [] → IsPursuit (slice_set states j Waiting) v more
-  pursuit_needs states v ws more j p l e pushed = subst (IsPursuit (slice_set states j Waiting) v) (sym pushed) record {
-    turns = p.turns;
-    long = (let long = p.long in grind (arith, common_steps));
-    found = λ i f q. founds i f (after_set (λ o. found_form o ≡ Some f) states i j Waiting lt q);
-    chain = chain_more y (InheritsErrors y) v ws j p.chain l;
-    marked = λ i q. marks i (after_set (λ o. o ≡ Some Waiting) states i j Waiting lt q);
-    inside = λ i q. (let same : length (slice_set states j Waiting) ≡ length states = grind (arith, common_steps) in rw same (inner i (among_cases i j ws q)));
+    marked = λ j q. inr q;
   }
     where
-      lt : j < length states
-      lt = open_within states j e
+      recorded : (j : ℕ) (f : Form) (o : Option (Option Form)) → met j ≡ o → option_and_then (λ x. x) o ≡ Some f → constant_course y j (suc count) ≡ Ok f
+      recorded j f None is q = absurd cc
+      recorded j f (Some None) is q = absurd cc
+      recorded j f (Some (Some g)) is q = (let same : g ≡ f = cc in has_form (constant_course y j (suc count)) f (h j (Some f) (is ∙ ap (λ x. Some (Some x)) same)))
 
-      founds : (i : ℕ) (f : Form) → ((i ≡ j) × (found_form (Some Waiting) ≡ Some f)) ⊎ ((i ≢ j) × (found_form (slice_get states i) ≡ Some f)) → constant_course y i p.turns ≡ Ok f
-      founds i f (inl (one, never)) = absurd cc
-      founds i f (inr (other, q)) = p.found i f q
+  abbrev pub known_of : (ℕ → Option (Option Form)) → ℕ → Option Form
+  known_of met = known_by t (found_in met)
 
-      marks : (i : ℕ) → ((i ≡ j) × (Some Waiting ≡ Some Waiting)) ⊎ ((i ≢ j) × (slice_get states i ≡ Some Waiting)) → Among i (ws ++ j ∷ [])
-      marks i (inl (one, q)) = among_last i j ws one
-      marks i (inr (other, q)) = among_more i j ws (p.marked i q)
+  pub known_same : (n : ℕ) (searched : ℕ → Option SearchEntry) → known_by t (λ j. entry_form (searched j)) ≡ known_of (entries_at n searched)
+  known_same n searched = fun_ext (λ j. ap (or_else (final_form t j)) (entry_same n (searched j)))
 
-      inner : (i : ℕ) → (Among i ws ⊎ (i ≡ j)) → i < length states
-      inner i (inl h) = p.inside i h
-      inner i (inr e) = rw e lt
-
-  -- the attempt at the last that waits, by what is known
-  abbrev pub turns_of : (states : List State) (v : Course) (ws : List ℕ) → IsPursuit states v ws → ℕ
-  turns_of states v ws p = p.turns + count
-
-  pub pursuit_known : (states : List State) (v : Course) (ws : List ℕ) (p : IsPursuit states v ws) → FoundBy (turns_of states v ws p) y (known_in t states)
-  pursuit_known states v ws p = known_found t p.turns (λ j. found_form (slice_get states j)) p.found
-
-  pub pursuit_attempt : (states : List State) (v : Course) (ws : List ℕ) (a : Result Form AttemptError) (p : IsPursuit states v ws) → IsAttempt (turns_of states v ws p) y (known_in t states) v a → IsAttempt (turns_of states v ws p) y (known_in t states) (last_course y v ws) (tried_last (tried_at (known_in t states) y) a ws)
-  pursuit_attempt states v ws a p h = attempt_last (turns_of states v ws p) y (known_in t states) (pursuit_known states v ws p) v a h ws
-
-  -- the form of the last that waits is found
-  pursuit_up : (states : List State) (v : Course) (ws : List ℕ) (j : ℕ) (f : Form) (p : IsPursuit states v (ws ++ j ∷ [])) → tried_at (known_in t states) y j ≡ Ok f → IsPursuit (slice_set states j (Found f)) v ws
-  pursuit_up states v ws j f p e = record {
-    turns = suc (p.turns + count);
-    long = (let long = p.long in grind (arith, common_steps));
-    found = λ i g q. founds i g (after_set (λ o. found_form o ≡ Some g) states i j (Found f) lt q);
-    chain = chain_less y (InheritsErrors y) v ws j p.chain;
-    marked = λ i q. marks i (after_set (λ o. o ≡ Some Waiting) states i j (Found f) lt q);
-    inside = λ i q. (let same : length (slice_set states j (Found f)) ≡ length states = grind (arith, common_steps) in rw same (p.inside i (among_more i j ws q)));
-  }
+  within : (j : ℕ) → (slice_get y.definitions j ≡ None → ⊥) → j < count
+  within j some = by (slice_get y.definitions j) refl
     where
-      lt : j < length states
-      lt = p.inside j (among_last j j ws refl)
+      by : (o : Option Definition) → slice_get y.definitions j ≡ o → j < count
+      by None is = absurd (some is)
+      by (Some d) is = slice_get_within y.definitions j d is
 
-      own : constant_course y j (suc (p.turns + count)) ≡ Ok f
-      own = form_from (p.turns + count) y (known_in t states) (constant_course y j) (tried_at (known_in t states) y j) f (attempt_at (p.turns + count) y (known_in t states) (known_found t p.turns (λ j. found_form (slice_get states j)) p.found) j) e (p.turns + count) (omega arith)
+  -- what a constant comes to at last
+  pub defined_ends : (j : ℕ) (z : AsmFault) → EventuallyEquals (constant_course y j) (Err z) → result_ok (defined_form y j) ≡ None
+  defined_ends j z (n, h) = ap result_ok (constant_is_last y n j ∙ h (suc (n + count)) (omega arith))
 
-      founds : (i : ℕ) (g : Form) → ((i ≡ j) × (found_form (Some (Found f)) ≡ Some g)) ⊎ ((i ≢ j) × (found_form (slice_get states i) ≡ Some g)) → constant_course y i (suc (p.turns + count)) ≡ Ok g
-      founds i g (inl (one, q)) = (let same : f ≡ g = cc in ap (λ x. constant_course y x (suc (p.turns + count))) one ∙ own ∙ ap Ok same)
-      founds i g (inr (other, q)) = ok_later (constant_course y i) (constant_is y i) p.turns (suc (p.turns + count)) g (omega arith) (p.found i g q)
+  module _ (before met : ℕ → Option (Option Form)) (v : Course) (ws : List ℕ) (p : IsPursuit before met v ws) where
+    abbrev AtLast : Result Form AttemptError → Type 0
+    AtLast a = IsAttempt (p.turns + count) y (known_of met) (last_course y v ws) a
 
-      marks : (i : ℕ) → ((i ≡ j) × (Some (Found f) ≡ Some Waiting)) ⊎ ((i ≢ j) × (slice_get states i ≡ Some Waiting)) → Among i ws
-      marks i (inl (one, never)) = absurd cc
-      marks i (inr (other, q)) = rest (among_cases i j ws (p.marked i q))
+    pub pursuit_known : FoundBy (p.turns + count) y (known_of met)
+    pursuit_known = known_found t p.turns (found_in met) p.found
+
+    -- the last that is pending needs a constant
+    pub pursuit_leads : (a : Result Form AttemptError) (j : ℕ) → AtLast a → a ≡ Err (Needs j) → InheritsErrors y (last_course y v ws) j × (j < count)
+    pursuit_leads a j h e = (leads_from (p.turns + count) y (known_of met) (last_course y v ws) a j h e, within j (h.lacks j e).inside)
+
+    -- one that the search hasn't met becomes the last that is pending
+    pub pursuit_needs : (new : ℕ → Option (Option Form)) (more : List ℕ) (j : ℕ) → InheritsErrors y (last_course y v ws) j → Meets met new j None → more ≡ ws ++ j ∷ [] → IsPursuit before new v more
+    pursuit_needs new more j l meets pushed = subst (IsPursuit before new v) (sym pushed) record {
+      turns = p.turns;
+      found = λ i f q. founds i f (meets_cases met new j None meets i) q;
+      chain = chain_more y (InheritsErrors y) v ws j p.chain l;
+      marked = λ i q. marks i (meets_cases met new j None meets i) q;
+    }
+      where
+        founds : (i : ℕ) (f : Form) → ((i ≡ j) × (new i ≡ Some None)) ⊎ ((i ≢ j) × (new i ≡ met i)) → found_in new i ≡ Some f → constant_course y i p.turns ≡ Ok f
+        founds i f (inl (one, is)) q = (let never : None ≡ Some f = sym (ap (option_and_then (λ o. o)) is) ∙ q in absurd cc)
+        founds i f (inr (other, is)) q = p.found i f (sym (ap (option_and_then (λ o. o)) is) ∙ q)
+
+        marks : (i : ℕ) → ((i ≡ j) × (new i ≡ Some None)) ⊎ ((i ≢ j) × (new i ≡ met i)) → new i ≡ Some None → Among i (ws ++ j ∷ []) ⊎ (before i ≡ Some None)
+        marks i (inl (one, is)) q = inl (among_last i j ws one)
+        marks i (inr (other, is)) q = still (p.marked i (sym is ∙ q))
+          where
+            still : Among i ws ⊎ (before i ≡ Some None) → Among i (ws ++ j ∷ []) ⊎ (before i ≡ Some None)
+            still (inl m) = inl (among_more i j ws m)
+            still (inr was) = inr was
+
+    -- one that it has met is pending, or had no form before
+    pub pursuit_meets : (a : Result Form AttemptError) (j : ℕ) → AtLast a → a ≡ Err (Needs j) → is_some (met j) ≡ true → Among j ws ⊎ (before j ≡ Some None)
+    pursuit_meets a j h e there = by (met j) refl there
+      where
+        unfound : (f : Form) (o : Option Form) → ((g : Form) → or_else o (Some f) ≡ Some g → ⊥) → ⊥
+        unfound f None none = none f refl
+        unfound f (Some g) none = none g refl
+
+        by : (o : Option (Option Form)) → met j ≡ o → is_some o ≡ true → Among j ws ⊎ (before j ≡ Some None)
+        by None is q = absurd cc
+        by (Some None) is q = p.marked j is
+        by (Some (Some f)) is q = absurd (unfound f (final_form t j) (λ g k. (h.lacks j e).unfound g (ap (λ o. or_else (final_form t j) (option_and_then (λ x. x) o)) is ∙ k)))
+
+    -- ---- What the last that is pending comes to.
+
+    pub last_faults : (a : Result Form AttemptError) (z : AsmFault) → AtLast a → a ≡ Err (Fault z) → EventuallyEquals (last_course y v ws) (Err z)
+    last_faults a z h e = (suc (p.turns + count), λ k le. later k le)
+      where
+        later : (k : ℕ) → suc (p.turns + count) ≤ k → last_course y v ws k ≡ Err z
+        later zero le = absurd (omega (arith, le))
+        later (suc k) le = fault_from (p.turns + count) y (known_of met) (last_course y v ws) a z h e k (omega (arith, le))
+
+    pub last_circular : (j : ℕ) → InheritsErrors y (last_course y v ws) j → Among j ws → EventuallyEquals (last_course y v ws) (Err Circular)
+    last_circular j l m = (1, λ k le. later k le)
+      where
+        later : (k : ℕ) → 1 ≤ k → last_course y v ws k ≡ Err Circular
+        later zero le = absurd (omega (arith, le))
+        later (suc k) le =
+            l.circular k (met_ever y (InheritsErrors y) (λ v k. v k ≡ Err Circular) (λ v j k l e. l.circular k e) (λ j n k le e. circular_before (constant_course y j) (constant_is y j) k n le e) (λ v j l. l.starts) v ws j p.chain l m k)
+
+    pub last_lacks : (j : ℕ) → InheritsErrors y (last_course y v ws) j → result_ok (defined_form y j) ≡ None → (z : AsmFault) × EventuallyEquals (last_course y v ws) (Err z)
+    last_lacks j l none = by (defined_form y j) refl none
+      where
+        by : (r : Result Form AsmFault) → defined_form y j ≡ r → result_ok r ≡ None → (z : AsmFault) × EventuallyEquals (last_course y v ws) (Err z)
+        by (Ok f) is q = absurd cc
+        by (Err z) is q = (z, l.faults z (suc count, λ k le. (let far : k ≡ suc (k - suc count + count) = omega (arith, le) in ap (constant_course y j) far ∙ sym (constant_is_last y (k - suc count) j) ∙ is)))
+
+    -- ---- What is searched for.
+
+    found_recorded : (j : ℕ) (f : Form) → met j ≡ Some (Some f) → result_ok (defined_form y j) ≡ Some f
+    found_recorded j f at = ap result_ok (constant_is_last y p.turns j ∙ ok_later (constant_course y j) (constant_is y j) p.turns (suc (p.turns + count)) f (omega arith) (p.found j f (ap (option_and_then (λ o. o)) at)))
+
+    -- the error of the last that is pending is that of what is searched for, and of all that are pending
+    module _ (z : AsmFault) (ends : EventuallyEquals (last_course y v ws) (Err z)) where
+      pub search_ends : EventuallyEquals v (Err z)
+      search_ends = chain_passes y (InheritsErrors y) (λ v k. EventuallyEquals v (Err z)) (λ v j k l q. l.faults z q) v ws 0 p.chain ends
+
+      pub ends_recorded : AreSearched y before → AreSearched y met
+      ends_recorded h j (Some f) at = found_recorded j f at
+      ends_recorded h j None at = pending (p.marked j at)
         where
-          rest : (Among i ws ⊎ (i ≡ j)) → Among i ws
-          rest (inl h) = h
-          rest (inr same) = absurd (other same)
+          pending : Among j ws ⊎ (before j ≡ Some None) → result_ok (defined_form y j) ≡ None
+          pending (inl m) =
+              let (d, after) = among_after y (InheritsErrors y) (λ v k. EventuallyEquals v (Err z)) (λ v j k l q. l.faults z q) v ws j p.chain m in
+              defined_ends j z (after 0 ends)
+          pending (inr was) = h j None was
 
-  pub pursuit_pops : (states : List State) (v : Course) (ws others : List ℕ) (first : Result Form AttemptError) (j : ℕ) (f : Form) → IsPursuit states v ws → tried_last (tried_at (known_in t states) y) first ws ≡ Ok f → ws ≡ others ++ j ∷ [] → IsPursuit (slice_set states j (Found f)) v others
-  pursuit_pops states v ws others first j f p e q =
-      let P : List ℕ → Type 0 = λ z. IsPursuit states v z → tried_last (tried_at (known_in t states) y) first z ≡ Ok f → IsPursuit (slice_set states j (Found f)) v others in
-      subst P (sym q) (λ p e. pursuit_up states v others j f p (sym (last_tried (tried_at (known_in t states) y) others first j) ∙ e)) p e
+    -- none is pending
+    module _ (empty : ws ≡ []) where
+      no_mark : (j : ℕ) → Among j ws ⊎ (before j ≡ Some None) → before j ≡ Some None
+      no_mark j (inl m) = absurd (subst (Among j) empty m)
+      no_mark j (inr was) = was
 
-  pub pursuit_inside : (states : List State) (v : Course) (ws others : List ℕ) (j : ℕ) → IsPursuit states v ws → ws ≡ others ++ j ∷ [] → j < length states
-  pursuit_inside states v ws others j p q = p.inside j (subst (Among j) (sym q) (among_last j j others refl))
+      pub all_recorded : AreSearched y before → AreSearched y met
+      all_recorded h j (Some f) at = found_recorded j f at
+      all_recorded h j None at = h j None (no_mark j (p.marked j at))
 
-  -- the last that waits leads to what it needs
-  pub pursuit_leads : (states : List State) (v : Course) (ws : List ℕ) (a : Result Form AttemptError) (j : ℕ) (p : IsPursuit states v ws) → IsAttempt (turns_of states v ws p) y (known_in t states) (last_course y v ws) a → a ≡ Err (Needs j) → InheritsErrors y (last_course y v ws) j
-  pursuit_leads states v ws a j p h e = leads_from (p.turns + count) y (known_in t states) (last_course y v ws) a j h e
+      pub still_unmarked : ((j : ℕ) → before j ≡ Some None → ⊥) → (j : ℕ) → met j ≡ Some None → ⊥
+      still_unmarked none j at = none j (no_mark j (p.marked j at))
 
-  -- a fault of the last that waits is the expression's
-  pub pursuit_faults : (states : List State) (v : Course) (ws : List ℕ) (a : Result Form AttemptError) (z : AsmFault) (p : IsPursuit states v ws) → IsAttempt (turns_of states v ws p) y (known_in t states) (last_course y v ws) a → a ≡ Err (Fault z) → EventuallyEquals v (Err z)
-  pursuit_faults states v ws a z p h e = chain_passes y (InheritsErrors y) (λ v k. EventuallyEquals v (Err z)) (λ v j k l q. l.faults z q) v ws 0 p.chain (suc (p.turns + count), λ k le. later k le)
+      pub search_done : (a : Result Form AttemptError) (f : Form) → AtLast a → a ≡ Ok f → EventuallyEquals v (Ok f)
+      search_done a f h e = (suc (p.turns + count), λ k le. later k le)
+        where
+          later : (k : ℕ) → suc (p.turns + count) ≤ k → v k ≡ Ok f
+          later zero le = absurd (omega (arith, le))
+          later (suc k) le = subst (λ (z : List ℕ). last_course y v z (suc k) ≡ Ok f) empty (form_from (p.turns + count) y (known_of met) (last_course y v ws) a f h e k (omega (arith, le)))
+
+  -- the form of the last that is pending is found
+  pub pursuit_up : (before met new : ℕ → Option (Option Form)) (v : Course) (ws others : List ℕ) (j : ℕ) (f : Form) (a : Result Form AttemptError) (p : IsPursuit before met v ws) → IsAttempt (p.turns + count) y (known_of met) (constant_course y j) a → a ≡ Ok f →
+      Meets met new j (Some f) → ws ≡ others ++ j ∷ [] → IsPursuit before new v others
+  pursuit_up before met new v ws others j f a p h e meets popped = record {
+    turns = suc (p.turns + count);
+    found = λ i g q. founds i g (meets_cases met new j (Some f) meets i) q;
+    chain = chain_less y (InheritsErrors y) v others j (subst (IsChain y (InheritsErrors y) v) popped p.chain);
+    marked = λ i q. marks i (meets_cases met new j (Some f) meets i) q;
+  }
     where
-      later : (k : ℕ) → suc (p.turns + count) ≤ k → last_course y v ws k ≡ Err z
-      later zero le = absurd (omega (arith, le))
-      later (suc k) le = fault_from (p.turns + count) y (known_in t states) (last_course y v ws) a z h e k (omega (arith, le))
+      own : constant_course y j (suc (p.turns + count)) ≡ Ok f
+      own = form_from (p.turns + count) y (known_of met) (constant_course y j) a f h e (p.turns + count) (omega arith)
 
-  -- what it needs is pending, if its form isn't unknown
-  pub pursuit_meets : (states : List State) (v : Course) → IsCourse v → (ws : List ℕ) (j : ℕ) (p : IsPursuit states v ws) → InheritsErrors y (last_course y v ws) j → ((f : Form) → known_in t states j ≡ Some f → ⊥) → is_unknown (slice_get states j) ≡ false → v (suc count) ≡ Err Circular
-  pursuit_meets states v s ws j p l unfound known = by (slice_get states j) refl known
-    where
-      found_known : (f : Form) (o : Option Form) → ((g : Form) → or_else o (Some f) ≡ Some g → ⊥) → ⊥
-      found_known f None none = none f refl
-      found_known f (Some g) none = none g refl
+      founds : (i : ℕ) (g : Form) → ((i ≡ j) × (new i ≡ Some (Some f))) ⊎ ((i ≢ j) × (new i ≡ met i)) → found_in new i ≡ Some g → constant_course y i (suc (p.turns + count)) ≡ Ok g
+      founds i g (inl (one, is)) q = (let same : f ≡ g = (let both : Some f ≡ Some g = sym (ap (option_and_then (λ o. o)) is) ∙ q in cc) in ap (λ x. constant_course y x (suc (p.turns + count))) one ∙ own ∙ ap Ok same)
+      founds i g (inr (other, is)) q = ok_later (constant_course y i) (constant_is y i) p.turns (suc (p.turns + count)) g (omega arith) (p.found i g (sym (ap (option_and_then (λ o. o)) is) ∙ q))
 
-      by : (o : Option State) → slice_get states j ≡ o → is_unknown o ≡ false → v (suc count) ≡ Err Circular
-      by None q known = let long = p.long in let starts = l.starts in grind (arith, common_steps, common_steps, gets, slice_get_past)
-      by (Some Unknown) q known = absurd cc
-      by (Some Waiting) q known =
-          circular_before v s (suc count) (length ws + suc count) (omega arith)
-          (met_again y (InheritsErrors y) (λ v k. v k ≡ Err Circular) (λ v j k l e. l.circular k e) (λ j n k le e. circular_before (constant_course y j) (constant_is y j) k n le e) (λ v j l. l.starts) v ws j p.chain l (p.marked j q) count)
-      by (Some (Found f)) q known = absurd (found_known f (final_form t j) (λ g e. unfound g (ap (λ o. or_else (final_form t j) (found_form o)) q ∙ e)))
+      marks : (i : ℕ) → ((i ≡ j) × (new i ≡ Some (Some f))) ⊎ ((i ≢ j) × (new i ≡ met i)) → new i ≡ Some None → Among i others ⊎ (before i ≡ Some None)
+      marks i (inl (one, is)) q = (let never : Some (Some f) ≡ Some None = sym is ∙ q in absurd cc)
+      marks i (inr (other, is)) q = rest (p.marked i (sym is ∙ q))
+        where
+          still : Among i others ⊎ (i ≡ j) → Among i others ⊎ (before i ≡ Some None)
+          still (inl m) = inl m
+          still (inr same) = absurd (other same)
 
-  -- the expression's form is found
-  pub pursuit_done : (states : List State) (v : Course) (ws : List ℕ) (a : Result Form AttemptError) (f : Form) (p : IsPursuit states v ws) → IsAttempt (turns_of states v ws p) y (known_in t states) (last_course y v ws) a → a ≡ Ok f → ws ≡ [] → EventuallyEquals v (Ok f)
-  pursuit_done states v ws a f p h e q =
-      (suc (p.turns + count), λ k le. later k le)
-    where
-      later : (k : ℕ) → suc (p.turns + count) ≤ k → v k ≡ Ok f
-      later zero le = absurd (omega (arith, le))
-      later (suc k) le = subst (λ (z : List ℕ). last_course y v z (suc k) ≡ Ok f) q (form_from (p.turns + count) y (known_in t states) (last_course y v ws) a f h e k (omega (arith, le)))
+          rest : Among i ws ⊎ (before i ≡ Some None) → Among i others ⊎ (before i ≡ Some None)
+          rest (inl m) = still (among_cases i j others (subst (Among i) popped m))
+          rest (inr was) = inr was
 
-  pub down_smaller : (states : List State) (ws more : List ℕ) (j : ℕ) → is_unknown (slice_get states j) ≡ true → more ≡ ws ++ j ∷ [] → 2 * unknown (slice_set states j Waiting) + length more < 2 * unknown states + length ws
-  down_smaller states ws more j e pushed = grind (arith, common_steps, fewer, length-append)
+  -- what an attempt at a constant says of it, by what searches have found
+  module _ (met : ℕ → Option (Option Form)) (h : AreSearched y met) (r : ℕ) where
+    tried : IsAttempt (suc count + count) y (known_of met) (constant_course y r) (tried_at (known_of met) y r)
+    unfolding pursuit_starts
+    tried = attempt_at (suc count + count) y (known_of met) (pursuit_known met met (constant_course y r) [] (pursuit_starts met (constant_course y r) h)) r
 
-  pub up_smaller : (states : List State) (ws others : List ℕ) (j : ℕ) (f : Form) → j < length states → ws ≡ others ++ j ∷ [] → 2 * unknown (slice_set states j (Found f)) + length others < 2 * unknown states + length ws
-  up_smaller states ws others j f lt q = grind (arith, common_steps, no_more, length-append)
+    pub form_at : (f : Form) → tried_at (known_of met) y r ≡ Ok f → defined_form y r ≡ Ok f
+    form_at f e = constant_is_last y (suc count + count) r ∙ form_from (suc count + count) y (known_of met) (constant_course y r) (tried_at (known_of met) y r) f tried e (suc count + count + count) (omega arith)
+
+    pub fault_at : (z : AsmFault) → tried_at (known_of met) y r ≡ Err (Fault z) → defined_form y r ≡ Err z
+    fault_at z e = constant_is_last y (suc count + count) r ∙ fault_from (suc count + count) y (known_of met) (constant_course y r) (tried_at (known_of met) y r) z tried e (suc count + count + count) (omega arith)
+
+pub unless_not : {P : Type 0} (b : Bool) → b ≡ false → Unless b P → P
+unless_not true is h = absurd cc
+unless_not false is h = h
+
+-- the number or address of a form, if there is one
+pub plain_known : (r : Result Form AsmFault) (o : Option Form) → result_ok r ≡ o → option_and_then plain o ≡ plain_in r
+plain_known (Ok f) o h = ap (option_and_then plain) (sym h)
+plain_known (Err z) o h = ap (option_and_then plain) (sym h)
 
 pub unless_more : {P Q : Type 0} (b : Bool) → (P → Q) → Unless b P → Unless b Q
 unless_more true f h = tt

@@ -96,13 +96,13 @@ prefix_plain op (Ok (imp k)) = grind (arith, common_steps, limited_plain)
 prefix_plain op (Ok (prefix o f)) = grind (arith, common_steps, limited_plain)
 prefix_plain op (Ok (form.binary o f g)) = grind (arith, common_steps, limited_plain)
 
+pub left_alone : (op : Op2) (o : Option Form) → binary_form op o None ≡ None
+left_alone op None = refl
+left_alone op (Some f) = refl
+
 pub binary_plain : (op : Op2) (r s : Result Form AsmFault) → option_and_then plain (binary_form op (plain_in r) (plain_in s)) ≡ plain_in (r >>= (λ f. s >>= (λ g. fold_result (fold2 op f g))))
 binary_plain op (Err e) s = refl
-binary_plain op (Ok f) (Err e) = ap (option_and_then plain) (left_alone (plain f))
-  where
-    left_alone : (o : Option Form) → binary_form op o None ≡ None
-    left_alone None = refl
-    left_alone (Some p) = refl
+binary_plain op (Ok f) (Err e) = ap (option_and_then plain) (left_alone op (plain f))
 binary_plain op (Ok f) (Ok g) = by (plain f) (plain g) refl refl
   where
     by : (o p : Option Form) → plain f ≡ o → plain g ≡ p → option_and_then plain (binary_form op o p) ≡ plain_in (fold_result (fold2 op f g))

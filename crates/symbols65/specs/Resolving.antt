@@ -1,11 +1,10 @@
 -- Forms that stay whatever statements follow, and attempts at the forms of constants.
-use Rattle.std.specs.Prelude.{Option, Some, None, Ok, ⊤, ◌≡◌, ℕ, suc, Result, Err, List, slice_get, pos, [], ◌∷◌, length, sum_by, Bool, false, true, ◌<◌}
-use Rattle.std.specs.Option.{option_and_then}
+use Rattle.std.specs.Prelude.{Option, Some, None, Ok, ⊤, ◌≡◌, ℕ, suc, Result, Err, List, slice_get, pos, [], ◌∷◌, length, Bool, false, true, ◌<◌}
 use Rattle.std.specs.Result.{result_ok}
 use Rattle.syntax65.specs.Trees.{Tree, number, here, unary, binary}
 use Rattle.base65.specs.declared.values.Op1.{Op1}
 use Rattle.base65.specs.declared.values.Op2.{Op2}
-use Rattle.base65.specs.Outcome.{◌>>=◌}
+use Rattle.base65.specs.Outcome.{◌>>=◌, Unless}
 use Rattle.object65.specs.Form.{Form, lit, imp}
 use Rattle.object65.specs.Folding.{fold1, fold2}
 use Rattle.semantics65.specs.Norms.{norm, norm_of, Extends, defined_form, form_of_definition, address_of, fold_result}
@@ -13,8 +12,6 @@ use Rattle.ast65.specs.declared.fault.AsmFault.{AsmFault}
 use Rattle.semantics65.specs.declared.laid.Context.{Context}
 use Rattle.semantics65.specs.Symbols.{Symbols, Definition, Binding, defined_at, imported_as, binding_of, definition_index, import_index, named}
 use Rattle.ast65.specs.declared.fault.AsmFault.TheVariants.{NoSuchLabel}
-use Rattle.symbols65.specs.declared.resolving.attempt.State.{State}
-use Rattle.symbols65.specs.declared.resolving.attempt.State.TheVariants.{Unknown, Waiting, Found}
 use Rattle.symbols65.specs.declared.resolving.attempt.AttemptError.{AttemptError}
 use Rattle.symbols65.specs.declared.resolving.attempt.AttemptError.TheVariants.{Needs, Fault}
 use Rattle.ast65.specs.Faults.{is_memory}
@@ -128,70 +125,14 @@ abbrev pub tried_last : {A : Type 0} → (ℕ → A) → A → List ℕ → A
 tried_last at first [] = first
 tried_last at first (w ∷ ws) = tried_last at (at w) ws
 
--- ---- The table of forms.
-
-abbrev pub is_open : State → ℕ
-is_open Unknown = 1
-is_open _ = 0
-
--- the number of constants that are neither found nor pending
-abbrev pub unknown : List State → ℕ
-unknown states = sum_by is_open states
-
--- the form that a search has found
-abbrev pub found_form : Option State → Option Form
-found_form (Some (Found f)) = Some f
-found_form _ = None
-
 -- each known form is found with at most this many nested expressions
 abbrev pub FoundBy : ℕ → Symbols → (ℕ → Option Form) → Type 0
 FoundBy c y known = (j : ℕ) (f : Form) → known j ≡ Some f → form_of_definition (norm c y) (slice_get y.definitions j) ≡ Ok f
 
--- the state of the table between searches: no constant is pending
-pub record IsTable (y : Symbols) (states : List State) : Type 0 where
-  pub long : length states ≡ length y.definitions
-  pub turns : ℕ
-  pub found : FoundBy turns y (λ j. found_form (slice_get states j))
-  pub idle : (j : ℕ) → slice_get states j ≡ Some Waiting → ⊥
-
--- whether a form isn't found and isn't looked for
-abbrev pub is_unknown : Option State → Bool
-is_unknown (Some Unknown) = true
-is_unknown _ = false
-
--- ---- Attempts at numbers and addresses.
-
--- the number or address of a constant, by its known form
-abbrev pub known_plain : ℕ → Option Form → Result (Option Form) AttemptError
-known_plain j (Some f) = Ok (plain f)
-known_plain j None = Err (Needs j)
-
-abbrev pub plain_value : (Context → Tree → Result (Option Form) AttemptError) → Context → Option Tree → Result (Option Form) AttemptError
-plain_value constant_plain s None = Ok (Some (address_of s))
-plain_value constant_plain s (Some e) = constant_plain s e
-
-abbrev pub plain_definition : (Context → Tree → Result (Option Form) AttemptError) → Option Definition → Result (Option Form) AttemptError
-plain_definition constant_plain None = Ok None
-plain_definition constant_plain (Some d) = plain_value constant_plain d.context d.value
-
--- an import has neither, nor has a name without a meaning
-abbrev pub plain_meaning : (ℕ → Option Form) → Symbols → Result Binding AsmFault → Result (Option Form) AttemptError
-plain_meaning known y (Ok (defined_at j)) = plain_definition (λ s e. known_plain j (known j)) (slice_get y.definitions j)
-plain_meaning known y (Ok (imported_as k)) = Ok None
-plain_meaning known y (Err e) = Ok None
-
--- the number or address of an expression, by the forms of constants that are known
-abbrev pub plain_attempt : (ℕ → Option Form) → Symbols → Context → Tree → Result (Option Form) AttemptError
-plain_attempt known y s (number v) = Ok (Some (lit (pos v)))
-plain_attempt known y s here = Ok (Some (address_of s))
-plain_attempt known y s (unary op e) = plain_attempt known y s e >>= (λ f. Ok (option_and_then plain (prefix_form op f)))
-plain_attempt known y s (binary op e g) =
-    plain_attempt known y s e >>= (λ f. plain_attempt known y s g >>= (λ h. Ok (option_and_then plain (binary_form op f h))))
-plain_attempt known y s e = plain_meaning known y (binding_of y s e)
-
--- that of what is defined at an index
-abbrev pub plain_tried : (ℕ → Option Form) → Symbols → ℕ → Result (Option Form) AttemptError
-plain_tried known y j = plain_definition (plain_attempt known y) (slice_get y.definitions j)
+-- what a search returns: the form of an expression, or an error if it has none
+abbrev pub FindsForm : Result Form AsmFault → Result Form AsmFault → Type 0
+FindsForm (Ok f) n = n ≡ Ok f
+FindsForm (Err e) n = Unless (is_memory e) (result_ok n ≡ None)
 
 -- ---- Operands that mean the same whatever statements follow.
 

@@ -17,6 +17,7 @@ use Rattle.symbols65.specs.declared.table.symbols.SearchEntry.{SearchEntry}
 use Rattle.symbols65.specs.declared.table.symbols.SearchEntry.TheVariants.{KnownForm, NoForm}
 use Rattle.semantics65.specs.Norms.{Extends, defined_form, form_of_value, norm, norm_of}
 use Rattle.symbols65.specs.Plains.{plain_in}
+use Rattle.indexmap.specs.IndexMap.{IndexMap, get}
 
 abbrev pub key_of : code.Key → l.Key
 key_of (key.Named scope name) = named scope name.now
@@ -145,21 +146,24 @@ abbrev pub ArePast : ℕ → (ℕ → Option SearchEntry) → Type 0
 ArePast count searched = (j n : ℕ) → searched j ≡ Some (NoForm n) → n ≤ count
 
 -- Entries of searches, by the index of a constant, hold: the constant has the normal form that is recorded or, if an
--- entry has none, neither a number nor an address.
+-- entry has none, none.
 abbrev pub AreSearched : l.Symbols → (ℕ → Option (Option Form)) → Type 0
-AreSearched y searched =
-    ((j : ℕ) (f : Form) → searched j ≡ Some (Some f) → result_ok (defined_form y j) ≡ Some f)
-    × ((j : ℕ) → searched j ≡ Some None → plain_in (defined_form y j) ≡ None)
+AreSearched y searched = (j : ℕ) (o : Option Form) → searched j ≡ Some o → result_ok (defined_form y j) ≡ o
 
 pub AreSearched-prop : (y : l.Symbols) (searched : ℕ → Option (Option Form)) → IsProp (AreSearched y searched)
-AreSearched-prop y searched = λ p q i. (
-  λ j f at. Coded-set (coded_option form_code) _ _ (p.0 j f at) (q.0 j f at) i,
-  λ j at. Coded-set (coded_option form_code) _ _ (p.1 j at) (q.1 j at) i,
-)
+AreSearched-prop y searched = λ p q i j o at. Coded-set (coded_option form_code) _ _ (p j o at) (q j o at) i
 
 -- what is kept of searches in a symbol table
 abbrev pub KeepsSearches : l.Symbols → (ℕ → Option SearchEntry) → Type 0
 KeepsSearches y searched = AreSearched y (entries_at (length y.definitions) searched) × ArePast (length y.definitions) searched
+
+-- no constant is pending, and of none an entry says that it has no form
+abbrev pub IsUnmarked : {S : Type 0} → l.Symbols → IndexMap ℕ SearchEntry S → Type 0
+IsUnmarked y known = (j : ℕ) → entries_at (length y.definitions) (get nat_eq known) j ≡ Some None → ⊥
+
+-- what is kept of searches after the last line, between two of them
+abbrev pub IsTable : {S : Type 0} → l.Symbols → IndexMap ℕ SearchEntry S → Type 0
+IsTable y known = KeepsSearches y (get nat_eq known) × IsUnmarked y known
 
 -- ---- How keys are looked up.
 

@@ -5,9 +5,7 @@ use Rattle.semantics65.specs.Symbols as l
 use Rattle.semantics65.specs.Symbols.{Definition, Scope, or_else, unnamed_at, with_new}
 use Rattle.object65.specs.Form.{Form}
 use Rattle.indexmap.specs.IndexMap.{IndexMap, get}
-use Rattle.symbols65.specs.Resolving.{found_form}
 use Rattle.symbols65.specs.Tables.{key_in, table_without_imports}
-use Rattle.symbols65.specs.declared.resolving.attempt.State.{State}
 use Rattle.symbols65.specs.declared.table.symbols.SearchEntry.{SearchEntry}
 use Rattle.symbols65.specs.declared.table.symbols.SearchEntry.TheVariants.{KnownForm}
 use Rattle.symbols65.specs.declared.table.symbols.Symbols.{Symbols}
@@ -50,15 +48,12 @@ final_form t j = option_and_then (λ d. d.form) (option_map (λ e. e.1) (slice_g
 abbrev pub known_by : Symbols → (ℕ → Option Form) → ℕ → Option Form
 known_by t found j = or_else (final_form t j) (found j)
 
-abbrev pub known_in : Symbols → List State → ℕ → Option Form
-known_in t states = known_by t (λ j. found_form (slice_get states j))
-
 -- the form that an entry of a search has
 abbrev pub entry_form : Option SearchEntry → Option Form
 entry_form (Some (KnownForm f)) = Some f
 entry_form _ = None
 
--- what is known while a search for a number or an address has these entries
+-- what is known while a search has these entries
 abbrev pub known_among : {S : Type 0} → Symbols → IndexMap ℕ SearchEntry S → ℕ → Option Form
 known_among t met = known_by t (λ j. entry_form (get nat_eq met j))
 

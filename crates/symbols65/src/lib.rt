@@ -15,7 +15,7 @@ pub use measuring::{
     needs_section, search_operand, search_statement,
 };
 pub use resolving::{
-    Binding, NormCache, binding_of, blocker_of, defined_norm, definition_of, norm, operand_form,
+    Binding, binding_of, blocker_of, defined_norm, definition_of, empty_cache, norm, operand_form,
     plain_part, scope_of, scopes_in, shown,
 };
-pub use table::{Definition, InternedKey, Key, ScopeKey, Symbols, define};
+pub use table::{Definition, FormCache, InternedKey, Key, ScopeKey, Symbols, define};

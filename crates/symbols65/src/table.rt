@@ -21,7 +21,7 @@ pub use defining::define;
 use indexmap::{IndexMap, IndexSet};
 use smallvec::SmallVec;
 use std::alloc::{AllocError, Global};
-pub use symbols::{Definition, InternedKey, Key, ScopeKey, SearchEntry, Symbols};
+pub use symbols::{Definition, FormCache, InternedKey, Key, ScopeKey, SearchEntry, Symbols};
 use words::{InternedName, NameQuery};
 
 /// The number of a name, which is put in where it is new.

@@ -21,7 +21,7 @@ use Rattle.sources65.specs.Reading.{AssemblesExpanded, Job, stopped_at, bytes_fo
 use Rattle.asm65.specs.declared.assembler.Assembler.{Assembler}
 use Rattle.asm65.specs.declared.driver.Run.{Run}
 use Rattle.symbols65.specs.Measuring.{opening_limit}
-use Rattle.symbols65.specs.Resolving.{IsTable}
+use Rattle.symbols65.specs.Tables.{IsTable}
 use Rattle.asm65.specs.Internal.AssemblerState.{Represents}
 use Rattle.asm65.specs.Assembly.{AnswersWithoutFile, is_diagnostic_system_error, placed_of}
 use Rattle.std.specs.Option.{option_map, unwrap_or}
@@ -241,7 +241,7 @@ HasDefined y names = (n : List ℕ) → definition_index y (named 0 n) ≡ None 
 
 -- what was found is so by a symbol table: forms of constants, and that names which were exported are defined
 pub record IsFoundBy (y : Symbols) (e : ResolveState) : Type 0 where
-  pub forms : IsTable y e.known.states.items
+  pub forms : IsTable y e.known
   pub names : HasDefined y (names_of e.exported)
 
 -- entries that refer to these files, and declare nothing yet

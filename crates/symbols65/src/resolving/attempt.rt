@@ -1,30 +1,21 @@
 //! Attempts at the form of an expression, by the forms that are known so far.
 
-ghost use Rattle.std.specs.Prelude.{◌≡◌, slice_get};
+ghost use Rattle.std.specs.Prelude.{◌≡◌, nat_eq, slice_get};
 ghost use Rattle.base65.specs.Outcome.{Refines};
+ghost use Rattle.indexmap.specs.IndexMap.{get};
 ghost use Rattle.ast65.specs.declared.fault.AsmFault.TheVariants.{OutOfMemory};
 ghost use Rattle.semantics65.specs.Norms.{address_of};
-ghost use Rattle.semantics65.specs.Symbols.{or_else};
 ghost use Rattle.symbols65.specs.declared.resolving.attempt.AttemptError.TheVariants.{Fault};
-ghost use Rattle.symbols65.specs.Resolving.{attempt_definition, form_attempt, found_form, known_form, lacks_memory, meaning_form, meaning_in, tried_at, tried_last};
-ghost use Rattle.symbols65.specs.Views.{known_in, table_of};
+ghost use Rattle.symbols65.specs.Resolving.{attempt_definition, form_attempt, known_form, lacks_memory, meaning_form, meaning_in, tried_at, tried_last};
+ghost use Rattle.symbols65.specs.Views.{entry_form, known_among, table_of};
 
 use super::meaning::{Binding, binding_of, folded};
-use crate::table::Symbols;
+use crate::table::{FormCache, SearchEntry, Symbols};
 use ast65::AsmFault;
 use object65::{Node, Norm};
 use semantics65::Context;
 use std::alloc::{AllocError, Global};
 use syntax65::{Expr, ExprKind};
-
-/// The progress of a search for the form of a constant.
-#[derive(Drop)]
-pub enum State {
-    Unknown,
-    /// Its own expression is being evaluated.
-    Waiting,
-    Found(Norm),
-}
 
 /// Why an attempt stops.
 #[derive(Drop)]
@@ -57,51 +48,36 @@ pub fn address(context: Context) -> Norm
     Norm::new(Node::SectionOffset(context.segment, i64::from(context.offset)))
 }
 
-/// Returns the form of the constant at an index if the search has found it.
-fn found_form(alloc: Global, states: &[State], index: usize) -> Result<Norm, AttemptError>
+/// Returns the form of the constant at an index if a search has found it.
+fn found_form(alloc: Global, known: &FormCache, index: usize) -> Result<Norm, AttemptError>
     ensures { Refines lacks_memory (λ f. f) result
-        (known_form index (found_form (slice_get states.now index))) }
+        (known_form index (entry_form (get nat_eq known.now index))) }
 {
-    match states.get(index) {
-        Some(State::Found(form)) => Ok(Norm::copy_of(alloc, form)?),
+    match known.get(&index) {
+        Some(SearchEntry::KnownForm(form)) => Ok(Norm::copy_of(alloc, form)?),
         _ => Err(AttemptError::Needs(index)),
     }
 }
 
-/// Returns the form of a constant: the final one that is kept with it, or the one that the search
-/// has found.
-fn constant_form(
-    alloc: Global,
-    states: &[State],
-    index: usize,
-    kept: &Option<Norm>,
-) -> Result<Norm, AttemptError>
-    ensures { Refines lacks_memory (λ f. f) result
-        (known_form index (or_else kept.now (found_form (slice_get states.now index)))) }
-{
-    match kept {
-        Some(form) => Ok(Norm::copy_of(alloc, form)?),
-        None => found_form(alloc, states, index),
-    }
-}
-
-/// Returns the form of the definition at an index.
+/// Returns the form of the definition at an index: that of a constant is final, or a search has
+/// found it.
 fn defined(
     alloc: Global,
     symbols: &Symbols,
-    states: &[State],
+    known: &FormCache,
     index: usize,
 ) -> Result<Norm, AttemptError>
     ensures { Refines lacks_memory (λ f. f) result (attempt_definition
-        (λ s e. known_form index (known_in symbols.now states.now index))
+        (λ s e. known_form index (known_among symbols.now known.now index))
         (slice_get (table_of symbols.now).definitions index)) }
 {
-    match symbols.definition(index) {
-        None => Err(AttemptError::Fault(AsmFault::NoSuchLabel)),
-        Some(definition) => match &definition.value {
-            None => Ok(address(definition.context)),
-            Some(_) => constant_form(alloc, states, index, &definition.form),
-        },
+    let Some(definition) = symbols.definition(index) else {
+        return Err(AttemptError::Fault(AsmFault::NoSuchLabel));
+    };
+    match (&definition.value, &definition.form) {
+        (None, _) => Ok(address(definition.context)),
+        (Some(_), Some(form)) => Ok(Norm::copy_of(alloc, form)?),
+        (Some(_), None) => found_form(alloc, known, index),
     }
 }
 
@@ -109,15 +85,15 @@ fn defined(
 fn meant(
     alloc: Global,
     symbols: &Symbols,
-    states: &[State],
+    known: &FormCache,
     meaning: Binding,
 ) -> Result<Norm, AttemptError>
     ensures { Refines lacks_memory (λ f. f) result (meaning_form
-        (known_in symbols.now states.now)
+        (known_among symbols.now known.now)
         (table_of symbols.now) (meaning_in meaning)) }
 {
     match meaning {
-        Binding::Defined(index) => defined(alloc, symbols, states, index),
+        Binding::Defined(index) => defined(alloc, symbols, known, index),
         // No memory holds more imports than have a number.
         Binding::Imported(key) => match u32::try_from(key) {
             Ok(key) => Ok(Norm::new(Node::ImportedName(key))),
@@ -130,24 +106,24 @@ fn meant(
 fn try_norm(
     alloc: Global,
     symbols: &Symbols,
-    states: &[State],
+    known: &FormCache,
     context: Context,
     value: &Expr,
 ) -> Result<Norm, AttemptError>
     ensures { Refines lacks_memory (λ f. f) result (form_attempt
-        (known_in symbols.now states.now)
+        (known_among symbols.now known.now)
         (table_of symbols.now) context value.now) }
 {
     match value.kind() {
         ExprKind::Number(number) => Ok(Norm::new(Node::NumberNode(i64::from(*number)))),
         ExprKind::Here => Ok(address(context)),
         ExprKind::Prefix(op, part) => {
-            let part = try_norm(alloc, symbols, states, context, part)?;
+            let part = try_norm(alloc, symbols, known, context, part)?;
             Ok(folded(Norm::prefix(alloc, *op, part))?)
         }
         ExprKind::Binary(op, operands) => {
-            let left = try_norm(alloc, symbols, states, context, &operands.left)?;
-            let right = try_norm(alloc, symbols, states, context, &operands.right)?;
+            let left = try_norm(alloc, symbols, known, context, &operands.left)?;
+            let right = try_norm(alloc, symbols, known, context, &operands.right)?;
             Ok(folded(Norm::binary(alloc, *op, left, right))?)
         }
         ExprKind::Plain(_)
@@ -156,27 +132,27 @@ fn try_norm(
         | ExprKind::Forward(_)
         | ExprKind::Backward(_) => {
             let meaning = binding_of(alloc, symbols, context, value)?;
-            meant(alloc, symbols, states, meaning)
+            meant(alloc, symbols, known, meaning)
         }
     }
 }
 
 /// Attempts the form of the definition at an index, by its own expression.
-fn try_at(
+pub fn try_at(
     alloc: Global,
     symbols: &Symbols,
-    states: &[State],
+    known: &FormCache,
     index: usize,
 ) -> Result<Norm, AttemptError>
     ensures { Refines lacks_memory (λ f. f) result (tried_at
-        (known_in symbols.now states.now)
+        (known_among symbols.now known.now)
         (table_of symbols.now) index) }
 {
     match symbols.definition(index) {
         None => Err(AttemptError::Fault(AsmFault::NoSuchLabel)),
         Some(definition) => match &definition.value {
             None => Ok(address(definition.context)),
-            Some(value) => try_norm(alloc, symbols, states, definition.context, value),
+            Some(value) => try_norm(alloc, symbols, known, definition.context, value),
         },
     }
 }
@@ -185,20 +161,20 @@ fn try_at(
 pub fn try_last(
     alloc: Global,
     symbols: &Symbols,
-    states: &[State],
+    known: &FormCache,
     context: Context,
     value: &Expr,
     waiting: &[usize],
 ) -> Result<Norm, AttemptError>
     ensures { Refines lacks_memory (λ f. f) result (tried_last
-        (tried_at (known_in symbols.now states.now)
+        (tried_at (known_among symbols.now known.now)
         (table_of symbols.now))
-        (form_attempt (known_in symbols.now states.now)
+        (form_attempt (known_among symbols.now known.now)
         (table_of symbols.now) context value.now)
         waiting.now) }
 {
     match waiting.last() {
-        None => try_norm(alloc, symbols, states, context, value),
-        Some(last) => try_at(alloc, symbols, states, *last),
+        None => try_norm(alloc, symbols, known, context, value),
+        Some(last) => try_at(alloc, symbols, known, *last),
     }
 }

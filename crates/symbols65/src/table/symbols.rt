@@ -55,9 +55,12 @@ pub enum ScopeKey {
 #[derive(Drop)]
 pub enum SearchEntry {
     KnownForm(Norm),
-    /// Its value is pending, or it is neither a number nor an address, by this many definitions.
+    /// Its form is pending, or it has none, by this many definitions.
     NoForm(usize),
 }
+
+/// The forms of constants that searches have found, by the index of a constant.
+pub type FormCache = IndexMap<usize, SearchEntry>;
 
 /// A symbol table.
 #[derive(Drop)]
@@ -75,8 +78,7 @@ pub struct Symbols {
     pub zero_page: IndexSet<Vec<u8>, Seed>,
     /// Of each word whether a scope other than the global one defines it, as far as such words go.
     pub inner: Vec<bool>,
-    /// The entries of searches, by the index of their constant.
-    pub searched: IndexMap<usize, SearchEntry>,
+    pub searched: FormCache,
     /// Whether a constant has no final form. Unless one has none, there is nothing to search for.
     pub has_open: bool,
     ghost entries_numbered: { AreNumbered word_of (map (λ k. k.items) words.keys) (keys definitions) },

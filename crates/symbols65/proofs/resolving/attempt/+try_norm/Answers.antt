@@ -5,7 +5,7 @@ use Rattle.base65.specs.Outcome.{◌>>=◌, Refines}
 use Rattle.ast65.specs.Faults.{is_memory}
 use Rattle.symbols65.specs.declared.resolving.attempt.AttemptError.{AttemptError}
 use Rattle.symbols65.specs.Resolving.{lacks_memory, meaning_form, operand_form, attempt_result}
-use Rattle.symbols65.specs.Views.{known_in, table_of}
+use Rattle.symbols65.specs.Views.{known_among, table_of}
 use Rattle.symbols65.proofs.Pursuits.{unless_more}
 use Rattle.symbols65.proofs.Scopes.{reference}
 use Rattle.symbols65.proofs.Tries.{operand_tried}
@@ -16,7 +16,7 @@ returns-in_err-meaning-in-Plain t c =
     let p = err_from_is_err_and c.from_residual-in_err-meaning-in-Plain.result c.from_residual-in_err-meaning-in-Plain.ensures.1 in
     let y = table_of c.args.symbols.now in
     let s = c.args.context in
-    let known = known_in c.args.symbols.now c.args.states.now in
+    let known = known_among c.args.symbols.now c.args.known.now in
     let e = c.in_err-meaning-in-Plain.field-0.0 in
     rw (p.1, p.2) (unless_more (is_memory e) (λ q.
     sym (operand_tried (operand_form known y s) s c.args.value.now (reference c.kind.result.now c.args.value.now c.kind.ensures c.in-Plain.is))
@@ -26,7 +26,7 @@ pub returns-in_ok-meaning-in-Plain : goal.returns-in_ok-meaning-in-Plain
 returns-in_ok-meaning-in-Plain t c =
     let y = table_of c.args.symbols.now in
     let s = c.args.context in
-    let known = known_in c.args.symbols.now c.args.states.now in
+    let known = known_among c.args.symbols.now c.args.known.now in
     let P : Result Form AttemptError → Type 0 = λ r. Refines lacks_memory (λ f. f) c.meant.result r in
     subst P (ap (λ r. attempt_result r >>= meaning_form known y) (sym c.in_ok-meaning-in-Plain.ensures)
     ∙ operand_tried (operand_form known y s) s c.args.value.now (reference c.kind.result.now c.args.value.now c.kind.ensures c.in-Plain.is)) c.meant.ensures

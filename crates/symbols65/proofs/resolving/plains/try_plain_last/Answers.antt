@@ -1,7 +1,0 @@
-use Rattle.symbols65.specs.Resolving.{plain_tried}
-use Rattle.symbols65.specs.Views.{known_among, table_of}
-use Rattle.symbols65.proofs.Lasts.{last_is}
-use Rattle.symbols65.proofs.resolving.plains.try_plain_last.Goals as goal
-
-pub returns-in-Some : goal.returns-in-Some
-returns-in-Some c = rw (last_is (plain_tried (known_among c.args.symbols.now c.args.met.now) (table_of c.args.symbols.now)) _ c.args.waiting.now c.in-Some.last.now c.in-Some.ensures.value) c.try_plain_at.ensures

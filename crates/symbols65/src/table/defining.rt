@@ -97,6 +97,10 @@ fn keeps_meanings(symbols: &Symbols, key: Key<'_>) -> bool
     ensures { result ≡ true → (d : TableDefinition) → d.key ≡ key_of key.entry →
         KeepsMeanings (table_of symbols.now) (with_definition (table_of symbols.now) d) }
 {
+    if symbols.searched.is_empty() {
+        // (nothing is to be kept)
+        return false;
+    }
     match key {
         Key::Named { name, .. } => symbols.is_unknown(name),
         _ => true,

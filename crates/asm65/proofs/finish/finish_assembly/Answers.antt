@@ -21,14 +21,14 @@ returns-clause-concluded c =
     λ (count : ℕ) (t : State).
     λ (h : Represents count t a).
     let k : ComesTo (table_of a.symbols) a.cursor.segments t.slots a.texts.err new r = subst (λ (gs : List Segment). ComesTo (table_of a.symbols) gs t.slots a.texts.err new r) c.segments.ensures (c.object_of-found.ensures.found t.slots h.sections h.unsaid) in
-    c.answered-2.ensures.concluded (outcome_of_state t None) (comes_concluded count t a new r h k)
+    c.answered.ensures.concluded (outcome_of_state t None) (comes_concluded count t a new r h k)
 
 pub returns-clause-good : goal.returns-clause-good
 returns-clause-good c =
     let a : Assembler = c.args.assembler in
     let r = c.object_of-found.result in
     let new = c.object_of-found.new.ending.err in
-    comes_good a new r c.answered-2.result.result c.answered-2.ensures.answer
+    comes_good a new r c.answered.result.result c.answered.ensures.answer
     (λ (xs : List Slot). λ (s : RepresentsSlots xs a.sections). λ (unsaid : all_said (contents_so_far xs) ≡ []). subst (λ (gs : List Segment). ComesTo (table_of a.symbols) gs xs a.texts.err new r) c.segments.ensures (c.object_of-found.ensures.found xs s unsaid))
 
 pub returns-clause-inside : goal.returns-clause-inside

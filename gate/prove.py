@@ -22,8 +22,8 @@ SUM = f"{PROGRAM}.sum"
 MEMORY = 5_000_000_000
 # The crates to which the two longest chains of proofs lead, the longest first; then only the commands and the program are left. For each
 # chain, and last for the other crates: how many processes prove a crate at once, and their niceness.
-CHAINS = ("asm65", "link65")
-SHARES = ((4, 0), (3, 3), (2, 10))
+CHAINS = ("asm65", "ld65")
+SHARES = ((4, 0), (3, 0), (2, 5))
 
 
 def sum_of(files, begun=b""):
@@ -106,8 +106,7 @@ class Proofs:
         self.begun, self.ended = time.time(), threading.Event()
 
     def start(self, crate):
-        """Starts a proof in a thread of its own. The assembler's crates come first, then the linker's: a crate of neither chain uses the
-        processors that these leave."""
+        """Starts a proof in a thread of its own. A crate of neither chain, the assembler's or the linker's, uses the processors that these leave."""
         chains = [at for at, name in enumerate(CHAINS) if crate.name == name or any(it.name == name and crate in it.below() for it in self.crates)]
         jobs, priority = SHARES[min(chains, default=len(CHAINS))]
         begun, done = time.time(), Future()

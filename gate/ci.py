@@ -1,16 +1,13 @@
 #!/usr/bin/env python3
 """Runs `rt ci` and, on the processors that it leaves idle, tries mutants of the crates that it has proved (mutants.py).
 
-usage: ci.py    RT_JOBS is how many checks `rt ci` runs at once (default: two more than there are processors, as far as memory holds).
-The longest chains of dependent crates are proved ahead (class Ahead). Each minute it prints what is running; at the end how long each part took and, if something failed, the crate, the function or file, and
+usage: ci.py    RT_JOBS is how many checks `rt ci` runs at once (default: one for each processor, as far as memory holds).
+Each minute it prints what is running; at the end how long each part took and, if something failed, the crate, the function or file, and
 the first thing that the prover said. The last line is 'N passed, M failed'."""
 import os
 import re
-import shutil
-import signal
 import subprocess
 import sys
-import tempfile
 import threading
 import time
 
@@ -20,8 +17,6 @@ import reasons
 
 # A check takes up to 3 GB, and a proof that starts meanwhile as much.
 MEMORY = 6_000_000_000
-# The crates to which the longest chains of proofs lead, in the order in which they are proved.
-CHAINS = ("asm65", "tests_commands65")
 COUNTS = re.compile(r"(\d+) passed, (\d+) failed")
 # The lines of `rt ci` about an edit, a test or a run that failed.
 FAILED = re.compile(r"rt: (?!FAILED).*(FAILED|NOT REFUSED|NOT TRIED|BAD EDIT|was stopped by|ended with status|had not ended|differ first at)")
@@ -47,47 +42,6 @@ class Reader:
         if FAILED.match(line):
             self.why.append(line.removeprefix("rt: "))
         return None
-
-
-class Ahead:
-    """Proves the longest chains of crates, each crate with several processes. `rt ci` gives a proof only the processors that no other crate waits
-    for, so here it runs in copies of the repository that contain one chain each. The gate's own `rt ci` runs in parallel over all crates: it waits
-    for a crate that is being proved here, and takes the result that the toolchain keeps. If it keeps none, nothing runs here."""
-
-    def __init__(self, rt, crates):
-        self.rt, self.crates, self.ran, self.lock, self.is_over = rt, crates, None, threading.Lock(), False
-        self.is_used = hasattr(rt, "Kept") and rt.Kept(crates).at is not None
-        if self.is_used:
-            threading.Thread(target=self.work, daemon=True).start()
-
-    def copy(self, name, to):
-        """Copies a crate and those that it depends on; `to` becomes a repository that contains no others."""
-        chain = next({it, *it.below()} for it in self.crates if it.name == name)
-        names = {os.path.basename(it.folder) for it in chain if it.folder.startswith(kit.ROOT)}
-        for it in names:
-            shutil.copytree(f"{kit.ROOT}/crates/{it}", f"{to}/crates/{it}", ignore=lambda at, _: ["out"] if os.path.dirname(at) == f"{kit.ROOT}/crates" else [])
-        shutil.copy(f"{kit.ROOT}/HANDLES", to)
-        with open(f"{to}/crates.txt", "w", encoding="utf-8") as out:
-            out.writelines(f"{line}\n" for line in kit.lines_of(f"{kit.ROOT}/crates.txt") if line.partition(":")[0] in names)
-
-    def work(self):
-        environment = {name: value for name, value in os.environ.items() if name != "RT_JOBS"}
-        for name in CHAINS:
-            with tempfile.TemporaryDirectory(prefix="chain-") as room:
-                self.copy(name, room)
-                with self.lock:
-                    if self.is_over:
-                        return
-                    # (what fails here fails in the gate's own `rt ci` too, which says why)
-                    self.ran = subprocess.Popen(["rt", "ci"], cwd=room, env=environment, stdout=subprocess.DEVNULL, stderr=subprocess.DEVNULL, start_new_session=True)
-                self.ran.wait()
-
-    def end(self):
-        """Stops what still runs."""
-        with self.lock:
-            self.is_over = True
-            if self.ran and self.ran.poll() is None:
-                os.killpg(self.ran.pid, signal.SIGTERM)
 
 
 class Idle:
@@ -197,11 +151,8 @@ def main():
     beside, reader, starts, passed, failed = Beside(rt, crates), Reader(), {}, 0, 1
     kit.say("mutants during the proofs: {} of every gate, {} of changed functions, {} in rotation".format(*beside.kinds))
     threading.Thread(target=tell, args=(begun, ended), daemon=True).start()
-    ahead = Ahead(rt, crates)
-    # (two checks wait for the chains most of the time)
-    environment = {"RT_JOBS": str(kit.lanes(rt) + 2 * ahead.is_used), **os.environ}
-    words = ["nice", "-n", "5", "rt", "ci"]
-    with subprocess.Popen(words, cwd=kit.ROOT, env=environment, stdout=subprocess.PIPE, stderr=subprocess.STDOUT, errors="replace") as ran:
+    environment = {"RT_JOBS": str(kit.lanes(rt)), **os.environ}
+    with subprocess.Popen(["rt", "ci"], cwd=kit.ROOT, env=environment, stdout=subprocess.PIPE, stderr=subprocess.STDOUT, errors="replace") as ran:
         for line in map(str.rstrip, ran.stdout):
             counted = COUNTS.fullmatch(line)
             if counted:
@@ -214,7 +165,6 @@ def main():
                 starts[name] = time.time() - begun
                 if not waits:
                     beside.is_proved(name)
-    ahead.end()
     proofs = time.time() - begun
     for name in starts:
         beside.is_proved(name)

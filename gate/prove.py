@@ -23,7 +23,7 @@ MEMORY = 5_000_000_000
 # The crates to which the two longest chains of proofs lead, the longest first; then only the commands and the program are left. For each
 # chain, and last for the other crates: how many processes prove a crate at once, and their niceness.
 CHAINS = ("asm65", "ld65")
-SHARES = ((4, 0), (3, 0), (2, 5))
+SHARES = ((2, 0), (2, 0), (2, 5))
 
 
 def sum_of(files, begun=b""):

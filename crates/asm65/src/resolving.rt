@@ -17,7 +17,7 @@ ghost use Rattle.asm65.specs.declared.resolving.FixupLocation.{FixupLocation};
 ghost use Rattle.emit65.specs.SectionContents.{names_of, piece_of};
 ghost use Rattle.emit65.specs.declared.fixups.FixupKind.TheVariants.{Export};
 
-use crate::emission::values::{is_file_name, literal_of};
+use crate::emission::values::is_file_name;
 use ast65::AsmFault;
 use base65::{ListVec, Seed};
 use emit65::{Fixup, FixupKind, LocatedDeclaration, SectionEntry, SourcePos};
@@ -25,6 +25,7 @@ use indexmap::IndexSet;
 use object65::{Action, Norm, Width, fits, put};
 use semantics65::{Context, Declaration, GLOBAL_SCOPE};
 use std::alloc::{AllocError, Global};
+use symbols65::constants::literal_of;
 use symbols65::{FormCache, Key, Symbols, defined_norm, norm, operand_form};
 
 /// The names that were exported.

@@ -29,8 +29,8 @@ use semantics65::Context;
 use std::alloc::{AllocError, Global};
 use syntax65::{AddressSize, Expr, ExprKind, Mnemonic, Mode, Name, opcode};
 
-/// The value of a form that is a number.
-fn literal(form: &Norm) -> Option<i64>
+/// Returns the value of a form that is a number.
+pub fn literal_of(form: &Norm) -> Option<i64>
     ensures { result ≡ literal_in (Ok form.now) }
 {
     match form.node() {
@@ -49,7 +49,7 @@ pub fn constant(
     ensures { IfOk result (λ v. v ≡ constant_in (table_of symbols.now) context value.now) }
 {
     match find_plain(alloc, symbols, context, value)? {
-        Some(form) => Ok(literal(&form)),
+        Some(form) => Ok(literal_of(&form)),
         None => Ok(None),
     }
 }
@@ -123,7 +123,7 @@ fn evaluation_of(form: Option<Norm>, is_final: bool, other: AddressSize) -> Eval
             size: other,
         };
     };
-    let size = match literal(&form) {
+    let size = match literal_of(&form) {
         Some(value) => size_of_value(value),
         None => other,
     };
@@ -309,7 +309,7 @@ pub fn number(found: &Option<Evaluation>) -> Option<i64>
 {
     match found {
         Some(found) => match &found.form {
-            Some(form) => literal(form),
+            Some(form) => literal_of(form),
             None => None,
         },
         None => None,

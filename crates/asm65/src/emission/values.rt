@@ -2,7 +2,6 @@
 //! defers them.
 
 ghost use Rattle.std.specs.Prelude.{◌≡◌, drop, IfOk, IfSome, map, Ok, OnOk, Some, take, ◌∷◌, []};
-ghost use Rattle.semantics65.specs.Norms.{literal_in};
 ghost use Rattle.semantics65.specs.Contents.{file_bytes, section_part, value_part, Known};
 ghost use Rattle.ast65.specs.Items.{literal_item};
 ghost use Rattle.semantics65.specs.Views.{place_at};
@@ -21,9 +20,10 @@ use ast65::Item;
 use base65::ListVec;
 use emit65::{FixupKind, Sections};
 use object65::format::FILE_NAME_LIMIT;
-use object65::{Node, Norm, Width, fits, put};
+use object65::{Norm, Width, fits, put};
 use semantics65::{Context, EncodingChoice, LocationRef};
 use std::alloc::{AllocError, Global};
+use symbols65::constants::literal_of;
 use symbols65::operand_form;
 use syntax65::{Expr, ExprKind};
 
@@ -116,16 +116,6 @@ pub fn file_bytes(bytes: &Option<ListVec<u8>>, settled: EncodingChoice, count: u
             part
         }
         _ => b"",
-    }
-}
-
-/// The value of a form that is a literal.
-pub fn literal_of(form: &Norm) -> Option<i64>
-    ensures { result ≡ literal_in (Ok form.now) }
-{
-    match form.node() {
-        Node::NumberNode(value) => Some(*value),
-        _ => None,
     }
 }
 

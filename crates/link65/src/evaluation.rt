@@ -103,9 +103,9 @@ pub fn try_form(
             let value = try_form(part, resolved, marks)?;
             Ok(apply1(*op, value))
         }
-        Node::Binary(op, left, right) => {
-            let first = try_form(left, resolved, marks)?;
-            let second = try_form(right, resolved, marks)?;
+        Node::Binary(op, operands) => {
+            let first = try_form(&operands.left, resolved, marks)?;
+            let second = try_form(&operands.right, resolved, marks)?;
             apply2(*op, first, second).ok_or(EvalBlocked::Fault(ValueFault::NoValue))
         }
     }

@@ -8,4 +8,4 @@ form_of (NumberNode v) = lit v
 form_of (SectionOffset k a) = sec k a
 form_of (ImportedName j) = imp j
 form_of (Prefix op p) = prefix op p.value
-form_of (Binary op p q) = binary op p.value q.value
+form_of (Binary op p) = binary op p.value.left p.value.right

@@ -7,7 +7,7 @@ ghost use Rattle.object65.specs.Folding.{lacks_memory, fold1, fold_any, fold_sum
 ghost use Rattle.object65.specs.Form.{nodes};
 
 use crate::form::{NODE_LIMIT, count};
-use crate::{Node, Norm};
+use crate::{Node, Norm, Operands};
 use base65::{Op1, Op2, apply1, apply2};
 use std::alloc::{AllocError, AllocFailed, Global};
 
@@ -79,9 +79,8 @@ fn fold_any(alloc: Global, op: Op2, left: Norm, right: Norm) -> Result<Norm, For
     if count(&left).saturating_add(count(&right)) >= NODE_LIMIT {
         return Err(FormFault::TooLarge);
     }
-    let left = Box::new(alloc, left)?;
-    let right = Box::new(alloc, right)?;
-    Ok(Norm::new(Node::Binary(op, left, right)))
+    let operands = Box::new(alloc, Operands { left, right })?;
+    Ok(Norm::new(Node::Binary(op, operands)))
 }
 
 /// A sum, which a place and a number fold.
@@ -121,8 +120,9 @@ pub fn are_there(form: &Norm, sections: usize, imports: usize) -> bool
         Node::SectionOffset(section, _) => (*section as usize) < sections,
         Node::ImportedName(place) => (*place as usize) < imports,
         Node::Prefix(_, part) => are_there(part, sections, imports),
-        Node::Binary(_, left, right) => {
-            are_there(left, sections, imports) && are_there(right, sections, imports)
+        Node::Binary(_, operands) => {
+            are_there(&operands.left, sections, imports)
+                && are_there(&operands.right, sections, imports)
         }
     }
 }
@@ -173,8 +173,10 @@ pub fn is_folded(form: &Norm) -> bool
     match form.node() {
         Node::NumberNode(_) | Node::SectionOffset(_, _) | Node::ImportedName(_) => true,
         Node::Prefix(op, part) => is_folded(part) && !folds_prefix(*op, part),
-        Node::Binary(op, left, right) => {
-            is_folded(left) && is_folded(right) && !folds_binary(*op, left, right)
+        Node::Binary(op, operands) => {
+            is_folded(&operands.left)
+                && is_folded(&operands.right)
+                && !folds_binary(*op, &operands.left, &operands.right)
         }
     }
 }

@@ -31,7 +31,15 @@ pub enum Node {
     /// The value of an import, by its number.
     ImportedName(u32),
     Prefix(Op1, Box<Norm>),
-    Binary(Op2, Box<Norm>, Box<Norm>),
+    Binary(Op2, Box<Operands>),
+}
+
+/// The operands of a binary operation, in one box.
+#[derive(Drop)]
+#[cycle(norm)]
+pub struct Operands {
+    pub left: Norm,
+    pub right: Norm,
 }
 
 impl Model for Norm {
@@ -72,10 +80,10 @@ impl Norm {
                 let part = Norm::copy_of(alloc, part)?;
                 Node::Prefix(*op, Box::new(alloc, part)?)
             }
-            Node::Binary(op, left, right) => {
-                let left = Norm::copy_of(alloc, left)?;
-                let right = Norm::copy_of(alloc, right)?;
-                Node::Binary(*op, Box::new(alloc, left)?, Box::new(alloc, right)?)
+            Node::Binary(op, operands) => {
+                let left = Norm::copy_of(alloc, &operands.left)?;
+                let right = Norm::copy_of(alloc, &operands.right)?;
+                Node::Binary(*op, Box::new(alloc, Operands { left, right })?)
             }
         };
         Ok(Norm::new(node))
@@ -104,6 +112,8 @@ pub fn count(form: &Norm) -> u32
     match &form.node {
         Node::NumberNode(_) | Node::SectionOffset(_, _) | Node::ImportedName(_) => 1,
         Node::Prefix(_, part) => count(part).saturating_add(1),
-        Node::Binary(_, left, right) => count(left).saturating_add(count(right)).saturating_add(1),
+        Node::Binary(_, operands) => count(&operands.left)
+            .saturating_add(count(&operands.right))
+            .saturating_add(1),
     }
 }

@@ -5,7 +5,7 @@ ghost use Rattle.std.specs.Int.{w64, cast_signed};
 ghost use Rattle.object65.specs.Bodies.{number_at, text_at, counted_at, op1_at, op2_at, operation_at, form_of_code, form_at, form_of_all, signed_at, line_at, file_line_at, origin_at};
 ghost use Rattle.object65.specs.Record.{Refines, is_memory};
 
-use crate::{Node, Norm, ObjectFault, Origin};
+use crate::{Node, Norm, ObjectFault, Operands, Origin};
 use base65::{Op1, Op2};
 use byteorder::{ByteOrder, LittleEndian};
 use std::alloc::Global;
@@ -153,9 +153,8 @@ fn read_operation(
     };
     let (left, rest) = read_form(alloc, bytes, depth)?;
     let (right, rest) = read_form(alloc, rest, depth)?;
-    let left = Box::new(alloc, left)?;
-    let right = Box::new(alloc, right)?;
-    Ok((Norm::new(Node::Binary(op, left, right)), rest))
+    let operands = Box::new(alloc, Operands { left, right })?;
+    Ok((Norm::new(Node::Binary(op, operands)), rest))
 }
 
 /// Reads a form after its code.

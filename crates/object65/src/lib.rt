@@ -23,7 +23,7 @@ pub use builder::Builder;
 pub use decoding::{decode_head, decode_record};
 pub use fault::ObjectFault;
 pub use folding::FormFault;
-pub use form::{Node, Norm};
+pub use form::{Node, Norm, Operands};
 pub use object::{Action, Assert, Export, Fragment, Object, Origin, Section, Width};
 pub use reading::{check_end, read_head, read_object};
 pub use record::{Item, Record};

@@ -105,10 +105,10 @@ fn put_form(out: &mut Vec<u8>, form: &Norm) -> Result<(), AllocError>
             }
             put_form(out, part)
         }
-        Node::Binary(op, left, right) => {
+        Node::Binary(op, operands) => {
             out.push(binary_code(*op))?;
-            put_form(out, left)?;
-            put_form(out, right)
+            put_form(out, &operands.left)?;
+            put_form(out, &operands.right)
         }
     }
 }

@@ -78,10 +78,10 @@ fn renumber(numbers: &Numbers, form: &mut Norm) -> Result<(), AllocError>
             renumber(numbers, &mut part)?;
             Node::Prefix(op, part)
         }
-        Node::Binary(op, mut left, mut right) => {
-            renumber(numbers, &mut left)?;
-            renumber(numbers, &mut right)?;
-            Node::Binary(op, left, right)
+        Node::Binary(op, mut operands) => {
+            renumber(numbers, &mut operands.left)?;
+            renumber(numbers, &mut operands.right)?;
+            Node::Binary(op, operands)
         }
     };
     *form.node_mut() = node;
@@ -110,9 +110,9 @@ fn add_form(keys: &mut IndexSet<u32>, form: &Norm) -> Result<(), AllocError>
             Ok(())
         }
         Node::Prefix(_, part) => add_form(keys, part),
-        Node::Binary(_, left, right) => {
-            add_form(keys, left)?;
-            add_form(keys, right)
+        Node::Binary(_, operands) => {
+            add_form(keys, &operands.left)?;
+            add_form(keys, &operands.right)
         }
     }
 }

@@ -29,11 +29,11 @@ fn add_form(text: &mut String, form: &Norm) -> Result<(), AllocError> {
             add_form(text, part)?;
             text.push_str(")")
         }
-        Node::Binary(op, left, right) => {
+        Node::Binary(op, operands) => {
             write!(text, "({op:?} ")?;
-            add_form(text, left)?;
+            add_form(text, &operands.left)?;
             text.push_str(" ")?;
-            add_form(text, right)?;
+            add_form(text, &operands.right)?;
             text.push_str(")")
         }
     }

@@ -1,5 +1,5 @@
 -- Forms that stay whatever statements follow, and attempts at the forms of constants.
-use Rattle.std.specs.Prelude.{Option, Some, None, Ok, ⊤, ◌≡◌, ℕ, suc, Result, Err, List, slice_get, pos, [], ◌∷◌, length, Bool, false, true, ◌<◌}
+use Rattle.std.specs.Prelude.{Option, Some, None, Ok, ⊤, ◌≡◌, ℕ, suc, Result, Err, List, slice_get, pos, [], ◌∷◌, length, Bool, false, ◌<◌}
 use Rattle.std.specs.Result.{result_ok}
 use Rattle.syntax65.specs.Trees.{Tree, number, here, unary, binary}
 use Rattle.base65.specs.declared.values.Op1.{Op1}

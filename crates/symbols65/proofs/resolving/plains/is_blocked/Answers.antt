@@ -1,4 +1,4 @@
-use Rattle.std.proofs.Common.{◌≡◌, ◌∙◌, ℕ, length, nat_eq, Option, Some, None, Ok, Err, Bool, true, false, is_some, not, ap, refl, sym, subst}
+use Rattle.std.proofs.Common.{◌≡◌, ◌∙◌, length, nat_eq, Option, Some, None, Ok, Err, Bool, true, false, is_some, not, ap, refl, sym, subst}
 use Rattle.base65.specs.Outcome.{RefinesErr}
 use Rattle.indexmap.specs.IndexMap.{get}
 use Rattle.object65.specs.Form.{Form}
@@ -6,7 +6,7 @@ use Rattle.ast65.specs.Faults.{is_memory}
 use Rattle.semantics65.specs.Norms.{defined_form, form_of_definition, norm_of}
 use Rattle.symbols65.specs.declared.resolving.attempt.AttemptError.{AttemptError}
 use Rattle.symbols65.specs.declared.resolving.attempt.AttemptError.TheVariants.{Fault}
-use Rattle.symbols65.specs.Resolving.{lacks_memory, plain, plain_in, tried_at}
+use Rattle.symbols65.specs.Resolving.{lacks_memory, plain_in, tried_at}
 use Rattle.symbols65.specs.Tables.{entries_at}
 use Rattle.symbols65.specs.Views.{entry_form, known_by, table_of}
 use Rattle.symbols65.proofs.Pursuits.{fault_at, form_at, known_of, known_same, unless_not}

@@ -1,7 +1,7 @@
 use Rattle.std.proofs.Common.{rules, ◌≡◌, ◌∙◌, ◌+◌, ◌<◌, ◌⊎◌, inl, inr, ℕ, Option, None, Some, Result, Ok, Err, List, [], ◌∷◌, length, length-append, nat_eq, is_some, true, false, sym, ap, refl, subst, arith}
 use Rattle.std.proofs.lemmas.List.{nil_from_length}
 use Rattle.std.specs.Result.{result_ok}
-use Rattle.base65.specs.Outcome.{RefinesErr, Unless}
+use Rattle.base65.specs.Outcome.{RefinesErr}
 use Rattle.indexmap.specs.IndexMap.{get}
 use Rattle.object65.specs.Form.{Form}
 use Rattle.ast65.specs.Faults.{is_memory}
@@ -22,7 +22,7 @@ use Rattle.symbols65.proofs.Entries.{meets_form, meets_mark, past_form, past_mar
 use Rattle.symbols65.proofs.Lasts.{last_tried}
 use Rattle.symbols65.proofs.Pursuits.{InheritsErrors, IsPursuit, all_recorded, ends_recorded, known_of, known_same, last_circular, last_faults, last_lacks, pursuit_known, pursuit_leads, pursuit_meets, pursuit_needs, pursuit_starts, pursuit_up, search_done, search_ends, still_unmarked, unless_more}
 use Rattle.symbols65.proofs.Tries.{IsAttempt, attempt_at, attempt_first, attempt_last}
-use Rattle.symbols65.proofs.Turns.{EventuallyEquals, comes_to_norm, constant_course, expression_course}
+use Rattle.symbols65.proofs.Turns.{EventuallyEquals, comes_to_norm, expression_course}
 use Rattle.symbols65.proofs.resolving.search.run_search.Goals as goal
 
 -- an expression without a form

@@ -1,7 +1,7 @@
 //! Numbers and addresses of expressions by the definitions so far. Only these matter at a line: no
 //! other form decides an address size.
 
-ghost use Rattle.std.specs.Prelude.{◌≡◌, IfErr, IfOk, IfSome, None, Ok, false, true};
+ghost use Rattle.std.specs.Prelude.{◌≡◌, IfErr, IfOk, IfSome, IsErrAnd, None, Ok, OnErr, false, true};
 ghost use Rattle.ast65.specs.Faults.{is_memory};
 ghost use Rattle.semantics65.specs.Norms.{defined_form, norm_of};
 ghost use Rattle.semantics65.specs.Symbols.{binding_of};
@@ -37,7 +37,8 @@ pub fn plain(form: &Norm) -> Option<Norm>
 
 /// Returns an error if memory ran out. After any other fault an expression has no form.
 fn check_memory(fault: &AsmFault) -> Result<(), AllocError>
-    ensures { IfOk result (λ u. is_memory fault.now ≡ false) }
+    ensures form { IfOk result (λ u. is_memory fault.now ≡ false) }
+    ensures memory { OnErr result (is_memory fault.now ≡ true) }
 {
     if fault.is_memory() {
         Err(AllocError)
@@ -48,7 +49,8 @@ fn check_memory(fault: &AsmFault) -> Result<(), AllocError>
 
 /// Returns whether a search stopped since memory ran out.
 fn lacks_memory(found: &Result<Norm, AsmFault>) -> bool
-    ensures { result ≡ false → IfErr found.now (λ e. is_memory e ≡ false) }
+    ensures form { result ≡ false → IfErr found.now (λ e. is_memory e ≡ false) }
+    ensures memory { result ≡ true → IsErrAnd found.now (λ e. is_memory e ≡ true) }
 {
     match found {
         Ok(_) => false,

@@ -38,7 +38,7 @@ returns-in_ok-check_memory-in-Err-Fault c = λ yes.
     let r = c.in-Some-blocker.blocker in
     let z = c.in-Err-Fault.fault in
     let P : AttemptError → Type 0 = λ x. RefinesErr lacks_memory x (tried_at (known_by t (λ j. entry_form (searched j))) y r) in
-    let own = unless_not (is_memory z) c.in_ok-check_memory-in-Err-Fault.ensures (subst P c.in-Err-Fault.field-0-is c.in-Err-Fault.ensures) in
+    let own = unless_not (is_memory z) c.in_ok-check_memory-in-Err-Fault.ensures.form (subst P c.in-Err-Fault.field-0-is c.in-Err-Fault.ensures) in
     let tried : tried_at (known_of t (entries_at count searched)) y r ≡ Err (Fault z) = ap (λ known. tried_at known y r) (sym (known_same t count searched)) ∙ own in
     let none : plain_in (defined_form y r) ≡ None = ap plain_in (fault_at t (entries_at count searched) t.searches_hold r z tried) in
     ap plain_in (ap (form_of_definition (norm_of y)) c.in-Some.ensures.definition) ∙ c.in-Some.ensures.forms.1 r c.in-Some-blocker.is y (extends_itself y) none)

@@ -21,7 +21,7 @@ run_search-found-requires c =
 pub invariant_of-symbols-2 : goal.invariant_of-symbols-2
 invariant_of-symbols-2 c =
     let t = c.args.symbols.now in
-    let kept = unless_memory c.run_search-found.result c.run_search-found.ensures.entries (c.lacks_memory.ensures c.if-lacks_memory.false) in
+    let kept = unless_memory c.run_search-found.result c.run_search-found.ensures.entries (c.lacks_memory.ensures.form c.if-lacks_memory.false) in
     record {
       entries_numbered = t.entries_numbered;
       counts_fit = t.counts_fit;

@@ -30,11 +30,11 @@ use Rattle.emit65.specs.declared.sections.Sections.{Sections}
 abbrev pub names_of : {S : Type 0} → IndexSet (Vec ℕ) S → List (List ℕ)
 names_of s = map (λ k. k.items) s.keys
 
--- ---- Alike contents: they give the same object.
+-- ---- Alike contents: with the same sections in the same order they give the same object.
 
 -- Two lists of contents are alike: they bring the same imports in the same order, put the same bytes, room
 -- and values into each segment, whatever comes before and after them, use the same files in the same order,
--- and make the same declarations.
+-- and make the same declarations. Which sections they request isn't part of this.
 pub record AreAlike (cs ds : List Content) : Type 0 where
   pub imports : (names : List (List ℕ)) →
       flat_map (content_imports names) cs ≡ flat_map (content_imports names) ds

@@ -69,6 +69,7 @@ impl Norm {
     }
 
     /// A copy of the form.
+    #[cycle(copy)]
     pub fn copy_of(alloc: Global, form: &Norm) -> Result<Self, AllocError>
         ensures { IfOk result (λ f. f ≡ form.now) }
     {
@@ -82,7 +83,7 @@ impl Norm {
             }
             Node::Binary(op, operands) => {
                 let left = Norm::copy_of(alloc, &operands.left)?;
-                let right = Norm::copy_of(alloc, &operands.right)?;
+                let right = copy_of_operand(alloc, &operands.right)?;
                 Node::Binary(*op, Box::new(alloc, Operands { left, right })?)
             }
         };
@@ -102,6 +103,18 @@ impl Norm {
         ensures node { form_of result.now ≡ self.old }
     {
         &mut self.node
+    }
+}
+
+/// A copy of an operand. Most right operands are numbers, which need no call.
+#[inline(always)]
+#[cycle(copy)]
+fn copy_of_operand(alloc: Global, form: &Norm) -> Result<Norm, AllocError>
+    ensures { IfOk result (λ f. f ≡ form.now) }
+{
+    match form.node() {
+        Node::NumberNode(value) => Ok(Norm::new(Node::NumberNode(*value))),
+        _ => Norm::copy_of(alloc, form),
     }
 }
 

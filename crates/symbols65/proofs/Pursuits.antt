@@ -1,13 +1,14 @@
 -- A search for the form of an expression: constants that wait for one another.
-use Rattle.std.proofs.Common.{◌≡◌, ◌≢◌, ℕ, zero, suc, ◌+◌, ◌-◌, ◌<◌, ◌≤◌, refl, sym, ap, ◌∙◌, subst, arith, List, [], ◌∷◌, ◌++◌, length, Option, Some, None, is_some, slice_get, Bool, true, false, Result, Ok, Err, ◌⊎◌, inl, inr}
-use Rattle.std.specs.Prelude.{⊤}
+use Rattle.std.proofs.Common.{◌≡◌, ◌≢◌, ℕ, zero, suc, ◌+◌, ◌-◌, ◌<◌, ◌≤◌, refl, sym, ap, ◌∙◌, subst, arith, List, [], ◌∷◌, ◌++◌, length, Option, Some, None, is_some, slice_get, Bool, true, false, nat_eq, Result, Ok, Err, ◌⊎◌, inl, inr}
+use Rattle.std.specs.Prelude.{⊤, if◌then◌else◌}
 use Rattle.std.specs.Option.{option_and_then}
 use Rattle.std.specs.Result.{result_ok}
 use Rattle.std.proofs.lemmas.Grind.{common_steps}
 use Rattle.std.proofs.lemmas.Option.{slice_get_within}
 use Rattle.std.proofs.Math.Path.{fun_ext}
-use Rattle.base65.specs.Outcome.{Unless}
+use Rattle.base65.specs.Outcome.{RefinesProp, Unless}
 use Rattle.object65.specs.Form.{Form}
+use Rattle.ast65.specs.Faults.{is_memory}
 use Rattle.ast65.specs.declared.fault.AsmFault.{AsmFault}
 use Rattle.ast65.specs.declared.fault.AsmFault.TheVariants.{Circular}
 use Rattle.semantics65.specs.Norms.{defined_form}
@@ -15,12 +16,13 @@ use Rattle.semantics65.specs.Symbols.{Definition, Symbols, or_else}
 use Rattle.symbols65.specs.declared.resolving.attempt.AttemptError.{AttemptError}
 use Rattle.symbols65.specs.declared.resolving.attempt.AttemptError.TheVariants.{Needs, Fault}
 use Rattle.symbols65.specs.declared.table.symbols.SearchEntry.{SearchEntry}
+use Rattle.symbols65.specs.declared.table.symbols.SearchEntry.TheVariants.{KnownForm, NoForm}
 use Rattle.symbols65.specs.declared.table.symbols.Symbols as code
-use Rattle.symbols65.specs.Resolving.{FoundBy, plain, plain_in, tried_at}
-use Rattle.symbols65.specs.Tables.{AreSearched, entries_at}
+use Rattle.symbols65.specs.Resolving.{FindsForm, FoundBy, IsEntryOf, plain, plain_in, tried_at}
+use Rattle.symbols65.specs.Tables.{AreSearched, KeepsSearches, entries_at}
 use Rattle.symbols65.specs.Views.{entry_form, final_form, known_by, table_of}
 use Rattle.symbols65.proofs.Chains.{Among, IsChain, among_after, among_cases, among_last, among_more, chain_less, chain_more, chain_passes, last_course, met_ever}
-use Rattle.symbols65.proofs.Entries.{Meets, entry_same, meets_cases}
+use Rattle.symbols65.proofs.Entries.{Meets, entry_same, meets_cases, meets_form, meets_mark, past_form, past_mark}
 use Rattle.symbols65.proofs.Settling.{has_form, known_found}
 use Rattle.symbols65.proofs.Turns.{Course, EventuallyEquals, circular_before, constant_course, constant_is, constant_is_last, ok_later}
 use Rattle.symbols65.proofs.Tries.{Near, Agrees, IsAttempt, at_turn, attempt_at}
@@ -269,3 +271,32 @@ plain_known (Err z) o h = ap (option_and_then plain) (sym h)
 pub unless_more : {P Q : Type 0} (b : Bool) → (P → Q) → Unless b P → Unless b Q
 unless_more true f h = tt
 unless_more false f h = f h
+
+-- ---- The entry of one constant more.
+
+pub entry_kept : {K : Type 0} (n : ℕ) (r : Result Form AsmFault) (e : SearchEntry) → IsEntryOf n r e → RefinesProp is_memory (λ q. K) r → K
+entry_kept n (Ok f) e is h = h
+entry_kept n (Err z) e is h = unless_not (is_memory z) is.0 h
+
+module _ (y : Symbols) (old new : ℕ → Option SearchEntry) (j : ℕ) where
+  abbrev so_many : ℕ
+  so_many = length y.definitions
+
+  entry_holds : (o : Option Form) → Meets (entries_at so_many old) (entries_at so_many new) j o → result_ok (defined_form y j) ≡ o → AreSearched y (entries_at so_many old) → AreSearched y (entries_at so_many new)
+  entry_holds o meets own h i p at = by (meets_cases (entries_at so_many old) (entries_at so_many new) j o meets i)
+    where
+      by : ((i ≡ j) × (entries_at so_many new i ≡ Some o)) ⊎ ((i ≢ j) × (entries_at so_many new i ≡ entries_at so_many old i)) → result_ok (defined_form y i) ≡ p
+      by (inl (one, is)) = (let same : o ≡ p = cc in ap (λ (k : ℕ). result_ok (defined_form y k)) one ∙ own ∙ same)
+      by (inr (other, is)) = h i p (sym is ∙ at)
+
+  pub searched_more : (r : Result Form AsmFault) (e : SearchEntry) → FindsForm r (defined_form y j) → IsEntryOf so_many r e → ((i : ℕ) → new i ≡ (if nat_eq j i then Some e else old i)) → KeepsSearches y old → KeepsSearches y new
+  searched_more (Ok f) e finds is h (hold, past) =
+      let made : (i : ℕ) → new i ≡ (if nat_eq j i then Some (KnownForm f) else old i) = λ i. h i ∙ ap (λ (x : SearchEntry). if nat_eq j i then Some x else old i) is in (
+        entry_holds (Some f) (meets_form so_many old new j f made) (ap result_ok finds) hold,
+        past_form so_many old new j f made past,
+      )
+  searched_more (Err z) e finds (is, mark) h (hold, past) =
+      let made : (i : ℕ) → new i ≡ (if nat_eq j i then Some (NoForm so_many) else old i) = λ i. h i ∙ ap (λ (x : SearchEntry). if nat_eq j i then Some x else old i) mark in (
+        entry_holds None (meets_mark so_many old new j so_many refl made) (unless_not (is_memory z) is finds) hold,
+        past_mark so_many old new j so_many refl made past,
+      )

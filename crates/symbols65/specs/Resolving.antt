@@ -17,6 +17,8 @@ use Rattle.symbols65.specs.declared.resolving.attempt.AttemptError.TheVariants.{
 use Rattle.ast65.specs.Faults.{is_memory}
 pub use Rattle.symbols65.specs.Plains.{plain, plain_in}
 use Rattle.symbols65.specs.declared.resolving.meaning.Binding as code
+use Rattle.symbols65.specs.declared.table.symbols.SearchEntry.{SearchEntry}
+use Rattle.symbols65.specs.declared.table.symbols.SearchEntry.TheVariants.{KnownForm, NoForm}
 use Rattle.symbols65.specs.declared.resolving.meaning.Binding.TheVariants.{Defined, Imported}
 
 -- ---- Forms that may be missing, as an expression without a value has none.
@@ -133,6 +135,11 @@ FoundBy c y known = (j : ℕ) (f : Form) → known j ≡ Some f → form_of_defi
 abbrev pub FindsForm : Result Form AsmFault → Result Form AsmFault → Type 0
 FindsForm (Ok f) n = n ≡ Ok f
 FindsForm (Err e) n = Unless (is_memory e) (result_ok n ≡ None)
+
+-- the entry of a constant after a search by this many definitions, unless memory ran out
+abbrev pub IsEntryOf : ℕ → Result Form AsmFault → SearchEntry → Type 0
+IsEntryOf count (Ok f) e = e ≡ KnownForm f
+IsEntryOf count (Err z) e = (is_memory z ≡ false) × (e ≡ NoForm count)
 
 -- ---- Operands that mean the same whatever statements follow.
 

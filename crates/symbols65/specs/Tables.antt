@@ -145,8 +145,8 @@ entries_at count searched j = entry_at count (searched j)
 abbrev pub ArePast : ℕ → (ℕ → Option SearchEntry) → Type 0
 ArePast count searched = (j n : ℕ) → searched j ≡ Some (NoForm n) → n ≤ count
 
--- Entries of searches, by the index of a constant, hold: the constant has the normal form that is recorded or, if an
--- entry has none, none.
+-- The entries of searches, by the index of a constant, are right: a constant has the normal form of its entry, and no
+-- normal form if its entry has none.
 abbrev pub AreSearched : l.Symbols → (ℕ → Option (Option Form)) → Type 0
 AreSearched y searched = (j : ℕ) (o : Option Form) → searched j ≡ Some o → result_ok (defined_form y j) ≡ o
 

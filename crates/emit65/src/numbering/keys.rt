@@ -14,7 +14,6 @@ use indexmap::IndexSet;
 use object65::{Node, Norm, Origin};
 use semantics65::Declaration;
 use std::alloc::{AllocError, Global};
-use std::mem;
 
 /// The names of imports, each once. The key of one is its place.
 pub type Imports = IndexSet<Vec<u8>, Seed>;
@@ -67,24 +66,24 @@ fn renumber(numbers: &Numbers, form: &mut Norm) -> Result<(), AllocError>
     ensures form { OnOk result (form.new ≡ renumbered_form numbers.now.sections.keys numbers.now.imports.keys form.old) }
     ensures bits { OnOk result (FitsBits form.new) }
 {
-    let node = match mem::replace(form.node_mut(), Node::NumberNode(0)) {
-        Node::NumberNode(value) => Node::NumberNode(value),
-        Node::SectionOffset(segment, offset) => Node::SectionOffset(
-            number_of(&numbers.sections, segment)?,
-            offset,
-        ),
-        Node::ImportedName(key) => Node::ImportedName(number_of(&numbers.imports, key)?),
-        Node::Prefix(op, mut part) => {
-            renumber(numbers, &mut part)?;
-            Node::Prefix(op, part)
+    let leaf = match form.node() {
+        Node::NumberNode(value) => Node::NumberNode(*value),
+        Node::SectionOffset(segment, offset) => {
+            Node::SectionOffset(number_of(&numbers.sections, *segment)?, *offset)
         }
-        Node::Binary(op, mut operands) => {
-            renumber(numbers, &mut operands.left)?;
-            renumber(numbers, &mut operands.right)?;
-            Node::Binary(op, operands)
+        Node::ImportedName(key) => Node::ImportedName(number_of(&numbers.imports, *key)?),
+        Node::Prefix(..) | Node::Binary(..) => {
+            return match form.node_mut() {
+                Node::Prefix(_, part) => renumber(numbers, part),
+                Node::Binary(_, operands) => {
+                    renumber(numbers, &mut operands.left)?;
+                    renumber(numbers, &mut operands.right)
+                }
+                _ => Ok(()),
+            };
         }
     };
-    *form.node_mut() = node;
+    *form.node_mut() = leaf;
     Ok(())
 }
 

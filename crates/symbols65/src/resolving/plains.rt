@@ -7,12 +7,12 @@ ghost use Rattle.semantics65.specs.Norms.{defined_form, norm_of};
 ghost use Rattle.semantics65.specs.Symbols.{binding_of};
 ghost use Rattle.semantics65.specs.declared.laid.Context.{Context};
 ghost use Rattle.syntax65.specs.Trees.{Tree};
-ghost use Rattle.symbols65.specs.Resolving.{meaning_in, plain, plain_in};
+ghost use Rattle.symbols65.specs.Resolving.{IsBlockedAt, IsEntryOf, meaning_in, plain, plain_in};
 ghost use Rattle.symbols65.specs.Views.{table_of};
 
-use super::attempt::{AttemptError, address, try_at};
+use super::attempt::address;
 use super::meaning::{Binding, meaning_at};
-use super::search::{is_met, run_search};
+use super::search::{is_met, record, run_search};
 use crate::table::{FormCache, SearchEntry, Symbols};
 use ast65::AsmFault;
 use indexmap::IndexMap;
@@ -47,35 +47,43 @@ fn check_memory(fault: &AsmFault) -> Result<(), AllocError>
     }
 }
 
-/// Returns whether a search stopped since memory ran out.
-fn lacks_memory(found: &Result<Norm, AsmFault>) -> bool
-    ensures form { result ≡ false → IfErr found.now (λ e. is_memory e ≡ false) }
-    ensures memory { result ≡ true → IsErrAnd found.now (λ e. is_memory e ≡ true) }
+/// Returns the number or address of the constant at an index, or that it has neither, if an entry
+/// says so.
+fn searched_plain(symbols: &Symbols, index: usize) -> Option<Option<Norm>>
+    ensures { IfSome result (λ f. f ≡ plain_in (defined_form (table_of symbols.now) index)) }
 {
-    match found {
-        Ok(_) => false,
-        Err(fault) => fault.is_memory(),
+    match symbols.searched.get(&index) {
+        Some(SearchEntry::KnownForm(form)) => Some(plain(form)),
+        Some(SearchEntry::NoForm(count)) if *count == symbols.definition_count() => Some(None),
+        _ => None,
     }
 }
 
-/// Returns whether the constant at an index has no number and no address since its blocker has none.
-fn is_blocked(alloc: Global, symbols: &Symbols, index: usize) -> Result<bool, AllocError>
-    ensures { IfOk result (λ b. b ≡ true →
-        plain_in (defined_form (table_of symbols.now) index) ≡ None) }
+/// Returns whether an entry says that the constant at an index has no number and no address.
+fn has_no_plain(symbols: &Symbols, index: usize) -> bool
+    ensures { result ≡ true → plain_in (defined_form (table_of symbols.now) index) ≡ None }
 {
-    let Some(definition) = symbols.definition(index) else {
-        return Ok(false);
-    };
-    let Some(blocker) = definition.blocker else {
-        return Ok(false);
-    };
-    match try_at(alloc, symbols, &symbols.searched, blocker) {
-        Ok(form) => Ok(plain(&form).is_none()),
-        Err(AttemptError::Needs(_)) => Ok(false),
-        Err(AttemptError::Fault(fault)) => {
-            check_memory(&fault)?;
-            Ok(true)
-        }
+    match searched_plain(symbols, index) {
+        Some(form) => form.is_none(),
+        None => false,
+    }
+}
+
+/// Returns the blocker of the constant at an index, if one is evident.
+fn blocker_of(symbols: &Symbols, index: usize) -> Option<usize>
+    ensures { IfSome result (λ r. IsBlockedAt (table_of symbols.now) index r) }
+{
+    symbols.definition(index)?.blocker
+}
+
+/// Returns whether an entry says that the blocker of the constant at an index has no number and no
+/// address, so that the constant has none.
+fn is_blocked(symbols: &Symbols, index: usize) -> bool
+    ensures { result ≡ true → plain_in (defined_form (table_of symbols.now) index) ≡ None }
+{
+    match blocker_of(symbols, index) {
+        Some(blocker) => has_no_plain(symbols, blocker),
+        None => false,
     }
 }
 
@@ -98,20 +106,33 @@ pub fn find_plain(
     }
 }
 
-/// Searches for the form of an operand, and keeps the entries in the symbol table.
-fn keep_search(
-    alloc: Global,
-    symbols: &mut Symbols,
-    context: Context,
-    operand: &Expr,
-) -> Result<(), AllocError>
+/// Returns the entry of a constant after a search by `count` definitions.
+fn entry_of(found: Result<Norm, AsmFault>, count: usize) -> Result<SearchEntry, AllocError>
+    ensures { IfOk result (IsEntryOf count found) }
+{
+    match found {
+        Ok(form) => Ok(SearchEntry::KnownForm(form)),
+        Err(fault) => {
+            check_memory(&fault)?;
+            Ok(SearchEntry::NoForm(count))
+        }
+    }
+}
+
+/// Searches for the form of the constant at an index, and keeps what it finds in the symbol table.
+fn search_constant(alloc: Global, symbols: &mut Symbols, index: usize) -> Result<(), AllocError>
     ensures { table_of symbols.new ≡ table_of symbols.old }
 {
     let mut known = mem::replace(&mut symbols.searched, IndexMap::new(alloc));
-    let found = run_search(alloc, symbols, &mut known, context, operand);
-    if lacks_memory(&found) {
-        return Err(AllocError);
-    }
+    let Some(definition) = symbols.definition(index) else {
+        return Ok(());
+    };
+    let Some(value) = &definition.value else {
+        return Ok(());
+    };
+    let found = run_search(alloc, symbols, &mut known, definition.context, value);
+    let entry = entry_of(found, symbols.definition_count())?;
+    record(&mut known, index, entry)?;
     symbols.searched = known;
     Ok(())
 }
@@ -128,6 +149,27 @@ fn unsearched(symbols: &Symbols, context: Context, operand: &Expr) -> Option<usi
         Some(index)
     } else {
         None
+    }
+}
+
+/// Searches for the form of the constant at an index, unless it is blocked. Of a blocked one only
+/// the blocker is searched for: the form of the constant can be large.
+fn search_unless_blocked(
+    alloc: Global,
+    symbols: &mut Symbols,
+    index: usize,
+) -> Result<(), AllocError>
+    ensures { table_of symbols.new ≡ table_of symbols.old }
+{
+    if let Some(blocker) = blocker_of(symbols, index) {
+        if !is_met(&symbols.searched, blocker, symbols.definition_count()) {
+            search_constant(alloc, symbols, blocker)?;
+        }
+    }
+    if is_blocked(symbols, index) {
+        Ok(())
+    } else {
+        search_constant(alloc, symbols, index)
     }
 }
 
@@ -156,23 +198,8 @@ pub fn search_constants(
             let Some(index) = unsearched(symbols, context, value) else {
                 return Ok(());
             };
-            if is_blocked(alloc, symbols, index)? {
-                return Ok(());
-            }
-            keep_search(alloc, symbols, context, value)
+            search_unless_blocked(alloc, symbols, index)
         }
-    }
-}
-
-/// Returns the number or address of the constant at an index, or that it has neither, if an entry
-/// says so.
-fn searched_plain(symbols: &Symbols, index: usize) -> Option<Option<Norm>>
-    ensures { IfSome result (λ f. f ≡ plain_in (defined_form (table_of symbols.now) index)) }
-{
-    match symbols.searched.get(&index) {
-        Some(SearchEntry::KnownForm(form)) => Some(plain(form)),
-        Some(SearchEntry::NoForm(count)) if *count == symbols.definition_count() => Some(None),
-        _ => None,
     }
 }
 
@@ -198,7 +225,7 @@ pub fn meant_plain(
         (Some(value), None) => match searched_plain(symbols, index) {
             Some(form) => Ok(form),
             None => {
-                if is_blocked(alloc, symbols, index)? {
+                if is_blocked(symbols, index) {
                     return Ok(None);
                 }
                 find_plain(alloc, symbols, definition.context, value)

@@ -26,7 +26,7 @@ pub fn empty_cache(alloc: Global, symbols: &Symbols) -> FormCache
 }
 
 /// Records the entry of the constant at an index.
-fn record(known: &mut FormCache, index: usize, entry: SearchEntry) -> Result<(), AllocError>
+pub fn record(known: &mut FormCache, index: usize, entry: SearchEntry) -> Result<(), AllocError>
     ensures { OnOk result (IsRecorded known.old known.new index entry) }
 {
     match known.insert(index, entry) {

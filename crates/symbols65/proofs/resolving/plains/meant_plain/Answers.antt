@@ -27,13 +27,13 @@ returns-in-Some-searched_plain c = λ s e means.
     (let y = table_of c.args.symbols.now in
     c.in-Some-searched_plain.ensures ∙ sym (ap plain_in (operand_defined y s e c.in-Defined.index (means ∙ ap (λ m. Ok (meaning_in m)) c.in-Defined.is))))
 
-pub returns-then-branch : goal.returns-then-branch
-returns-then-branch c = λ s e means.
+pub returns-then-is_blocked : goal.returns-then-is_blocked
+returns-then-is_blocked c = λ s e means.
     (let y = table_of c.args.symbols.now in
-    sym (ap plain_in (operand_defined y s e c.in-Defined.index (means ∙ ap (λ m. Ok (meaning_in m)) c.in-Defined.is)) ∙ c.in_ok-is_blocked-in-None.ensures c.if-branch.true))
+    sym (ap plain_in (operand_defined y s e c.in-Defined.index (means ∙ ap (λ m. Ok (meaning_in m)) c.in-Defined.is)) ∙ c.is_blocked.ensures c.if-is_blocked.true))
 
-pub returns-else-branch : goal.returns-else-branch
-returns-else-branch c =
+pub returns-else-is_blocked : goal.returns-else-is_blocked
+returns-else-is_blocked c =
     let y = table_of c.args.symbols.now in
     let j = c.in-Defined.index in
     let d = c.in-Some.definition.now in

@@ -1,17 +1,11 @@
-use Rattle.std.proofs.Common.{◌≡◌, nat_eq, IfErr, Result, Ok, Err, false, sym, subst}
-use Rattle.base65.specs.Outcome.{RefinesProp}
+use Rattle.std.proofs.Common.{◌≡◌, ◌∙◌, length, nat_eq, ℕ, sym, ap, subst}
 use Rattle.indexmap.specs.IndexMap.{get}
-use Rattle.object65.specs.Form.{Form}
-use Rattle.ast65.specs.Faults.{is_memory}
-use Rattle.ast65.specs.declared.fault.AsmFault.{AsmFault}
+use Rattle.semantics65.specs.Norms.{defined_form, form_of_definition, form_of_value, norm_of}
+use Rattle.symbols65.specs.Resolving.{FindsForm, IsEntryOf}
 use Rattle.symbols65.specs.Tables.{KeepsSearches}
 use Rattle.symbols65.specs.Views.{table_of}
-use Rattle.symbols65.proofs.Pursuits.{unless_not}
-use Rattle.symbols65.proofs.resolving.plains.keep_search.Goals as goal
-
-unless_memory : {K : Type 0} (r : Result Form AsmFault) → RefinesProp is_memory (λ q. K) r → IfErr r (λ e. is_memory e ≡ false) → K
-unless_memory (Ok f) h q = h
-unless_memory (Err z) h q = unless_not (is_memory z) q h
+use Rattle.symbols65.proofs.Pursuits.{entry_kept, searched_more}
+use Rattle.symbols65.proofs.resolving.plains.search_constant.Goals as goal
 
 pub run_search-found-requires : goal.run_search-found-requires
 run_search-found-requires c =
@@ -21,7 +15,16 @@ run_search-found-requires c =
 pub invariant_of-symbols-2 : goal.invariant_of-symbols-2
 invariant_of-symbols-2 c =
     let t = c.args.symbols.now in
-    let kept = unless_memory c.run_search-found.result c.run_search-found.ensures.entries (c.lacks_memory.ensures.form c.if-lacks_memory.false) in
+    let y = table_of t in
+    let j = c.args.index in
+    let r = c.run_search-found.result in
+    let e = c.in_ok-entry.entry in
+    let entry : IsEntryOf (length y.definitions) r e = subst (λ (n : ℕ). IsEntryOf n r e) c.definition_count.ensures c.in_ok-entry.ensures in
+    let d = c.in-Some.definition.now in
+    let own : defined_form y j ≡ norm_of y d.context c.in-Some-value.value = ap (form_of_definition (norm_of y)) c.in-Some.ensures.definition ∙ ap (form_of_value (norm_of y) d.context) c.in-Some-value.is in
+    let finds = subst (FindsForm r) (sym own) c.run_search-found.ensures.form in
+    let before = entry_kept (length y.definitions) r e entry c.run_search-found.ensures.entries in
+    let kept = searched_more y (get nat_eq c.run_search-found.new.known) (get nat_eq c.record.new.known) j r e finds entry c.in_ok-record.ensures before in
     record {
       entries_numbered = t.entries_numbered;
       counts_fit = t.counts_fit;

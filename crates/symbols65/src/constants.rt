@@ -328,6 +328,7 @@ pub fn size_found(found: &Option<Evaluation>) -> AddressSize
 }
 
 /// The final form of an expression that was evaluated, if that is evident already.
+#[inline(always)]
 pub fn final_form(found: Option<Evaluation>) -> Option<Norm>
     ensures { (y : Table) (s : Context) (own : AddressSize) (e : Option Tree) →
         IsEvaluated y s own e found → HasFinal y s e result }

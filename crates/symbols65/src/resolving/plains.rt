@@ -1,7 +1,7 @@
 //! Numbers and addresses of expressions by the definitions so far. Only these matter at a line: no
 //! other form decides an address size.
 
-ghost use Rattle.std.specs.Prelude.{◌≡◌, IfErr, IfOk, IfSome, IsErrAnd, None, Ok, OnErr, false, true};
+ghost use Rattle.std.specs.Prelude.{◌≡◌, IfOk, IfSome, IsErrAnd, None, Ok, OnErr, false, true};
 ghost use Rattle.ast65.specs.Faults.{is_memory};
 ghost use Rattle.semantics65.specs.Norms.{defined_form, norm_of};
 ghost use Rattle.semantics65.specs.Symbols.{binding_of};
@@ -106,9 +106,11 @@ pub fn find_plain(
     }
 }
 
-/// Returns the entry of a constant after a search by `count` definitions.
+/// Returns the entry of a constant after a search by `count` definitions, or an error if memory ran
+/// out.
 fn entry_of(found: Result<Norm, AsmFault>, count: usize) -> Result<SearchEntry, AllocError>
-    ensures { IfOk result (IsEntryOf count found) }
+    ensures entry { IfOk result (IsEntryOf count found) }
+    ensures memory { OnErr result (IsErrAnd found (λ e. is_memory e ≡ true)) }
 {
     match found {
         Ok(form) => Ok(SearchEntry::KnownForm(form)),
@@ -152,8 +154,8 @@ fn unsearched(symbols: &Symbols, context: Context, operand: &Expr) -> Option<usi
     }
 }
 
-/// Searches for the form of the constant at an index, unless it is blocked. Of a blocked one only
-/// the blocker is searched for: the form of the constant can be large.
+/// Searches for the form of the constant at an index, after that of its blocker. A blocked constant
+/// isn't searched for, since its form can be large.
 fn search_unless_blocked(
     alloc: Global,
     symbols: &mut Symbols,

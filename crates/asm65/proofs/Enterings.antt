@@ -8,9 +8,9 @@ use Rattle.syntax65.specs.declared.source_location.SourceLocation.{SourceLocatio
 use Rattle.object65.specs.Form.{Form, lit}
 use Rattle.object65.specs.Objects.{fits_width, value_bytes}
 use Rattle.object65.proofs.Goods.{left, right}
-use Rattle.object65.specs.declared.object.Action.{Action}
-use Rattle.object65.specs.declared.object.Action.TheVariants as action
-use Rattle.object65.specs.declared.object.Width.{Width}
+use Rattle.base65.specs.declared.action.Action.{Action}
+use Rattle.base65.specs.declared.action.Action.TheVariants as action
+use Rattle.base65.specs.declared.width.Width.{Width}
 use Rattle.ast65.specs.Items.{literal_item}
 use Rattle.ast65.specs.declared.language.Item.{Item}
 use Rattle.symbols65.specs.Evaluations.{HasFinal, HaveFinals, item_tree}

@@ -7,7 +7,7 @@ use Rattle.std.specs.Str.{bytes_eq}
 use Rattle.base65.specs.Outcome.{Refines}
 use Rattle.syntax65.specs.declared.source_location.SourceLocation.{SourceLocation}
 use Rattle.object65.specs.Form.{Form}
-use Rattle.object65.specs.declared.object.Action.{Action}
+use Rattle.base65.specs.declared.action.Action.{Action}
 use Rattle.ast65.specs.declared.fault.AsmFault.{AsmFault}
 use Rattle.semantics65.specs.Contents.{exported_names}
 use Rattle.semantics65.specs.declared.laid.Context.{Context}

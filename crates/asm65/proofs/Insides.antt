@@ -11,10 +11,10 @@ use Rattle.object65.specs.Folding.{fold1, fold2}
 use Rattle.object65.specs.Objects.{fits_width, is_file_name, section_limit, value_bytes}
 use Rattle.object65.specs.declared.folding.FormFault.{FormFault}
 use Rattle.object65.specs.declared.folding.FormFault.TheVariants as form
-use Rattle.object65.specs.declared.object.Action.{Action}
-use Rattle.object65.specs.declared.object.Action.TheVariants as action
-use Rattle.object65.specs.declared.object.Width.{Width}
-use Rattle.object65.specs.declared.object.Width.TheVariants as width
+use Rattle.base65.specs.declared.action.Action.{Action}
+use Rattle.base65.specs.declared.action.Action.TheVariants as action
+use Rattle.base65.specs.declared.width.Width.{Width}
+use Rattle.base65.specs.declared.width.Width.TheVariants as width
 use Rattle.semantics65.specs.Contents.{Part, Known, Waiting, Declaration, Exported, Asserted, decided_assertion, export_said, import_fault, operand_form, value_part, located_declarations}
 use Rattle.semantics65.specs.declared.contents.Segment.{Segment}
 use Rattle.ast65.specs.declared.fault.AsmFault.{AsmFault}

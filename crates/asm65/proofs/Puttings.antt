@@ -4,7 +4,7 @@ use Rattle.std.specs.Prelude.{â„¤, Bool, true, Some, None, Result, Ok, Err, ifâ—
 use Rattle.semantics65.specs.Norms.{literal_in}
 use Rattle.object65.specs.Form.{Form, lit, sec, imp, prefix, binary}
 use Rattle.object65.specs.Objects.{fits_width, is_file_name, value_bytes}
-use Rattle.object65.specs.declared.object.Width.{Width}
+use Rattle.base65.specs.declared.width.Width.{Width}
 use Rattle.syntax65.specs.declared.source_location.SourceLocation.{SourceLocation}
 use Rattle.semantics65.specs.Contents.{Part, Known, Filled, Waiting, section_part, room_part, value_part, located_declarations}
 use Rattle.ast65.specs.declared.fault.AsmFault.{AsmFault}

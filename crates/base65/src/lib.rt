@@ -2,6 +2,7 @@
 //! small types that contracts see as lists.
 #![tactic(auto)]
 
+mod action;
 mod list_vec;
 mod mem_store;
 mod numbers;
@@ -11,7 +12,9 @@ mod reading;
 mod seed;
 mod store;
 mod values;
+mod width;
 
+pub use action::Action;
 pub use list_vec::ListVec;
 pub use mem_store::MemStore;
 pub use numbers::digits;
@@ -21,3 +24,4 @@ pub use reading::read_front;
 pub use seed::Seed;
 pub use store::{Store, StoreFault, read_full};
 pub use values::{Op1, Op2, apply1, apply2};
+pub use width::Width;

@@ -8,8 +8,8 @@ use Rattle.std.proofs.lemmas.List.FromFn.{get_or-map-range_with_len, length-map-
 use Rattle.base65.proofs.SystemErrors.{Has, Own, bad, choice, first_own, good, next}
 use Rattle.base65.specs.Outcome.{◌>>=◌}
 use Rattle.base65.specs.declared.output.OutputFile.{OutputFile}
-use Rattle.object65.specs.declared.object.Action.{Action}
-use Rattle.object65.specs.declared.object.Action.TheVariants as action
+use Rattle.base65.specs.declared.action.Action.{Action}
+use Rattle.base65.specs.declared.action.Action.TheVariants as action
 use Rattle.object65.specs.Objects.{fits_width}
 use Rattle.script65.specs.Faults.{is_place_system_error}
 use Rattle.script65.specs.Placing.{place_of}

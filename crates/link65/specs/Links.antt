@@ -4,8 +4,8 @@ use Rattle.std.specs.List.{flat_map}
 use Rattle.std.specs.Option.{option_map_or}
 use Rattle.std.specs.Ordering.{int_eq}
 use Rattle.base65.specs.Outcome.{◌>>=◌, AndThen}
-use Rattle.object65.specs.declared.object.Action.{Action}
-use Rattle.object65.specs.declared.object.Action.TheVariants as action
+use Rattle.base65.specs.declared.action.Action.{Action}
+use Rattle.base65.specs.declared.action.Action.TheVariants as action
 use Rattle.object65.specs.declared.object.Origin.{Origin}
 use Rattle.object65.specs.Objects.{fits_width}
 use Rattle.script65.specs.declared.script.SegmentRow.{SegmentRow}

@@ -20,7 +20,7 @@ use Rattle.link65.specs.declared.parts.SectionPlace.{SectionPlace}
 use Rattle.link65.specs.Names.{provider_of, script_definitions, weak_symbols}
 use Rattle.link65.specs.Programs.{position_in, Program, Segment, Cell, known, filled, waits, segment_of}
 use Rattle.std.specs.List.{flat_map}
-use Rattle.object65.specs.declared.object.Width.{Width}
+use Rattle.base65.specs.declared.width.Width.{Width}
 use Rattle.object65.specs.Objects.{fits_width, value_bytes}
 use Rattle.link65.specs.Files.{RowBytes}
 use Rattle.script65.specs.Placing.{is_written}

@@ -9,7 +9,7 @@ use Rattle.std.specs.List.{flat_map, list_all, sum_by, AllByRecursion, prefix_le
 use Rattle.object65.specs.declared.object.Fragment.{Fragment}
 use Rattle.object65.specs.declared.object.Fragment.TheVariants.{Literal, Fill, Value}
 use Rattle.object65.specs.declared.object.Origin.{Origin}
-use Rattle.object65.specs.declared.object.Width.{Width}
+use Rattle.base65.specs.declared.width.Width.{Width}
 use Rattle.object65.specs.Form.{Form}
 use Rattle.object65.specs.Objects.{fragment_len, has_good_origin, is_well_formed_fragment, joins, are_apart, FragmentFits}
 use Rattle.object65.specs.Spelling.{fragment_entries, literal_entries, pieces, literal_entry, body_limit, entry_bytes}

@@ -14,7 +14,7 @@ use Rattle.object65.specs.declared.record.Item.TheVariants as item
 use Rattle.object65.specs.declared.object.Fragment.{Fragment}
 use Rattle.object65.specs.declared.object.Fragment.TheVariants.{Literal, Fill, Value}
 use Rattle.object65.specs.declared.object.Origin.{Origin}
-use Rattle.object65.specs.declared.object.Width.{Width}
+use Rattle.base65.specs.declared.width.Width.{Width}
 use Rattle.object65.specs.declared.scan.Last.{Last}
 use Rattle.object65.specs.declared.scan.Last.TheVariants as last
 use Rattle.object65.specs.declared.scan.SectionFill.{SectionFill}

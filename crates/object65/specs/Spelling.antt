@@ -9,13 +9,13 @@ use Rattle.object65.specs.declared.object.Object.{Object}
 use Rattle.object65.specs.declared.object.Section.{Section}
 use Rattle.object65.specs.declared.object.Export.{Export}
 use Rattle.object65.specs.declared.object.Assert.{Assert}
-use Rattle.object65.specs.declared.object.Action.{Action}
-use Rattle.object65.specs.declared.object.Action.TheVariants as action
+use Rattle.base65.specs.declared.action.Action.{Action}
+use Rattle.base65.specs.declared.action.Action.TheVariants as action
 use Rattle.object65.specs.declared.object.Origin.{Origin}
 use Rattle.object65.specs.declared.object.Fragment.{Fragment}
 use Rattle.object65.specs.declared.object.Fragment.TheVariants.{Literal, Fill, Value}
-use Rattle.object65.specs.declared.object.Width.{Width}
-use Rattle.object65.specs.declared.object.Width.TheVariants.{Byte, Word, BigEndianWord, Dword, Branch}
+use Rattle.base65.specs.declared.width.Width.{Width}
+use Rattle.base65.specs.declared.width.Width.TheVariants.{Byte, Word, BigEndianWord, Dword, Branch}
 use Rattle.object65.specs.Operators.{number2}
 use Rattle.object65.specs.Form.{Form, lit, sec, imp, prefix, binary}
 use Rattle.object65.specs.Objects.{section_len, is_well_formed_object, ObjectFits}

@@ -19,12 +19,13 @@ mod storing;
 mod taking;
 mod writing;
 
+pub use base65::{Action, Width};
 pub use builder::Builder;
 pub use decoding::{decode_head, decode_record};
 pub use fault::ObjectFault;
 pub use folding::FormFault;
 pub use form::{Node, Norm, Operands};
-pub use object::{Action, Assert, Export, Fragment, Object, Origin, Section, Width};
+pub use object::{Assert, Export, Fragment, Object, Origin, Section};
 pub use reading::{check_end, read_head, read_object};
 pub use record::{Item, Record};
 pub use record_reader::{RecordReader, read_record};

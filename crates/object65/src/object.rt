@@ -1,7 +1,7 @@
 //! An object as a value.
 
 use crate::Norm;
-use base65::ListVec;
+use base65::{Action, ListVec, Width};
 
 /// A module in parts.
 #[derive(Drop)]
@@ -51,21 +51,6 @@ pub struct Origin {
     pub line: u32,
 }
 
-/// How a value is stored.
-#[derive(Clone, Copy)]
-pub enum Width {
-    /// One byte, 0 to 255.
-    Byte = 0,
-    /// Two bytes, the low one first.
-    Word = 1,
-    /// Two bytes, the high one first.
-    BigEndianWord = 2,
-    /// Four bytes, the low one first.
-    Dword = 3,
-    /// One byte in two's complement, -128 to 127.
-    Branch = 4,
-}
-
 /// A name that a module defines for others, and where that is said.
 #[derive(Drop)]
 pub struct Export {
@@ -82,11 +67,4 @@ pub struct Assert {
     /// The text that is printed if the form is 0.
     pub text: ListVec<u8>,
     pub form: Norm,
-}
-
-/// The consequence of an assertion that fails.
-#[derive(Clone, Copy)]
-pub enum Action {
-    Warning = 0,
-    Error = 1,
 }

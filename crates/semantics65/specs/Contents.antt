@@ -6,7 +6,7 @@ use Rattle.base65.specs.Outcome.{◌>>=◌}
 use Rattle.syntax65.specs.Trees.{Tree}
 use Rattle.object65.specs.Folding.{fold2}
 use Rattle.object65.specs.Objects.{fits_width, is_file_name, value_bytes}
-use Rattle.object65.specs.declared.object.Action.TheVariants as action
+use Rattle.base65.specs.declared.action.Action.TheVariants as action
 use Rattle.base65.specs.declared.values.Op2.TheVariants.{Subtract}
 use Rattle.semantics65.specs.Symbols.{Symbols, named, definition_index}
 use Rattle.semantics65.specs.Norms.{defined_form, fold_result}

@@ -5,7 +5,7 @@ use Rattle.std.specs.Str.{bytes_eq}
 use Rattle.base65.specs.Outcome.{◌>>=◌}
 use Rattle.object65.specs.Form.{Form, lit}
 use Rattle.semantics65.specs.Types.{Action, Object, AsmFault, SourceLocation, Statement, Mnemonic, Width, NotDefined, Item, Operand, Constant, Instruction, Values, Reserve, Align, Incbin, Import, Export, Global, ForceImport, Assert, Value, StringLiteral, EncodingChoice, InMode, Context}
-use Rattle.object65.specs.declared.object.Action.TheVariants as action
+use Rattle.base65.specs.declared.action.Action.TheVariants as action
 use Rattle.semantics65.specs.Contents.{Content, Part, Known, Declaration, ForcedImport, section_request, section_part, declaration_content, decided_assertion, export_said, exported_names, file_bytes, import_fault, opcode_part, operand_form, operand_tree, room_part, value_part}
 use Rattle.semantics65.specs.Symbols.{LaidOutStatement, Symbols, needs_section, symbols_of, definition_index, named}
 use Rattle.ast65.specs.declared.language.Statement.TheVariants as statement

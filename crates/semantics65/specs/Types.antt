@@ -2,10 +2,10 @@
 pub use Rattle.syntax65.specs.declared.instructions.names.Mnemonic.{Mnemonic}
 pub use Rattle.syntax65.specs.declared.lexing.tokens.AddressSize.{AddressSize}
 pub use Rattle.syntax65.specs.declared.source_location.SourceLocation.{SourceLocation}
-pub use Rattle.object65.specs.declared.object.Action.{Action}
+pub use Rattle.base65.specs.declared.action.Action.{Action}
 pub use Rattle.object65.specs.declared.object.Object.{Object}
-pub use Rattle.object65.specs.declared.object.Width.{Width}
-pub use Rattle.object65.specs.declared.object.Width.TheVariants.{Branch, Byte, Word}
+pub use Rattle.base65.specs.declared.width.Width.{Width}
+pub use Rattle.base65.specs.declared.width.Width.TheVariants.{Branch, Byte, Word}
 pub use Rattle.ast65.specs.declared.fault.AsmFault.{AsmFault}
 pub use Rattle.ast65.specs.declared.fault.AsmFault.TheVariants.{OutOfRange, ImportedAndDefined, NotDefined, Assertion, FileNameTooLong, NotUnderstood, NoSuchForm, DefinedTwice, SectionTooLarge, NoSuchScope, ScopeTwice, BadAlignment, PopWithoutPush, BadOperand, BadPart, SizeChanged, BadScope, FileNotFound, OutOfMemory, Circular, NoValue, TooLarge, NoSuchLabel, Expansion, Undefined}
 pub use Rattle.ast65.specs.declared.language.Item.{Item}

@@ -8,10 +8,10 @@ use Rattle.base65.specs.declared.values.Op2.TheVariants.{Subtract}
 use Rattle.base65.proofs.SystemErrors.{Own, bad, choice, good, next}
 use Rattle.object65.specs.Form.{Form, lit, sec}
 use Rattle.object65.specs.Objects.{fits_width, is_file_name}
-use Rattle.object65.specs.declared.object.Action.{Action}
-use Rattle.object65.specs.declared.object.Action.TheVariants as action
-use Rattle.object65.specs.declared.object.Width.{Width}
-use Rattle.object65.specs.declared.object.Width.TheVariants.{Branch}
+use Rattle.base65.specs.declared.action.Action.{Action}
+use Rattle.base65.specs.declared.action.Action.TheVariants as action
+use Rattle.base65.specs.declared.width.Width.{Width}
+use Rattle.base65.specs.declared.width.Width.TheVariants.{Branch}
 use Rattle.object65.proofs.SomeObject.{some_fold}
 use Rattle.ast65.specs.Faults.{is_system_error}
 use Rattle.semantics65.specs.Contents.{decided_assertion, Declaration, export_said, import_fault, operand_form, value_part, located_declarations, exported_names}

@@ -10,7 +10,7 @@ use Rattle.base65.specs.Outcome.{◌>>=◌}
 use Rattle.syntax65.specs.declared.source_location.SourceLocation.{SourceLocation}
 use Rattle.object65.specs.Form.{Form}
 use Rattle.object65.specs.Objects.{are_names, is_file_name, is_name}
-use Rattle.object65.specs.declared.object.Action.{Action}
+use Rattle.base65.specs.declared.action.Action.{Action}
 use Rattle.object65.proofs.Reached.{names_push}
 use Rattle.semantics65.specs.Contents.{Content, Exported, Part, section_request, decided_assertion, export_said, exported_names, import_fault, operand_form, value_part, declaration_content, located_declarations}
 use Rattle.semantics65.specs.Symbols.{LaidOutStatement, needs_section, definition_index, Symbols, import_index, imports_of, named, symbols_of, with_new}

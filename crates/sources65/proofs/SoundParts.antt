@@ -16,7 +16,7 @@ use Rattle.syntax65.specs.declared.instructions.names.Mnemonic.{Mnemonic}
 use Rattle.syntax65.specs.declared.lexing.tokens.AddressSize.{AddressSize}
 use Rattle.object65.specs.Form.{Form, lit, sec, imp, prefix, binary}
 use Rattle.object65.specs.Objects.{is_file_name, value_bytes, width_len}
-use Rattle.object65.specs.declared.object.Width.{Width}
+use Rattle.base65.specs.declared.width.Width.{Width}
 use Rattle.semantics65.specs.Contents.{Content, Declaration, ForcedImport, Part, Waiting, section_request, decided_assertion, export_said, file_bytes, import_fault, opcode_part, operand_form, operand_tree, section_part, room_part, value_part, declaration_content, located_declarations, exported_names}
 use Rattle.syntax65.specs.declared.source_location.SourceLocation.{SourceLocation}
 use Rattle.semantics65.specs.Symbols.{LaidOutStatement, needs_section, definition_index, has_here, named, Symbols}

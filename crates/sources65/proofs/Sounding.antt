@@ -18,7 +18,7 @@ use Rattle.syntax65.specs.declared.instructions.names.Mnemonic.{Mnemonic}
 use Rattle.syntax65.specs.Mnemonics.{mnemonic_of}
 use Rattle.syntax65.specs.declared.lexing.tokens.AddressSize.{AddressSize}
 use Rattle.syntax65.specs.declared.lexing.tokens.TokenKind.TheVariants as token
-use Rattle.object65.specs.declared.object.Action.{Action}
+use Rattle.base65.specs.declared.action.Action.{Action}
 use Rattle.ast65.specs.declared.fault.AsmFault.{AsmFault}
 use Rattle.ast65.specs.declared.reading.words.Directive.{Directive}
 use Rattle.ast65.specs.declared.reading.words.Directive.TheVariants as directive

@@ -23,7 +23,7 @@ use Rattle.ast65.specs.declared.language.Operand.{Operand}
 use Rattle.ast65.specs.declared.language.Operand.TheVariants as operands
 use Rattle.ast65.specs.declared.language.Statement.{Statement}
 use Rattle.ast65.specs.declared.language.Statement.TheVariants as statement
-use Rattle.object65.specs.declared.object.Width.{Width}
+use Rattle.base65.specs.declared.width.Width.{Width}
 use Rattle.semantics65.specs.Contents.{operand_tree}
 use Rattle.symbols65.specs.Evaluations.{AreEvaluations, EvaluatesTree, HasFinal, HaveFinals, IsEvaluated, IsEvaluation, first_tree, item_tree, items_in, second_tree}
 use Rattle.symbols65.specs.Resolving.{IsFinalWithin, IsReference, binary_form, plain, plain_in, prefix_form}

@@ -5,7 +5,7 @@ use Rattle.std.specs.Prelude.{IfOk, OnOk, is_some, Result, Ok, Err, ◌&&◌, su
 use Rattle.base65.specs.Outcome.{Unless, ◌>>=◌, Refines}
 use Rattle.std.proofs.lemmas.List.{drop_all}
 use Rattle.std.proofs.lemmas.List.Sums.{sum_by-cons}
-use Rattle.object65.specs.declared.object.Width.{Width}
+use Rattle.base65.specs.declared.width.Width.{Width}
 use Rattle.semantics65.specs.Norms.{byte_count, fill_settled, gap, item_len, optional_value, constant_in}
 use Rattle.syntax65.specs.Trees.{Tree}
 use Rattle.ast65.specs.declared.fault.AsmFault.{AsmFault}

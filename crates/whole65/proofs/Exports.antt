@@ -6,7 +6,7 @@ use Rattle.std.proofs.lemmas.List.{append-nil, append_assoc, map-append}
 use Rattle.std.proofs.lemmas.List.Elements.{filter-append}
 use Rattle.std.proofs.lemmas.Grind.{common_steps, flat_map-append}
 use Rattle.object65.specs.Form.{Form}
-use Rattle.object65.specs.declared.object.Action.{Action}
+use Rattle.base65.specs.declared.action.Action.{Action}
 use Rattle.object65.specs.declared.object.Export.{Export}
 use Rattle.object65.specs.declared.object.Object.{Object}
 use Rattle.syntax65.specs.declared.source_location.SourceLocation.{SourceLocation}

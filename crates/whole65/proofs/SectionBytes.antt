@@ -10,8 +10,8 @@ use Rattle.object65.proofs.Foldings.{binary_fold_law}
 use Rattle.object65.specs.Folding.{fold2}
 use Rattle.object65.specs.Form.{Form, lit, sec, imp, prefix, binary}
 use Rattle.object65.specs.Objects.{fits_width, value_bytes}
-use Rattle.object65.specs.declared.object.Width.{Width}
-use Rattle.object65.specs.declared.object.Width.TheVariants.{Byte, Word, BigEndianWord, Dword, Branch}
+use Rattle.base65.specs.declared.width.Width.{Width}
+use Rattle.base65.specs.declared.width.Width.TheVariants.{Byte, Word, BigEndianWord, Dword, Branch}
 use Rattle.syntax65.specs.declared.source_location.SourceLocation.{SourceLocation}
 use Rattle.semantics65.specs.Contents.{Part, Known, Waiting, Content, operand_form, value_part, located_declarations, opcode_part, room_part, exported_names}
 use Rattle.ast65.specs.declared.fault.AsmFault.{AsmFault}

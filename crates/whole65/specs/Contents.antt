@@ -5,8 +5,8 @@ use Rattle.syntax65.specs.Trees.{Tree}
 use Rattle.base65.specs.Values.{wrap_signed}
 use Rattle.syntax65.specs.declared.instructions.names.Mnemonic.{Mnemonic}
 use Rattle.object65.specs.Objects.{fits_width, value_bytes}
-use Rattle.object65.specs.declared.object.Width.{Width}
-use Rattle.object65.specs.declared.object.Width.TheVariants.{Branch}
+use Rattle.base65.specs.declared.width.Width.{Width}
+use Rattle.base65.specs.declared.width.Width.TheVariants.{Branch}
 use Rattle.semantics65.specs.Contents.{file_bytes, operand_tree}
 use Rattle.semantics65.specs.declared.laid.EncodingChoice.{EncodingChoice}
 use Rattle.semantics65.specs.declared.laid.EncodingChoice.TheVariants.{InMode, FillByte}

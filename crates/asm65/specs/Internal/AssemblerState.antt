@@ -19,7 +19,7 @@ use Rattle.sources65.specs.Reading.{is_definition}
 use Rattle.base65.specs.Outcome.{◌>>=◌, Unless}
 use Rattle.object65.specs.Form.{Form}
 use Rattle.object65.specs.Objects.{fits_width, value_bytes}
-use Rattle.object65.specs.declared.object.Width.{Width}
+use Rattle.base65.specs.declared.width.Width.{Width}
 use Rattle.ast65.specs.declared.fault.AsmFault.{AsmFault}
 use Rattle.emit65.specs.declared.fixups.FixupKind.{FixupKind}
 use Rattle.emit65.specs.declared.fixups.FixupKind.TheVariants.{Datum, Operand, Constant, Assertion}

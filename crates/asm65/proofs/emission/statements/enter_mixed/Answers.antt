@@ -2,7 +2,7 @@ use Rattle.std.proofs.Common.{arith, ◌≡◌, List, ℕ, ◌∷◌, [], map, s
 use Rattle.std.proofs.lemmas.Grind.{common_steps}
 use Rattle.std.specs.Vec.Iter.{into_iter_items}
 use Rattle.syntax65.specs.declared.source_location.SourceLocation.{SourceLocation}
-use Rattle.object65.specs.declared.object.Width.{Width}
+use Rattle.base65.specs.declared.width.Width.{Width}
 use Rattle.semantics65.specs.Contents.{section_part, Known}
 use Rattle.ast65.specs.declared.language.Item.{Item}
 use Rattle.semantics65.specs.declared.laid.Context.{Context}

@@ -1,6 +1,6 @@
 use Rattle.std.proofs.Common.{rules, ◌≡◌, ◌∙◌, ℕ, suc, ◌+◌, ◌<◌, Bool, true, false, Bor, List, [], Option, Some, if◌then◌else◌, length, get_or, map, drop, drop-cons, ap, sym, add-one, arith}
 use Rattle.std.specs.Str.{str_eq_ignore_ascii_case}
-use Rattle.object65.specs.declared.object.Width.TheVariants.{Byte}
+use Rattle.base65.specs.declared.width.Width.TheVariants.{Byte}
 use Rattle.ast65.specs.declared.reading.words.Directive.{Directive}
 use Rattle.ast65.specs.declared.reading.words.Directive.TheVariants.{List as ListOf}
 use Rattle.ast65.specs.declared.reading.words.ElementKind.TheVariants.{Values}

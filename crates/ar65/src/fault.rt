@@ -7,8 +7,8 @@ ghost use Rattle.library65.specs.declared.fault.LibraryFault.TheVariants.{OutOfM
 ghost use Rattle.ar65.specs.declared.fault.ArchiveFault.TheVariants.{Library};
 ghost use Rattle.ar65.specs.Faults.{is_memory, error_message};
 
-use base65::ListVec;
-use cli65::{ArchiveArgs, file_message, join};
+use base65::{ListVec, join};
+use cli65::{ArchiveArgs, file_message};
 use library65::LibraryFault;
 use std::alloc::{AllocError, Global};
 

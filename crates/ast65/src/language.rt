@@ -3,8 +3,7 @@
 ghost use Rattle.std.specs.Prelude.{◌≡◌, None, Some, IfOk, option_map};
 ghost use Rattle.ast65.specs.Items.{items_of};
 
-use base65::ListVec;
-use object65::{Action, Width};
+use base65::{Action, ListVec, Width};
 use std::alloc::{AllocError, Global};
 use std::marker::Model;
 use syntax65::{AddressSize, Expr, Identifier, Mnemonic};

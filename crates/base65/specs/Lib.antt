@@ -7,4 +7,5 @@ pub mod Reading
 pub mod Relations
 pub mod Store
 pub mod StoreFaults
+pub mod Texts
 pub mod Values

@@ -1,8 +1,9 @@
-//! Types and functions that all crates share: the file store, the operators on values, digits, and
-//! small types that contracts see as lists.
+//! Types and functions that all crates share: the file store, the operators on values, widths,
+//! actions, digits, texts, and small types that contracts see as lists.
 #![tactic(auto)]
 
 mod action;
+mod joining;
 mod list_vec;
 mod mem_store;
 mod numbers;
@@ -15,6 +16,7 @@ mod values;
 mod width;
 
 pub use action::Action;
+pub use joining::{add_all, join};
 pub use list_vec::ListVec;
 pub use mem_store::MemStore;
 pub use numbers::digits;

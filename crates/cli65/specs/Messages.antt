@@ -1,12 +1,8 @@
 -- The texts that are printed.
 use Rattle.std.specs.Prelude.{ℕ, List, [], ◌∷◌, codes, decimal}
-use Rattle.std.specs.List.{flat_map}
+pub use Rattle.base65.specs.Texts.{concat_texts}
 use Rattle.cli65.specs.declared.fault.LineFault.{LineFault}
 use Rattle.cli65.specs.declared.fault.LineFault.TheVariants as line
-
--- the concatenation of texts
-abbrev pub concat_texts : List (List ℕ) → List ℕ
-concat_texts parts = flat_map (λ p. p) parts
 
 -- `name: Error: words`
 abbrev pub file_message : List ℕ → List ℕ → List ℕ

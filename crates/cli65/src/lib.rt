@@ -13,5 +13,5 @@ mod reading;
 
 pub use fault::LineFault;
 pub use line::{ArchiveArgs, AssembleArgs, Define, Line, LinkArgs, Operation};
-pub use messages::{fault_message, file_message, join, line_message};
+pub use messages::{fault_message, file_message, line_message};
 pub use reading::read_line;

@@ -1,23 +1,12 @@
 //! The texts that are printed.
 
-ghost use Rattle.std.specs.Prelude.{◌≡◌, ◌<◌, IfOk, map, Some};
-ghost use Rattle.cli65.specs.Messages.{concat_texts, file_message, line_message, line_message_of};
+ghost use Rattle.std.specs.Prelude.{◌≡◌, ◌<◌, IfOk, Some};
+ghost use Rattle.cli65.specs.Messages.{file_message, line_message, line_message_of};
 
 use crate::fault::LineFault;
-use base65::ListVec;
+use base65::{ListVec, join};
 use itoa::Buffer;
 use std::alloc::{AllocError, Global};
-
-/// Concatenates texts.
-pub fn join(alloc: Global, parts: &[&[u8]]) -> Result<ListVec<u8>, AllocError>
-    ensures { IfOk result (λ text. text ≡ concat_texts (map (λ p. p.now) parts.now)) }
-{
-    let mut text = ListVec::new(alloc);
-    for part in parts {
-        text.extend_from_slice(part)?;
-    }
-    Ok(text)
-}
 
 /// `name: Error: words`
 pub fn file_message(alloc: Global, name: &[u8], words: &[u8]) -> Result<ListVec<u8>, AllocError>

@@ -7,8 +7,8 @@ ghost use Rattle.cli65.specs.Messages.{file_message};
 ghost use Rattle.ld65.specs.declared.fault.LinkCommandFault.TheVariants.{OutOfMemory, ScriptFile, Script, Link};
 ghost use Rattle.ld65.specs.Faults.{cause_message, is_memory, link_message, input_name_at, refusal_at, refusal_in, error_message};
 
-use base65::{ListVec, StoreFault};
-use cli65::{LinkArgs, file_message, join, line_message};
+use base65::{ListVec, StoreFault, join};
+use cli65::{LinkArgs, file_message, line_message};
 use library65::LibraryFault;
 use link65::{LinkFault, fault_text, location_name};
 use object65::ObjectFault;

@@ -13,8 +13,7 @@ ghost use Rattle.ld65.specs.Naming.{IsOfIndex, IsOfLibrary, IsOfMember, NamesFai
 
 use crate::fault::LinkCommandFault;
 use crate::linking::{ObjectInput, feed_object};
-use base65::{ListVec, Store};
-use cli65::join;
+use base65::{ListVec, Store, join};
 use library65::{Entry, Index, read_index, select};
 use link65::Linker;
 use object65::RecordReader;

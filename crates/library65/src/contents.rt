@@ -101,11 +101,28 @@ fn add_item(contents: &mut Contents, item: Item) -> Result<(), ObjectFault>
 {
     match item {
         Item::Import(name) => contents.imports.push(name)?,
-        Item::Export(name, _origin, _form) => contents.exports.push(name)?,
+        Item::Export {
+            name,
+            origin: _,
+            form: _,
+        } => contents.exports.push(name)?,
         Item::File(_name) => {}
-        Item::Section(_name, _size, _align) => {}
-        Item::Part(_place, _offset, _fragment) => {}
-        Item::Assert(_action, _origin, _text, _form) => {}
+        Item::Section {
+            name: _,
+            size: _,
+            align: _,
+        } => {}
+        Item::Part {
+            section: _,
+            offset: _,
+            fragment: _,
+        } => {}
+        Item::Assert {
+            action: _,
+            origin: _,
+            text: _,
+            form: _,
+        } => {}
         Item::End => {}
     }
     Ok(())

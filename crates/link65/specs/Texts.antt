@@ -1,6 +1,7 @@
 -- The texts beside error messages: warnings, and the map.
 use Rattle.std.specs.Prelude.{ℕ, ◌%◌, ◌==◌, ◌&&◌, Bool, true, false, not, if◌then◌else◌, List, [], ◌∷◌, ◌++◌, Option, Some, None, codes, decimal, zero, suc, ◌/◌, ◌^◌, ◌||◌, is_some, nat_lt, get_or}
 use Rattle.std.specs.List.{flat_map, list_any}
+pub use Rattle.base65.specs.Texts.{concat_texts}
 use Rattle.script65.specs.Placing.{is_written}
 use Rattle.script65.specs.declared.script.SegmentRow.{SegmentRow}
 use Rattle.link65.specs.declared.fault.ModuleLocation.{ModuleLocation}
@@ -17,10 +18,6 @@ use Rattle.link65.specs.Values.{or_zero, Exports, Linkage, value_by}
 use Rattle.link65.specs.Names.{defined_at, exported_at, script_definitions, weak_symbols}
 
 -- ---- What the linker warns of.
-
--- the concatenation of texts
-abbrev pub concat_texts : List (List ℕ) → List ℕ
-concat_texts parts = flat_map (λ p. p) parts
 
 -- `ld65: Warning: segment name words`
 abbrev pub segment_warning : List ℕ → List ℕ → List ℕ

@@ -208,15 +208,28 @@ pub fn take_item(growing: &mut ProgramBuilder, item: Item) -> Result<(), AllocEr
     match item {
         Item::File(name) => growing.files.push(name)?,
         Item::Import(name) => growing.imports.push(name)?,
-        Item::Section(name, _, align) => begin_section(growing, name, align)?,
-        Item::Part(k, _, fragment) => add_part(growing, k, fragment)?,
-        Item::Export(name, origin, form) => growing.exports.push(Exported {
+        Item::Section {
+            name,
+            size: _,
+            align,
+        } => begin_section(growing, name, align)?,
+        Item::Part {
+            section,
+            offset: _,
+            fragment,
+        } => add_part(growing, section, fragment)?,
+        Item::Export { name, origin, form } => growing.exports.push(Exported {
             owner,
             name,
             origin,
             form,
         })?,
-        Item::Assert(action, origin, text, form) => growing.asserts.push(Asserted {
+        Item::Assert {
+            action,
+            origin,
+            text,
+            form,
+        } => growing.asserts.push(Asserted {
             owner,
             action,
             origin,

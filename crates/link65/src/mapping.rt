@@ -8,9 +8,8 @@ ghost use Rattle.link65.specs.Texts.{address_text, definition_line, hex_digit, h
 
 use crate::parts::{Exported, LinkedModule, ScriptSymbol, SectionPlace};
 use crate::resolving::DefinedSymbols;
-use crate::texts::{add_all, join};
 use arrayvec::ArrayVec;
-use base65::ListVec;
+use base65::{ListVec, add_all, join};
 use script65::{Placement, RowPlacement, Script, SegmentRow};
 use std::alloc::{AllocError, Global};
 

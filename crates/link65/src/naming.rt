@@ -7,8 +7,7 @@ ghost use Rattle.link65.specs.Names.{areas_definitions, attribute_symbol, rows_d
 ghost use Rattle.std.specs.List.{flat_map};
 
 use crate::parts::ScriptSymbol;
-use crate::texts::join;
-use base65::ListVec;
+use base65::{ListVec, join};
 use script65::{
     AreaPlacement, MemoryArea, Placement, RowPlacement, Script, SegmentRow, Symbol, SymbolKind,
 };

@@ -1,7 +1,7 @@
 //! The messages of the linker: texts of errors, and warnings of rows.
 
-ghost use Rattle.std.specs.Prelude.{◌≡◌, ◌++◌, IfOk, OnOk, map};
-ghost use Rattle.link65.specs.Texts.{concat_texts, location_name, absence_warning, align_words, alignment_warning, data_warning, is_data, row_warnings, segment_warning, warnings_of_rows};
+ghost use Rattle.std.specs.Prelude.{◌≡◌, IfOk};
+ghost use Rattle.link65.specs.Texts.{location_name, absence_warning, align_words, alignment_warning, data_warning, is_data, row_warnings, segment_warning, warnings_of_rows};
 ghost use Rattle.link65.specs.Faults.{fault_text, comma_separated};
 ghost use Rattle.std.specs.List.{list_any};
 ghost use Rattle.link65.specs.CodeInvariants.{piece_cells, segment_from};
@@ -11,29 +11,10 @@ ghost use Rattle.link65.specs.Programs.{segment_of};
 use crate::fault::{LinkFault, ModuleLocation};
 use crate::parts::{SegmentContent, SegmentPiece};
 use crate::values::{PlacedProgram, content_of};
-use base65::ListVec;
+use base65::{ListVec, join};
 use itoa::Buffer;
 use script65::SegmentRow;
 use std::alloc::{AllocError, Global};
-
-/// Appends texts in order.
-pub fn add_all(text: &mut ListVec<u8>, parts: &[&[u8]]) -> Result<(), AllocError>
-    ensures { OnOk result (text.new ≡ text.old ++ concat_texts (map (λ p. p.now) parts.now)) }
-{
-    for part in parts {
-        text.extend_from_slice(part)?;
-    }
-    Ok(())
-}
-
-/// Concatenates texts.
-pub fn join(alloc: Global, parts: &[&[u8]]) -> Result<ListVec<u8>, AllocError>
-    ensures { IfOk result (λ text. text ≡ concat_texts (map (λ p. p.now) parts.now)) }
-{
-    let mut text = ListVec::new(alloc);
-    add_all(&mut text, parts)?;
-    Ok(text)
-}
 
 /// Names between commas and blanks.
 fn listed(alloc: Global, names: &[ListVec<u8>]) -> Result<ListVec<u8>, AllocError>

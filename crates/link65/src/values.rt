@@ -18,8 +18,8 @@ use crate::growing::{SegmentNames, place_of};
 use crate::parts::{
     Asserted, Exported, LinkedModule, Resolved, SegmentContent, ValueFault, ValueFixup,
 };
-use crate::texts::{join, location_name};
-use base65::ListVec;
+use crate::texts::location_name;
+use base65::{ListVec, join};
 use itoa::Buffer;
 use object65::{Action, Norm, Origin, fits};
 use std::alloc::{AllocError, Global};

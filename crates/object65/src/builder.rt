@@ -85,7 +85,7 @@ pub fn add_item(parts: &mut Parts, item: Item) -> Result<(), ObjectFault>
     match item {
         Item::File(name) => parts.files.push(name)?,
         Item::Import(name) => parts.imports.push(name)?,
-        Item::Section(name, size, align) => parts.drafts.push(Draft {
+        Item::Section { name, size, align } => parts.drafts.push(Draft {
             name,
             align,
             size,
@@ -93,9 +93,18 @@ pub fn add_item(parts: &mut Parts, item: Item) -> Result<(), ObjectFault>
             fragments: ListVec::new(parts.alloc),
             literal: ListVec::new(parts.alloc),
         })?,
-        Item::Part(at, _, fragment) => grow(parts.alloc, &mut parts.drafts[at], fragment)?,
-        Item::Export(name, origin, form) => parts.exports.push(Export { name, origin, form })?,
-        Item::Assert(action, origin, text, form) => parts.asserts.push(Assert {
+        Item::Part {
+            section,
+            offset: _,
+            fragment,
+        } => grow(parts.alloc, &mut parts.drafts[section], fragment)?,
+        Item::Export { name, origin, form } => parts.exports.push(Export { name, origin, form })?,
+        Item::Assert {
+            action,
+            origin,
+            text,
+            form,
+        } => parts.asserts.push(Assert {
             action,
             origin,
             text,

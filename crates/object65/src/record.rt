@@ -18,15 +18,37 @@ pub enum Item {
     File(ListVec<u8>),
     /// The name of an import.
     Import(ListVec<u8>),
-    /// A section's name, its size, and the power of two to a multiple of which it is placed.
-    Section(ListVec<u8>, u32, u8),
-    /// A section's index, an offset in it, and a fragment; of a literal only the bytes of this
-    /// record.
-    Part(usize, u32, Fragment),
-    /// A name that the module defines for others, where that is said, and its value.
-    Export(ListVec<u8>, Origin, Norm),
-    /// The action if the form is 0, the location, the text that is printed, and the form.
-    Assert(Action, Origin, ListVec<u8>, Norm),
+    /// A section without its fragments.
+    Section {
+        name: ListVec<u8>,
+        size: u32,
+        /// The power of two to a multiple of which the section is placed.
+        align: u8,
+    },
+    /// A fragment of a section; of a literal only the bytes of this record.
+    Part {
+        /// The section's index.
+        section: usize,
+        /// The fragment's offset in the section.
+        offset: u32,
+        fragment: Fragment,
+    },
+    /// A name that the module defines for others.
+    Export {
+        name: ListVec<u8>,
+        /// The location of the export.
+        origin: Origin,
+        form: Norm,
+    },
+    /// An assertion that the linker checks: its form must not be 0.
+    Assert {
+        action: Action,
+        /// The location of the assertion.
+        origin: Origin,
+        /// The text that is printed if the form is 0.
+        text: ListVec<u8>,
+        form: Norm,
+    },
     /// The object ends.
     End,
 }

@@ -124,7 +124,7 @@ pub fn take_export(kept: &mut ScanState, body: &[u8]) -> Result<Item, ObjectFaul
     check_name(&kept.exports, name.as_slice())?;
     check_form(&form)?;
     add_name(kept.alloc, &mut kept.exports, name.as_slice())?;
-    Ok(Item::Export(name, origin, form))
+    Ok(Item::Export { name, origin, form })
 }
 
 /// The action of a code.
@@ -174,7 +174,12 @@ pub fn take_assert(kept: &mut ScanState, body: &[u8]) -> Result<Item, ObjectFaul
     check_parts(kept, origin, &form)?;
     check_open_form(&form)?;
     kept.asserting = true;
-    Ok(Item::Assert(action, origin, text, form))
+    Ok(Item::Assert {
+        action,
+        origin,
+        text,
+        form,
+    })
 }
 
 /// Takes the records of an object as a `Builder` does, but keeps names and sizes alone: what a record says is

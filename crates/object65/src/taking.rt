@@ -174,7 +174,11 @@ fn take_part(kept: &mut ScanState, kind: u8, body: &[u8]) -> Result<Item, Object
     let (at, room) = next_room(kept)?;
     let (grown, fragment) = grow_room(kept, kind, room, body)?;
     put_room(kept, at, grown);
-    Ok(Item::Part(at, room.filled, fragment))
+    Ok(Item::Part {
+        section: at,
+        offset: room.filled,
+        fragment,
+    })
 }
 
 /// Returns whether all sections are full.
@@ -238,7 +242,7 @@ fn take_section(kept: &mut ScanState, body: &[u8]) -> Result<Item, ObjectFault>
     check_name(&kept.sections, name.as_slice())?;
     check(align <= LARGEST_ALIGNMENT, ObjectFault::NotCanonical)?;
     add_room(kept, name.as_slice(), size)?;
-    Ok(Item::Section(name, size, align))
+    Ok(Item::Section { name, size, align })
 }
 
 /// Takes an END.

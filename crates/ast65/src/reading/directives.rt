@@ -13,8 +13,7 @@ use super::tokens::{is_comma, name_of, ok_or_not_understood, string_of, word_of}
 use super::words::{BareDirective, ElementKind, Message, NameListDirective, SizedDirective};
 use crate::fault::AsmFault;
 use crate::language::{Item, Items, ItemsKind, OptionalExpr, Statement};
-use base65::ListVec;
-use object65::{Action, Width};
+use base65::{Action, ListVec, Width};
 use std::alloc::{AllocError, Global};
 use syntax65::Token;
 

@@ -3,7 +3,7 @@
 ghost use Rattle.std.specs.Prelude.{◌≡◌, map};
 ghost use Rattle.ast65.specs.Parsing.{among, directive_of};
 
-use object65::Width;
+use base65::Width;
 use syntax65::AddressSize;
 
 /// The kind of a list's elements.

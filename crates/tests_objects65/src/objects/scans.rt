@@ -42,14 +42,28 @@ fn is_start_of_first(node: &Node) -> bool {
 /// Returns whether the item is that of the record at this place among those of the jump.
 fn is_of_jump(place: usize, item: &Item) -> bool {
     match (place, item) {
-        (0, Item::Section(name, 3, 0)) => name.as_slice() == b"CODE".as_slice(),
-        (1, Item::Part(0, 0, Fragment::Literal(bytes))) => bytes.as_slice() == [0x4c].as_slice(),
+        (
+            0,
+            Item::Section {
+                name,
+                size: 3,
+                align: 0,
+            },
+        ) => name.as_slice() == b"CODE".as_slice(),
+        (
+            1,
+            Item::Part {
+                section: 0,
+                offset: 0,
+                fragment: Fragment::Literal(bytes),
+            },
+        ) => bytes.as_slice() == [0x4c].as_slice(),
         (
             2,
-            Item::Part(
-                0,
-                1,
-                Fragment::Value {
+            Item::Part {
+                section: 0,
+                offset: 1,
+                fragment: Fragment::Value {
                     width: Width::Word,
                     origin: Origin {
                         file: None,
@@ -57,9 +71,9 @@ fn is_of_jump(place: usize, item: &Item) -> bool {
                     },
                     form,
                 },
-            ),
+            },
         ) => is_start_of_first(form.node()),
-        (3, Item::Export(name, origin, form)) => {
+        (3, Item::Export { name, origin, form }) => {
             origin.line == 1
                 && name.as_slice() == b"start".as_slice()
                 && is_start_of_first(form.node())

@@ -20,10 +20,8 @@ PROGRAM = f"{kit.ROOT}/crates/bin65/out/bin65"
 SUM = f"{PROGRAM}.sum"
 # A proof is three or four processes of 1 to 2 GB.
 MEMORY = 5_000_000_000
-# The crates to which the two longest chains of proofs lead, the longest first; then only the commands and the program are left. For each
-# chain, and last for the other crates: how many processes prove a crate at once, and their niceness.
-CHAINS = ("asm65", "ld65")
-SHARES = ((2, 0), (2, 0), (2, 5))
+# A crate that isn't in the longest chain is proved at a lower priority: one step for so many bytes of code by which its chain is shorter.
+SLACK = 30_000
 
 
 def sum_of(files, begun=b""):
@@ -81,14 +79,15 @@ def prove(rt, crate, jobs, priority):
     return why
 
 
-def lengths(rt, crates):
-    """Returns how many bytes of code are proved from each crate's proof to the end of the longest chain of crates that depend on it."""
-    found = {}
+def chains(rt, crates):
+    """Returns for each crate, lowest first, how many bytes of code the longest chain has that leads to it, and the longest that begins with it."""
+    sizes = {it: sum(os.path.getsize(file) for file in rt.rtlib.files_of(it.folder) if file.endswith(".rt")) for it in crates}
+    before, after = {}, {}
+    for it in crates:
+        before[it] = max((before[that] + sizes[that] for that in it.below() if that in sizes), default=0)
     for it in reversed(crates):
-        code = [file for file in rt.rtlib.files_of(it.folder) if file.endswith(".rt")]
-        above = [found[that] for that in found if it in that.below()]
-        found[it] = sum(map(os.path.getsize, code)) + max(above, default=0)
-    return found
+        after[it] = sizes[it] + max((after[that] for that in after if it in that.below()), default=0)
+    return {it: (before[it], after[it]) for it in crates}
 
 
 def far(name):
@@ -102,17 +101,19 @@ class Proofs:
 
     def __init__(self, rt, crates, proved):
         self.rt, self.crates, self.proved, self.processors = rt, crates, proved, rt.processors()
+        self.through = {it: sum(lengths) for it, lengths in chains(rt, sorted(crates, key=lambda it: len(it.below()))).items()}
         self.left, self.running, self.took, self.why = [it for it in crates if it not in proved], {}, {}, {}
         self.begun, self.ended = time.time(), threading.Event()
 
     def start(self, crate):
-        """Starts a proof in a thread of its own. A crate of neither chain, the assembler's or the linker's, uses the processors that these leave."""
-        chains = [at for at, name in enumerate(CHAINS) if crate.name == name or any(it.name == name and crate in it.below() for it in self.crates)]
-        jobs, priority = SHARES[min(chains, default=len(CHAINS))]
+        """Starts a proof in a thread of its own, of two processes, or as many as there are processors if no other proof runs. A crate of the
+        longest chain goes before the others."""
+        jobs = min(self.processors, 2) if self.running else self.processors
+        priority = min(5, (max(self.through.values()) - self.through[crate]) // SLACK)
         begun, done = time.time(), Future()
 
         def run():
-            done.set_result(prove(self.rt, crate, min(jobs, self.processors), priority))
+            done.set_result(prove(self.rt, crate, jobs, priority))
 
         self.left.remove(crate)
         self.running[done] = crate, begun
@@ -179,9 +180,9 @@ def chosen(rt, names):
         kit.say(f"{unknown[0]} is no library of crates.txt")
         return None
     asked = [it for it in crates if it.name in names or not names and it.is_program]
-    length = lengths(rt, crates)
+    after = {it: lengths[1] for it, lengths in chains(rt, crates).items()}
     below = [it for it in crates if not it.is_program and (it in asked or any(it in that.below() for that in asked))]
-    return sorted(below, key=lambda it: -length[it])
+    return sorted(below, key=lambda it: -after[it])
 
 
 def main(names):

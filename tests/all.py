@@ -1,7 +1,8 @@
 #!/usr/bin/env python3
-"""The merge gate: texts first, then every proof, mutant and test of the crates, then the real program on real files.
+"""The merge gate: every proof, mutant and test of the crates, and beside them first the checks of texts, and later, once the program is built,
+its tests on real files.
 
-usage: all.py    ALL_LANES is how many scripts run at a time (default: the number of processors).
+usage: all.py    ALL_LANES is how many scripts run at a time (default: half the number of processors).
 The lines before the last say which part failed and why; the last line is 'N passed, M failed'. What it printed is kept in
 $XDG_CACHE_HOME/bin65/gate.txt (default: ~/.cache/bin65/gate.txt), so that the times of the last run can be looked up."""
 import hashlib
@@ -18,7 +19,10 @@ COUNTS = re.compile(r"(\d+) passed, (\d+) failed")
 # The lines of a failed part that describe its failure.
 FAILURE = re.compile(r"FAILED|failed:|NOT |not proved|Error|error|: expected", re.I)
 
-# Before the proofs: texts alone, in seconds.
+# What `rt ci` prints once the program is built: the tests' proofs take minutes more.
+BUILT = re.compile(r"\S+ bin65 proved")
+
+# They need no program, and take a minute together.
 TEXTS = [
     ("texts and layout", ["python3", "gate/static_checks.py"]),
     ("what the code keeps", ["python3", "tests/check_streaming.py"]),
@@ -33,12 +37,14 @@ TEXTS = [
 # With the program that `rt ci` builds, the longest first.
 SCRIPTS = [
     "hostile", "large", "workbench_port", "workbench_random", "workbench_trees", "workbench_idioms", "io_faults", "alloc_faults", "fuzz",
-    "measured", "one_program", "cases", "disk", "sums", "version1",
+    "one_program", "cases", "disk", "sums", "version1",
     "migrating", "differences", "cc65_scripts", "tutorial", "language", "messages", "editors", "make_try", "makefile", "machines", "second", "labels",
     "workbench_list", "workbench_labels", "workbench_debug", "workbench_deps", "workbench_size", "workbench_bad", "workbench_check",
     "workbench_faults", "workbench_lexer", "packaging", "release", "bench",
 ]
 EXAMPLES = ["first", "programs", "library", "sizes"]
+# It also needs the program of tests_calls65, which `rt ci` may build last.
+LAST = ["measured"]
 
 
 class Kept:
@@ -67,15 +73,15 @@ class Part:
         self.name, self.words, self.lines, self.seconds = name, words, [], 0.0
         self.passed, self.failed = 0, 1
 
-    def run(self, is_shown=False):
-        """Runs the part and counts by its last line; one that says no counts passes or fails as a whole."""
+    def run(self, show=None):
+        """Runs the part, shows each line, and counts by its last line; one that says no counts passes or fails as a whole."""
         begun = time.monotonic()
         how = {"cwd": ROOT, "stdin": subprocess.DEVNULL, "stdout": subprocess.PIPE, "stderr": subprocess.STDOUT, "errors": "replace"}
         with subprocess.Popen(self.words, **how) as ran:
             for line in map(str.rstrip, ran.stdout):
                 self.lines.append(line)
-                if is_shown and not COUNTS.fullmatch(line):
-                    print(f"  {line}", flush=True)
+                if show and not COUNTS.fullmatch(line):
+                    show(line)
         self.seconds = time.monotonic() - begun
         counts = [it for it in map(COUNTS.fullmatch, self.lines) if it]
         if counts:
@@ -100,17 +106,32 @@ class Part:
         return [it[:500] for it in ([it for it in said if FAILURE.search(it)][:3] or said[-3:])]
 
 
-def side_by_side(parts, lanes):
-    with ThreadPoolExecutor(lanes) as pool:
-        for done in [pool.submit(it.run) for it in parts]:
-            done.result().told()
-    return parts
+class Beside:
+    """The parts that run beside the proofs, several at a time."""
+
+    def __init__(self, lanes):
+        self.pool, self.parts = ThreadPoolExecutor(lanes), []
+
+    def start(self, parts):
+        for it in parts:
+            self.parts.append(it)
+            self.pool.submit(it.run).add_done_callback(lambda done: done.result().told())
+
+    def start_scripts(self):
+        """Starts the scripts that run the program, if it is built and they haven't been started."""
+        if len(self.parts) == len(TEXTS) and os.path.isfile(PROGRAM):
+            self.start([*map(script, SCRIPTS), Part("program", ["bash", "tests/program.sh", PROGRAM])])
+            self.start([Part(f"example/{it}", ["sh", f"example/{it}.sh", PROGRAM]) for it in EXAMPLES])
+
+    def show(self, line):
+        """Prints a line of the proofs, and starts the scripts if it says that the program is built."""
+        print(f"  {line}", flush=True)
+        if BUILT.fullmatch(line):
+            self.start_scripts()
 
 
-def scripts():
-    """Returns the parts that run the program."""
-    tests = [Part(it, ["python3", f"tests/{it}.py", PROGRAM]) for it in SCRIPTS]
-    return [*tests, Part("program", ["bash", "tests/program.sh", PROGRAM]), *(Part(f"example/{it}", ["sh", f"example/{it}.sh", PROGRAM]) for it in EXAMPLES)]
+def script(name):
+    return Part(name, ["python3", f"tests/{name}.py", PROGRAM])
 
 
 def main():
@@ -118,15 +139,18 @@ def main():
     # (a make that a test calls is a user's own: one that knows itself below another says which folders it enters)
     for it in ("MAKEFLAGS", "MAKELEVEL", "MFLAGS"):
         os.environ.pop(it, None)
-    begun, lanes = time.monotonic(), int(os.environ.get("ALL_LANES", 0)) or len(os.sched_getaffinity(0))
-    parts = side_by_side([Part(*it) for it in TEXTS], lanes)
-    print("rt ci, with mutants in parallel:", flush=True)
-    proofs = Part("rt ci and mutants", ["python3", "gate/ci.py"]).run(is_shown=True)
+    begun, processors = time.monotonic(), len(os.sched_getaffinity(0))
+    beside = Beside(int(os.environ.get("ALL_LANES", 0)) or max(1, processors // 2))
+    beside.start([Part(*it) for it in TEXTS])
+    proofs = Part("rt ci and mutants", ["python3", "gate/ci.py"]).run(beside.show)
     proofs.lines = [it for it in proofs.lines if it.startswith("FAILED")] or proofs.lines[-20:]
     proofs.told()
-    parts.append(proofs)
-    if os.path.isfile(PROGRAM):
-        parts += side_by_side(scripts(), lanes)
+    is_built = os.path.isfile(PROGRAM)
+    beside.start_scripts()
+    beside.start([script(it) for it in LAST if is_built])
+    beside.pool.shutdown()
+    parts = [*beside.parts, proofs]
+    if is_built:
         with open(PROGRAM, "rb") as it:
             print(f"The program: {hashlib.sha256(it.read()).hexdigest()}")
     else:
@@ -134,7 +158,7 @@ def main():
         missing.lines = ["FAILED: none was run, since rt ci built no program"]
         parts.append(missing)
     minutes = int(time.monotonic() - begun) // 60
-    print(f"The gate took {minutes} minutes on {lanes} processors; the longest parts:")
+    print(f"The gate took {minutes} minutes on {processors} processors; the longest parts:")
     for it in sorted(parts, key=lambda it: -it.seconds)[:8]:
         print(f"{int(it.seconds) // 60:>7}:{int(it.seconds) % 60:02d}  {it.name}")
     for it in filter(lambda it: it.failed, parts):

@@ -9,7 +9,7 @@ import tempfile
 import launcher
 
 HERE = os.path.dirname(os.path.abspath(__file__))
-ROWS = os.path.join(HERE, "..", "crates", "testkit65", "src", "runs.rt")
+ROWS = os.path.join(HERE, "fault_injection.txt")
 
 
 def build(folder):
@@ -52,9 +52,7 @@ class Starter(launcher.Starter):
 def scenes():
     """Returns the rows of each scene."""
     with open(ROWS, encoding="ascii") as opened:
-        text = re.search(r'RUNS: &str = "\\\n(.*?)\n";', opened.read(), re.DOTALL)[1]
-    text = text.replace('\\"', '"')
-    assert "\\" not in text
+        text = opened.read().rstrip("\n")
     return [paragraph.split("\n") for paragraph in text.split("\n\n")]
 
 

@@ -214,8 +214,30 @@ def listed():
     """Checks that the gate runs each script of tests/ that prints counts."""
     names = {it.removesuffix(".py") for it in os.listdir(f"{kit.ROOT}/tests") if it.endswith(".py")}
     counting = {it for it in names if "passed, M failed" in "".join(kit.lines_of(f"{kit.ROOT}/tests/{it}.py")[:20])} - {"all"}
-    run = {*gate.SCRIPTS, *(words[1].removeprefix("tests/").removesuffix(".py") for _, words in gate.TEXTS)}
+    run = {*gate.SCRIPTS, *gate.LAST, *(words[1].removeprefix("tests/").removesuffix(".py") for _, words in gate.TEXTS)}
     return {"each script is run": counting <= run and len(counting) > 30}
+
+
+def side():
+    """Checks that the scripts start once, when the program is built."""
+    started, was = [], (gate.PROGRAM, gate.TEXTS, gate.SCRIPTS, gate.EXAMPLES)
+    gate.TEXTS, gate.SCRIPTS, gate.EXAMPLES = [], ["one"], ["two"]
+    try:
+        with tempfile.TemporaryDirectory() as room, contextlib.redirect_stdout(io.StringIO()):
+            gate.PROGRAM = f"{room}/program"
+            parts = gate.Beside(1)
+            parts.start = lambda more: started.extend(it.name for it in more) or parts.parts.extend(more)
+            parts.show("10:00:00 bin65 proved")
+            before = [*started]
+            open(gate.PROGRAM, "w", encoding="utf-8").close()
+            for line in ("10:00:00 asm65 proved", "10:00:01 bin65: its tests are proved"):
+                parts.show(line)
+            other = [*started]
+            for _ in range(2):
+                parts.show("10:00:02 bin65 proved")
+    finally:
+        gate.PROGRAM, gate.TEXTS, gate.SCRIPTS, gate.EXAMPLES = was
+    return {"no script without a program": before == other == [], "scripts start once": started == ["one", "program", "example/two"]}
 
 
 class Proved:
@@ -281,7 +303,7 @@ def names():
 
 
 def main():
-    checks = {**together(kit.load()), **turns(), **failures(), **listed(), **beside(), **words(), **names()}
+    checks = {**together(kit.load()), **turns(), **failures(), **listed(), **side(), **beside(), **words(), **names()}
     return results.report(checks)
 
 

@@ -103,25 +103,19 @@ fn add_item(contents: &mut Contents, item: Item) -> Result<(), ObjectFault>
         Item::Import(name) => contents.imports.push(name)?,
         Item::Export {
             name,
-            origin: _,
-            form: _,
+            form: _form,
+            ..
         } => contents.exports.push(name)?,
         Item::File(_name) => {}
-        Item::Section {
-            name: _,
-            size: _,
-            align: _,
-        } => {}
+        Item::Section { name: _name, .. } => {}
         Item::Part {
-            section: _,
-            offset: _,
-            fragment: _,
+            fragment: _fragment,
+            ..
         } => {}
         Item::Assert {
-            action: _,
-            origin: _,
-            text: _,
-            form: _,
+            text: _text,
+            form: _form,
+            ..
         } => {}
         Item::End => {}
     }

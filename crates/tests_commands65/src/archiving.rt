@@ -1,7 +1,7 @@
 //! Whole runs of ar65.
 
+use crate::scenes::first_wrong;
 use std::test::Fail;
-use testkit65::first_wrong;
 
 /// Libraries begun, changed, listed and taken apart.
 const SCENES: &str = "\

@@ -1,7 +1,7 @@
 //! Whole runs of ca65, and links of what they give.
 
+use crate::scenes::first_wrong;
 use std::test::Fail;
-use testkit65::first_wrong;
 
 /// Sources, and what becomes of them.
 const SCENES: &str = "\

@@ -1,10 +1,10 @@
 //! Commands on stores that transfer few bytes or fail, and with streams that stop.
 
+use crate::runs::{LINK, O1, S1, files, is_quiet, run_on, says};
 use crate::stores::{ByteByByte, Counting, FailsOnce, Filling, Stopping};
 use base65::MemStore;
 use std::alloc::{AllocError, Global};
 use std::test::Fail;
-use testkit65::{LINK, O1, S1, files, is_quiet, run_on, says};
 use tools65::{Status, run};
 
 #[test]
@@ -102,7 +102,7 @@ fn reads_and_writes_once(rt: HostRuntime) -> Result<(), Fail> {
 fn stops_within_the_names(rt: HostRuntime) -> Result<(), Fail> {
     for k in 0..5 {
         let mut store = library(rt.alloc())?;
-        let mut out = Stopping::following(rt.alloc(), k, true);
+        let mut out = Stopping::following(rt.alloc(), k, false);
         let mut err = Vec::new(rt.alloc());
         let words = ["bin65", "ar65", "t", "l.lib"];
         let status = run(rt.alloc(), &words, &mut store, &mut out, &mut err);

@@ -1,5 +1,5 @@
-//! Trials of whole commands over files in memory, with stores and streams that give little, fail or stop. All others are
-//! cases for the real program.
+//! Tests of whole commands over files in memory, with stores that return few bytes or fail, and with
+//! streams that stop. All others are cases for the real program.
 #![tactic(auto)]
 
 #[cfg(test)]
@@ -9,12 +9,14 @@ mod assembling;
 #[cfg(test)]
 mod devices;
 #[cfg(test)]
-mod in_turn;
-#[cfg(test)]
 mod libraries;
 #[cfg(test)]
 mod lines;
 #[cfg(test)]
 mod linking;
+#[cfg(test)]
+mod runs;
+#[cfg(test)]
+mod scenes;
 #[cfg(test)]
 mod stores;

@@ -3,10 +3,11 @@
 ghost use Rattle.std.specs.Prelude.{Some, None};
 ghost use Rattle.std.proofs.Common.{rules};
 
+use crate::runs::{S1, run_on, says};
+use crate::scenes::first_wrong;
 use base65::{MemStore, Store, StoreFault};
 use std::alloc::{AllocError, Global};
 use std::test::Fail;
-use testkit65::{S1, first_wrong, run_on, says};
 use tools65::Status;
 
 /// Which members are linked, depending on the library's position, and how libraries are rejected.

@@ -1,9 +1,9 @@
 //! Command lines on their own.
 
+use crate::runs::{O1, Ran, S1, files, is_quiet};
 use base65::{ListVec, MemStore};
 use std::alloc::{AllocError, Global};
 use std::test::Fail;
-use testkit65::{O1, Ran, S1, files, is_quiet};
 use tools65::{
     AssembleArgs, Define, Line, LinkArgs, Operation, Status, Stream, print, read_line, run_line,
     write_file,

@@ -1,7 +1,7 @@
 //! Whole links.
 
+use crate::scenes::first_wrong;
 use std::test::Fail;
-use testkit65::first_wrong;
 
 /// Objects and scripts, their images and maps, and why they are refused.
 const SCENES: &str = "\

@@ -104,7 +104,7 @@ impl Store for Filling {
 }
 
 /// Files in memory. One call fails, and is counted; those after it succeed. The store keeps which
-/// file that call was for and from which offset it read, and which files were created, in order.
+/// file that call was for, and from which offset it read.
 #[derive(Drop)]
 pub struct FailsOnce {
     alloc: Global,
@@ -112,9 +112,8 @@ pub struct FailsOnce {
     by_bytes: bool,
     left: Option<u64>,
     pub failed: bool,
-    pub asked: Option<PathString>,
-    pub at: Option<u64>,
-    pub created: Vec<PathString>,
+    asked: Option<PathString>,
+    at: Option<u64>,
     ghost once: { ForSome left (λ _. failed ≡ false) },
 }
 
@@ -129,7 +128,6 @@ impl FailsOnce {
             failed: false,
             asked: None,
             at: None,
-            created: Vec::new(alloc),
         }
     }
 
@@ -170,14 +168,6 @@ impl FailsOnce {
             None => Ok(false),
         }
     }
-
-    /// Returns whether the failing call was for this file.
-    pub fn failed_for(&self, name: &str) -> bool {
-        match &self.asked {
-            Some(asked) => asked.as_str() == name,
-            None => false,
-        }
-    }
 }
 
 impl Store for FailsOnce {
@@ -198,7 +188,6 @@ impl Store for FailsOnce {
         if self.fails(name, None)? {
             return Err(StoreFault::FileError);
         }
-        self.created.push(PathString::copy_of(self.alloc, name)?)?;
         self.files.create(name)
     }
 

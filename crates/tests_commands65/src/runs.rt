@@ -1,13 +1,6 @@
-//! Shared by the trials of commands: a script and an object, and a run over files and streams in
-//! memory.
-#![tactic(auto)]
-
-mod runs;
-mod scenes;
+//! Runs over files and streams in memory, and a script and an object for them.
 
 use base65::{MemStore, Store};
-pub use runs::RUNS;
-pub use scenes::{first_wrong, is_right, parts_of, words_of};
 use std::alloc::{AllocError, Global};
 use tools65::{Status, run};
 
@@ -50,10 +43,5 @@ pub fn says(ran: &Ran, message: &str) -> bool {
 
 /// Returns whether a run succeeded and printed nothing.
 pub fn is_quiet(ran: &Ran) -> bool {
-    warns(ran, "")
-}
-
-/// Returns whether a run succeeded with these warnings.
-pub fn warns(ran: &Ran, warnings: &str) -> bool {
-    ran.status == Status::Success && ran.out.is_empty() && ran.err.as_slice() == warnings.as_bytes()
+    ran.status == Status::Success && ran.out.is_empty() && ran.err.is_empty()
 }

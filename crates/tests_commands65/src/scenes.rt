@@ -11,7 +11,7 @@
 //! | `says NAME LINES` | it has these lines |
 //! | `absent NAME` | there is no such file |
 
-use crate::run_on;
+use crate::runs::run_on;
 use base65::MemStore;
 use std::alloc::{AllocError, Global};
 use tools65::Status;
@@ -89,7 +89,7 @@ fn saying_of(alloc: Global, lines: Option<&str>) -> Result<ExpectedOutput, Alloc
 }
 
 /// Splits a row into the command line of a run and the lines that it prints, if any.
-pub fn parts_of(row: &str) -> (&str, Option<&str>) {
+fn parts_of(row: &str) -> (&str, Option<&str>) {
     match row.split_once(" ==> ") {
         None => (row, None),
         Some((words, lines)) => (words, Some(lines)),
@@ -97,7 +97,7 @@ pub fn parts_of(row: &str) -> (&str, Option<&str>) {
 }
 
 /// Returns the arguments of a run, without the program's name.
-pub fn words_of(alloc: Global, words: &str) -> Result<Vec<&str>, AllocError> {
+fn words_of(alloc: Global, words: &str) -> Result<Vec<&str>, AllocError> {
     let mut list = Vec::new(alloc);
     list.push("bin65")?;
     for word in words.split(' ') {
@@ -140,7 +140,7 @@ fn is_found(
 }
 
 /// Returns whether a step succeeds and its statement holds.
-pub fn is_right(alloc: Global, store: &mut MemStore, row: &str) -> Result<bool, AllocError> {
+fn is_right(alloc: Global, store: &mut MemStore, row: &str) -> Result<bool, AllocError> {
     let (verb, row) = row.split_once(' ').unwrap_or((row, ""));
     if verb == "$" {
         return runs(alloc, store, row);

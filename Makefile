@@ -25,8 +25,8 @@ example: program
 test:
 	@python3 tests/all.py
 
-# Tries the mutants of mutants/: all, those of a crate (CRATE=asm65), or one (CRATE=asm65/NAME). If the kit keeps results of mutants,
-# those that an earlier run on this machine tried aren't tried again.
+# Tries the mutants of mutants/: all, those of a crate (CRATE=asm65), or one (CRATE=asm65/NAME). Those that an earlier run on this
+# machine found refused, over the same files, aren't tried again.
 mutants:
 	@python3 gate/try_mutants.py $(CRATE)
 

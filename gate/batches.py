@@ -159,26 +159,32 @@ def said_of(rt, crate, tries, over, jobs):
     return Said(crate, ran.stdout) if is_read else None
 
 
-def refused(rt, crate, tries, over, jobs):
+def refused(rt, crate, tries, over, jobs, keep=lambda edits: None):
     """Returns the rejected mutants, each with an error. The others are undecided and must be tried one at a time. `over` runs a call with a copy of
-    the proofs that were kept for the unchanged crate; `jobs` is the number of processes of one check."""
+    the proofs that were kept for the unchanged crate; `jobs` is the number of processes of one check; `keep` is given the edits that a check rejects."""
     left, found = [it for it in tries if it.functions], {}
+
+    def add(tried, said):
+        rejected = {it: text for it in tried for text in [said and said.against(it)] if text}
+        keep([it.edit for it in rejected])
+        found.update(rejected)
+
     while left:
         batch = apart(left)
         if len(batch) <= jobs:
             # A check first loads its libraries on one processor. So a few mutants run side by side, each in a check of its own.
             with ThreadPoolExecutor(jobs) as pool:
-                each = pool.map(lambda it: said_of(rt, crate, [it], over, 1), left)
-                found.update((it, text) for it, said in zip(left, each) for text in [said and said.against(it)] if text)
+                for it, said in zip(left, pool.map(lambda it: said_of(rt, crate, [it], over, 1), left)):
+                    add([it], said)
             break
         said = said_of(rt, crate, batch, over, jobs)
         if said is None and len(batch) > 1:
             # One of them may not parse: try each half.
             for half in (batch[: len(batch) // 2], batch[len(batch) // 2 :]):
-                found.update(refused(rt, crate, half, over, jobs))
+                found.update(refused(rt, crate, half, over, jobs, keep))
             left = [it for it in left if it not in batch]
             continue
-        found.update((it, text) for it in batch for text in [said and said.against(it)] if text)
+        add(batch, said)
         # A mutant whose function calls a rejected one has its turn in the next round.
         hidden = [it for it in batch if said and it not in found and said.hides(it)] if len(batch) > 1 else []
         left = [it for it in left if it not in batch or it in hidden]

@@ -3,14 +3,16 @@
 
 usage: try_mutants.py [--all] [--anew] [CRATE[/EDIT]..]
 
---all tries those of must-fail/ too, and --anew also those that an earlier run on this machine tried over the same files.
+--all tries those of must-fail/ too, and --anew also those that an earlier run on this machine found refused over the same files.
 MUTANT_JOBS sets the number of processors.
 Mutants are tried over the proofs kept for the unchanged crate: first many in one check (batches.py), then each undecided one alone, with the
-functions of the changed modules, and at last by the gate's own function. Results are kept per edit, so an interrupted run continues where it
-stopped. The last line is 'N refused, M not'."""
+functions of the changed modules, and at last by the gate's own function. What is refused is kept per edit in $XDG_CACHE_HOME/bin65/mutants
+(default: ~/.cache/bin65/mutants), so an interrupted run continues where it stopped. The last line is 'N refused, M not'."""
+import hashlib
 import os
 import re
 import shutil
+import subprocess
 import sys
 import tempfile
 import time
@@ -21,6 +23,7 @@ import kit
 import prove
 
 FOLDERS = ("mutants", "must-fail")
+CACHE = os.path.join(os.environ.get("XDG_CACHE_HOME") or os.path.expanduser("~/.cache"), "bin65", "mutants")
 
 
 def edits_of(crate, words, folders):
@@ -42,47 +45,69 @@ def kept_by(crate):
     return f"{crate.folder}/out/incremental"
 
 
-def over(rt, kept, call):
-    """Calls `call` with a copy of the kept proofs, and returns its result. The copy consists of links where the toolchain offers that: a check
-    replaces such files and never changes one, which `main` verifies at the end."""
-    with tempfile.TemporaryDirectory(prefix="wrong-") as room:
-        getattr(rt, "linked", shutil.copytree)(kept, f"{room}/kept")
+def link(source, to):
+    """Links a file, or copies it to another file system."""
+    try:
+        os.link(source, to)
+    except OSError:
+        shutil.copy2(source, to)
+
+
+def over(kept, call):
+    """Calls `call` with a copy of the kept proofs, and returns its result. The copy consists of links: a check replaces such files and never changes
+    one, which `try_all` verifies at the end."""
+    with tempfile.TemporaryDirectory(prefix="mutant-") as room:
+        shutil.copytree(kept, f"{room}/kept", copy_function=link)
         return call(f"{room}/kept")
 
 
-def listings(rt, crates):
-    """Returns, by crate, a listing that shows whether kept proofs were changed."""
-    return {it.name: rt.listing(kept_by(it)) for it in crates} if hasattr(rt, "linked") else {}
+def listing(kept):
+    """Returns the size, the time and the number of each file of kept proofs. Empty files are left out: their times tell when proofs were last used."""
+    found = {}
+    for at, _, names in os.walk(kept):
+        for file in (os.path.join(at, it) for it in names):
+            told = os.stat(file)
+            if told.st_size:
+                found[file] = told.st_size, told.st_mtime_ns, told.st_ino
+    return found
 
 
 def is_sound(rt, crate):
     """Returns whether the unchanged crate is proved over its kept proofs; if not, a rejection over them would mean nothing."""
-    found = not over(rt, kept_by(crate), lambda kept: rt.checked(crate, {}, ["--jobs", "1"], kept).returncode)
+    found = not over(kept_by(crate), lambda kept: rt.checked(crate, {}, ["--jobs", "1"], kept).returncode)
     if not found:
         kit.say(f"{crate.name}: the kept results don't prove the crate in its present state, so its mutants are tried without them")
     return found
 
 
 class Earlier:
-    """Results of earlier runs on this machine, keyed by the files that an edit depends on. Some toolchains keep none."""
+    """What earlier runs on this machine found refused, by a checksum of the files that an edit depends on."""
 
-    def __init__(self, rt, crates, anew):
-        self.rt, self.anew, self.seen = rt, anew, {}
-        self.kept = rt.Kept(kit.crates(rt)) if all(hasattr(rt, it) for it in ("Kept", "stamp_of", "SETTLED")) else None
-        for crate in crates if self.kept else ():
-            rt.stamp_of(crate, self.seen)
+    def __init__(self, rt, anew):
+        self.rt, self.anew = rt, anew
+        self.version = subprocess.run(["rt", "version"], capture_output=True, check=True).stdout
 
-    def name(self, crate, edit):
-        return self.kept.of_edit(edit, self.seen[crate.name])
+    def sum(self, crate):
+        """Returns a checksum of the files of a crate and of those below it."""
+        crates = [it for it in (*crate.below(), crate) if it.folder.startswith(kit.ROOT)]
+        return prove.sum_of([f for it in crates for f in sorted(self.rt.rtlib.files_of(it.folder))], self.version)
 
-    def told(self, crate, edit):
-        """Returns the kind and the text of an edit's earlier result, or None."""
-        return self.kept.tried(self.name(crate, edit)) if self.kept and not self.anew else None
+    def file(self, crate_sum, edit):
+        with open(edit, "rb") as it:
+            return f"{CACHE}/{hashlib.sha256(crate_sum.encode() + it.read()).hexdigest()}"
 
-    def keep(self, crate, edit, kind, text):
-        """Keeps an edit's result, unless a file that it depends on changed during the run."""
-        if self.kept and kind in self.rt.SETTLED and all(self.kept.is_untouched(it) for it in (crate, *crate.below())):
-            self.kept.keep_tried(self.name(crate, edit), kind, text)
+    def told(self, crate, edits):
+        """Returns those of a crate's edits that an earlier run found refused."""
+        begun = self.sum(crate)
+        return {it for it in edits if not self.anew and os.path.isfile(self.file(begun, it))}
+
+    def keep(self, begun, crate, edits):
+        """Keeps that these edits are refused, unless a file that they depend on changed since the run began."""
+        if edits and self.sum(crate) == begun:
+            os.makedirs(CACHE, exist_ok=True)
+            for it in edits:
+                with open(self.file(begun, it), "w", encoding="utf-8") as file:
+                    file.write(f"{crate.name}/{os.path.basename(it)}\n")
 
 
 def said_of_modules(rt, crate, edit, kept):
@@ -93,7 +118,7 @@ def said_of_modules(rt, crate, edit, kept):
     if not modules or len(modules) != len(texts) or "lib" in modules:
         return None
     flags = ["--jobs", "1", *(word for it in modules for word in ("--only", it))]
-    ran = over(rt, kept, lambda room: rt.checked(crate, texts, flags, room))
+    ran = over(kept, lambda room: rt.checked(crate, texts, flags, room))
     lines = ran.stdout.rstrip("\n").split("\n")
     counted = re.fullmatch(r"only=(\d+) proved=(\d+)", lines[-1])
     if ran.returncode != 1 or not counted or int(counted[2]) >= int(counted[1]) or any(rt.unread(it, texts) for it in lines):
@@ -104,65 +129,64 @@ def said_of_modules(rt, crate, edit, kept):
 
 
 def tried(rt, crate, edit, kept):
-    """Tries one edit and returns the kind of its result in the gate's terms, and a text; without kept proofs the crate is proved from nothing."""
-    said = said_of_modules(rt, crate, edit, kept) if kept and hasattr(rt, "unread") else None
+    """Tries one edit and returns whether it is refused, and a text; without kept proofs the crate is proved from nothing."""
+    said = said_of_modules(rt, crate, edit, kept) if kept else None
     if said:
-        return getattr(rt, "REFUSED", True), f"{crate.name}/{os.path.basename(edit)}: refused, as it must be, by its modules alone: {said[:160]}"
+        return True, f"{crate.name}/{os.path.basename(edit)}: refused, as it must be, by its modules alone: {said[:160]}"
     flags = ["--jobs", "1"]
-    kind, text = over(rt, kept, lambda room: rt.must_fail(crate, edit, flags, room)) if kept else rt.must_fail(crate, edit, flags)
-    if means_refused(rt, kind) and text.endswith("refused, as it must be"):
+    is_refused, text = over(kept, lambda room: rt.must_fail(crate, edit, flags, room)) if kept else rt.must_fail(crate, edit, flags)
+    if is_refused and text.endswith("refused, as it must be"):
         # (for example, if the borrow checker rejects the edited function)
-        return None, f"{text}, but nothing that it breaks is named, so no contract was tried"
-    return kind, text
+        return False, f"{text}, but nothing that it breaks is named, so no contract was tried"
+    return is_refused, text
 
 
-def tried_together(rt, crate, edits, kept, jobs):
+def tried_together(rt, crate, edits, kept, jobs, keep):
     """Tries edits of a crate, many in one check, and returns the rejected ones, each with an error."""
     begun, tries = time.time(), [batches.Try(rt, crate, it) for it in edits]
-    found = batches.refused(rt, crate, tries, lambda call: over(rt, kept, call), jobs)
+    found = batches.refused(rt, crate, tries, lambda call: over(kept, call), jobs, keep)
     kit.say(f"{crate.name}: {len(found)} of {len(tries)} mutants were rejected in shared checks ({kit.minutes(time.time() - begun)})")
     return {it.edit: f"{crate.name}/{os.path.basename(it.edit)}: refused, as it must be: {said[:160]}" for it, said in found.items()}
 
 
-def refused(rt, crate, edits, kept, lanes, keep=lambda edit, kind, text: None):
+def refused(rt, crate, edits, kept, lanes, keep=lambda edits: None):
     """Returns the rejected edits of a crate. An edit that can't be parsed or tried isn't rejected."""
-    together = tried_together(rt, crate, edits, kept, lanes) if kept and hasattr(rt, "unread") else {}
-    found = {edit: (getattr(rt, "REFUSED", True), text) for edit, text in together.items()}
+    together = tried_together(rt, crate, edits, kept, lanes, keep) if kept else {}
+    found = {edit: (True, text) for edit, text in together.items()}
     alone = [it for it in edits if it not in found]
+
+    def of(edit):
+        is_refused, text = tried(rt, crate, edit, kept)
+        keep([edit] if is_refused else [])
+        return is_refused, text
+
     with ThreadPoolExecutor(lanes) as pool:
-        found.update(zip(alone, pool.map(lambda it: tried(rt, crate, it, kept), alone)))
-    for edit, (kind, text) in found.items():
+        found.update(zip(alone, pool.map(of, alone)))
+    for _, text in found.values():
         kit.say(text.removeprefix("must-fail "))
-        keep(edit, kind, text)
-    return {edit for edit, (kind, _) in found.items() if means_refused(rt, kind)}
-
-
-def means_refused(rt, kind):
-    # (some toolchains return a truth value, others a word, of which these two mean yes)
-    return kind is True or kind in [getattr(rt, it) for it in ("REFUSED", "AT_LIMIT") if hasattr(rt, it)]
+    return {edit for edit, (is_refused, _) in found.items() if is_refused}
 
 
 def try_all(rt, crates, tries, earlier):
     """Tries these edits, and returns for each whether it is rejected."""
     lanes, begun = int(os.environ.get("MUTANT_JOBS", 0)) or kit.lanes(rt), time.time()
     kit.say(f"{len(tries)} mutants of {len(crates)} crates, on {lanes} processors")
-    before = listings(rt, crates)
-
     at_once = max(1, min(len(crates), lanes // 2))
 
     def of(crate):
-        kept = kept_by(crate) if is_sound(rt, crate) else None
-        edits = [edit for it, edit in tries if it is crate]
-        return refused(rt, crate, edits, kept, lanes // at_once, lambda *what: earlier.keep(crate, *what))
+        begun, kept = earlier.sum(crate), kept_by(crate) if is_sound(rt, crate) else None
+        before, edits = listing(kept_by(crate)), [edit for it, edit in tries if it is crate]
+        found = refused(rt, crate, edits, kept, lanes // at_once, lambda edits: earlier.keep(begun, crate, edits))
+        if listing(kept_by(crate)) == before:
+            return found
+        kit.say(f"{crate.name}: what its proof kept was changed meanwhile, so its tries count for nothing: try them with --anew")
+        return set()
 
     with ThreadPoolExecutor(at_once) as pool:
         # (the largest first, so that it doesn't run alone at the end)
         found = set().union(*pool.map(of, sorted(crates, key=lambda it: -it.count(rb"\n"))))
-    changed = [name for name, files in listings(rt, crates).items() if files != before[name]]
-    for name in changed:
-        kit.say(f"{name}: what its proof kept was changed meanwhile, so its tries count for nothing: try them with --anew")
     kit.say(f"all were tried after {kit.minutes(time.time() - begun)}")
-    return {edit: edit in found and crate.name not in changed for crate, edit in tries}
+    return {edit: edit in found for _, edit in tries}
 
 
 def main(words):
@@ -179,16 +203,16 @@ def main(words):
             sys.exit(f"no mutant is called {word}")
     if not crates:
         sys.exit("there is no mutant")
-    earlier = Earlier(rt, crates, anew)
+    earlier = Earlier(rt, anew)
     every = [(crate, edit) for crate in crates for edit in edits_of(crate, words, folders)]
-    told = {edit: found for crate, edit in every for found in [earlier.told(crate, edit)] if found}
+    told = set().union(*(earlier.told(crate, [edit for it, edit in every if it is crate]) for crate in crates))
     tries = [it for it in every if it[1] not in told]
     crates = [it for it in crates if any(it is crate for crate, _ in tries)]
     if told:
-        kit.say(f"{len(told)} of {len(every)} mutants were tried by earlier runs on this machine, and their code and proofs have not changed")
+        kit.say(f"{len(told)} of {len(every)} mutants were refused in earlier runs on this machine, and their code and proofs have not changed")
     if crates and prove.main([it.name for it in crates]):
         return 1
-    found = try_all(rt, crates, tries, earlier) | {edit: means_refused(rt, kind) for edit, (kind, _) in told.items()}
+    found = try_all(rt, crates, tries, earlier) | {edit: True for edit in told}
     wrong = [edit for _, edit in every if not found[edit]]
     for it in wrong:
         print(f"not refused: {os.path.relpath(it, kit.ROOT)}")

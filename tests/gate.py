@@ -128,9 +128,11 @@ def together(rt):
         crate = Crate(f"{room}/made")
         tries = {it: batches.Try(rt, crate, crate.edit(it)) for it in EDITS}
         prover = Prover()
-        found = batches.refused(prover, crate, list(tries.values()), lambda call: call(None), 2)
+        kept = []
+        found = batches.refused(prover, crate, list(tries.values()), lambda call: call(None), 2, kept.extend)
         names = {it.edit.rpartition("/")[2].removesuffix(".edit") for it in found}
     checks["refused together"] = names == {"adds_two", "adds_none", "once"}
+    checks["kept as it is found"] = sorted(kept) == sorted(it.edit for it in found)
     checks["many in one check"] = [NEXT, TWICE, FMT] == sorted(prover.asked[0], key=[NEXT, TWICE, FMT].index)
     own = {name: sorted(it.functions) for name, it in tries.items()}
     checks["functions"] = own == {"adds_two": [NEXT], "adds_none": [NEXT], "once": [TWICE], "shows_nothing": [FMT], "another_limit": [], "unreadable": [FMT], "weaker": []}

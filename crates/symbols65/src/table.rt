@@ -33,13 +33,8 @@ fn intern(
     ensures more { IsPrefixOf (map (λ k. k.items) words.old.keys) (map (λ k. k.items) words.new.keys) }
     ensures number { IfOk result (λ w. position (bytes_eq name.now) (map (λ k. k.items) words.new.keys) ≡ Some w) }
 {
-    match words.get_index_of(NameQuery(name)) {
-        Some(word) => Ok(word),
-        None => {
-            let (word, _) = words.insert_full(SmallVec::from_slice(alloc, name)?)?;
-            Ok(word)
-        }
-    }
+    let (word, _) = words.insert_full(SmallVec::from_slice(alloc, name)?)?;
+    Ok(word)
 }
 
 /// Adds a scope, unless there is one by its opening.

@@ -120,32 +120,27 @@ fn put(
         (definition_in (words_of symbols.old) (entry, definition)) definition }
     requires meanings { keeps ≡ true → KeepsMeanings (table_of symbols.old) (with_definition
         (table_of symbols.old) (definition_in (words_of symbols.old) (entry, definition))) }
-    ensures { OnOk result (position (same_entry entry) (keys symbols.old.definitions) ≡ None →
-        table_of symbols.new ≡ with_definition (table_of symbols.old)
+    requires new { position (same_entry entry) (keys symbols.old.definitions) ≡ None }
+    ensures { OnOk result (table_of symbols.new ≡ with_definition (table_of symbols.old)
         (definition_in (words_of symbols.old) (entry, definition))) }
 {
-    match symbols.place_of(entry) {
-        Some(_) => Ok(()),
-        None => {
-            forget_unless(&mut symbols.searched, keeps);
-            symbols.has_open = symbols.has_open || is_open(&definition);
-            note(&mut symbols.inner, entry)?;
-            push(&mut symbols.definitions, entry, definition)
-        }
-    }
+    forget_unless(&mut symbols.searched, keeps);
+    symbols.has_open = symbols.has_open || is_open(&definition);
+    note(&mut symbols.inner, entry)?;
+    push(&mut symbols.definitions, entry, definition)
 }
 
-/// Adds a definition. Unspecified if its key has one.
+/// Adds a definition, whose key must have none.
 pub fn define(
     alloc: Global,
     symbols: &mut Symbols,
     key: Key<'_>,
     definition: Definition,
 ) -> Result<(), AllocError>
-    requires { KeepsFinal (table_of symbols.old) (length (table_of symbols.old).definitions)
+    requires new { definition_index (table_of symbols.old) (key_of key) ≡ None }
+    requires form { KeepsFinal (table_of symbols.old) (length (table_of symbols.old).definitions)
         (definition_seen (key_of key) definition) definition }
-    ensures { OnOk result (definition_index (table_of symbols.old) (key_of key.entry) ≡ None →
-        table_of symbols.new ≡ with_definition (table_of symbols.old)
+    ensures { OnOk result (table_of symbols.new ≡ with_definition (table_of symbols.old)
         (definition_seen (key_of key.entry) definition)) }
 {
     let keeps = keeps_meanings(symbols, key);

@@ -1,27 +1,23 @@
 use Rattle.std.proofs.Common.{Some, map, position, sym, ap, subst, ◌∙◌}
 use Rattle.std.specs.Str.{bytes_eq}
-use Rattle.ast65.proofs.Lists.{position_mapped}
 use Rattle.symbols65.specs.Tables.{IsPrefixOf}
 use Rattle.symbols65.proofs.Words.{insert_name, number_mapped, one_begins, one_found, with_one}
 use Rattle.symbols65.proofs.table.intern.Goals as goal
 
-pub returns-in-Some-clause-number : goal.returns-in-Some-clause-number
-returns-in-Some-clause-number c = position_mapped (bytes_eq c.args.name.now) (λ k. k.items) c.args.words.now.keys ∙ sym c.get_index_of.ensures.index ∙ c.in-Some.is
-
-pub returns-in_ok-word-in-None-clause-more : goal.returns-in_ok-word-in-None-clause-more
-returns-in_ok-word-in-None-clause-more c =
+pub returns-in_ok-word-clause-more : goal.returns-in_ok-word-clause-more
+returns-in_ok-word-clause-more c =
     let ws = map (λ k. k.items) c.args.words.now.keys in
-    let key = c.in_ok-from_slice-in-None.field-0 in
-    subst (IsPrefixOf ws) (sym (ap (map (λ k. k.items)) c.in_ok-word-in-None.ensures.keys ∙ insert_name (λ k. k.items) c.args.words.now.keys key)) (one_begins ws key.items)
+    let key = c.in_ok-from_slice.field-0 in
+    subst (IsPrefixOf ws) (sym (ap (map (λ k. k.items)) c.in_ok-word.ensures.keys ∙ insert_name (λ k. k.items) c.args.words.now.keys key)) (one_begins ws key.items)
 
-pub returns-in_ok-word-in-None-clause-number : goal.returns-in_ok-word-in-None-clause-number
-returns-in_ok-word-in-None-clause-number c =
+pub returns-in_ok-word-clause-number : goal.returns-in_ok-word-clause-number
+returns-in_ok-word-clause-number c =
     let keys = c.args.words.now.keys in
     let ws = map (λ k. k.items) keys in
-    let key = c.in_ok-from_slice-in-None.field-0 in
-    let same = c.in_ok-from_slice-in-None.ensures.ok in
-    let now = ap (map (λ k. k.items)) c.in_ok-word-in-None.ensures.keys ∙ insert_name (λ k. k.items) keys key in
+    let key = c.in_ok-from_slice.field-0 in
+    let same = c.in_ok-from_slice.ensures.ok in
+    let now = ap (map (λ k. k.items)) c.in_ok-word.ensures.keys ∙ insert_name (λ k. k.items) keys key in
     ap (λ l. position (bytes_eq c.args.name.now) l) now
     ∙ ap (λ n. position (bytes_eq n) (with_one ws key.items)) (sym same)
     ∙ one_found ws key.items
-    ∙ ap Some (number_mapped (λ k. k.items) key.items keys ∙ sym c.in_ok-word-in-None.ensures.index)
+    ∙ ap Some (number_mapped (λ k. k.items) key.items keys ∙ sym c.in_ok-word.ensures.index)

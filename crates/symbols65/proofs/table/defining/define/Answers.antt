@@ -11,6 +11,14 @@ use Rattle.symbols65.proofs.table.defining.define.Goals as goal
 pub put-requires-clause-number : goal.put-requires-clause-number
 put-requires-clause-number c = (entry_is (words_of c.entry.new.symbols) (key_of c.args.key) c.in_ok-entry.entry c.in_ok-entry.ensures.entry).0
 
+pub put-requires-clause-new : goal.put-requires-clause-new
+put-requires-clause-new c =
+    let t = c.entry.new.symbols in
+    ap (place_of_entry t.definitions.entries) (sym c.in_ok-entry.ensures.entry)
+    ∙ finds (words_of t) t.definitions.entries (key_of c.args.key) t.entries_numbered
+    ∙ ap (λ y. definition_index y (key_of c.args.key)) c.in_ok-entry.ensures.table
+    ∙ c.requires.new
+
 pub put-requires-clause-form : goal.put-requires-clause-form
 put-requires-clause-form c =
     let t = c.entry.new.symbols in
@@ -18,7 +26,7 @@ put-requires-clause-form c =
     let long : length (table_of t).definitions ≡ length t.definitions.entries = map_length (definition_in (words_of t)) t.definitions.entries in
     subst (λ (k : Key). KeepsFinal (table_of t) (length t.definitions.entries) (definition_seen k c.args.definition) c.args.definition) (sym key)
     (subst (λ (n : ℕ). KeepsFinal (table_of t) n (definition_seen (key_of c.args.key) c.args.definition) c.args.definition) long
-    (subst (λ (y : Symbols). KeepsFinal y (length y.definitions) (definition_seen (key_of c.args.key) c.args.definition) c.args.definition) (sym c.in_ok-entry.ensures.table) c.requires))
+    (subst (λ (y : Symbols). KeepsFinal y (length y.definitions) (definition_seen (key_of c.args.key) c.args.definition) c.args.definition) (sym c.in_ok-entry.ensures.table) c.requires.form))
 
 pub put-requires-clause-meanings : goal.put-requires-clause-meanings
 put-requires-clause-meanings c = λ yes.
@@ -31,12 +39,8 @@ pub returns : goal.returns
 returns c =
     let t = c.entry.new.symbols in
     let k = c.in_ok-entry.entry in
-    let at = c.in_ok-entry.ensures.entry in
-    let key = (entry_is (words_of t) (key_of c.args.key) k at).1 in
-    on_ok c.put.result (λ h once.
-    h (ap (place_of_entry t.definitions.entries) (sym at)
-    ∙ finds (words_of t) t.definitions.entries (key_of c.args.key) t.entries_numbered
-    ∙ ap (λ y. definition_index y (key_of c.args.key)) c.in_ok-entry.ensures.table
-    ∙ once)
+    let key = (entry_is (words_of t) (key_of c.args.key) k c.in_ok-entry.ensures.entry).1 in
+    on_ok c.put.result (λ h.
+    h
     ∙ ap (λ y. with_definition y (definition_in (words_of t) (k, c.args.definition))) c.in_ok-entry.ensures.table
     ∙ ap (λ q. with_definition (table_of c.args.symbols.now) (definition_seen q c.args.definition)) key) c.put.ensures

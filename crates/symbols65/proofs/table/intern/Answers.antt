@@ -4,14 +4,14 @@ use Rattle.symbols65.specs.Tables.{IsPrefixOf}
 use Rattle.symbols65.proofs.Words.{insert_name, number_mapped, one_begins, one_found, with_one}
 use Rattle.symbols65.proofs.table.intern.Goals as goal
 
-pub returns-in_ok-word-clause-more : goal.returns-in_ok-word-clause-more
-returns-in_ok-word-clause-more c =
+pub returns-clause-more : goal.returns-clause-more
+returns-clause-more c =
     let ws = map (λ k. k.items) c.args.words.now.keys in
     let key = c.in_ok-from_slice.field-0 in
     subst (IsPrefixOf ws) (sym (ap (map (λ k. k.items)) c.in_ok-word.ensures.keys ∙ insert_name (λ k. k.items) c.args.words.now.keys key)) (one_begins ws key.items)
 
-pub returns-in_ok-word-clause-number : goal.returns-in_ok-word-clause-number
-returns-in_ok-word-clause-number c =
+pub returns-clause-number : goal.returns-clause-number
+returns-clause-number c =
     let keys = c.args.words.now.keys in
     let ws = map (λ k. k.items) keys in
     let key = c.in_ok-from_slice.field-0 in

@@ -27,8 +27,8 @@ invariant_of-symbols c =
       searches_past = kept.1;
     }
 
-pub invariant_of-symbols-in-None : goal.invariant_of-symbols-in-None
-invariant_of-symbols-in-None c =
+pub invariant_of-symbols-2 : goal.invariant_of-symbols-2
+invariant_of-symbols-2 c =
     let t = c.args.symbols.now in
     let ws = words_of t in
     let es = t.definitions.entries in
@@ -53,7 +53,7 @@ invariant_of-symbols-in-None c =
     let searches : Searches c.push.new.definitions.entries = after c.push.result (λ e. subst Searches (sym e) longer) (λ e. subst Searches (sym e) same) pushed unchanged in
     record {
       entries_numbered = after c.push.result (λ e. subst Numbered (sym e) (numbered_pushed word_of ws es c.args.entry c.args.definition t.entries_numbered c.requires.number)) (λ e. subst Numbered (sym e) t.entries_numbered) pushed unchanged;
-      inner_known = after c.push.result (λ e. subst Inner (sym e) (inner_pushed es c.args.entry c.args.definition c.note.new.inner.items kept c.in_ok-note-in-None.ensures.noted)) (λ e. subst Inner (sym e) kept) pushed unchanged;
+      inner_known = after c.push.result (λ e. subst Inner (sym e) (inner_pushed es c.args.entry c.args.definition c.note.new.inner.items kept c.in_ok-note.ensures.noted)) (λ e. subst Inner (sym e) kept) pushed unchanged;
       counts_fit = after c.push.result (λ e. subst Counted (sym e) (counted_pushed es c.args.entry c.args.definition t.counts_fit c.requires.counted)) (λ e. subst Counted (sym e) t.counts_fit) pushed unchanged;
       openings_numbered = t.openings_numbered;
       openings_distinct = t.openings_distinct;

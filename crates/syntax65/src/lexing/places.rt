@@ -247,13 +247,25 @@ pub fn token_at(first: bool, here: &[u8]) -> Result<(TokenKind, usize), LexFault
 {
     match class_of(here[0]) {
         Class::Letter => word_at(first, here),
-        Class::At => name_at(TokenKind::CheapName, here),
-        Class::Dot => name_at(TokenKind::Directive, here),
-        Class::Digit | Class::Radix => number_at(here),
-        Class::Apostrophe => character_at(here),
-        Class::Quote => text_at(here),
-        Class::Colon => colon_at(here),
+        Class::At => by_value(name_at(TokenKind::CheapName, here)),
+        Class::Dot => by_value(name_at(TokenKind::Directive, here)),
+        Class::Digit | Class::Radix => by_value(number_at(here)),
+        Class::Apostrophe => by_value(character_at(here)),
+        Class::Quote => by_value(text_at(here)),
+        Class::Colon => by_value(colon_at(here)),
         Class::Semicolon | Class::Blank | Class::Other => mark_at(here),
+    }
+}
+
+/// Copies the result of a call that isn't inlined, part by part. Else the results of all calls of
+/// `token_at` would be in memory, and not in registers.
+#[inline(always)]
+fn by_value(read: Result<(TokenKind, usize), LexFault>) -> Result<(TokenKind, usize), LexFault>
+    ensures { result ≡ read }
+{
+    match read {
+        Ok((kind, len)) => Ok((kind, len)),
+        Err(fault) => Err(fault),
     }
 }
 

@@ -55,6 +55,9 @@ pub enum SectionEntry {
     FixupEntry(Box<Fixup>),
 }
 
+/// The capacity of the bytes after an entry. Most have fewer, and then they never move.
+const FEW_BYTES: usize = 24;
+
 /// Entries in source order. The last ones, bytes and room after them in one section, may still
 /// grow.
 #[derive(Drop)]
@@ -107,7 +110,8 @@ impl Entries {
     {
         if self.bytes.len() > 0 {
             let segment = self.segment;
-            let bytes = mem::replace(&mut self.bytes, ListVec::new(self.alloc));
+            let following = ListVec::from_vec(Vec::with_capacity(self.alloc, FEW_BYTES)?);
+            let bytes = mem::replace(&mut self.bytes, following);
             self.add(SectionEntry::Bytes { segment, bytes })?;
         }
         Ok(())

@@ -139,6 +139,9 @@ def not_refused(rt, crate, edits, jobs):
     with tempfile.TemporaryDirectory(prefix="mutants-") as kept:
         if not is_proved(rt, crate, edits, jobs, kept):
             return [f"{crate.name}: the functions that its mutants change are not proved as they are, so none was tried"]
+        before = try_mutants.listing(kept)
         refused = try_mutants.refused(rt, crate, edits, kept, jobs)
+        if try_mutants.listing(kept) != before:
+            return [f"{crate.name}: what the proof of the functions that its mutants change kept was changed, so none counts as refused"]
     kit.say(f"{crate.name}: {len(refused)} of {len(edits)} mutants refused ({kit.minutes(time.time() - begun)})")
     return [f"{name_of(crate, it)}: NOT REFUSED: the crate is still proved with this mutant" for it in edits if it not in refused]

@@ -20,7 +20,7 @@ PROGRAM = f"{kit.ROOT}/crates/bin65/out/bin65"
 SUM = f"{PROGRAM}.sum"
 # A proof is three or four processes of 1 to 2 GB.
 MEMORY = 5_000_000_000
-# A crate that isn't in the longest chain is proved at a lower priority: one step for so many bytes of code by which its chain is shorter.
+# A crate outside the longest chain has a lower priority: one step of niceness for each SLACK bytes of code by which its own chain is shorter.
 SLACK = 30_000
 
 
@@ -80,7 +80,8 @@ def prove(rt, crate, jobs, priority):
 
 
 def chains(rt, crates):
-    """Returns for each crate, lowest first, how many bytes of code the longest chain has that leads to it, and the longest that begins with it."""
+    """Returns for each of these crates, which are sorted lowest first, how many bytes of code are in the longest chain below it, and in the longest
+    chain that begins with it."""
     sizes = {it: sum(os.path.getsize(file) for file in rt.rtlib.files_of(it.folder) if file.endswith(".rt")) for it in crates}
     before, after = {}, {}
     for it in crates:
@@ -105,10 +106,10 @@ class Proofs:
         self.left, self.running, self.took, self.why = [it for it in crates if it not in proved], {}, {}, {}
         self.begun, self.ended = time.time(), threading.Event()
 
-    def start(self, crate):
-        """Starts a proof in a thread of its own, of two processes, or as many as there are processors if no other proof runs. A crate of the
-        longest chain goes before the others."""
-        jobs = min(self.processors, 2) if self.running else self.processors
+    def start(self, crate, is_alone):
+        """Starts a proof in a thread of its own, of two processes, or of up to four if no other proof runs beside it. A crate of the longest chain
+        has the highest priority."""
+        jobs = min(self.processors, 4 if is_alone else 2)
         priority = min(5, (max(self.through.values()) - self.through[crate]) // SLACK)
         begun, done = time.time(), Future()
 
@@ -136,9 +137,10 @@ class Proofs:
                 self.left = [it for it in self.left if it not in same]
                 self.proved.update(same)
                 continue
+            is_alone = len(ready) == 1 and not self.running
             for crate in ready:
                 if not self.running or len(self.running) < self.processors and self.rt.free() > MEMORY:
-                    self.start(crate)
+                    self.start(crate, is_alone)
             for done in wait([*self.running], timeout=20, return_when=FIRST_COMPLETED).done:
                 self.end(done)
         return not self.why

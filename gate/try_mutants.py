@@ -46,7 +46,7 @@ def kept_by(crate):
 
 
 def link(source, to):
-    """Links a file, or copies it to another file system."""
+    """Links a file, or copies it if it can't be linked."""
     try:
         os.link(source, to)
     except OSError:
@@ -55,14 +55,14 @@ def link(source, to):
 
 def over(kept, call):
     """Calls `call` with a copy of the kept proofs, and returns its result. The copy consists of links: a check replaces such files and never changes
-    one, which `try_all` verifies at the end."""
+    one, which those who call this verify by `listing`."""
     with tempfile.TemporaryDirectory(prefix="mutant-") as room:
         shutil.copytree(kept, f"{room}/kept", copy_function=link)
         return call(f"{room}/kept")
 
 
 def listing(kept):
-    """Returns the size, the time and the number of each file of kept proofs. Empty files are left out: their times tell when proofs were last used."""
+    """Returns the size, time and inode of each file of kept proofs. Empty files are left out: their times only tell when proofs were last used."""
     found = {}
     for at, _, names in os.walk(kept):
         for file in (os.path.join(at, it) for it in names):
@@ -88,26 +88,35 @@ class Earlier:
         self.version = subprocess.run(["rt", "version"], capture_output=True, check=True).stdout
 
     def sum(self, crate):
-        """Returns a checksum of the files of a crate and of those below it."""
+        """Returns a checksum of the files of a crate and of those below it, of the toolchain, and of the code that judges."""
         crates = [it for it in (*crate.below(), crate) if it.folder.startswith(kit.ROOT)]
-        return prove.sum_of([f for it in crates for f in sorted(self.rt.rtlib.files_of(it.folder))], self.version)
+        judge = [f"{kit.ROOT}/{it}" for it in ("crates.txt", "gate/batches.py", "gate/try_mutants.py")]
+        return prove.sum_of([*judge, *(f for it in crates for f in sorted(self.rt.rtlib.files_of(it.folder)))], self.version)
 
-    def file(self, crate_sum, edit):
-        with open(edit, "rb") as it:
-            return f"{CACHE}/{hashlib.sha256(crate_sum.encode() + it.read()).hexdigest()}"
+    def files(self, crate, edits):
+        """Returns for each of a crate's edits the file that tells whether it was refused."""
+        begun, found = self.sum(crate).encode(), {}
+        for edit in edits:
+            with open(edit, "rb") as it:
+                found[edit] = f"{CACHE}/{hashlib.sha256(begun + it.read()).hexdigest()}"
+        return found
 
     def told(self, crate, edits):
         """Returns those of a crate's edits that an earlier run found refused."""
-        begun = self.sum(crate)
-        return {it for it in edits if not self.anew and os.path.isfile(self.file(begun, it))}
+        return {edit for edit, file in self.files(crate, edits).items() if not self.anew and os.path.isfile(file)}
 
-    def keep(self, begun, crate, edits):
-        """Keeps that these edits are refused, unless a file that they depend on changed since the run began."""
-        if edits and self.sum(crate) == begun:
-            os.makedirs(CACHE, exist_ok=True)
-            for it in edits:
-                with open(self.file(begun, it), "w", encoding="utf-8") as file:
-                    file.write(f"{crate.name}/{os.path.basename(it)}\n")
+    def keep(self, crate, files, edits):
+        """Keeps that these edits are refused, unless a file that they depend on changed since `files` were asked for."""
+        now = self.files(crate, filter(os.path.isfile, edits))
+        os.makedirs(CACHE, exist_ok=True)
+        for edit, file in now.items():
+            if file == files[edit]:
+                with open(file, "w", encoding="utf-8") as it:
+                    it.write(f"{crate.name}/{os.path.basename(edit)}\n")
+
+    def forget(self, files):
+        for it in filter(os.path.isfile, files):
+            os.remove(it)
 
 
 def said_of_modules(rt, crate, edit, kept):
@@ -174,13 +183,14 @@ def try_all(rt, crates, tries, earlier):
     at_once = max(1, min(len(crates), lanes // 2))
 
     def of(crate):
-        begun, kept = earlier.sum(crate), kept_by(crate) if is_sound(rt, crate) else None
-        before, edits = listing(kept_by(crate)), [edit for it, edit in tries if it is crate]
-        found = refused(rt, crate, edits, kept, lanes // at_once, lambda edits: earlier.keep(begun, crate, edits))
-        if listing(kept_by(crate)) == before:
-            return found
-        kit.say(f"{crate.name}: what its proof kept was changed meanwhile, so its tries count for nothing: try them with --anew")
-        return set()
+        edits, kept = [edit for it, edit in tries if it is crate], kept_by(crate) if is_sound(rt, crate) else None
+        before, files = listing(kept_by(crate)), earlier.files(crate, edits)
+        found = refused(rt, crate, edits, kept, lanes // at_once, lambda edits: earlier.keep(crate, files, edits))
+        if listing(kept_by(crate)) != before:
+            kit.say(f"{crate.name}: what its proof kept was changed meanwhile, so its tries count for nothing")
+            found = set()
+        earlier.forget(file for edit, file in files.items() if edit not in found)
+        return found
 
     with ThreadPoolExecutor(at_once) as pool:
         # (the largest first, so that it doesn't run alone at the end)

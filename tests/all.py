@@ -10,6 +10,7 @@ import os
 import re
 import subprocess
 import sys
+import threading
 import time
 from concurrent.futures import ThreadPoolExecutor
 
@@ -22,7 +23,7 @@ FAILURE = re.compile(r"FAILED|failed:|NOT |not proved|Error|error|: expected", r
 # What `rt ci` prints once the program is built: the tests' proofs take minutes more.
 BUILT = re.compile(r"\S+ bin65 proved")
 
-# They need no program, and take a minute together.
+# These need no program and take a minute together.
 TEXTS = [
     ("texts and layout", ["python3", "gate/static_checks.py"]),
     ("what the code keeps", ["python3", "tests/check_streaming.py"]),
@@ -66,6 +67,16 @@ class Kept:
         self.out.flush()
 
 
+PRINTING = threading.Lock()
+
+
+def show(text):
+    """Prints lines as a whole: parts end beside each other."""
+    with PRINTING:
+        sys.stdout.write(f"{text}\n")
+        sys.stdout.flush()
+
+
 class Part:
     """A part of the gate: what it printed, how long it took, and how much of it passed."""
 
@@ -73,15 +84,15 @@ class Part:
         self.name, self.words, self.lines, self.seconds = name, words, [], 0.0
         self.passed, self.failed = 0, 1
 
-    def run(self, show=None):
-        """Runs the part, shows each line, and counts by its last line; one that says no counts passes or fails as a whole."""
+    def run(self, each=None):
+        """Runs the part, hands each line to `each`, if given, and counts by the last line; a part that says no counts passes or fails as a whole."""
         begun = time.monotonic()
         how = {"cwd": ROOT, "stdin": subprocess.DEVNULL, "stdout": subprocess.PIPE, "stderr": subprocess.STDOUT, "errors": "replace"}
         with subprocess.Popen(self.words, **how) as ran:
             for line in map(str.rstrip, ran.stdout):
                 self.lines.append(line)
-                if show and not COUNTS.fullmatch(line):
-                    show(line)
+                if each and not COUNTS.fullmatch(line):
+                    each(line)
         self.seconds = time.monotonic() - begun
         counts = [it for it in map(COUNTS.fullmatch, self.lines) if it]
         if counts:
@@ -96,9 +107,8 @@ class Part:
     def told(self):
         """Prints that it ended, with what it printed if it failed."""
         minutes = f"{int(self.seconds) // 60}:{int(self.seconds) % 60:02d}"
-        print(f"{minutes:>7}  {self.name}: {self.passed} passed, {self.failed} failed", flush=True)
-        if self.failed:
-            print("\n".join(f"    {it}" for it in self.lines), flush=True)
+        lines = [f"    {it}" for it in self.lines] if self.failed else []
+        show("\n".join([f"{minutes:>7}  {self.name}: {self.passed} passed, {self.failed} failed", *lines]))
 
     def why(self):
         """Returns the first lines that say why it failed, or else its last ones."""
@@ -115,7 +125,15 @@ class Beside:
     def start(self, parts):
         for it in parts:
             self.parts.append(it)
-            self.pool.submit(it.run).add_done_callback(lambda done: done.result().told())
+            self.pool.submit(self.end, it)
+
+    def end(self, part):
+        """Runs a part and tells how it ended. One that can't be run has failed."""
+        try:
+            part.run()
+        except OSError as error:
+            part.lines.append(f"FAILED: {error}")
+        part.told()
 
     def start_scripts(self):
         """Starts the scripts that run the program, if it is built and they haven't been started."""
@@ -123,9 +141,9 @@ class Beside:
             self.start([*map(script, SCRIPTS), Part("program", ["bash", "tests/program.sh", PROGRAM])])
             self.start([Part(f"example/{it}", ["sh", f"example/{it}.sh", PROGRAM]) for it in EXAMPLES])
 
-    def show(self, line):
+    def read(self, line):
         """Prints a line of the proofs, and starts the scripts if it says that the program is built."""
-        print(f"  {line}", flush=True)
+        show(f"  {line}")
         if BUILT.fullmatch(line):
             self.start_scripts()
 
@@ -142,7 +160,7 @@ def main():
     begun, processors = time.monotonic(), len(os.sched_getaffinity(0))
     beside = Beside(int(os.environ.get("ALL_LANES", 0)) or max(1, processors // 2))
     beside.start([Part(*it) for it in TEXTS])
-    proofs = Part("rt ci and mutants", ["python3", "gate/ci.py"]).run(beside.show)
+    proofs = Part("rt ci and mutants", ["python3", "gate/ci.py"]).run(beside.read)
     proofs.lines = [it for it in proofs.lines if it.startswith("FAILED")] or proofs.lines[-20:]
     proofs.told()
     is_built = os.path.isfile(PROGRAM)

@@ -23,6 +23,7 @@ import kit  # noqa: E402
 import mutants  # noqa: E402
 import reasons  # noqa: E402
 import results  # noqa: E402
+import try_mutants  # noqa: E402
 import wording  # noqa: E402
 
 SOURCE = """//! Counts.
@@ -220,6 +221,48 @@ def listed():
     return {"each script is run": counting <= run and len(counting) > 30}
 
 
+class Results(try_mutants.Earlier):
+    """The results of earlier runs, with a checksum that the test sets."""
+
+    def __init__(self, anew=False):
+        self.anew, self.now = anew, "files"
+
+    def sum(self, crate):
+        return self.now
+
+
+def earlier():
+    """Checks when a mutant counts as refused by an earlier run."""
+    was, checks = try_mutants.CACHE, {}
+    with tempfile.TemporaryDirectory() as room:
+        try_mutants.CACHE = f"{room}/kept"
+        crate, kept = Crate(f"{room}/made"), Results()
+        one, two = crate.edit("adds_two"), crate.edit("once")
+        files = kept.files(crate, [one, two])
+        kept.keep(crate, files, [one])
+        checks["what is refused is kept"] = kept.told(crate, [one, two]) == {one}
+        checks["all are tried anew"] = not Results(anew=True).told(crate, [one])
+        kept.now = "other files"
+        kept.keep(crate, files, [two])
+        checks["other files"] = not kept.told(crate, [one, two])
+        kept.now = "files"
+        checks["a file that changed meanwhile"] = kept.told(crate, [one, two]) == {one}
+        with open(one, "a", encoding="utf-8") as it:
+            it.write("# another\n")
+        checks["another edit"] = not kept.told(crate, [one])
+        kept.keep(crate, files, [two])
+        kept.forget(files.values())
+        checks["forgotten"] = not os.listdir(try_mutants.CACHE)
+        before = try_mutants.listing(crate.folder)
+        copy = try_mutants.over(crate.folder, lambda folder: sorted(os.listdir(folder)))
+        checks["a copy of kept proofs"] = copy == sorted(os.listdir(crate.folder)) and try_mutants.listing(crate.folder) == before
+        with open(f"{crate.folder}/src/counts.rt", "a", encoding="utf-8") as it:
+            it.write("\n")
+        checks["kept proofs that change"] = try_mutants.listing(crate.folder) != before
+    try_mutants.CACHE = was
+    return checks
+
+
 def side():
     """Checks that the scripts start once, when the program is built."""
     started, was = [], (gate.PROGRAM, gate.TEXTS, gate.SCRIPTS, gate.EXAMPLES)
@@ -229,14 +272,14 @@ def side():
             gate.PROGRAM = f"{room}/program"
             parts = gate.Beside(1)
             parts.start = lambda more: started.extend(it.name for it in more) or parts.parts.extend(more)
-            parts.show("10:00:00 bin65 proved")
+            parts.read("10:00:00 bin65 proved")
             before = [*started]
             open(gate.PROGRAM, "w", encoding="utf-8").close()
             for line in ("10:00:00 asm65 proved", "10:00:01 bin65: its tests are proved"):
-                parts.show(line)
+                parts.read(line)
             other = [*started]
             for _ in range(2):
-                parts.show("10:00:02 bin65 proved")
+                parts.read("10:00:02 bin65 proved")
     finally:
         gate.PROGRAM, gate.TEXTS, gate.SCRIPTS, gate.EXAMPLES = was
     return {"no script without a program": before == other == [], "scripts start once": started == ["one", "program", "example/two"]}
@@ -305,7 +348,7 @@ def names():
 
 
 def main():
-    checks = {**together(kit.load()), **turns(), **failures(), **listed(), **side(), **beside(), **words(), **names()}
+    checks = {**together(kit.load()), **turns(), **failures(), **listed(), **earlier(), **side(), **beside(), **words(), **names()}
     return results.report(checks)
 
 

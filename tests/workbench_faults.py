@@ -14,6 +14,7 @@ import tempfile
 import time
 
 import pages
+import results
 
 sys.path.insert(0, f"{pages.ROOT}/workbench")
 
@@ -105,9 +106,9 @@ def all_faults(tries):
         wanted = [it for it in wanted if it]
         tries.check("lines that are refused", len(wanted) == len(lines), len(wanted))
         pages.put(f"{folder}/a.s", "\n".join(lines).replace("|", "\n") + "\n")
-        begun = time.monotonic()
+        begun = results.processor_seconds()
         ran = tries.work65("faults", "a.s", folder=folder)
-        took = time.monotonic() - begun
+        took = results.processor_seconds() - begun
         print(f"faults: {len(lines)} faults in {took:.1f} seconds")
         tries.check("all faults", ran.stdout == "".join(wanted) and ran.returncode == 1, f"{ran.stdout}{ran.stderr}    wanted\n{''.join(wanted)}")
         tries.check("the time of faults", took < 4, took)
@@ -188,9 +189,9 @@ def many(tries):
         wanted.add(f"a.s:{sum(it.count(chr(10)) + 1 for it in lines)}: Error: {said}")
     with tempfile.TemporaryDirectory() as folder:
         pages.put(f"{folder}/a.s", "\n".join(lines) + "\n")
-        begun = time.monotonic()
+        begun = results.processor_seconds()
         ran = tries.work65("faults", "a.s", folder=folder)
-        took = time.monotonic() - begun
+        took = results.processor_seconds() - begun
         found = [re.sub(r" \(follows from .*\)", "", it) for it in ran.stdout.splitlines()]
         print(f"faults: {len(found)} faults in {sum(it.count(chr(10)) + 1 for it in lines)} lines in {took:.1f} seconds")
         tries.check("a thousand faults", wanted == set(found) and not ran.stderr, f"{sorted(wanted ^ set(found))[:9]} {ran.stderr}")

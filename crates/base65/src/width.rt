@@ -1,6 +1,6 @@
 //! How values are stored.
 
-/// How a value is stored.
+/// The way in which a value is stored.
 #[derive(Clone, Copy)]
 pub enum Width {
     /// One byte, 0 to 255.

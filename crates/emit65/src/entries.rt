@@ -55,7 +55,8 @@ pub enum SectionEntry {
     FixupEntry(Box<Fixup>),
 }
 
-/// The capacity of the bytes after an entry. Most have fewer, and then they never move.
+/// The capacity with which the bytes after an entry begin. Most entries are followed by fewer bytes,
+/// so the list doesn't grow.
 const FEW_BYTES: usize = 24;
 
 /// Entries in source order. The last ones, bytes and room after them in one section, may still

@@ -25,7 +25,7 @@ pub enum Item {
         /// The power of two to a multiple of which the section is placed.
         align: u8,
     },
-    /// A fragment of a section; of a literal only the bytes of this record.
+    /// A fragment of a section. A literal has only the bytes of this record.
     Part {
         /// The section's index.
         section: usize,

@@ -1,5 +1,5 @@
-//! Tests of whole commands over files in memory, with stores that return few bytes or fail, and with
-//! streams that stop. All others are cases for the real program.
+//! Tests of whole commands over files in memory, some with stores that return few bytes or fail, or
+//! with streams that stop. All other tests of commands are cases for the real program.
 #![tactic(auto)]
 
 #[cfg(test)]

@@ -107,7 +107,7 @@ fn keeps_meanings(symbols: &Symbols, key: Key<'_>) -> bool
     }
 }
 
-/// Adds a definition whose key has none. The entries of searches are kept if operands keep their meanings.
+/// Adds the definition of a key that has none. The entries of searches are kept if operands keep their meanings.
 fn put(
     symbols: &mut Symbols,
     entry: InternedKey,
@@ -130,7 +130,7 @@ fn put(
     push(&mut symbols.definitions, entry, definition)
 }
 
-/// Adds a definition, whose key must have none.
+/// Adds a definition. Its key must not have one.
 pub fn define(
     alloc: Global,
     symbols: &mut Symbols,

@@ -257,8 +257,8 @@ pub fn token_at(first: bool, here: &[u8]) -> Result<(TokenKind, usize), LexFault
     }
 }
 
-/// Copies the result of a call that isn't inlined, part by part. Else the results of all calls of
-/// `token_at` would be in memory, and not in registers.
+/// Copies a result part by part. Without the copy, the results of the calls in `token_at` that
+/// aren't inlined would be in memory and not in registers.
 #[inline(always)]
 fn by_value(read: Result<(TokenKind, usize), LexFault>) -> Result<(TokenKind, usize), LexFault>
     ensures { result ≡ read }

@@ -2,8 +2,8 @@
 """Runs `rt ci` and, on the processors that it leaves idle, tries mutants of the crates that it has proved (mutants.py).
 
 usage: ci.py    RT_JOBS is how many checks `rt ci` runs at once, each with one process (default: one for each processor, as far as memory holds).
-Each minute it prints what is running; at the end how long each part took and, if something failed, the crate, the function or file, and
-the first thing that the prover said. The last line is 'N passed, M failed'."""
+Each minute it prints what is running; at the end how long each part took. If something fails, it prints at once and at the end the crate,
+the function or file, and the first thing that the prover said. The last line is 'N passed, M failed'."""
 import os
 import re
 import subprocess
@@ -159,9 +159,11 @@ def main():
             if counted:
                 passed, failed = int(counted[1]), int(counted[2])
                 continue
-            name = reader.read(line)
+            known, name = len(reader.why), reader.read(line)
             if line.startswith("rt: "):
                 kit.say(line.removeprefix("rt: "))
+            for it in reader.why[known:]:
+                kit.say(f"why: {it[:600]}")
             if name:
                 starts[name] = time.time() - begun
                 if not waits:

@@ -220,7 +220,10 @@ def main(words):
     crates = [it for it in crates if any(it is crate for crate, _ in tries)]
     if told:
         kit.say(f"{len(told)} of {len(every)} mutants were refused in earlier runs on this machine, and their code and proofs have not changed")
-    if crates and prove.main([it.name for it in crates]):
+    # (of proved crates they can be tried while others are being proved)
+    proved = {it.name for it in prove.built(kit.crates(rt))}
+    unproved = [it.name for it in crates if it.name not in proved]
+    if unproved and prove.main(unproved):
         return 1
     found = try_all(rt, crates, tries, earlier) | {edit: True for edit in told}
     wrong = [edit for _, edit in every if not found[edit]]

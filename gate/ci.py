@@ -151,7 +151,7 @@ def main():
     beside, reader, starts, passed, failed = Beside(rt, crates), Reader(), {}, 0, 1
     kit.say("mutants during the proofs: {} of every gate, {} of changed functions, {} in rotation".format(*beside.kinds))
     threading.Thread(target=tell, args=(begun, ended), daemon=True).start()
-    # (by its own estimate of memory `rt ci` would start small crates before the next one of the longest chain)
+    # By its own estimate of memory `rt ci` would prove small crates before the next one of the longest chain.
     environment = {"RT_JOBS": str(kit.lanes(rt)), **os.environ}
     with subprocess.Popen(["rt", "ci"], cwd=kit.ROOT, env=environment, stdout=subprocess.PIPE, stderr=subprocess.STDOUT, errors="replace") as ran:
         for line in map(str.rstrip, ran.stdout):

@@ -66,9 +66,9 @@ def listing(kept):
     found = {}
     for at, _, names in os.walk(kept):
         for file in (os.path.join(at, it) for it in names):
-            told = os.stat(file)
-            if told.st_size:
-                found[file] = told.st_size, told.st_mtime_ns, told.st_ino
+            status = os.stat(file)
+            if status.st_size:
+                found[file] = status.st_size, status.st_mtime_ns, status.st_ino
     return found
 
 
@@ -94,19 +94,19 @@ class Earlier:
         return prove.sum_of([*judge, *(f for it in crates for f in sorted(self.rt.rtlib.files_of(it.folder)))], self.version)
 
     def files(self, crate, edits):
-        """Returns for each of a crate's edits the file that tells whether it was refused."""
+        """Returns for each of a crate's edits the file that exists if an earlier run found the edit refused."""
         begun, found = self.sum(crate).encode(), {}
         for edit in edits:
             with open(edit, "rb") as it:
                 found[edit] = f"{CACHE}/{hashlib.sha256(begun + it.read()).hexdigest()}"
         return found
 
-    def told(self, crate, edits):
+    def refused(self, crate, edits):
         """Returns those of a crate's edits that an earlier run found refused."""
         return {edit for edit, file in self.files(crate, edits).items() if not self.anew and os.path.isfile(file)}
 
     def keep(self, crate, files, edits):
-        """Keeps that these edits are refused, unless a file that they depend on changed since `files` were asked for."""
+        """Records that these edits are refused, unless a file that they depend on has changed since `files` were computed."""
         now = self.files(crate, filter(os.path.isfile, edits))
         os.makedirs(CACHE, exist_ok=True)
         for edit, file in now.items():
@@ -115,6 +115,7 @@ class Earlier:
                     it.write(f"{crate.name}/{os.path.basename(edit)}\n")
 
     def forget(self, files):
+        """Removes the records in these files."""
         for it in filter(os.path.isfile, files):
             os.remove(it)
 
@@ -215,12 +216,12 @@ def main(words):
         sys.exit("there is no mutant")
     earlier = Earlier(rt, anew)
     every = [(crate, edit) for crate in crates for edit in edits_of(crate, words, folders)]
-    told = set().union(*(earlier.told(crate, [edit for it, edit in every if it is crate]) for crate in crates))
+    told = set().union(*(earlier.refused(crate, [edit for it, edit in every if it is crate]) for crate in crates))
     tries = [it for it in every if it[1] not in told]
     crates = [it for it in crates if any(it is crate for crate, _ in tries)]
     if told:
         kit.say(f"{len(told)} of {len(every)} mutants were refused in earlier runs on this machine, and their code and proofs have not changed")
-    # (of proved crates they can be tried while others are being proved)
+    # Mutants of proved crates can be tried while a build proves others.
     proved = {it.name for it in prove.built(kit.crates(rt))}
     unproved = [it.name for it in crates if it.name not in proved]
     if unproved and prove.main(unproved):

@@ -71,7 +71,7 @@ PRINTING = threading.Lock()
 
 
 def show(text):
-    """Prints lines as a whole: parts end beside each other."""
+    """Prints lines in one piece, since parts that run in parallel print, too."""
     with PRINTING:
         sys.stdout.write(f"{text}\n")
         sys.stdout.flush()
@@ -128,7 +128,7 @@ class Beside:
             self.pool.submit(self.end, it)
 
     def end(self, part):
-        """Runs a part and tells how it ended. One that can't be run has failed."""
+        """Runs a part and prints how it ended. A part that can't be run has failed."""
         try:
             part.run()
         except OSError as error:

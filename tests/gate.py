@@ -240,16 +240,16 @@ def earlier():
         one, two = crate.edit("adds_two"), crate.edit("once")
         files = kept.files(crate, [one, two])
         kept.keep(crate, files, [one])
-        checks["what is refused is kept"] = kept.told(crate, [one, two]) == {one}
-        checks["all are tried anew"] = not Results(anew=True).told(crate, [one])
+        checks["what is refused is kept"] = kept.refused(crate, [one, two]) == {one}
+        checks["all are tried anew"] = not Results(anew=True).refused(crate, [one])
         kept.now = "other files"
         kept.keep(crate, files, [two])
-        checks["other files"] = not kept.told(crate, [one, two])
+        checks["other files"] = not kept.refused(crate, [one, two])
         kept.now = "files"
-        checks["a file that changed meanwhile"] = kept.told(crate, [one, two]) == {one}
+        checks["a file that changed meanwhile"] = kept.refused(crate, [one, two]) == {one}
         with open(one, "a", encoding="utf-8") as it:
             it.write("# another\n")
-        checks["another edit"] = not kept.told(crate, [one])
+        checks["another edit"] = not kept.refused(crate, [one])
         kept.keep(crate, files, [two])
         kept.forget(files.values())
         checks["forgotten"] = not os.listdir(try_mutants.CACHE)
@@ -263,7 +263,7 @@ def earlier():
     return checks
 
 
-def side():
+def scripts():
     """Checks that the scripts start once, when the program is built."""
     started, was = [], (gate.PROGRAM, gate.TEXTS, gate.SCRIPTS, gate.EXAMPLES)
     gate.TEXTS, gate.SCRIPTS, gate.EXAMPLES = [], ["one"], ["two"]
@@ -348,7 +348,7 @@ def names():
 
 
 def main():
-    checks = {**together(kit.load()), **turns(), **failures(), **listed(), **earlier(), **side(), **beside(), **words(), **names()}
+    checks = {**together(kit.load()), **turns(), **failures(), **listed(), **earlier(), **scripts(), **beside(), **words(), **names()}
     return results.report(checks)
 
 

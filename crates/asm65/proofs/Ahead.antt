@@ -43,29 +43,29 @@ no_tokens (t ∷ ts) e =
     let some : (length (t ∷ ts) == 0) ≡ false = grind (arith, nat_tests) in
     absurd (let bad : true ≡ false = e ∙ some in cc)
 
-module _ (o : Option Files) (last_failure : LastFailure) (place : SourceLocation) where
+module _ (o : Option Files) (last_failure : LastFailure) (location : SourceLocation) where
   abbrev RestStops : List Lexeme → Assembler → Assembler → Answer → Type 0
-  RestStops ts = StopsQuietly (AnswersWithoutFile o last_failure (λ m t. IsRest m StepsTo t place ts)) 1
+  RestStops ts = StopsQuietly (AnswersWithoutFile o last_failure (λ m t. IsRest m StepsTo t location ts)) 1
 
   abbrev LabelStops : List Lexeme → Assembler → Assembler → Answer → Type 0
-  LabelStops ts = StopsQuietly (AnswersWithoutFile o last_failure (λ m t. IsLabel m StepsTo t place ts)) 2
+  LabelStops ts = StopsQuietly (AnswersWithoutFile o last_failure (λ m t. IsLabel m StepsTo t location ts)) 2
 
-  pub none_after : (ts : List Lexeme) (a : Assembler) → ts ≡ [] → TakesAll o last_failure place (given_after ts) a a (Ok tt)
+  pub none_after : (ts : List Lexeme) (a : Assembler) → ts ≡ [] → TakesAll o last_failure location (given_after ts) a a (Ok tt)
   none_after ts a e = rw e (none a)
 
-  pub taken_after : (ts : List Lexeme) (old new : Assembler) (r : Answer) → (ts ≡ [] → ⊥) → TakesBy (AreSymbolNames ts) (RestBy o place ts) 1 old new r → RestStops ts old new r → TakesAll o last_failure place (given_after ts) old new r
+  pub taken_after : (ts : List Lexeme) (old new : Assembler) (r : Answer) → (ts ≡ [] → ⊥) → TakesBy (AreSymbolNames ts) (RestBy o location ts) 1 old new r → RestStops ts old new r → TakesAll o last_failure location (given_after ts) old new r
   taken_after [] old new r some taken stops = absurd (some refl)
-  taken_after (t ∷ ts) old new (Ok v) some taken stops = one_more old new new (plain (t ∷ ts)) [] (Ok tt) (record { taken = wider (AreSymbolNames (t ∷ ts)) (RestBy o place (t ∷ ts)) old new (Ok v) taken; stopped = tt }) (none new)
-  taken_after (t ∷ ts) old new (Err e) some taken stops = refused old new (plain (t ∷ ts)) [] e (record { taken = wider (AreSymbolNames (t ∷ ts)) (RestBy o place (t ∷ ts)) old new (Err e) taken; stopped = stops_wider (AnswersWithoutFile o last_failure (λ m s. IsRest m StepsTo s place (t ∷ ts))) old new (Err e) stops })
+  taken_after (t ∷ ts) old new (Ok v) some taken stops = one_more old new new (plain (t ∷ ts)) [] (Ok tt) (record { taken = wider (AreSymbolNames (t ∷ ts)) (RestBy o location (t ∷ ts)) old new (Ok v) taken; stopped = tt }) (none new)
+  taken_after (t ∷ ts) old new (Err e) some taken stops = refused old new (plain (t ∷ ts)) [] e (record { taken = wider (AreSymbolNames (t ∷ ts)) (RestBy o location (t ∷ ts)) old new (Err e) taken; stopped = stops_wider (AnswersWithoutFile o last_failure (λ m s. IsRest m StepsTo s location (t ∷ ts))) old new (Err e) stops })
 
-  pub only_rest : (ls ts : List Lexeme) (old new : Assembler) (r : Answer) → ls ≡ [] → TakesAll o last_failure place (given_after ts) old new r → TakesAll o last_failure place (given_parts ls ts) old new r
+  pub only_rest : (ls ts : List Lexeme) (old new : Assembler) (r : Answer) → ls ≡ [] → TakesAll o last_failure location (given_after ts) old new r → TakesAll o last_failure location (given_parts ls ts) old new r
   only_rest ls ts old new r e h = rw e h
 
-  pub label_refused : (ls ts : List Lexeme) (old new : Assembler) (e : AsmFault) → (ls ≡ [] → ⊥) → TakesBy (AreSymbolNames ls) (LabelBy o place ls) 2 old new (Err e) → LabelStops ls old new (Err e) → TakesAll o last_failure place (given_parts ls ts) old new (Err e)
+  pub label_refused : (ls ts : List Lexeme) (old new : Assembler) (e : AsmFault) → (ls ≡ [] → ⊥) → TakesBy (AreSymbolNames ls) (LabelBy o location ls) 2 old new (Err e) → LabelStops ls old new (Err e) → TakesAll o last_failure location (given_parts ls ts) old new (Err e)
   label_refused [] ts old new e some taken stops = absurd (some refl)
   label_refused (l ∷ ls) ts old new e some taken stops = refused old new (label (l ∷ ls)) (given_after ts) e (record { taken = taken; stopped = stops })
 
-  pub label_taken : (ls ts : List Lexeme) (old mid new : Assembler) (v : Unit {0}) (r : Answer) → (ls ≡ [] → ⊥) → TakesBy (AreSymbolNames ls) (LabelBy o place ls) 2 old mid (Ok v) → TakesAll o last_failure place (given_after ts) mid new r → TakesAll o last_failure place (given_parts ls ts) old new r
+  pub label_taken : (ls ts : List Lexeme) (old mid new : Assembler) (v : Unit {0}) (r : Answer) → (ls ≡ [] → ⊥) → TakesBy (AreSymbolNames ls) (LabelBy o location ls) 2 old mid (Ok v) → TakesAll o last_failure location (given_after ts) mid new r → TakesAll o last_failure location (given_parts ls ts) old new r
   label_taken [] ts old mid new v r some taken rest = absurd (some refl)
   label_taken (l ∷ ls) ts old mid new v r some taken rest = one_more old mid new (label (l ∷ ls)) (given_after ts) r (record { taken = taken; stopped = tt }) rest
 
@@ -79,9 +79,9 @@ pub no_line_taken : (o : Option Files) (last_failure : LastFailure) (old new : R
 no_line_taken o last_failure old new true e h = absurd cc
 no_line_taken o last_failure old new false e h = h
 
-pub line_is : (o : Option Files) (last_failure : LastFailure) (old : Run) (expander : Expander) (assembler : Assembler) (n : ℕ) (ts ls us : List Lexeme) (place : SourceLocation) (r : Answer) → YieldsStatements old.expander (given_parts (take n ts) (drop n ts)) expander → measure_of expander < measure_of old.expander → ((m : Files) → IsPositioned m old.expander → IsPositioned m expander) → ls ≡ take n ts → us ≡ drop n ts → place ≡ place_of expander → TakesAll o last_failure place (given_parts ls us) old.assembler assembler r → TakesLine o last_failure old (record { expander = expander; assembler = assembler }) r
-line_is o last_failure old expander assembler n ts ls us place r given less placed front following at taken =
-    let P : List Lexeme → Type 0 = λ l. TakesAll o last_failure place (given_parts l us) old.assembler assembler r in
-    let Q : List Lexeme → Type 0 = λ l. TakesAll o last_failure place (given_parts (take n ts) l) old.assembler assembler r in
+pub line_is : (o : Option Files) (last_failure : LastFailure) (old : Run) (expander : Expander) (assembler : Assembler) (n : ℕ) (ts ls us : List Lexeme) (location : SourceLocation) (r : Answer) → YieldsStatements old.expander (given_parts (take n ts) (drop n ts)) expander → measure_of expander < measure_of old.expander → ((m : Files) → IsPositioned m old.expander → IsPositioned m expander) → ls ≡ take n ts → us ≡ drop n ts → location ≡ place_of expander → TakesAll o last_failure location (given_parts ls us) old.assembler assembler r → TakesLine o last_failure old (record { expander = expander; assembler = assembler }) r
+line_is o last_failure old expander assembler n ts ls us location r given less placed front following at taken =
+    let P : List Lexeme → Type 0 = λ l. TakesAll o last_failure location (given_parts l us) old.assembler assembler r in
+    let Q : List Lexeme → Type 0 = λ l. TakesAll o last_failure location (given_parts (take n ts) l) old.assembler assembler r in
     let S : SourceLocation → Type 0 = λ p. TakesAll o last_failure p (given_parts (take n ts) (drop n ts)) old.assembler assembler r in
     record { statements = given_parts (take n ts) (drop n ts); given = given; taken = subst S at (subst Q following (subst P front taken)); less = less; placed = placed }

@@ -19,30 +19,30 @@ use Rattle.asm65.proofs.Runs.{Answer, fault_first, fault_then, says_same, takes_
 
 -- one opens nothing, and its name is no object's
 abbrev pub DefinesBy : SourceLocation → Define → Assembler → Assembler → Answer → Type 0
-DefinesBy place d old new r =
+DefinesBy location d old new r =
     (count : ℕ) (t : State) → count + 1 ≤ opening_limit → Represents count t old →
-    RefinesTransition ⊤ (StepsTo t place (Constant d.0 (number d.1))) count t new r
+    RefinesTransition ⊤ (StepsTo t location (Constant d.0 (number d.1))) count t new r
 
-pub defines_by : (place : SourceLocation) (d : Define) (old new : Assembler) (r : Answer) → ((count : ℕ) (t : State) → Represents count t old → count < opening_limit → RepresentsOrFails (StepsTo t place (Constant d.0 (number d.1))) (λ u. Represents (count + 0) u new) r) → IfErr r (λ e. is_system_error e ≡ false → new.texts ≡ old.texts) → DefinesBy place d old new r
-defines_by place d old new (Ok v) taken same = λ count t room h.
+pub defines_by : (location : SourceLocation) (d : Define) (old new : Assembler) (r : Answer) → ((count : ℕ) (t : State) → Represents count t old → count < opening_limit → RepresentsOrFails (StepsTo t location (Constant d.0 (number d.1))) (λ u. Represents (count + 0) u new) r) → IfErr r (λ e. is_system_error e ≡ false → new.texts ≡ old.texts) → DefinesBy location d old new r
+defines_by location d old new (Ok v) taken same = λ count t room h.
     (let a = taken count t h (omega (arith, room)) in
-    (a.0, a.1, λ reached. following t a.0 place (Constant d.0 (number d.1)) reached tt a.1, (count + 0, omega arith, a.2)))
-defines_by place d old new (Err e) taken same = λ count t room h.
-    fault_first ⊤ (StepsTo t place (Constant d.0 (number d.1))) count t new e (taken count t h (omega (arith, room))) (λ inside. says_same count t old new h (same inside))
+    (a.0, a.1, λ reached. following t a.0 location (Constant d.0 (number d.1)) reached tt a.1, (count + 0, omega arith, a.2)))
+defines_by location d old new (Err e) taken same = λ count t room h.
+    fault_first ⊤ (StepsTo t location (Constant d.0 (number d.1))) count t new e (taken count t h (omega (arith, room))) (λ inside. says_same count t old new h (same inside))
 
 -- what is defined so far, with constants that are left
-pub record SoFar (place : SourceLocation) (ds left : List Define) (a : Assembler) : Type 0 where
+pub record SoFar (location : SourceLocation) (ds left : List Define) (a : Assembler) : Type 0 where
   pub state : State
-  pub goes : DefinesOn StepsTo place (AreDefined StepsTo initial_state place ds) left state
+  pub goes : DefinesOn StepsTo location (AreDefined StepsTo initial_state location ds) left state
   pub reached : IsReached state
   pub holds : Represents 0 state a
   pub out : state.out ≡ initial_state.out
   pub err : state.err ≡ initial_state.err
 
-pub none_so_far : (place : SourceLocation) (ds : List Define) (a : Assembler) → Represents 0 initial_state a → SoFar place ds ds a
-none_so_far place ds a h = record {
+pub none_so_far : (location : SourceLocation) (ds : List Define) (a : Assembler) → Represents 0 initial_state a → SoFar location ds ds a
+none_so_far location ds a h = record {
   state = initial_state;
-  goes = first_constant StepsTo place ds initial_state;
+  goes = first_constant StepsTo location ds initial_state;
   reached = at_first;
   holds = h;
   out = refl;
@@ -54,23 +54,23 @@ zero_within count t a le h =
     let none : count ≡ 0 = omega (arith, le) in
     subst (λ n. Represents n t a) none h
 
-pub one_more : (place : SourceLocation) (ds left : List Define) (d : Define) (old new : Assembler) (v : Unit {0}) → SoFar place ds (d ∷ left) old → DefinesBy place d old new (Ok v) → SoFar place ds left new
-one_more place ds left d old new v s defines =
+pub one_more : (location : SourceLocation) (ds left : List Define) (d : Define) (old new : Assembler) (v : Unit {0}) → SoFar location ds (d ∷ left) old → DefinesBy location d old new (Ok v) → SoFar location ds left new
+one_more location ds left d old new v s defines =
     let a = defines 0 s.state (omega arith) s.holds in
-    let quiet = takes_quiet s.state a.0 place (Constant d.0 (number d.1)) (refl, refl) a.1 in
+    let quiet = takes_quiet s.state a.0 location (Constant d.0 (number d.1)) (refl, refl) a.1 in
     record {
       state = a.0;
-      goes = next_constant StepsTo place (AreDefined StepsTo initial_state place ds) d left s.state a.0 s.goes a.1;
+      goes = next_constant StepsTo location (AreDefined StepsTo initial_state location ds) d left s.state a.0 s.goes a.1;
       reached = a.2 s.reached;
       holds = zero_within a.3.0 a.0 new a.3.1 a.3.2;
       out = quiet.0 ∙ s.out;
       err = quiet.1 ∙ s.err;
     }
 
-pub one_wrong : (place : SourceLocation) (ds left : List Define) (d : Define) (old new : Assembler) (e : AsmFault) (r : Answer) → r ≡ Err e → SoFar place ds (d ∷ left) old → DefinesBy place d old new (Err e) → RefinesTransition ⊤ (AreDefined StepsTo initial_state place ds) 0 initial_state new r
-one_wrong place ds left d old new e r fails s defines =
-    let P : Answer → Type 0 = λ q. RefinesTransition ⊤ (AreDefined StepsTo initial_state place ds) 0 initial_state new q in
-    subst P (sym fails) (fault_then ⊤ ⊤ (StepsTo s.state place (Constant d.0 (number d.1))) (AreDefined StepsTo initial_state place ds) 0 0 initial_state s.state new e (λ x. x) (λ p. faulty_constant StepsTo place (AreDefined StepsTo initial_state place ds) d left s.state e s.goes p) (λ says. (says.0 ∙ s.out, says.1 ∙ s.err)) (defines 0 s.state (omega arith) s.holds))
+pub one_wrong : (location : SourceLocation) (ds left : List Define) (d : Define) (old new : Assembler) (e : AsmFault) (r : Answer) → r ≡ Err e → SoFar location ds (d ∷ left) old → DefinesBy location d old new (Err e) → RefinesTransition ⊤ (AreDefined StepsTo initial_state location ds) 0 initial_state new r
+one_wrong location ds left d old new e r fails s defines =
+    let P : Answer → Type 0 = λ q. RefinesTransition ⊤ (AreDefined StepsTo initial_state location ds) 0 initial_state new q in
+    subst P (sym fails) (fault_then ⊤ ⊤ (StepsTo s.state location (Constant d.0 (number d.1))) (AreDefined StepsTo initial_state location ds) 0 0 initial_state s.state new e (λ x. x) (λ p. faulty_constant StepsTo location (AreDefined StepsTo initial_state location ds) d left s.state e s.goes p) (λ says. (says.0 ∙ s.out, says.1 ∙ s.err)) (defines 0 s.state (omega arith) s.holds))
 
 -- ---- Lists.
 

@@ -36,48 +36,48 @@ use Rattle.asm65.proofs.Waitings.{all_entered, holds_all, holds_entered, waits_e
 
 -- ---- One behind the other.
 
-puts_append : (place : SourceLocation) (s : Context) (t u v : State) (ps qs : List Piece) → PieceSteps place s t ps u → PieceSteps place s u qs v → PieceSteps place s t (ps ++ qs) v
-puts_append place s t u v [] qs h k = subst (λ w. PieceSteps place s w qs v) h k
-puts_append place s t u v (p ∷ ps) qs h k = (h.0, h.1, puts_append place s h.0 u v ps qs h.2 k)
+puts_append : (location : SourceLocation) (s : Context) (t u v : State) (ps qs : List Piece) → PieceSteps location s t ps u → PieceSteps location s u qs v → PieceSteps location s t (ps ++ qs) v
+puts_append location s t u v [] qs h k = subst (λ w. PieceSteps location s w qs v) h k
+puts_append location s t u v (p ∷ ps) qs h k = (h.0, h.1, puts_append location s h.0 u v ps qs h.2 k)
 
-pub enters_none : (place : SourceLocation) (s : Context) (a : Assembler) → EmitsPieces place s [] a a
-enters_none place s a count t h = (t, refl, h)
+pub enters_none : (location : SourceLocation) (s : Context) (a : Assembler) → EmitsPieces location s [] a a
+enters_none location s a count t h = (t, refl, h)
 
-pub enters_both : (place : SourceLocation) (s : Context) (ps qs : List Piece) (old mid new : Assembler) → EmitsPieces place s ps old mid → EmitsPieces place s qs mid new → EmitsPieces place s (ps ++ qs) old new
-enters_both place s ps qs old mid new first second count t h =
+pub enters_both : (location : SourceLocation) (s : Context) (ps qs : List Piece) (old mid new : Assembler) → EmitsPieces location s ps old mid → EmitsPieces location s qs mid new → EmitsPieces location s (ps ++ qs) old new
+enters_both location s ps qs old mid new first second count t h =
     let x = first count t h in
     let y = second count x.0 x.2 in
-    (y.0, puts_append place s t x.0 y.0 ps qs x.1 y.1, y.2)
+    (y.0, puts_append location s t x.0 y.0 ps qs x.1 y.1, y.2)
 
 -- ---- At once.
 
 abbrev fed : Assembler → Sections → Assembler
 fed a x = record a { sections = x }
 
-pub fed_enters : (old : Assembler) (x : Sections) (place : SourceLocation) (s : Context) (p : Piece) (c : Content) → c.said ≡ [] → AppendsSlot old.sections x (resolved c) → IsSettled (table_of old.symbols) place s p c → EmitsPieces place s (p ∷ []) old (fed old x)
-fed_enters old x place s p c quiet feeds settled count t h =
-    let there : IsSettled t.symbols place s p c = subst (λ y. IsSettled y place s p c) h.symbols settled in
+pub fed_enters : (old : Assembler) (x : Sections) (location : SourceLocation) (s : Context) (p : Piece) (c : Content) → c.said ≡ [] → AppendsSlot old.sections x (resolved c) → IsSettled (table_of old.symbols) location s p c → EmitsPieces location s (p ∷ []) old (fed old x)
+fed_enters old x location s p c quiet feeds settled count t h =
+    let there : IsSettled t.symbols location s p c = subst (λ y. IsSettled y location s p c) h.symbols settled in
     (with_content t c, (with_content t c, at_once c there, refl), holds_entered count t old (fed old x) h (record { symbols = refl; cursor = refl; texts = refl }) c quiet feeds)
 
 -- what needs no value
-pub given_enters : (old : Assembler) (x : Sections) (place : SourceLocation) (s : Context) (p : Part) → AppendsSlot old.sections x (resolved (section_part s.segment p)) → EmitsPieces place s (given p ∷ []) old (fed old x)
-given_enters old x place s p feeds = fed_enters old x place s (given p) (section_part s.segment p) refl feeds (settled_given (table_of old.symbols) place s p)
+pub given_enters : (old : Assembler) (x : Sections) (location : SourceLocation) (s : Context) (p : Part) → AppendsSlot old.sections x (resolved (section_part s.segment p)) → EmitsPieces location s (given p ∷ []) old (fed old x)
+given_enters old x location s p feeds = fed_enters old x location s (given p) (section_part s.segment p) refl feeds (settled_given (table_of old.symbols) location s p)
 
 -- a value whose form is final and puts a part
-module _ (old : Assembler) (x : Sections) (place : SourceLocation) (s : Context) (why : Purpose) (e : Tree) (f : Form) (final : IsFinal (table_of old.symbols) s e f) where
-  value_entered : (r : Result Part AsmFault) → value_result place s why f ≡ (r >>= as_part s.segment) → IsPut old.sections x s.segment r true → EmitsPieces place s (valued why e ∷ []) old (fed old x)
-  value_entered (Ok p) is feeds = fed_enters old x place s (valued why e) (section_part s.segment p) refl feeds (final_settles (table_of old.symbols) place s why e f (section_part s.segment p) final is)
+module _ (old : Assembler) (x : Sections) (location : SourceLocation) (s : Context) (why : Purpose) (e : Tree) (f : Form) (final : IsFinal (table_of old.symbols) s e f) where
+  value_entered : (r : Result Part AsmFault) → value_result location s why f ≡ (r >>= as_part s.segment) → IsPut old.sections x s.segment r true → EmitsPieces location s (valued why e ∷ []) old (fed old x)
+  value_entered (Ok p) is feeds = fed_enters old x location s (valued why e) (section_part s.segment p) refl feeds (final_settles (table_of old.symbols) location s why e f (section_part s.segment p) final is)
   value_entered (Err e) is feeds = absurd feeds
 
-  value_tried : (r : Result Part AsmFault) (b : Bool) → value_result place s why f ≡ (r >>= as_part s.segment) → IsPut old.sections x s.segment r b → EmitsIfResolved place s (valued why e) old (fed old x) b
+  value_tried : (r : Result Part AsmFault) (b : Bool) → value_result location s why f ≡ (r >>= as_part s.segment) → IsPut old.sections x s.segment r b → EmitsIfResolved location s (valued why e) old (fed old x) b
   value_tried r true is h = value_entered r is h
   value_tried r false is h = ap (fed old) h
 
-pub datum_tried : (old : Assembler) (x : Sections) (place : SourceLocation) (s : Context) (width : Width) (e : Tree) (f : Form) (b : Bool) → IsFinal (table_of old.symbols) s e f → IsPut old.sections x s.segment (value_part width place f) b → EmitsIfResolved place s (valued (datum width) e) old (fed old x) b
-datum_tried old x place s width e f b final h = value_tried old x place s (datum width) e f final (value_part width place f) b refl h
+pub datum_tried : (old : Assembler) (x : Sections) (location : SourceLocation) (s : Context) (width : Width) (e : Tree) (f : Form) (b : Bool) → IsFinal (table_of old.symbols) s e f → IsPut old.sections x s.segment (value_part width location f) b → EmitsIfResolved location s (valued (datum width) e) old (fed old x) b
+datum_tried old x location s width e f b final h = value_tried old x location s (datum width) e f final (value_part width location f) b refl h
 
-pub operand_tried : (old : Assembler) (x : Sections) (place : SourceLocation) (s : Context) (width : Width) (e : Tree) (f : Form) (b : Bool) → IsFinal (table_of old.symbols) s e f → IsPut old.sections x s.segment (operand_stored width s place f) b → EmitsIfResolved place s (valued (operand width) e) old (fed old x) b
-operand_tried old x place s width e f b final h = value_tried old x place s (operand width) e f final (operand_stored width s place f) b refl h
+pub operand_tried : (old : Assembler) (x : Sections) (location : SourceLocation) (s : Context) (width : Width) (e : Tree) (f : Form) (b : Bool) → IsFinal (table_of old.symbols) s e f → IsPut old.sections x s.segment (operand_stored width s location f) b → EmitsIfResolved location s (valued (operand width) e) old (fed old x) b
+operand_tried old x location s width e f b final h = value_tried old x location s (operand width) e f final (operand_stored width s location f) b refl h
 
 -- ---- Elements of lists, one behind the other, and their final forms.
 
@@ -94,34 +94,34 @@ next_finals y s x items (f ∷ fs) o rest h n =
 -- ---- Numbers in one go.
 
 -- a number that is in range
-number_settled : (y : Symbols) (place : SourceLocation) (s : Context) (width : Width) (n : ℕ) → fits_width width (pos n) ≡ true → IsSettled y place s (valued (datum width) (number n)) (section_part s.segment (Known (value_bytes width (pos n))))
-number_settled y place s width n fits =
-    final_settles y place s (datum width) (number n) (lit (pos n)) (section_part s.segment (Known (value_bytes width (pos n)))) (λ z more. refl)
-    (ap (λ (r : Result Part AsmFault). r >>= as_part s.segment) (stored_is width place (pos n) fits))
+number_settled : (y : Symbols) (location : SourceLocation) (s : Context) (width : Width) (n : ℕ) → fits_width width (pos n) ≡ true → IsSettled y location s (valued (datum width) (number n)) (section_part s.segment (Known (value_bytes width (pos n))))
+number_settled y location s width n fits =
+    final_settles y location s (datum width) (number n) (lit (pos n)) (section_part s.segment (Known (value_bytes width (pos n)))) (λ z more. refl)
+    (ap (λ (r : Result Part AsmFault). r >>= as_part s.segment) (stored_is width location (pos n) fits))
 
-numbers_put : (place : SourceLocation) (s : Context) (t : State) (width : Width) (ns : List ℕ) → list_all (λ (n : ℕ). fits_width width (pos n)) ns ≡ true → PieceSteps place s t (map (item_piece width) (map literal_item ns)) (all_entered t (runs s.segment (λ (n : ℕ). value_bytes width (pos n)) ns))
-numbers_put place s t width [] fit = ap (λ (slots : List Slot). record t { slots = slots }) (append-nil t.slots)
-numbers_put place s t width (n ∷ ns) fit =
+numbers_put : (location : SourceLocation) (s : Context) (t : State) (width : Width) (ns : List ℕ) → list_all (λ (n : ℕ). fits_width width (pos n)) ns ≡ true → PieceSteps location s t (map (item_piece width) (map literal_item ns)) (all_entered t (runs s.segment (λ (n : ℕ). value_bytes width (pos n)) ns))
+numbers_put location s t width [] fit = ap (λ (slots : List Slot). record t { slots = slots }) (append-nil t.slots)
+numbers_put location s t width (n ∷ ns) fit =
     let c : Content = section_part s.segment (Known (value_bytes width (pos n))) in
     let cs : List Content = runs s.segment (λ (n : ℕ). value_bytes width (pos n)) ns in
     let first = left (fits_width width (pos n)) (list_all (λ (n : ℕ). fits_width width (pos n)) ns) fit in
     let others = right (fits_width width (pos n)) (list_all (λ (n : ℕ). fits_width width (pos n)) ns) fit in (
       with_content t c,
-      at_once c (number_settled t.symbols place s width n first),
-      subst (λ (slots : List Slot). PieceSteps place s (with_content t c) (map (item_piece width) (map literal_item ns)) (record t { slots = slots }))
-          (append_assoc t.slots (resolved c ∷ []) (map resolved cs)) (numbers_put place s (with_content t c) width ns others),
+      at_once c (number_settled t.symbols location s width n first),
+      subst (λ (slots : List Slot). PieceSteps location s (with_content t c) (map (item_piece width) (map literal_item ns)) (record t { slots = slots }))
+          (append_assoc t.slots (resolved c ∷ []) (map resolved cs)) (numbers_put location s (with_content t c) width ns others),
     )
 
 runs_say : {A : Type 0} (g : ℕ) (f : A → List ℕ) (xs : List A) → all_said (runs g f xs) ≡ []
 runs_say g f [] = refl
 runs_say g f (x ∷ xs) = runs_say g f xs
 
-pub numbers_enter : (old : Assembler) (x : Sections) (place : SourceLocation) (s : Context) (width : Width) (ns bytes : List ℕ) → AreStored width ns bytes → AppendsSlot old.sections x (resolved (section_part s.segment (Known bytes))) → EmitsPieces place s (map (item_piece width) (map literal_item ns)) old (fed old x)
-numbers_enter old x place s width ns bytes value_part feeds count t h =
+pub numbers_enter : (old : Assembler) (x : Sections) (location : SourceLocation) (s : Context) (width : Width) (ns bytes : List ℕ) → AreStored width ns bytes → AppendsSlot old.sections x (resolved (section_part s.segment (Known bytes))) → EmitsPieces location s (map (item_piece width) (map literal_item ns)) old (fed old x)
+numbers_enter old x location s width ns bytes value_part feeds count t h =
     let f : ℕ → List ℕ = λ (n : ℕ). value_bytes width (pos n) in
     let known = subst (λ (b : List ℕ). AppendsSlot old.sections x (resolved (section_part s.segment (Known b)))) value_part.bytes feeds in (
       all_entered t (runs s.segment f ns),
-      numbers_put place s t width ns value_part.fit,
+      numbers_put location s t width ns value_part.fit,
       holds_all count t old (fed old x) h (record { symbols = refl; cursor = refl; texts = refl }) (runs s.segment f ns) (runs_say s.segment f ns) (runs_stand s.segment f ns old.sections x known),
     )
 
@@ -131,26 +131,26 @@ numbers_enter old x place s width ns bytes value_part feeds count t h =
 pub says_nothing : (x : Sections) → AppendsSlot x x (resolved (declaration_content []))
 says_nothing x xs h = held_stand xs [] (declaration_content [] ∷ []) x (alike_sym (declaration_content [] ∷ []) [] (empty_alike 0 false)) refl (subst (λ (ys : List Slot). RepresentsSlots ys x) (sym (append-nil xs)) h)
 
-so_used : (place : SourceLocation) (s : Context) (act : Action) (words : List ℕ) (v : ℤ) → (v ≡ pos 0 → ⊥) → value_result place s (asserted act words) (lit v) ≡ Ok (quietly (declaration_content []))
-so_used place s action.Error words (pos zero) h = absurd (h refl)
-so_used place s action.Warning words (pos zero) h = absurd (h refl)
-so_used place s action.Error words (pos (suc n)) h = refl
-so_used place s action.Warning words (pos (suc n)) h = refl
-so_used place s action.Error words (negsuc n) h = refl
-so_used place s action.Warning words (negsuc n) h = refl
+so_used : (location : SourceLocation) (s : Context) (act : Action) (message : List ℕ) (v : ℤ) → (v ≡ pos 0 → ⊥) → value_result location s (asserted act message) (lit v) ≡ Ok (quietly (declaration_content []))
+so_used location s action.Error message (pos zero) h = absurd (h refl)
+so_used location s action.Warning message (pos zero) h = absurd (h refl)
+so_used location s action.Error message (pos (suc n)) h = refl
+so_used location s action.Warning message (pos (suc n)) h = refl
+so_used location s action.Error message (negsuc n) h = refl
+so_used location s action.Warning message (negsuc n) h = refl
 
 -- an assertion that is so whatever statements follow
-pub so_enters : (old : Assembler) (place : SourceLocation) (s : Context) (act : Action) (words : List ℕ) (e : Tree) (v : ℤ) → (v ≡ pos 0 → ⊥) → IsFinal (table_of old.symbols) s e (lit v) → EmitsPieces place s (valued (asserted act words) e ∷ []) old old
-so_enters old place s act words e v h final = fed_enters old old.sections place s (valued (asserted act words) e) (declaration_content []) refl (says_nothing old.sections) (final_settles (table_of old.symbols) place s (asserted act words) e (lit v) (declaration_content []) final (so_used place s act words v h))
+pub so_enters : (old : Assembler) (location : SourceLocation) (s : Context) (act : Action) (message : List ℕ) (e : Tree) (v : ℤ) → (v ≡ pos 0 → ⊥) → IsFinal (table_of old.symbols) s e (lit v) → EmitsPieces location s (valued (asserted act message) e ∷ []) old old
+so_enters old location s act message e v h final = fed_enters old old.sections location s (valued (asserted act message) e) (declaration_content []) refl (says_nothing old.sections) (final_settles (table_of old.symbols) location s (asserted act message) e (lit v) (declaration_content []) final (so_used location s act message v h))
 
 -- one that may be so
-pub assertion_tried : (old : Assembler) (place : SourceLocation) (s : Context) (act : Action) (words : List ℕ) (e : Tree) (f : Form) (v : ℤ) → IsFinal (table_of old.symbols) s e f → literal_in (Ok f) ≡ Some v → (b : Bool) → (b ≡ true → v ≡ pos 0 → ⊥) → EmitsIfResolved place s (valued (asserted act words) e) old old b
-assertion_tried old place s act words e f v final is true other = so_enters old place s act words e v (other refl) (subst (IsFinal (table_of old.symbols) s e) (literal_is f v is) final)
-assertion_tried old place s act words e f v final is false other = refl
+pub assertion_tried : (old : Assembler) (location : SourceLocation) (s : Context) (act : Action) (message : List ℕ) (e : Tree) (f : Form) (v : ℤ) → IsFinal (table_of old.symbols) s e f → literal_in (Ok f) ≡ Some v → (b : Bool) → (b ≡ true → v ≡ pos 0 → ⊥) → EmitsIfResolved location s (valued (asserted act message) e) old old b
+assertion_tried old location s act message e f v final is true other = so_enters old location s act message e v (other refl) (subst (IsFinal (table_of old.symbols) s e) (literal_is f v is) final)
+assertion_tried old location s act message e f v final is false other = refl
 
 -- ---- Later.
 
 -- what isn't put at once waits
-pub tried_waits : (old mid new : Assembler) (place : SourceLocation) (s : Context) (p : Piece) (b : Bool) → EmitsIfResolved place s p old mid b → b ≡ false → DefersPiece place s p mid new → EmitsPieces place s (p ∷ []) old new
-tried_waits old mid new place s p true h e waits = absurd cc
-tried_waits old mid new place s p false h e waits = subst (λ (a : Assembler). EmitsPieces place s (p ∷ []) a new) h (waits_enters mid new place s p waits)
+pub tried_waits : (old mid new : Assembler) (location : SourceLocation) (s : Context) (p : Piece) (b : Bool) → EmitsIfResolved location s p old mid b → b ≡ false → DefersPiece location s p mid new → EmitsPieces location s (p ∷ []) old new
+tried_waits old mid new location s p true h e waits = absurd cc
+tried_waits old mid new location s p false h e waits = subst (λ (a : Assembler). EmitsPieces location s (p ∷ []) a new) h (waits_enters mid new location s p waits)

@@ -112,23 +112,23 @@ inside_defined y j = inside_meaning (norm_of y) y (inside_norm_of y) (defined_at
 -- ---- What waits.
 
 -- what is written may have a name that is too long
-inside_written : {A : Type 0} (place : SourceLocation) (x : A) → IsInside (located_declarations place x)
-inside_written {A} place x = by (is_file_name place.file)
+inside_written : {A : Type 0} (location : SourceLocation) (x : A) → IsInside (located_declarations location x)
+inside_written {A} location x = by (is_file_name location.file)
   where
     by : (b : Bool) → IsInside (if b then Ok x else Err FileNameTooLong)
     by true = tt
     by false = refl
 
-inside_stored : (w : Width) (place : SourceLocation) (f : Form) → IsInside (value_part w place f)
-inside_stored w place (lit v) = by (fits_width w v)
+inside_stored : (w : Width) (location : SourceLocation) (f : Form) → IsInside (value_part w location f)
+inside_stored w location (lit v) = by (fits_width w v)
   where
     by : (b : Bool) → IsInside (if b then Ok (Known (value_bytes w v)) else Err OutOfRange)
     by true = tt
     by false = refl
-inside_stored w place (sec k v) = inside_written place (Waiting w place (sec k v))
-inside_stored w place (imp k) = inside_written place (Waiting w place (imp k))
-inside_stored w place (prefix_form op f) = inside_written place (Waiting w place (prefix_form op f))
-inside_stored w place (binary_form op f g) = inside_written place (Waiting w place (binary_form op f g))
+inside_stored w location (sec k v) = inside_written location (Waiting w location (sec k v))
+inside_stored w location (imp k) = inside_written location (Waiting w location (imp k))
+inside_stored w location (prefix_form op f) = inside_written location (Waiting w location (prefix_form op f))
+inside_stored w location (binary_form op f g) = inside_written location (Waiting w location (binary_form op f g))
 
 inside_branch : (w : Width) (s : Context) (f : Form) → IsInside (operand_form w s f)
 inside_branch width.Branch s f = inside_folded _
@@ -145,27 +145,27 @@ inside_said : (r : Result (List Declaration) AsmFault) → IsInside r → IsInsi
 inside_said (Ok ss) h = tt
 inside_said (Err e) h = h
 
-inside_decided : (act : Action) (place : SourceLocation) (words : List ℕ) (f : Form) → IsInside (decided_assertion act place words f)
-inside_decided action.Error place words (lit (pos zero)) = refl
-inside_decided action.Error place words (lit (pos (suc n))) = tt
-inside_decided action.Error place words (lit _) = tt
-inside_decided action.Warning place words (lit v) = tt
-inside_decided action.Error place words (sec k v) = inside_written place (Asserted action.Error place words (sec k v) ∷ [])
-inside_decided action.Error place words (imp k) = inside_written place (Asserted action.Error place words (imp k) ∷ [])
-inside_decided action.Error place words (prefix_form op f) = inside_written place (Asserted action.Error place words (prefix_form op f) ∷ [])
-inside_decided action.Error place words (binary_form op f g) = inside_written place (Asserted action.Error place words (binary_form op f g) ∷ [])
-inside_decided action.Warning place words (sec k v) = inside_written place (Asserted action.Warning place words (sec k v) ∷ [])
-inside_decided action.Warning place words (imp k) = inside_written place (Asserted action.Warning place words (imp k) ∷ [])
-inside_decided action.Warning place words (prefix_form op f) = inside_written place (Asserted action.Warning place words (prefix_form op f) ∷ [])
-inside_decided action.Warning place words (binary_form op f g) = inside_written place (Asserted action.Warning place words (binary_form op f g) ∷ [])
+inside_decided : (act : Action) (location : SourceLocation) (message : List ℕ) (f : Form) → IsInside (decided_assertion act location message f)
+inside_decided action.Error location message (lit (pos zero)) = refl
+inside_decided action.Error location message (lit (pos (suc n))) = tt
+inside_decided action.Error location message (lit _) = tt
+inside_decided action.Warning location message (lit v) = tt
+inside_decided action.Error location message (sec k v) = inside_written location (Asserted action.Error location message (sec k v) ∷ [])
+inside_decided action.Error location message (imp k) = inside_written location (Asserted action.Error location message (imp k) ∷ [])
+inside_decided action.Error location message (prefix_form op f) = inside_written location (Asserted action.Error location message (prefix_form op f) ∷ [])
+inside_decided action.Error location message (binary_form op f g) = inside_written location (Asserted action.Error location message (binary_form op f g) ∷ [])
+inside_decided action.Warning location message (sec k v) = inside_written location (Asserted action.Warning location message (sec k v) ∷ [])
+inside_decided action.Warning location message (imp k) = inside_written location (Asserted action.Warning location message (imp k) ∷ [])
+inside_decided action.Warning location message (prefix_form op f) = inside_written location (Asserted action.Warning location message (prefix_form op f) ∷ [])
+inside_decided action.Warning location message (binary_form op f g) = inside_written location (Asserted action.Warning location message (binary_form op f g) ∷ [])
 
-inside_used : (place : SourceLocation) (s : Context) (why : Purpose) (f : Form) → IsInside (value_result place s why f)
-inside_used place s (piece.datum w) f = inside_part s.segment (value_part w place f) (inside_stored w place f)
-inside_used place s (piece.operand w) f =
-    inside_part s.segment (operand_form w s f >>= value_part w place)
-    (inside_then (operand_form w s f) (value_part w place) (inside_branch w s f) (inside_stored w place))
-inside_used place s piece.equated f = tt
-inside_used place s (piece.asserted act words) f = inside_then (decided_assertion act place words f) _ (inside_decided act place words f) (λ ss. tt)
+inside_used : (location : SourceLocation) (s : Context) (why : Purpose) (f : Form) → IsInside (value_result location s why f)
+inside_used location s (piece.datum w) f = inside_part s.segment (value_part w location f) (inside_stored w location f)
+inside_used location s (piece.operand w) f =
+    inside_part s.segment (operand_form w s f >>= value_part w location)
+    (inside_then (operand_form w s f) (value_part w location) (inside_branch w s f) (inside_stored w location))
+inside_used location s piece.equated f = tt
+inside_used location s (piece.asserted act message) f = inside_then (decided_assertion act location message f) _ (inside_decided act location message f) (λ ss. tt)
 
 inside_import : (y : Symbols) (n : List ℕ) → IsInside (import_fault y n)
 inside_import y n = by (definition_index y (named 0 n)) refl
@@ -178,19 +178,19 @@ inside_absent : (must : Bool) (n : List ℕ) → IsInside (absent_of must n)
 inside_absent true n = refl
 inside_absent false n = tt
 
-inside_export : (y : Symbols) (place : SourceLocation) (n : List ℕ) (must : Bool) (o : Option ℕ) → IsInside (export_said y place n (absent_of must n) o)
-inside_export y place n must None = inside_absent must n
-inside_export y place n must (Some j) = inside_then (defined_form y j) _ (inside_defined y j) (λ f. inside_written place (Exported n place f ∷ []))
+inside_export : (y : Symbols) (location : SourceLocation) (n : List ℕ) (must : Bool) (o : Option ℕ) → IsInside (export_said y location n (absent_of must n) o)
+inside_export y location n must None = inside_absent must n
+inside_export y location n must (Some j) = inside_then (defined_form y j) _ (inside_defined y j) (λ f. inside_written location (Exported n location f ∷ []))
 
-inside_valued : (y : Symbols) (place : SourceLocation) (s : Context) (why : Purpose) (e : Tree) → IsInside (made_of y place s (piece.valued why e))
-inside_valued y place s why e = inside_then (norm_of y s e) (value_result place s why) (inside_norm_of y s e) (inside_used place s why)
+inside_valued : (y : Symbols) (location : SourceLocation) (s : Context) (why : Purpose) (e : Tree) → IsInside (made_of y location s (piece.valued why e))
+inside_valued y location s why e = inside_then (norm_of y s e) (value_result location s why) (inside_norm_of y s e) (inside_used location s why)
 
-inside_made : (y : Symbols) (place : SourceLocation) (s : Context) (p : Piece) → IsInside (made_of y place s p)
-inside_made y place s (piece.given p) = tt
-inside_made y place s (piece.valued why e) = inside_valued y place s why e
-inside_made y place s (piece.imported n) = inside_said (import_fault y n) (inside_import y n)
-inside_made y place s (piece.demanded n) = tt
-inside_made y place s (piece.exported must n) = inside_said (export_said y place n (absent_of must n) (definition_index y (named 0 n))) (inside_export y place n must (definition_index y (named 0 n)))
+inside_made : (y : Symbols) (location : SourceLocation) (s : Context) (p : Piece) → IsInside (made_of y location s p)
+inside_made y location s (piece.given p) = tt
+inside_made y location s (piece.valued why e) = inside_valued y location s why e
+inside_made y location s (piece.imported n) = inside_said (import_fault y n) (inside_import y n)
+inside_made y location s (piece.demanded n) = tt
+inside_made y location s (piece.exported must n) = inside_said (export_said y location n (absent_of must n) (definition_index y (named 0 n))) (inside_export y location n must (definition_index y (named 0 n)))
 
 -- ---- What a call answers.
 
@@ -212,16 +212,16 @@ inside_from {X} {Y} (Err e) view read h k = go (is_memory e) refl k
         by (Ok x) same i = absurd cc
         by (Err f) same i = (let e' : f ≡ e = cc in rw e' at i)
 
-inside_after : (y : Symbols) (names : List (List ℕ)) (place : SourceLocation) (s : Context) (p : Piece) → IsInside (piece_result y names place s p)
-inside_after y names place s p = by (is_repeated names p)
+inside_after : (y : Symbols) (names : List (List ℕ)) (location : SourceLocation) (s : Context) (p : Piece) → IsInside (piece_result y names location s p)
+inside_after y names location s p = by (is_repeated names p)
   where
-    by : (b : Bool) → IsInside (if b then as_said [] else made_of y place s p)
+    by : (b : Bool) → IsInside (if b then as_said [] else made_of y location s p)
     by true = tt
-    by false = inside_made y place s p
+    by false = inside_made y location s p
 
 -- what waits comes to its content, or to a fault that is no store's
-pub resolved_inside : {X : Type 0} (r : Result X AsmFault) (view : X → PieceResult) (y : Symbols) (names : List (List ℕ)) (place : SourceLocation) (s : Context) (p : Piece) → Refines is_memory view r (piece_result y names place s p) → IsInside r
-resolved_inside r view y names place s p h = inside_from r view (piece_result y names place s p) (inside_after y names place s p) h
+pub resolved_inside : {X : Type 0} (r : Result X AsmFault) (view : X → PieceResult) (y : Symbols) (names : List (List ℕ)) (location : SourceLocation) (s : Context) (p : Piece) → Refines is_memory view r (piece_result y names location s p) → IsInside r
+resolved_inside r view y names location s p h = inside_from r view (piece_result y names location s p) (inside_after y names location s p) h
 
 -- ---- A line.
 
@@ -286,9 +286,9 @@ inside_multiple None = one_fault _ refl
 inside_multiple (Some (pos n)) = inside_when _ _ refl
 inside_multiple _ = one_fault _ refl
 
-inside_changed : (gs : List Segment) (own : Option AddressSize) (place : Option ℕ) → AreInsideFaults (faults.changed_size gs own place)
+inside_changed : (gs : List Segment) (own : Option AddressSize) (location : Option ℕ) → AreInsideFaults (faults.changed_size gs own location)
 inside_changed gs (Some own) (Some i) = inside_when _ _ refl
-inside_changed gs None place = no_fault
+inside_changed gs None location = no_fault
 inside_changed gs (Some own) None = no_fault
 
 inside_form_fault : (y : Symbols) (s : Context) (own : AddressSize) (x : Statement) → AreInsideFaults (faults.form_fault y s own x)

@@ -37,18 +37,18 @@ laid_to m job _ _ (further s left x t u taken reaches given) =
     let g : Matches Follows (AssemblesExpanded m IsLaidOut y left.left.place x) (Ok u) = given_matches m Follows IsLaidOut StepsTo takes_follows y t left.left.place x (Ok u) before.follows given in
     record { layout = g.0; taken = further s left x y g.0 before.taken (next_same Follows layout_semantics machine_semantics laying_stands_in m s y t (statement x left) before.follows reaches) g.1; follows = g.2 }
 
-where_laid : (m : Files) (last_failure : LastFailure) (s : expand.State) (y : Layout) (t : State) (e : AsmFault) (place : SourceLocation) → Follows y t → IsWhere m machine_semantics last_failure s t e place → IsWhere m layout_semantics last_failure s y e place
-where_laid m last_failure s y t FileError place follows next =
+where_laid : (m : Files) (last_failure : LastFailure) (s : expand.State) (y : Layout) (t : State) (e : AsmFault) (location : SourceLocation) → Follows y t → IsWhere m machine_semantics last_failure s t e location → IsWhere m layout_semantics last_failure s y e location
+where_laid m last_failure s y t FileError location follows next =
     let w = next.unread in
     record {
       stated = next.stated;
       left = next.left;
       reaches = next_same Follows layout_semantics machine_semantics laying_stands_in m s y t (statement next.stated next.left) follows next.reaches;
       at = next.at;
-      unread = record { name = w.name; asked = w.asked; inside = w.inside; answered = λ n none. given_matches n Follows IsLaidOut StepsTo takes_follows y t place next.stated (Err FileNotFound) follows (w.answered n none) };
+      unread = record { name = w.name; asked = w.asked; inside = w.inside; answered = λ n none. given_matches n Follows IsLaidOut StepsTo takes_follows y t location next.stated (Err FileNotFound) follows (w.answered n none) };
     }
-where_laid m last_failure s y t (Expansion e) place follows way = subst (λ k. FailsBetweenStatements m last_failure k s place) (sym (laying_stands_in.meaning y t follows)) way
-where_laid m last_failure s y t _ place follows never = absurd never
+where_laid m last_failure s y t (Expansion e) location follows way = subst (λ k. FailsBetweenStatements m last_failure k s location) (sym (laying_stands_in.meaning y t follows)) way
+where_laid m last_failure s y t _ location follows never = absurd never
 
 stops_laid : (m : Files) (last_failure : LastFailure) (job : Job) (e : LocatedFault) (out err : List ℕ) → RunStops m last_failure job e out err → StopsAfter m last_failure job e out err
 stops_laid m last_failure job e out err stops =

@@ -73,18 +73,18 @@ keeps_both a b c h k = record {
   texts = k.texts ∙ h.texts;
 }
 
-pub one_more_awaiting : (place : SourceLocation) (s : Context) (t : State) (ps : List piece.Piece) (p : piece.Piece) → all_awaiting place s t (ps ++ p ∷ []) ≡ with_fixup (all_awaiting place s t ps) (record { place = place; context = s; piece = p })
-one_more_awaiting place s t [] p = refl
-one_more_awaiting place s t (q ∷ ps) p = one_more_awaiting place s (with_fixup t (record { place = place; context = s; piece = q })) ps p
+pub one_more_awaiting : (location : SourceLocation) (s : Context) (t : State) (ps : List piece.Piece) (p : piece.Piece) → all_awaiting location s t (ps ++ p ∷ []) ≡ with_fixup (all_awaiting location s t ps) (record { place = location; context = s; piece = p })
+one_more_awaiting location s t [] p = refl
+one_more_awaiting location s t (q ∷ ps) p = one_more_awaiting location s (with_fixup t (record { place = location; context = s; piece = q })) ps p
 
-pub all_wait : (place : SourceLocation) (s : Context) (t : State) (ps : List piece.Piece) → PieceSteps place s t ps (all_awaiting place s t ps)
-all_wait place s t [] = refl
-all_wait place s t (p ∷ ps) = (with_fixup t (record { place = place; context = s; piece = p }), later, all_wait place s (with_fixup t (record { place = place; context = s; piece = p })) ps)
+pub all_wait : (location : SourceLocation) (s : Context) (t : State) (ps : List piece.Piece) → PieceSteps location s t ps (all_awaiting location s t ps)
+all_wait location s t [] = refl
+all_wait location s t (p ∷ ps) = (with_fixup t (record { place = location; context = s; piece = p }), later, all_wait location s (with_fixup t (record { place = location; context = s; piece = p })) ps)
 
 -- what waits stands apart from names
 
-pub mentions_enter : (place : SourceLocation) (s : Context) (ps : List piece.Piece) (old new : Assembler) → DefersMentions place s ps old new → EmitsPieces place s ps old new
-mentions_enter place s ps old new m count t h = (all_awaiting place s t ps, all_wait place s t ps, m count t h)
+pub mentions_enter : (location : SourceLocation) (s : Context) (ps : List piece.Piece) (old new : Assembler) → DefersMentions location s ps old new → EmitsPieces location s ps old new
+mentions_enter location s ps old new m count t h = (all_awaiting location s t ps, all_wait location s t ps, m count t h)
 
 -- ---- Pieces, and then names.
 
@@ -95,23 +95,23 @@ pub record IsBeside (t u : State) : Type 0 where
   pub out : u.out ≡ t.out
   pub err : u.err ≡ t.err
 
-one_beside : (place : SourceLocation) (s : Context) (t u : State) (p : piece.Piece) → PieceStep place s t p u → IsBeside t u
-one_beside place s t _ p (at_once c settled) = record { symbols = refl; cursor = refl; out = refl; err = refl }
-one_beside place s t _ p later = record { symbols = refl; cursor = refl; out = refl; err = refl }
+one_beside : (location : SourceLocation) (s : Context) (t u : State) (p : piece.Piece) → PieceStep location s t p u → IsBeside t u
+one_beside location s t _ p (at_once c settled) = record { symbols = refl; cursor = refl; out = refl; err = refl }
+one_beside location s t _ p later = record { symbols = refl; cursor = refl; out = refl; err = refl }
 
-pub puts_beside : (place : SourceLocation) (s : Context) (t u : State) (ps : List piece.Piece) → PieceSteps place s t ps u → IsBeside t u
-puts_beside place s t u [] e = record { symbols = ap (λ (x : State). x.symbols) e; cursor = ap (λ (x : State). x.cursor) e; out = ap (λ (x : State). x.out) e; err = ap (λ (x : State). x.err) e }
-puts_beside place s t u (p ∷ ps) h =
-    let one = one_beside place s t h.0 p h.1 in
-    let rest = puts_beside place s h.0 u ps h.2 in
+pub puts_beside : (location : SourceLocation) (s : Context) (t u : State) (ps : List piece.Piece) → PieceSteps location s t ps u → IsBeside t u
+puts_beside location s t u [] e = record { symbols = ap (λ (x : State). x.symbols) e; cursor = ap (λ (x : State). x.cursor) e; out = ap (λ (x : State). x.out) e; err = ap (λ (x : State). x.err) e }
+puts_beside location s t u (p ∷ ps) h =
+    let one = one_beside location s t h.0 p h.1 in
+    let rest = puts_beside location s h.0 u ps h.2 in
     record { symbols = rest.symbols ∙ one.symbols; cursor = rest.cursor ∙ one.cursor; out = rest.out ∙ one.out; err = rest.err ∙ one.err }
 
-pub turns_after : (place : SourceLocation) (s : Context) (ps : List piece.Piece) (becomes : Symbols → Symbols) (old mid new : Assembler) → EmitsPieces place s ps old mid → KeepsPut mid new → table_of new.symbols ≡ becomes (table_of mid.symbols) → EmitsThenDefines place s ps becomes old new
-turns_after place s ps becomes old mid new enters keeps table count t h inside unnamed =
+pub turns_after : (location : SourceLocation) (s : Context) (ps : List piece.Piece) (becomes : Symbols → Symbols) (old mid new : Assembler) → EmitsPieces location s ps old mid → KeepsPut mid new → table_of new.symbols ≡ becomes (table_of mid.symbols) → EmitsThenDefines location s ps becomes old new
+turns_after location s ps becomes old mid new enters keeps table count t h inside unnamed =
     let x = enters count t h in
     let u : State = x.0 in
     let held : Represents count u mid = x.2 in
-    let beside = puts_beside place s t u ps x.1 in (
+    let beside = puts_beside location s t u ps x.1 in (
       u,
       x.1,
       holds_grown count u mid new (becomes t.symbols) held keeps (table ∙ ap becomes (held.symbols ∙ beside.symbols))
@@ -120,13 +120,13 @@ turns_after place s ps becomes old mid new enters keeps table count t h inside u
     )
 
 -- a statement without names
-pub turns_same : (place : SourceLocation) (s : Context) (ps : List piece.Piece) (old new : Assembler) → EmitsPieces place s ps old new → EmitsThenDefines place s ps (λ y. y) old new
-turns_same place s ps old new enters count t h inside unnamed =
+pub turns_same : (location : SourceLocation) (s : Context) (ps : List piece.Piece) (old new : Assembler) → EmitsPieces location s ps old new → EmitsThenDefines location s ps (λ y. y) old new
+turns_same location s ps old new enters count t h inside unnamed =
     let x = enters count t h in
-    (x.0, x.1, subst (λ (y : Symbols). Represents count (record x.0 { symbols = y }) new) (puts_beside place s t x.0 ps x.1).symbols x.2)
+    (x.0, x.1, subst (λ (y : Symbols). Represents count (record x.0 { symbols = y }) new) (puts_beside location s t x.0 ps x.1).symbols x.2)
 
-pub turns_as : (place : SourceLocation) (s : Context) (ps : List piece.Piece) (f g : Symbols → Symbols) (old new : Assembler) → ((y : Symbols) → f y ≡ g y) → EmitsThenDefines place s ps f old new → EmitsThenDefines place s ps g old new
-turns_as place s ps f g old new same turns count t h inside unnamed =
+pub turns_as : (location : SourceLocation) (s : Context) (ps : List piece.Piece) (f g : Symbols → Symbols) (old new : Assembler) → ((y : Symbols) → f y ≡ g y) → EmitsThenDefines location s ps f old new → EmitsThenDefines location s ps g old new
+turns_as location s ps f g old new same turns count t h inside unnamed =
     let e = same t.symbols in
     let x = turns count t h (subst (λ (y : Symbols). AreInside count y.scopes) (sym e) inside) (subst (λ (y : Symbols). AreBefore t.cursor.unnamed y.definitions) (sym e) unnamed) in
     (x.0, x.1, subst (λ (y : Symbols). Represents count (record x.0 { symbols = y }) new) e x.2)
@@ -159,43 +159,43 @@ opened_after y b = table_with y.definitions (y.definitions ++ []) (y.scopes ++ b
 named_after : (y : Symbols) (is zs : List (List ℕ)) → same_as y.definitions y.scopes is zs ≡ same_as (y.definitions ++ []) (y.scopes ++ []) is zs
 named_after y is zs = table_with y.definitions (y.definitions ++ []) y.scopes (y.scopes ++ []) is zs (sym (append-nil y.definitions)) (sym (append-nil y.scopes))
 
-module _ (place : SourceLocation) (s : Context) (m : StatementLayout) (old new : Assembler) where
+module _ (location : SourceLocation) (s : Context) (m : StatementLayout) (old new : Assembler) where
   abbrev pub Adds : Statement → Type 0
-  Adds x = EmitsThenDefines place s (pieces_of m.length m.settled x) (λ y. symbols_after y (laid_as place s m x)) old new
+  Adds x = EmitsThenDefines location s (pieces_of m.length m.settled x) (λ y. symbols_after y (laid_as location s m x)) old new
 
-  pub adds_pieces : (x : Statement) → ((y : Symbols) → y ≡ symbols_after y (laid_as place s m x)) → EmitsPieces place s (pieces_of m.length m.settled x) old new → Adds x
-  adds_pieces x none h = turns_as place s (pieces_of m.length m.settled x) (λ y. y) (λ y. symbols_after y (laid_as place s m x)) old new none (turns_same place s (pieces_of m.length m.settled x) old new h)
+  pub adds_pieces : (x : Statement) → ((y : Symbols) → y ≡ symbols_after y (laid_as location s m x)) → EmitsPieces location s (pieces_of m.length m.settled x) old new → Adds x
+  adds_pieces x none h = turns_as location s (pieces_of m.length m.settled x) (λ y. y) (λ y. symbols_after y (laid_as location s m x)) old new none (turns_same location s (pieces_of m.length m.settled x) old new h)
 
-  adds_names : (x : Statement) (f : Symbols → Symbols) → ((y : Symbols) → f y ≡ symbols_after y (laid_as place s m x)) → EmitsThenDefines place s (pieces_of m.length m.settled x) f old new → Adds x
-  adds_names x f same h = turns_as place s (pieces_of m.length m.settled x) f (λ y. symbols_after y (laid_as place s m x)) old new same h
+  adds_names : (x : Statement) (f : Symbols → Symbols) → ((y : Symbols) → f y ≡ symbols_after y (laid_as location s m x)) → EmitsThenDefines location s (pieces_of m.length m.settled x) f old new → Adds x
+  adds_names x f same h = turns_as location s (pieces_of m.length m.settled x) f (λ y. symbols_after y (laid_as location s m x)) old new same h
 
-  pub adds_label : (n : List ℕ) → EmitsThenDefines place s [] (λ y. with_definition y (label_at (named s.scope n) s m.size)) old new → Adds (Label n)
+  pub adds_label : (n : List ℕ) → EmitsThenDefines location s [] (λ y. with_definition y (label_at (named s.scope n) s m.size)) old new → Adds (Label n)
   adds_label n h = adds_names (Label n) (λ y. with_definition y (label_at (named s.scope n) s m.size)) (λ y. defined_after y (label_at (named s.scope n) s m.size)) h
 
-  pub adds_cheap : (n : List ℕ) → EmitsThenDefines place s [] (λ y. with_definition y (label_at (cheap_in s.region n) s m.size)) old new → Adds (CheapLabel n)
+  pub adds_cheap : (n : List ℕ) → EmitsThenDefines location s [] (λ y. with_definition y (label_at (cheap_in s.region n) s m.size)) old new → Adds (CheapLabel n)
   adds_cheap n h = adds_names (CheapLabel n) (λ y. with_definition y (label_at (cheap_in s.region n) s m.size)) (λ y. defined_after y (label_at (cheap_in s.region n) s m.size)) h
 
-  pub adds_unnamed : EmitsThenDefines place s [] (λ y. with_definition y (label_at (unnamed_at s.unnamed) s m.size)) old new → Adds UnnamedLabel
+  pub adds_unnamed : EmitsThenDefines location s [] (λ y. with_definition y (label_at (unnamed_at s.unnamed) s m.size)) old new → Adds UnnamedLabel
   adds_unnamed h = adds_names UnnamedLabel (λ y. with_definition y (label_at (unnamed_at s.unnamed) s m.size)) (λ y. defined_after y (label_at (unnamed_at s.unnamed) s m.size)) h
 
-  pub adds_constant : (n : List ℕ) (e : Tree) → EmitsThenDefines place s (valued equated e ∷ []) (λ y. with_definition y (record { key = named s.scope n; value = Some e; context = s; size = m.size })) old new → Adds (Constant n e)
+  pub adds_constant : (n : List ℕ) (e : Tree) → EmitsThenDefines location s (valued equated e ∷ []) (λ y. with_definition y (record { key = named s.scope n; value = Some e; context = s; size = m.size })) old new → Adds (Constant n e)
   adds_constant n e h = adds_names (Constant n e) (λ y. with_definition y (record { key = named s.scope n; value = Some e; context = s; size = m.size })) (λ y. defined_after y (record { key = named s.scope n; value = Some e; context = s; size = m.size })) h
 
-  pub adds_scope : (n : Option (List ℕ)) → EmitsThenDefines place s [] (λ y. with_scope y (record { within = s.scope; name = n; is_proc = false })) old new → Adds (OpenScope n)
+  pub adds_scope : (n : Option (List ℕ)) → EmitsThenDefines location s [] (λ y. with_scope y (record { within = s.scope; name = n; is_proc = false })) old new → Adds (OpenScope n)
   adds_scope n h = adds_names (OpenScope n) (λ y. with_scope y (record { within = s.scope; name = n; is_proc = false })) (λ y. opened_after y (record { within = s.scope; name = n; is_proc = false })) h
 
-  pub adds_proc : (n : List ℕ) → EmitsThenDefines place s [] (λ y. with_scope (with_definition y (label_at (named s.scope n) s m.size)) (record { within = s.scope; name = Some n; is_proc = true })) old new → Adds (OpenProc n)
+  pub adds_proc : (n : List ℕ) → EmitsThenDefines location s [] (λ y. with_scope (with_definition y (label_at (named s.scope n) s m.size)) (record { within = s.scope; name = Some n; is_proc = true })) old new → Adds (OpenProc n)
   adds_proc n h = adds_names (OpenProc n) (λ y. with_scope (with_definition y (label_at (named s.scope n) s m.size)) (record { within = s.scope; name = Some n; is_proc = true })) (λ y. refl) h
 
-  pub adds_imports : (own : AddressSize) (names : List (List ℕ)) → EmitsThenDefines place s (map imported names) (λ y. with_names y (is_for_zero_page own) names) old new → Adds (Import own names)
+  pub adds_imports : (own : AddressSize) (names : List (List ℕ)) → EmitsThenDefines location s (map imported names) (λ y. with_names y (is_for_zero_page own) names) old new → Adds (Import own names)
   adds_imports size.ZeroPage names h = adds_names (Import size.ZeroPage names) (λ y. with_names y true names) (λ y. named_after y (with_new y.imports names) (with_new y.zero_page names)) h
   adds_imports size.Absolute names h = adds_names (Import size.Absolute names) (λ y. with_names y false names) (λ y. named_after y (with_new y.imports names) y.zero_page) h
 
-  pub adds_globals : (own : AddressSize) (names : List (List ℕ)) → EmitsThenDefines place s (map (exported false) names) (λ y. with_names y (is_for_zero_page own) names) old new → Adds (Global own names)
+  pub adds_globals : (own : AddressSize) (names : List (List ℕ)) → EmitsThenDefines location s (map (exported false) names) (λ y. with_names y (is_for_zero_page own) names) old new → Adds (Global own names)
   adds_globals size.ZeroPage names h = adds_names (Global size.ZeroPage names) (λ y. with_names y true names) (λ y. named_after y (with_new y.imports names) (with_new y.zero_page names)) h
   adds_globals size.Absolute names h = adds_names (Global size.Absolute names) (λ y. with_names y false names) (λ y. named_after y (with_new y.imports names) y.zero_page) h
 
-  pub adds_forced : (names : List (List ℕ)) → EmitsThenDefines place s (map imported names ++ map demanded names) (λ y. with_names y false names) old new → Adds (ForceImport names)
+  pub adds_forced : (names : List (List ℕ)) → EmitsThenDefines location s (map imported names ++ map demanded names) (λ y. with_names y false names) old new → Adds (ForceImport names)
   adds_forced names h = adds_names (ForceImport names) (λ y. with_names y false names) (λ y. named_after y (with_new y.imports names) y.zero_page) h
 
   -- what a call adds, for the statement that it is
@@ -205,31 +205,31 @@ module _ (place : SourceLocation) (s : Context) (m : StatementLayout) (old new :
 -- ---- Statements by what they are not.
 
 -- a statement of the other kinds puts nothing into a section
-pub puts_nothing : (x : Statement) → ((m : Mnemonic) (o : Operand) → x ≡ Instruction m o → ⊥) → ((w : Width) (items : List Item) → x ≡ Values w items → ⊥) → ((n : Tree) (v : Option Tree) → x ≡ Reserve n v → ⊥) → ((n : Tree) (v : Option Tree) → x ≡ Align n v → ⊥) → ((bytes : Option (List ℕ)) (start len : Option Tree) → x ≡ Incbin bytes start len → ⊥) → ((e : Tree) (act : Action) (words : List ℕ) → x ≡ Assert e act words → ⊥) → is_put x ≡ false
+pub puts_nothing : (x : Statement) → ((m : Mnemonic) (o : Operand) → x ≡ Instruction m o → ⊥) → ((w : Width) (items : List Item) → x ≡ Values w items → ⊥) → ((n : Tree) (v : Option Tree) → x ≡ Reserve n v → ⊥) → ((n : Tree) (v : Option Tree) → x ≡ Align n v → ⊥) → ((bytes : Option (List ℕ)) (start len : Option Tree) → x ≡ Incbin bytes start len → ⊥) → ((e : Tree) (act : Action) (message : List ℕ) → x ≡ Assert e act message → ⊥) → is_put x ≡ false
 puts_nothing (Instruction m o) i v r a f s = absurd (i m o refl)
 puts_nothing (Values w items) i v r a f s = absurd (v w items refl)
 puts_nothing (Reserve n e) i v r a f s = absurd (r n e refl)
 puts_nothing (Align n e) i v r a f s = absurd (a n e refl)
 puts_nothing (Incbin bytes start len) i v r a f s = absurd (f bytes start len refl)
-puts_nothing (Assert e act words) i v r a f s = absurd (s e act words refl)
+puts_nothing (Assert e act message) i v r a f s = absurd (s e act message refl)
 puts_nothing x i v r a f s = refl
 
 -- one that names nothing either adds nothing
-pub adds_nothing : (place : SourceLocation) (s : Context) (m : StatementLayout) (a : Assembler) (x : Statement) → is_put x ≡ false → ((n : List ℕ) → x ≡ Label n → ⊥) → ((n : List ℕ) → x ≡ CheapLabel n → ⊥) → (x ≡ UnnamedLabel → ⊥) → ((n : List ℕ) (e : Tree) → x ≡ Constant n e → ⊥) → ((n : Option (List ℕ)) → x ≡ OpenScope n → ⊥) → ((n : List ℕ) → x ≡ OpenProc n → ⊥) → ((own : AddressSize) (names : List (List ℕ)) → x ≡ Import own names → ⊥) → ((own : AddressSize) (names : List (List ℕ)) → x ≡ Global own names → ⊥) → ((names : List (List ℕ)) → x ≡ ForceImport names → ⊥) → ((names : List (List ℕ)) → x ≡ Export names → ⊥) → Adds place s m a a x
-adds_nothing place s m a (Instruction n o) put l c u e b p i g f x = absurd cc
-adds_nothing place s m a (Values w items) put l c u e b p i g f x = absurd cc
-adds_nothing place s m a (Reserve n v) put l c u e b p i g f x = absurd cc
-adds_nothing place s m a (Align n v) put l c u e b p i g f x = absurd cc
-adds_nothing place s m a (Incbin bytes start len) put l c u e b p i g f x = absurd cc
-adds_nothing place s m a (Assert v act words) put l c u e b p i g f x = absurd cc
-adds_nothing place s m a (Label n) put l c u e b p i g f x = absurd (l n refl)
-adds_nothing place s m a (CheapLabel n) put l c u e b p i g f x = absurd (c n refl)
-adds_nothing place s m a UnnamedLabel put l c u e b p i g f x = absurd (u refl)
-adds_nothing place s m a (Constant n v) put l c u e b p i g f x = absurd (e n v refl)
-adds_nothing place s m a (OpenScope n) put l c u e b p i g f x = absurd (b n refl)
-adds_nothing place s m a (OpenProc n) put l c u e b p i g f x = absurd (p n refl)
-adds_nothing place s m a (Import own names) put l c u e b p i g f x = absurd (i own names refl)
-adds_nothing place s m a (Global own names) put l c u e b p i g f x = absurd (g own names refl)
-adds_nothing place s m a (ForceImport names) put l c u e b p i g f x = absurd (f names refl)
-adds_nothing place s m a (Export names) put l c u e b p i g f x = absurd (x names refl)
-adds_nothing place s m a other put l c u e b p i g f x = adds_pieces place s m a a other (λ y. nothing_follows y) (enters_none place s a)
+pub adds_nothing : (location : SourceLocation) (s : Context) (m : StatementLayout) (a : Assembler) (x : Statement) → is_put x ≡ false → ((n : List ℕ) → x ≡ Label n → ⊥) → ((n : List ℕ) → x ≡ CheapLabel n → ⊥) → (x ≡ UnnamedLabel → ⊥) → ((n : List ℕ) (e : Tree) → x ≡ Constant n e → ⊥) → ((n : Option (List ℕ)) → x ≡ OpenScope n → ⊥) → ((n : List ℕ) → x ≡ OpenProc n → ⊥) → ((own : AddressSize) (names : List (List ℕ)) → x ≡ Import own names → ⊥) → ((own : AddressSize) (names : List (List ℕ)) → x ≡ Global own names → ⊥) → ((names : List (List ℕ)) → x ≡ ForceImport names → ⊥) → ((names : List (List ℕ)) → x ≡ Export names → ⊥) → Adds location s m a a x
+adds_nothing location s m a (Instruction n o) put l c u e b p i g f x = absurd cc
+adds_nothing location s m a (Values w items) put l c u e b p i g f x = absurd cc
+adds_nothing location s m a (Reserve n v) put l c u e b p i g f x = absurd cc
+adds_nothing location s m a (Align n v) put l c u e b p i g f x = absurd cc
+adds_nothing location s m a (Incbin bytes start len) put l c u e b p i g f x = absurd cc
+adds_nothing location s m a (Assert v act message) put l c u e b p i g f x = absurd cc
+adds_nothing location s m a (Label n) put l c u e b p i g f x = absurd (l n refl)
+adds_nothing location s m a (CheapLabel n) put l c u e b p i g f x = absurd (c n refl)
+adds_nothing location s m a UnnamedLabel put l c u e b p i g f x = absurd (u refl)
+adds_nothing location s m a (Constant n v) put l c u e b p i g f x = absurd (e n v refl)
+adds_nothing location s m a (OpenScope n) put l c u e b p i g f x = absurd (b n refl)
+adds_nothing location s m a (OpenProc n) put l c u e b p i g f x = absurd (p n refl)
+adds_nothing location s m a (Import own names) put l c u e b p i g f x = absurd (i own names refl)
+adds_nothing location s m a (Global own names) put l c u e b p i g f x = absurd (g own names refl)
+adds_nothing location s m a (ForceImport names) put l c u e b p i g f x = absurd (f names refl)
+adds_nothing location s m a (Export names) put l c u e b p i g f x = absurd (x names refl)
+adds_nothing location s m a other put l c u e b p i g f x = adds_pieces location s m a a other (λ y. nothing_follows y) (enters_none location s a)

@@ -48,10 +48,10 @@ record Laid (t : State) : Type 0 where
 
 laid_reached : (t : State) → IsReached t → Laid t
 laid_reached _ at_first = record { layout = nothing_laid; follows = begun_follows; good = nothing_good }
-laid_reached _ (following t u place x reached sound takes) =
+laid_reached _ (following t u location x reached sound takes) =
     let before = laid_reached t reached in
-    let more = takes_follows before.layout t place x (Ok u) before.follows takes in
-    record { layout = more.0; follows = more.2; good = good_statement before.layout more.0 place x before.good sound more.1 }
+    let more = takes_follows before.layout t location x (Ok u) before.follows takes in
+    record { layout = more.0; follows = more.2; good = good_statement before.layout more.0 location x before.good sound more.1 }
 
 stands_reached : (t : State) (l : Laid t) → SimulatesLayout l.layout t
 stands_reached t l = subst (SimulatesLayout l.layout) (sym l.follows.same) (stands_for l.layout l.follows.slots l.follows.comes)
@@ -104,15 +104,15 @@ outside_found P (Err e) h = by (is_diagnostic_system_error e) h
     by false h = absurd cc
 
 abbrev pub RefusedBy : Assembler → SourceLocation → AsmFault → Assembly → Type 0
-RefusedBy b place e a = is_system_error e ≡ false → (t : State) → SaysAs t b → RefinesOutcome (outcome_of_state t (Some (record { place = place; fault = e }))) a
+RefusedBy b location e a = is_system_error e ≡ false → (t : State) → SaysAs t b → RefinesOutcome (outcome_of_state t (Some (record { place = location; fault = e }))) a
 
 -- a fault of a source, at its place
-pub refused_answer : (a : Assembly) (b : Assembler) (m : Files) (job : Job) (place : SourceLocation) (e : AsmFault) → Unless (is_system_error e) ((u : State) × RunsStatements m job (stopped_at u place e) × SaysAs u b) → (is_system_error e ≡ true → is_from_outside a.result ≡ true) → RefusedBy b place e a → RefinesProp is_diagnostic_system_error (λ q. IsOutcome m job (answer_of a q)) a.result
-refused_answer a b m job place e ran outside refused = by (is_system_error e) refl ran
+pub refused_answer : (a : Assembly) (b : Assembler) (m : Files) (job : Job) (location : SourceLocation) (e : AsmFault) → Unless (is_system_error e) ((u : State) × RunsStatements m job (stopped_at u location e) × SaysAs u b) → (is_system_error e ≡ true → is_from_outside a.result ≡ true) → RefusedBy b location e a → RefinesProp is_diagnostic_system_error (λ q. IsOutcome m job (answer_of a q)) a.result
+refused_answer a b m job location e ran outside refused = by (is_system_error e) refl ran
   where
-    by : (c : Bool) → is_system_error e ≡ c → Unless c ((u : State) × RunsStatements m job (stopped_at u place e) × SaysAs u b) → RefinesProp is_diagnostic_system_error (λ q. IsOutcome m job (answer_of a q)) a.result
+    by : (c : Bool) → is_system_error e ≡ c → Unless c ((u : State) × RunsStatements m job (stopped_at u location e) × SaysAs u b) → RefinesProp is_diagnostic_system_error (λ q. IsOutcome m job (answer_of a q)) a.result
     by true is h = outside_found (λ q. IsOutcome m job (answer_of a q)) a.result (outside is)
-    by false is h = outcome_answer a (outcome_of_state h.0 (Some (record { place = place; fault = e }))) m job (one_pass m job (stopped_at h.0 place e) h.1) (refused is h.0 h.2)
+    by false is h = outcome_answer a (outcome_of_state h.0 (Some (record { place = location; fault = e }))) m job (one_pass m job (stopped_at h.0 location e) h.1) (refused is h.0 h.2)
 
 -- a source without a fault of a line
 pub concluded_answer : (a : Assembly) (m : Files) (job : Job) (run : Run) (v : Unit {0}) → RefinesRun m job run (Ok v) → ((count : ℕ) (t : State) → Represents count t run.assembler → RefinesOutcome (outcome_of_state t None) a) → RefinesProp is_diagnostic_system_error (λ q. IsOutcome m job (answer_of a q)) a.result
@@ -132,16 +132,16 @@ AnswersAll m first a =
 pub all_concluded : (o : Option Files) (first now : Run) (v : Unit {0}) (a : Assembly) → ((count : ℕ) (t : State) → Represents count t now.assembler → RefinesOutcome (outcome_of_state t None) a) → IfSome o (λ m. RanAll m first now (Ok v)) → IfSome o (λ m. AnswersAll m first a)
 all_concluded o first now v a h ran = some_then (λ m. RanAll m first now (Ok v)) (λ m. AnswersAll m first a) o (λ m r job t opens defined held. concluded_answer a m job now v (r job t opens defined held) h) ran
 
-pub all_refused : (o : Option Files) (first now : Run) (e : AsmFault) (place : SourceLocation) (a : Assembly) → place ≡ place_of now.expander → (is_system_error e ≡ true → is_from_outside a.result ≡ true) → RefusedBy now.assembler place e a → IfSome o (λ m. RanAll m first now (Err e)) → IfSome o (λ m. AnswersAll m first a)
-all_refused o first now e place a at outside refused ran =
+pub all_refused : (o : Option Files) (first now : Run) (e : AsmFault) (location : SourceLocation) (a : Assembly) → location ≡ place_of now.expander → (is_system_error e ≡ true → is_from_outside a.result ≡ true) → RefusedBy now.assembler location e a → IfSome o (λ m. RanAll m first now (Err e)) → IfSome o (λ m. AnswersAll m first a)
+all_refused o first now e location a at outside refused ran =
     some_then (λ m. RanAll m first now (Err e)) (λ m. AnswersAll m first a) o (λ m r job t opens defined held. refused_answer a now.assembler m job (place_of now.expander) e (r job t opens defined held) outside (subst (λ p. RefusedBy now.assembler p e a) at refused)) ran
 
 says_begun : (b : Assembler) → Represents 0 initial_state b → SaysAs initial_state b
 says_begun b h = (h.out, h.err)
 
-unless_state : (m : Files) (job : Job) (place : SourceLocation) (e : AsmFault) (b : Assembler) (c : Bool) → SaysAs initial_state b → Unless c (RunsStatements m job (stopped_at initial_state place e)) → Unless c ((u : State) × RunsStatements m job (stopped_at u place e) × SaysAs u b)
-unless_state m job place e b true says h = tt
-unless_state m job place e b false says h = (initial_state, h, says)
+unless_state : (m : Files) (job : Job) (location : SourceLocation) (e : AsmFault) (b : Assembler) (c : Bool) → SaysAs initial_state b → Unless c (RunsStatements m job (stopped_at initial_state location e)) → Unless c ((u : State) × RunsStatements m job (stopped_at u location e) × SaysAs u b)
+unless_state m job location e b true says h = tt
+unless_state m job location e b false says h = (initial_state, h, says)
 
 pub open_answer : (o : Option Files) (job : Job) (e : ExpandFault) (a : Assembly) (b : Assembler) → Represents 0 initial_state b → (is_system_error (Expansion e) ≡ true → is_from_outside a.result ≡ true) → RefusedBy b (no_line job.source) (Expansion e) a → IfSome o (λ m. RepresentsFirstState m (Err e) (opened_in m job.source job.include)) → IfSome o (λ m. AnswersAs m job a)
 open_answer o job e a b h outside refused opens =
@@ -274,7 +274,7 @@ stops_first o last_failure job e a failed first silent asked = some_all (λ m. R
         inl (record { source = asked (only_error e is); fault = there.0 ∙ expansion_error e is; place = there.1; no_out = nothing.0; no_err = nothing.1 }))
 
 abbrev pub StoppedAt : SourceLocation → AsmFault → Found → Type 0
-StoppedAt place e r = IfErr r (λ x. placed_of x ≡ record { place = place; fault = e })
+StoppedAt location e r = IfErr r (λ x. placed_of x ≡ record { place = location; fault = e })
 
 -- it failed behind some statements
 pub stops_here : (o : Option Files) (last_failure : LastFailure) (first now : Run) (e : AsmFault) (a : Assembly) → is_failure e ≡ true → StoppedAt (place_of now.expander) e a.result → a.out ≡ now.assembler.texts.out → a.err ≡ now.assembler.texts.err → IfSome o (λ m. StopsAll m last_failure first now (Err e)) → IfSome o (λ m. StopsFrom m last_failure first a)
@@ -289,9 +289,9 @@ stops_here o last_failure first now e a failed placed out err all =
     by m job (Err x) p h = λ yes.
         inr (subst (λ (q : LocatedFault). RunStops m last_failure job q a.out a.err) (sym p) (subst (λ (t : List ℕ). RunStops m last_failure job at t a.err) (sym out) (subst (λ (t : List ℕ). RunStops m last_failure job at now.assembler.texts.out t) (sym err) h)))
 
-pub stopped_silent : (r : Found) (place : SourceLocation) (e : AsmFault) (P : Type 0) → is_failure e ≡ true → StoppedAt place e r → is_from_memory r ≡ true → P
-stopped_silent (Ok o) place e P failed p h = absurd cc
-stopped_silent (Err x) place e P failed p h = absurd (let both : true ≡ false = sym h ∙ ap (λ (q : LocatedFault). is_memory q.fault) p ∙ failure_inside e failed in cc)
+pub stopped_silent : (r : Found) (location : SourceLocation) (e : AsmFault) (P : Type 0) → is_failure e ≡ true → StoppedAt location e r → is_from_memory r ≡ true → P
+stopped_silent (Ok o) location e P failed p h = absurd cc
+stopped_silent (Err x) location e P failed p h = absurd (let both : true ≡ false = sym h ∙ ap (λ (q : LocatedFault). is_memory q.fault) p ∙ failure_inside e failed in cc)
 
 -- a fault behind some statements, which may be a failure of the store
 pub stops_after : (o : Option Files) (last_failure : LastFailure) (first now : Run) (e : AsmFault) (a : Assembly) → IfErr a.result (λ x. has_failed x ≡ is_failure e) → (is_failure e ≡ true → StoppedAt (place_of now.expander) e a.result) → (is_failure e ≡ true → (a.out ≡ now.assembler.texts.out) × (a.err ≡ now.assembler.texts.err)) → IfSome o (λ m. StopsAll m last_failure first now (Err e)) → IfSome o (λ m. StopsFrom m last_failure first a)

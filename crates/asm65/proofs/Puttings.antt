@@ -22,12 +22,12 @@ abbrev in_range : (known : List ℕ) → Result Part AsmFault
 in_range known = Ok (Known known)
 
 -- a literal that is in range is its bytes
-pub stored_is : (width : Width) (place : SourceLocation) (v : ℤ) → fits_width width v ≡ true → value_part width place (lit v) ≡ in_range (value_bytes width v)
-stored_is width place v fits = ap (λ (b : Bool). if b then in_range (value_bytes width v) else Err OutOfRange) fits
+pub stored_is : (width : Width) (location : SourceLocation) (v : ℤ) → fits_width width v ≡ true → value_part width location (lit v) ≡ in_range (value_bytes width v)
+stored_is width location v fits = ap (λ (b : Bool). if b then in_range (value_bytes width v) else Err OutOfRange) fits
 
-pub literal_put : (old new : Sections) (g : ℕ) (width : Width) (place : SourceLocation) (v : ℤ) (bytes : List ℕ) → fits_width width v ≡ true → bytes ≡ value_bytes width v → AppendsSlot old new (resolved (section_part g (Known bytes))) → IsPut old new g (value_part width place (lit v)) true
-literal_put old new g width place v bytes fits same feeds =
-    subst (λ (r : Result Part AsmFault). IsPut old new g r true) (sym (stored_is width place v fits))
+pub literal_put : (old new : Sections) (g : ℕ) (width : Width) (location : SourceLocation) (v : ℤ) (bytes : List ℕ) → fits_width width v ≡ true → bytes ≡ value_bytes width v → AppendsSlot old new (resolved (section_part g (Known bytes))) → IsPut old new g (value_part width location (lit v)) true
+literal_put old new g width location v bytes fits same feeds =
+    subst (λ (r : Result Part AsmFault). IsPut old new g r true) (sym (stored_is width location v fits))
     (subst (λ (known : List ℕ). AppendsSlot old new (resolved (section_part g (Known known)))) same feeds)
 
 pub literal_is : (f : Form) (v : ℤ) → literal_in (Ok f) ≡ Some v → f ≡ lit v
@@ -38,18 +38,18 @@ literal_is (prefix op f) v e = absurd cc
 literal_is (binary op f g) v e = absurd cc
 
 -- what isn't a literal is the linker's, and written with its place
-pub other_stored : (width : Width) (place : SourceLocation) (f : Form) → literal_in (Ok f) ≡ None → value_part width place f ≡ located_declarations place (Waiting width place f)
-other_stored width place (lit w) e = absurd cc
-other_stored width place (sec k a) e = refl
-other_stored width place (imp k) e = refl
-other_stored width place (prefix op f) e = refl
-other_stored width place (binary op f g) e = refl
+pub other_stored : (width : Width) (location : SourceLocation) (f : Form) → literal_in (Ok f) ≡ None → value_part width location f ≡ located_declarations location (Waiting width location f)
+other_stored width location (lit w) e = absurd cc
+other_stored width location (sec k a) e = refl
+other_stored width location (imp k) e = refl
+other_stored width location (prefix op f) e = refl
+other_stored width location (binary op f g) e = refl
 
 -- so it is put where an object can hold the name of the file
-pub other_put : (old new : Sections) (g : ℕ) (width : Width) (place : SourceLocation) (f : Form) → literal_in (Ok f) ≡ None → is_file_name place.file ≡ true → AppendsSlot old new (resolved (section_part g (Waiting width place f))) → IsPut old new g (value_part width place f) true
-other_put old new g width place f e fits feeds =
-    subst (λ r. IsPut old new g r true) (sym (other_stored width place f e))
-    (subst (λ b. IsPut old new g (if b then Ok (Waiting width place f) else Err FileNameTooLong) true) (sym fits) feeds)
+pub other_put : (old new : Sections) (g : ℕ) (width : Width) (location : SourceLocation) (f : Form) → literal_in (Ok f) ≡ None → is_file_name location.file ≡ true → AppendsSlot old new (resolved (section_part g (Waiting width location f))) → IsPut old new g (value_part width location f) true
+other_put old new g width location f e fits feeds =
+    subst (λ r. IsPut old new g r true) (sym (other_stored width location f e))
+    (subst (λ b. IsPut old new g (if b then Ok (Waiting width location f) else Err FileNameTooLong) true) (sym fits) feeds)
 
 pub other_room : (count : ℕ) (s : held.EncodingChoice) → ((byte : ℕ) → s ≡ settled.FillByte byte → ⊥) → room_part count s ≡ Filled count
 other_room count settled.Undecided h = refl

@@ -72,15 +72,15 @@ pub says_same : (count : ℕ) (t : State) (old new : Assembler) → Represents c
 says_same count t old new h e = (ap (λ (s : ConsoleOutput). s.out) e ∙ h.out, ap (λ (s : ConsoleOutput). s.err) e ∙ h.err)
 
 abbrev Taken : SourceLocation → Statement → Assembler → Assembler → Answer → Type 0
-Taken place x old new r = (count : ℕ) (t : State) → Represents count t old → count < opening_limit → RepresentsOrFails (StepsTo t place x) (λ u. Represents (count + opened_by x) u new) r
+Taken location x old new r = (count : ℕ) (t : State) → Represents count t old → count < opening_limit → RepresentsOrFails (StepsTo t location x) (λ u. Represents (count + opened_by x) u new) r
 
-pub sound_leaves : (place : SourceLocation) (x : Statement) (old new : Assembler) (r : Answer) → IsWellFormedStatement x → Taken place x old new r → IfErr r (λ e. is_system_error e ≡ false → new.texts ≡ old.texts) → TakesBy (IsWellFormedStatement x) (λ t. StepsTo t place x) 1 old new r
-sound_leaves place x old new (Ok v) sound taken same = λ count t room h.
+pub sound_leaves : (location : SourceLocation) (x : Statement) (old new : Assembler) (r : Answer) → IsWellFormedStatement x → Taken location x old new r → IfErr r (λ e. is_system_error e ≡ false → new.texts ≡ old.texts) → TakesBy (IsWellFormedStatement x) (λ t. StepsTo t location x) 1 old new r
+sound_leaves location x old new (Ok v) sound taken same = λ count t room h.
     (let few = opened_few x in
     let a = taken count t h (omega (arith, room)) in
-    (a.0, a.1, λ reached. following t a.0 place x reached sound a.1, (count + opened_by x, omega (arith, few), a.2)))
-sound_leaves place x old new (Err e) sound taken same = λ count t room h.
-    fault_first (IsWellFormedStatement x) (StepsTo t place x) (count + 1) t new e (taken count t h (omega (arith, room))) (λ inside. says_same count t old new h (same inside))
+    (a.0, a.1, λ reached. following t a.0 location x reached sound a.1, (count + opened_by x, omega (arith, few), a.2)))
+sound_leaves location x old new (Err e) sound taken same = λ count t room h.
+    fault_first (IsWellFormedStatement x) (StepsTo t location x) (count + 1) t new e (taken count t h (omega (arith, room))) (λ inside. says_same count t old new h (same inside))
 
 -- ---- Where files are told.
 
@@ -95,53 +95,53 @@ told_all (Some m) P f = f m
 -- ---- What stands behind a label.
 
 abbrev pub RestBy : Option Files → SourceLocation → List Lexeme → State → Result State AsmFault → Type 0
-RestBy o place ts = ForKnownFiles o (λ m t. IsRest m StepsTo t place ts)
+RestBy o location ts = ForKnownFiles o (λ m t. IsRest m StepsTo t location ts)
 
-pub rest_wrong : (o : Option Files) (place : SourceLocation) (ts : List Lexeme) (a : Assembler) (e : AsmFault) → (ts ≡ [] → ⊥) → Unless (is_system_error e) (IsStatement ts (Err e)) → TakesBy (AreSymbolNames ts) (RestBy o place ts) 1 a a (Err e)
-rest_wrong o place [] a e some is = absurd (some refl)
-rest_wrong o place (k ∷ ts) a e some is = λ count t room h.
-    fault_first (AreSymbolNames (k ∷ ts)) (RestBy o place (k ∷ ts) t) (count + 1) t a e (by t (is_system_error e) is) (λ inside. (h.out, h.err))
+pub rest_wrong : (o : Option Files) (location : SourceLocation) (ts : List Lexeme) (a : Assembler) (e : AsmFault) → (ts ≡ [] → ⊥) → Unless (is_system_error e) (IsStatement ts (Err e)) → TakesBy (AreSymbolNames ts) (RestBy o location ts) 1 a a (Err e)
+rest_wrong o location [] a e some is = absurd (some refl)
+rest_wrong o location (k ∷ ts) a e some is = λ count t room h.
+    fault_first (AreSymbolNames (k ∷ ts)) (RestBy o location (k ∷ ts) t) (count + 1) t a e (by t (is_system_error e) is) (λ inside. (h.out, h.err))
   where
-    by : (t : State) (b : Bool) → Unless b (IsStatement (k ∷ ts) (Err e)) → Unless b (RestBy o place (k ∷ ts) t (Err e))
+    by : (t : State) (b : Bool) → Unless b (IsStatement (k ∷ ts) (Err e)) → Unless b (RestBy o location (k ∷ ts) t (Err e))
     by t true g = tt
-    by t false g = told_all o (λ m. IsRest m StepsTo t place (k ∷ ts) (Err e)) (λ m. (Err e, g, refl))
+    by t false g = told_all o (λ m. IsRest m StepsTo t location (k ∷ ts) (Err e)) (λ m. (Err e, g, refl))
 
 -- a statement that was read, and the same with what was read of its file
-module _ (place : SourceLocation) (k : Lexeme) (ts : List Lexeme) (x y : Statement) (is : IsStatement (k ∷ ts) (Ok x)) where
-  taken_rest : (m : Files) (t : State) (r : Result State AsmFault) → y ≡ read_bytes m place x → StepsTo t place y r → IsRest m StepsTo t place (k ∷ ts) r
-  taken_rest m t r e h = (Ok x, is, takes_whole m place x t r (subst (λ z. StepsTo t place z r) e h))
+module _ (location : SourceLocation) (k : Lexeme) (ts : List Lexeme) (x y : Statement) (is : IsStatement (k ∷ ts) (Ok x)) where
+  taken_rest : (m : Files) (t : State) (r : Result State AsmFault) → y ≡ read_bytes m location x → StepsTo t location y r → IsRest m StepsTo t location (k ∷ ts) r
+  taken_rest m t r e h = (Ok x, is, takes_whole m location x t r (subst (λ z. StepsTo t location z r) e h))
 
-  sound_rest : (m : Files) → y ≡ read_bytes m place x → AreSymbolNames (k ∷ ts) → IsWellFormedStatement y
-  sound_rest m e named = subst IsWellFormedStatement (sym e) (read_sound m place x (statement_sound (k ∷ ts) x named is))
+  sound_rest : (m : Files) → y ≡ read_bytes m location x → AreSymbolNames (k ∷ ts) → IsWellFormedStatement y
+  sound_rest m e named = subst IsWellFormedStatement (sym e) (read_sound m location x (statement_sound (k ∷ ts) x named is))
 
-  wrong_rest : (o : Option Files) (most : ℕ) (t : State) (new : Assembler) (e : AsmFault) → IfSome o (λ m. y ≡ read_bytes m place x) → RefinesTransition (IsWellFormedStatement y) (StepsTo t place y) most t new (Err e) → RefinesTransition (AreSymbolNames (k ∷ ts)) (RestBy o place (k ∷ ts) t) most t new (Err e)
-  wrong_rest (Some m) most t new e read h = fault_then (IsWellFormedStatement y) (AreSymbolNames (k ∷ ts)) (StepsTo t place y) (RestBy (Some m) place (k ∷ ts) t) most most t t new e (sound_rest m read) (taken_rest m t (Err e) read) (λ s. s) h
+  wrong_rest : (o : Option Files) (most : ℕ) (t : State) (new : Assembler) (e : AsmFault) → IfSome o (λ m. y ≡ read_bytes m location x) → RefinesTransition (IsWellFormedStatement y) (StepsTo t location y) most t new (Err e) → RefinesTransition (AreSymbolNames (k ∷ ts)) (RestBy o location (k ∷ ts) t) most t new (Err e)
+  wrong_rest (Some m) most t new e read h = fault_then (IsWellFormedStatement y) (AreSymbolNames (k ∷ ts)) (StepsTo t location y) (RestBy (Some m) location (k ∷ ts) t) most most t t new e (sound_rest m read) (taken_rest m t (Err e) read) (λ s. s) h
   wrong_rest None most t new e read h = by (is_system_error e) h
     where
-      by : (b : Bool) → Unless b ((IsWellFormedStatement y → StepsTo t place y (Err e)) × SaysAs t new) → Unless b ((AreSymbolNames (k ∷ ts) → RestBy None place (k ∷ ts) t (Err e)) × SaysAs t new)
+      by : (b : Bool) → Unless b ((IsWellFormedStatement y → StepsTo t location y (Err e)) × SaysAs t new) → Unless b ((AreSymbolNames (k ∷ ts) → RestBy None location (k ∷ ts) t (Err e)) × SaysAs t new)
       by true g = tt
       by false g = (λ so. tt, g.1)
 
-pub rest_leaves : (o : Option Files) (place : SourceLocation) (ts : List Lexeme) (x y : Statement) (old new : Assembler) (r : Answer) → (ts ≡ [] → ⊥) → IsStatement ts (Ok x) → IfSome o (λ m. y ≡ read_bytes m place x) → TakesBy (IsWellFormedStatement y) (λ t. StepsTo t place y) 1 old new r → TakesBy (AreSymbolNames ts) (RestBy o place ts) 1 old new r
-rest_leaves o place [] x y old new r some is read taken = absurd (some refl)
-rest_leaves o place (k ∷ ts) x y old new (Ok v) some is read taken = λ count t room h.
+pub rest_leaves : (o : Option Files) (location : SourceLocation) (ts : List Lexeme) (x y : Statement) (old new : Assembler) (r : Answer) → (ts ≡ [] → ⊥) → IsStatement ts (Ok x) → IfSome o (λ m. y ≡ read_bytes m location x) → TakesBy (IsWellFormedStatement y) (λ t. StepsTo t location y) 1 old new r → TakesBy (AreSymbolNames ts) (RestBy o location ts) 1 old new r
+rest_leaves o location [] x y old new r some is read taken = absurd (some refl)
+rest_leaves o location (k ∷ ts) x y old new (Ok v) some is read taken = λ count t room h.
     (let a = taken count t room h in
-    (a.0, told_then o (λ m. y ≡ read_bytes m place x) (λ m. IsRest m StepsTo t place (k ∷ ts) (Ok a.0)) (λ m e. taken_rest place k ts x y is m t (Ok a.0) e a.1) read, a.2, a.3))
-rest_leaves o place (k ∷ ts) x y old new (Err e) some is read taken = λ count t room h.
-    wrong_rest place k ts x y is o (count + 1) t new e read (taken count t room h)
+    (a.0, told_then o (λ m. y ≡ read_bytes m location x) (λ m. IsRest m StepsTo t location (k ∷ ts) (Ok a.0)) (λ m e. taken_rest location k ts x y is m t (Ok a.0) e a.1) read, a.2, a.3))
+rest_leaves o location (k ∷ ts) x y old new (Err e) some is read taken = λ count t room h.
+    wrong_rest location k ts x y is o (count + 1) t new e read (taken count t room h)
 
 -- a statement that is refused before its file is read
-module _ (f : Option Files) (last_failure : LastFailure) (place : SourceLocation) (x : Statement) (old new : Assembler) (e : AsmFault) (refused : (count : ℕ) (t : State) → Represents count t old → IsRefusedUnread f last_failure t place x e) (same : new.texts ≡ old.texts) where
-  pub rest_unread : (ts : List Lexeme) → (ts ≡ [] → ⊥) → IsStatement ts (Ok x) → TakesBy (AreSymbolNames ts) (RestBy f place ts) 1 old new (Err e)
+module _ (f : Option Files) (last_failure : LastFailure) (location : SourceLocation) (x : Statement) (old new : Assembler) (e : AsmFault) (refused : (count : ℕ) (t : State) → Represents count t old → IsRefusedUnread f last_failure t location x e) (same : new.texts ≡ old.texts) where
+  pub rest_unread : (ts : List Lexeme) → (ts ≡ [] → ⊥) → IsStatement ts (Ok x) → TakesBy (AreSymbolNames ts) (RestBy f location ts) 1 old new (Err e)
   rest_unread [] some is = absurd (some refl)
   rest_unread (k ∷ ts) some is = λ count t room h.
-      fault_first (AreSymbolNames (k ∷ ts)) (RestBy f place (k ∷ ts) t) (count + 1) t new e
-      (unless_then (is_system_error e) (λ (all : (m : Files) → StepsTo t place (with_bytes m place x) (Err e)). told_all f (λ m. IsRest m StepsTo t place (k ∷ ts) (Err e)) (λ m. (Ok x, is, all m))) (refused count t h).inside)
+      fault_first (AreSymbolNames (k ∷ ts)) (RestBy f location (k ∷ ts) t) (count + 1) t new e
+      (unless_then (is_system_error e) (λ (all : (m : Files) → StepsTo t location (with_bytes m location x) (Err e)). told_all f (λ m. IsRest m StepsTo t location (k ∷ ts) (Err e)) (λ m. (Ok x, is, all m))) (refused count t h).inside)
       (λ inside. says_same count t old new h same)
 
-  pub rest_stops : (ts : List Lexeme) (r : Answer) → (ts ≡ [] → ⊥) → IsStatement ts (Ok x) → (is_failure e ≡ true → e ≡ FileError) → r ≡ Err e → StopsQuietly (AnswersWithoutFile f last_failure (λ m t. IsRest m StepsTo t place ts)) 1 old new r
+  pub rest_stops : (ts : List Lexeme) (r : Answer) → (ts ≡ [] → ⊥) → IsStatement ts (Ok x) → (is_failure e ≡ true → e ≡ FileError) → r ≡ Err e → StopsQuietly (AnswersWithoutFile f last_failure (λ m t. IsRest m StepsTo t location ts)) 1 old new r
   rest_stops [] r some is only fails = absurd (some refl)
-  rest_stops (k ∷ ts) r some is only fails = subst (StopsQuietly (AnswersWithoutFile f last_failure (λ m t. IsRest m StepsTo t place (k ∷ ts))) 1 old new) (sym fails)
+  rest_stops (k ∷ ts) r some is only fails = subst (StopsQuietly (AnswersWithoutFile f last_failure (λ m t. IsRest m StepsTo t location (k ∷ ts))) 1 old new) (sym fails)
       (λ failed. record {
         fault = only failed;
         out = ap (λ (s : ConsoleOutput). s.out) same;
@@ -165,21 +165,21 @@ some_there (suc n) h e = absurd cc
 -- ---- A label.
 
 abbrev FrontBy : SourceLocation → Option Statement → Assembler → Assembler → Answer → Type 0
-FrontBy place o old new r = TakesBy (IfSome o IsWellFormedStatement) (λ t. IsLabelled StepsTo t place o) 1 old new r
+FrontBy location o old new r = TakesBy (IfSome o IsWellFormedStatement) (λ t. IsLabelled StepsTo t location o) 1 old new r
 
-pub front_leaves : (place : SourceLocation) (o : Option Statement) (x : Statement) (old new : Assembler) (r : Answer) → o ≡ Some x → TakesBy (IsWellFormedStatement x) (λ t. StepsTo t place x) 1 old new r → FrontBy place o old new r
-front_leaves place o x old new r e h = subst (λ p. FrontBy place p old new r) (sym e) h
+pub front_leaves : (location : SourceLocation) (o : Option Statement) (x : Statement) (old new : Assembler) (r : Answer) → o ≡ Some x → TakesBy (IsWellFormedStatement x) (λ t. StepsTo t location x) 1 old new r → FrontBy location o old new r
+front_leaves location o x old new r e h = subst (λ p. FrontBy location p old new r) (sym e) h
 
 -- it prints nothing
-puts_quiet : (place : SourceLocation) (s : Context) (t u : State) (p : Piece) → PieceStep place s t p u → (u.out ≡ t.out) × (u.err ≡ t.err)
-puts_quiet place s t _ p (at_once c settled) = (refl, refl)
-puts_quiet place s t _ p later = (refl, refl)
+puts_quiet : (location : SourceLocation) (s : Context) (t u : State) (p : Piece) → PieceStep location s t p u → (u.out ≡ t.out) × (u.err ≡ t.err)
+puts_quiet location s t _ p (at_once c settled) = (refl, refl)
+puts_quiet location s t _ p later = (refl, refl)
 
-all_quiet : (place : SourceLocation) (s : Context) (t u : State) (ps : List Piece) → PieceSteps place s t ps u → (u.out ≡ t.out) × (u.err ≡ t.err)
-all_quiet place s t u [] h = (ap (λ (v : State). v.out) h, ap (λ (v : State). v.err) h)
-all_quiet place s t u (p ∷ ps) h =
-    let one = puts_quiet place s t h.0 p h.1 in
-    let rest = all_quiet place s h.0 u ps h.2 in
+all_quiet : (location : SourceLocation) (s : Context) (t u : State) (ps : List Piece) → PieceSteps location s t ps u → (u.out ≡ t.out) × (u.err ≡ t.err)
+all_quiet location s t u [] h = (ap (λ (v : State). v.out) h, ap (λ (v : State). v.err) h)
+all_quiet location s t u (p ∷ ps) h =
+    let one = puts_quiet location s t h.0 p h.1 in
+    let rest = all_quiet location s h.0 u ps h.2 in
     (rest.0 ∙ one.0, rest.1 ∙ one.1)
 
 asked_quiet : (t : State) (l : LaidOutStatement) → ((with_section_request t l).out ≡ t.out) × ((with_section_request t l).err ≡ t.err)
@@ -189,32 +189,32 @@ asked_quiet t l = by (needs_section l.stated)
     by true = (refl, refl)
     by false = (refl, refl)
 
-pub takes_quiet : (t u : State) (place : SourceLocation) (x : Statement) → (out_of x ≡ []) × (warning_of place x ≡ []) → StepsTo t place x (Ok u) → (u.out ≡ t.out) × (u.err ≡ t.err)
-takes_quiet t u place x quiet takes = by (line_fault t.symbols t.cursor x) takes
+pub takes_quiet : (t u : State) (location : SourceLocation) (x : Statement) → (out_of x ≡ []) × (warning_of location x ≡ []) → StepsTo t location x (Ok u) → (u.out ≡ t.out) × (u.err ≡ t.err)
+takes_quiet t u location x quiet takes = by (line_fault t.symbols t.cursor x) takes
   where
     l : LaidOutStatement
-    l = laid_out_statement t.symbols t.cursor place x
+    l = laid_out_statement t.symbols t.cursor location x
 
-    step : (v : State) → PieceSteps place (laid_out_statement t.symbols t.cursor place x).context (with_section_request t (laid_out_statement t.symbols t.cursor place x)) (pieces_of (laid_out_statement t.symbols t.cursor place x).length (laid_out_statement t.symbols t.cursor place x).settled x) v → u ≡ with_symbols v (laid_out_statement t.symbols t.cursor place x) → (u.out ≡ t.out) × (u.err ≡ t.err)
+    step : (v : State) → PieceSteps location (laid_out_statement t.symbols t.cursor location x).context (with_section_request t (laid_out_statement t.symbols t.cursor location x)) (pieces_of (laid_out_statement t.symbols t.cursor location x).length (laid_out_statement t.symbols t.cursor location x).settled x) v → u ≡ with_symbols v (laid_out_statement t.symbols t.cursor location x) → (u.out ≡ t.out) × (u.err ≡ t.err)
     step v puts same =
-        let m = laid_out_statement t.symbols t.cursor place x in
+        let m = laid_out_statement t.symbols t.cursor location x in
         let a = asked_quiet t m in
-        let b = all_quiet place m.context (with_section_request t m) v (pieces_of m.length m.settled x) puts in
+        let b = all_quiet location m.context (with_section_request t m) v (pieces_of m.length m.settled x) puts in
         (ap (λ (w : State). w.out) same ∙ ap (λ said. v.out ++ said) quiet.0 ∙ append-nil v.out ∙ b.0 ∙ a.0, ap (λ (w : State). w.err) same ∙ ap (λ said. v.err ++ said) quiet.1 ∙ append-nil v.err ∙ b.1 ∙ a.1)
 
-    by : (o : Option AsmFault) → UnlessFault o (StepsWithoutError t (laid_out_statement t.symbols t.cursor place x)) (Ok u) → (u.out ≡ t.out) × (u.err ≡ t.err)
-    by None h = (let same : u ≡ with_symbols h.0 (laid_out_statement t.symbols t.cursor place x) = cc in step h.0 h.1 same)
+    by : (o : Option AsmFault) → UnlessFault o (StepsWithoutError t (laid_out_statement t.symbols t.cursor location x)) (Ok u) → (u.out ≡ t.out) × (u.err ≡ t.err)
+    by None h = (let same : u ≡ with_symbols h.0 (laid_out_statement t.symbols t.cursor location x) = cc in step h.0 h.1 same)
     by (Some e) h = absurd cc
 
 abbrev AreQuiet : Option Statement → Type 0
-AreQuiet o = (place : SourceLocation) (x : Statement) → o ≡ Some x → (out_of x ≡ []) × (warning_of place x ≡ [])
+AreQuiet o = (location : SourceLocation) (x : Statement) → o ≡ Some x → (out_of x ≡ []) × (warning_of location x ≡ [])
 
-quiet_labelled : (t u : State) (place : SourceLocation) (o : Option Statement) → AreQuiet o → IsLabelled StepsTo t place o (Ok u) → (u.out ≡ t.out) × (u.err ≡ t.err)
-quiet_labelled t u place None quiet h = (let same : u ≡ t = cc in (ap (λ (v : State). v.out) same, ap (λ (v : State). v.err) same))
-quiet_labelled t u place (Some x) quiet h = takes_quiet t u place x (quiet place x refl) h
+quiet_labelled : (t u : State) (location : SourceLocation) (o : Option Statement) → AreQuiet o → IsLabelled StepsTo t location o (Ok u) → (u.out ≡ t.out) × (u.err ≡ t.err)
+quiet_labelled t u location None quiet h = (let same : u ≡ t = cc in (ap (λ (v : State). v.out) same, ap (λ (v : State). v.err) same))
+quiet_labelled t u location (Some x) quiet h = takes_quiet t u location x (quiet location x refl) h
 
 abbrev LabelAt : Files → State → SourceLocation → (Option Statement × List Lexeme) → Result State AsmFault → Type 0
-LabelAt m t place p r = (q : Result State AsmFault) × IsLabelled StepsTo t place p.0 q × AndThen q (λ z. IsRest m StepsTo z place p.1) r
+LabelAt m t location p r = (q : Result State AsmFault) × IsLabelled StepsTo t location p.0 q × AndThen q (λ z. IsRest m StepsTo z location p.1) r
 
 sound_if : (o : Option Statement) → ((x : Statement) → o ≡ Some x → IsWellFormedStatement x) → IfSome o IsWellFormedStatement
 sound_if None f = tt
@@ -227,22 +227,22 @@ Says ts rest o = let p : Result (Option Statement × List Lexeme) AsmFault = Ok 
 parted : (ts rest : List Lexeme) (o : Option Statement) → Says ts rest o → label_of ts ≡ (o, rest)
 parted ts rest o e = cc
 
-pub label_room : (place : SourceLocation) (o : Option Statement) (old mid : Assembler) (v : Unit {0}) → HasHeadroom 2 old → FrontBy place o old mid (Ok v) → HasHeadroom 1 mid
-label_room place o old mid v held front =
+pub label_room : (location : SourceLocation) (o : Option Statement) (old mid : Assembler) (v : Unit {0}) → HasHeadroom 2 old → FrontBy location o old mid (Ok v) → HasHeadroom 1 mid
+label_room location o old mid v held front =
     let room = held.2 in
     let a = front held.0 held.1 (omega (arith, room)) held.3 in
     let few = a.3.1 in
     (a.3.0, a.0, omega (arith, room, few), a.3.2)
 
 -- a label says nothing, so neither does a failure behind it
-pub label_stops : (f : Option Files) (last_failure : LastFailure) (place : SourceLocation) (ts rest : List Lexeme) (o : Option Statement) (old mid new : Assembler) (v : Unit {0}) (r : Answer) → HasHeadroom 2 old → Says ts rest o → FrontBy place o old mid (Ok v) → StopsQuietly (AnswersWithoutFile f last_failure (λ m t. IsRest m StepsTo t place rest)) 1 mid new r → StopsQuietly (AnswersWithoutFile f last_failure (λ m t. IsLabel m StepsTo t place ts)) 2 old new r
-label_stops f last_failure place ts rest o old mid new v (Ok w) held says front quiet = tt
-label_stops f last_failure place ts rest o old mid new v (Err e) held says front quiet = λ failed.
+pub label_stops : (f : Option Files) (last_failure : LastFailure) (location : SourceLocation) (ts rest : List Lexeme) (o : Option Statement) (old mid new : Assembler) (v : Unit {0}) (r : Answer) → HasHeadroom 2 old → Says ts rest o → FrontBy location o old mid (Ok v) → StopsQuietly (AnswersWithoutFile f last_failure (λ m t. IsRest m StepsTo t location rest)) 1 mid new r → StopsQuietly (AnswersWithoutFile f last_failure (λ m t. IsLabel m StepsTo t location ts)) 2 old new r
+label_stops f last_failure location ts rest o old mid new v (Ok w) held says front quiet = tt
+label_stops f last_failure location ts rest o old mid new v (Err e) held says front quiet = λ failed.
     (let room = held.2 in
     let a = front held.0 held.1 (omega (arith, room)) held.3 in
     let is = parted ts rest o says in
     let silent : AreQuiet o = subst (λ (p : Option Statement × List Lexeme). AreQuiet p.0) is (label_quiet ts) in
-    let same = quiet_labelled held.1 a.0 place o silent a.1 in
+    let same = quiet_labelled held.1 a.0 location o silent a.1 in
     let before = held.3 in
     let following = a.3.2 in
     let q = quiet failed in
@@ -254,52 +254,52 @@ label_stops f last_failure place ts rest o old mid new v (Err e) held says front
           (let b = front count t (omega (arith, space)) h in
           let few = b.3.1 in
           let w = q.unread b.3.0 b.0 (omega (arith, space, few)) b.3.2 in
-          record { name = w.name; asked = w.asked; inside = w.inside; answered = λ m none. subst (λ p. LabelAt m t place p (Err FileNotFound)) (sym is) (Ok b.0, b.1, w.answered m none) });
+          record { name = w.name; asked = w.asked; inside = w.inside; answered = λ m none. subst (λ p. LabelAt m t location p (Err FileNotFound)) (sym is) (Ok b.0, b.1, w.answered m none) });
     })
 
 abbrev pub LabelBy : Option Files → SourceLocation → List Lexeme → State → Result State AsmFault → Type 0
-LabelBy f place ts = ForKnownFiles f (λ m t. IsLabel m StepsTo t place ts)
+LabelBy f location ts = ForKnownFiles f (λ m t. IsLabel m StepsTo t location ts)
 
-pub label_refused : (f : Option Files) (place : SourceLocation) (ts rest : List Lexeme) (o : Option Statement) (old new : Assembler) (e : AsmFault) (r : Answer) → Says ts rest o → FrontBy place o old new (Err e) → r ≡ Err e → TakesBy (AreSymbolNames ts) (LabelBy f place ts) 2 old new r
-label_refused f place ts rest o old new e r says front fails =
-    subst (λ (q : Answer). TakesBy (AreSymbolNames ts) (LabelBy f place ts) 2 old new q) (sym fails) (λ count t room h. refused count t room h)
+pub label_refused : (f : Option Files) (location : SourceLocation) (ts rest : List Lexeme) (o : Option Statement) (old new : Assembler) (e : AsmFault) (r : Answer) → Says ts rest o → FrontBy location o old new (Err e) → r ≡ Err e → TakesBy (AreSymbolNames ts) (LabelBy f location ts) 2 old new r
+label_refused f location ts rest o old new e r says front fails =
+    subst (λ (q : Answer). TakesBy (AreSymbolNames ts) (LabelBy f location ts) 2 old new q) (sym fails) (λ count t room h. refused count t room h)
   where
-    refused : (count : ℕ) (t : State) → count + 2 ≤ opening_limit → Represents count t old → RefinesTransition (AreSymbolNames ts) (LabelBy f place ts t) (count + 2) t new (Err e)
+    refused : (count : ℕ) (t : State) → count + 2 ≤ opening_limit → Represents count t old → RefinesTransition (AreSymbolNames ts) (LabelBy f location ts t) (count + 2) t new (Err e)
     refused count t room h =
-        fault_then (IfSome o IsWellFormedStatement) (AreSymbolNames ts) (IsLabelled StepsTo t place o) (LabelBy f place ts t) (count + 1) (count + 2) t t new e
+        fault_then (IfSome o IsWellFormedStatement) (AreSymbolNames ts) (IsLabelled StepsTo t location o) (LabelBy f location ts t) (count + 1) (count + 2) t t new e
         (λ named. sound_if o (subst (λ (p : Option Statement × List Lexeme). (x : Statement) → p.0 ≡ Some x → IsWellFormedStatement x) (parted ts rest o says) (label_sound ts named).label))
-        (λ p. told_all f (λ m. IsLabel m StepsTo t place ts (Err e)) (λ m. subst (λ q. LabelAt m t place q (Err e)) (sym (parted ts rest o says)) (Err e, p, refl)))
+        (λ p. told_all f (λ m. IsLabel m StepsTo t location ts (Err e)) (λ m. subst (λ q. LabelAt m t location q (Err e)) (sym (parted ts rest o says)) (Err e, p, refl)))
         (λ s. s) (front count t (omega (arith, room)) h)
 
-pub label_leaves : (f : Option Files) (place : SourceLocation) (ts rest : List Lexeme) (o : Option Statement) (old mid new : Assembler) (v : Unit {0}) (r : Answer) → Says ts rest o → FrontBy place o old mid (Ok v) → TakesBy (AreSymbolNames rest) (RestBy f place rest) 1 mid new r → TakesBy (AreSymbolNames ts) (LabelBy f place ts) 2 old new r
-label_leaves f place ts rest o old mid new v (Ok w) says front taken = λ count t room h.
+pub label_leaves : (f : Option Files) (location : SourceLocation) (ts rest : List Lexeme) (o : Option Statement) (old mid new : Assembler) (v : Unit {0}) (r : Answer) → Says ts rest o → FrontBy location o old mid (Ok v) → TakesBy (AreSymbolNames rest) (RestBy f location rest) 1 mid new r → TakesBy (AreSymbolNames ts) (LabelBy f location ts) 2 old new r
+label_leaves f location ts rest o old mid new v (Ok w) says front taken = λ count t room h.
     (let a = front count t (omega (arith, room)) h in
     let few = a.3.1 in
     let b = taken a.3.0 a.0 (omega (arith, room, few)) a.3.2 in
     let least = b.3.1 in
-    let given : LabelBy f place ts t (Ok b.0) = told_then f (λ m. IsRest m StepsTo a.0 place rest (Ok b.0)) (λ m. IsLabel m StepsTo t place ts (Ok b.0)) (λ m g. subst (λ q. LabelAt m t place q (Ok b.0)) (sym (parted ts rest o says)) (Ok a.0, a.1, g)) b.1 in
+    let given : LabelBy f location ts t (Ok b.0) = told_then f (λ m. IsRest m StepsTo a.0 location rest (Ok b.0)) (λ m. IsLabel m StepsTo t location ts (Ok b.0)) (λ m g. subst (λ q. LabelAt m t location q (Ok b.0)) (sym (parted ts rest o says)) (Ok a.0, a.1, g)) b.1 in
     (b.0, given, λ reached. b.2 (a.2 reached), (b.3.0, omega (arith, few, least), b.3.2)))
-label_leaves f place ts rest o old mid new v (Err e) says front taken = λ count t room h.
+label_leaves f location ts rest o old mid new v (Err e) says front taken = λ count t room h.
     (let a = front count t (omega (arith, room)) h in
     let few = a.3.1 in
     let b = taken a.3.0 a.0 (omega (arith, room, few)) a.3.2 in
     let is = parted ts rest o says in
     let quiet : AreQuiet o = subst (λ (p : Option Statement × List Lexeme). AreQuiet p.0) is (label_quiet ts) in
-    let same = quiet_labelled t a.0 place o quiet a.1 in
-    fault_then (AreSymbolNames rest) (AreSymbolNames ts) (RestBy f place rest a.0) (LabelBy f place ts t) (a.3.0 + 1) (count + 2) t a.0 new e
+    let same = quiet_labelled t a.0 location o quiet a.1 in
+    fault_then (AreSymbolNames rest) (AreSymbolNames ts) (RestBy f location rest a.0) (LabelBy f location ts t) (a.3.0 + 1) (count + 2) t a.0 new e
     (λ named. subst (λ (p : Option Statement × List Lexeme). AreSymbolNames p.1) is (label_sound ts named).rest)
-    (told_then f (λ m. IsRest m StepsTo a.0 place rest (Err e)) (λ m. IsLabel m StepsTo t place ts (Err e)) (λ m g. subst (λ q. LabelAt m t place q (Err e)) (sym is) (Ok a.0, a.1, g)))
+    (told_then f (λ m. IsRest m StepsTo a.0 location rest (Err e)) (λ m. IsLabel m StepsTo t location ts (Err e)) (λ m g. subst (λ q. LabelAt m t location q (Err e)) (sym is) (Ok a.0, a.1, g)))
     (λ s. (s.0 ∙ same.0, s.1 ∙ same.1)) b)
 
 -- ---- A statement that expansion gives.
 
 abbrev pub GivenBy : Option Files → SourceLocation → expand.ExpandedStatement → State → Result State AsmFault → Type 0
-GivenBy f place g = ForKnownFiles f (λ m t. AssemblesExpanded m StepsTo t place g)
+GivenBy f location g = ForKnownFiles f (λ m t. AssemblesExpanded m StepsTo t location g)
 
-pub given_label : (f : Option Files) (place : SourceLocation) (g : given.Statement) (line : StoredLine) (ts : List Lexeme) (old new : Assembler) (r : Answer) → g ≡ Label line → ts ≡ tokens_in line → TakesBy (AreSymbolNames ts) (LabelBy f place ts) 2 old new r → TakesBy (AreSymbolNames (tokens_of (statement_of g))) (GivenBy f place (statement_of g)) 2 old new r
-given_label f place g line ts old new r is same h =
-    let P : given.Statement → Type 0 = λ g. TakesBy (AreSymbolNames (tokens_of (statement_of g))) (GivenBy f place (statement_of g)) 2 old new r in
-    let Q : List Lexeme → Type 0 = λ ts. TakesBy (AreSymbolNames ts) (LabelBy f place ts) 2 old new r in
+pub given_label : (f : Option Files) (location : SourceLocation) (g : given.Statement) (line : StoredLine) (ts : List Lexeme) (old new : Assembler) (r : Answer) → g ≡ Label line → ts ≡ tokens_in line → TakesBy (AreSymbolNames ts) (LabelBy f location ts) 2 old new r → TakesBy (AreSymbolNames (tokens_of (statement_of g))) (GivenBy f location (statement_of g)) 2 old new r
+given_label f location g line ts old new r is same h =
+    let P : given.Statement → Type 0 = λ g. TakesBy (AreSymbolNames (tokens_of (statement_of g))) (GivenBy f location (statement_of g)) 2 old new r in
+    let Q : List Lexeme → Type 0 = λ ts. TakesBy (AreSymbolNames ts) (LabelBy f location ts) 2 old new r in
     subst P (sym is) (subst Q same h)
 
 pub wider : (AreSo : Type 0) (Is : State → Result State AsmFault → Type 0) (old new : Assembler) (r : Answer) → TakesBy AreSo Is 1 old new r → TakesBy AreSo Is 2 old new r
@@ -309,21 +309,21 @@ wider AreSo Is old new (Ok v) taken = λ count t room h.
     (a.0, a.1, a.2, (a.3.0, omega (arith, few), a.3.2)))
 wider AreSo Is old new (Err e) taken = λ count t room h. taken count t (omega (arith, room)) h
 
-pub given_plain : (f : Option Files) (place : SourceLocation) (g : given.Statement) (line : StoredLine) (ts : List Lexeme) (old new : Assembler) (r : Answer) → g ≡ Plain line → ts ≡ tokens_in line → TakesBy (AreSymbolNames ts) (RestBy f place ts) 1 old new r → TakesBy (AreSymbolNames (tokens_of (statement_of g))) (GivenBy f place (statement_of g)) 2 old new r
-given_plain f place g line ts old new r is same h =
-    let P : given.Statement → Type 0 = λ g. TakesBy (AreSymbolNames (tokens_of (statement_of g))) (GivenBy f place (statement_of g)) 2 old new r in
-    let Q : List Lexeme → Type 0 = λ ts. TakesBy (AreSymbolNames ts) (RestBy f place ts) 2 old new r in
-    subst P (sym is) (subst Q same (wider (AreSymbolNames ts) (RestBy f place ts) old new r h))
+pub given_plain : (f : Option Files) (location : SourceLocation) (g : given.Statement) (line : StoredLine) (ts : List Lexeme) (old new : Assembler) (r : Answer) → g ≡ Plain line → ts ≡ tokens_in line → TakesBy (AreSymbolNames ts) (RestBy f location ts) 1 old new r → TakesBy (AreSymbolNames (tokens_of (statement_of g))) (GivenBy f location (statement_of g)) 2 old new r
+given_plain f location g line ts old new r is same h =
+    let P : given.Statement → Type 0 = λ g. TakesBy (AreSymbolNames (tokens_of (statement_of g))) (GivenBy f location (statement_of g)) 2 old new r in
+    let Q : List Lexeme → Type 0 = λ ts. TakesBy (AreSymbolNames ts) (RestBy f location ts) 2 old new r in
+    subst P (sym is) (subst Q same (wider (AreSymbolNames ts) (RestBy f location ts) old new r h))
 
 -- ---- Where the store fails.
 
 abbrev pub GivenStops : Option Files → LastFailure → SourceLocation → given.Statement → Assembler → Assembler → Answer → Type 0
-GivenStops f last_failure place g old new r = StopsQuietly (AnswersWithoutFile f last_failure (λ m t. AssemblesExpanded m StepsTo t place (statement_of g))) 2 old new r
+GivenStops f last_failure location g old new r = StopsQuietly (AnswersWithoutFile f last_failure (λ m t. AssemblesExpanded m StepsTo t location (statement_of g))) 2 old new r
 
-pub label_given_stops : (f : Option Files) (last_failure : LastFailure) (place : SourceLocation) (g : given.Statement) (line : StoredLine) (ts : List Lexeme) (old new : Assembler) (r : Answer) → g ≡ Label line → ts ≡ tokens_in line → StopsQuietly (AnswersWithoutFile f last_failure (λ m t. IsLabel m StepsTo t place ts)) 2 old new r → GivenStops f last_failure place g old new r
-label_given_stops f last_failure place g line ts old new r is same h =
-    let Q : List Lexeme → Type 0 = λ ts. StopsQuietly (AnswersWithoutFile f last_failure (λ m t. IsLabel m StepsTo t place ts)) 2 old new r in
-    subst (λ g. GivenStops f last_failure place g old new r) (sym is) (subst Q same h)
+pub label_given_stops : (f : Option Files) (last_failure : LastFailure) (location : SourceLocation) (g : given.Statement) (line : StoredLine) (ts : List Lexeme) (old new : Assembler) (r : Answer) → g ≡ Label line → ts ≡ tokens_in line → StopsQuietly (AnswersWithoutFile f last_failure (λ m t. IsLabel m StepsTo t location ts)) 2 old new r → GivenStops f last_failure location g old new r
+label_given_stops f last_failure location g line ts old new r is same h =
+    let Q : List Lexeme → Type 0 = λ ts. StopsQuietly (AnswersWithoutFile f last_failure (λ m t. IsLabel m StepsTo t location ts)) 2 old new r in
+    subst (λ g. GivenStops f last_failure location g old new r) (sym is) (subst Q same h)
 
 pub stops_wider : (Is : State → Result State AsmFault → Type 0) (old new : Assembler) (r : Answer) → StopsQuietly Is 1 old new r → StopsQuietly Is 2 old new r
 stops_wider Is old new (Ok v) h = tt
@@ -331,7 +331,7 @@ stops_wider Is old new (Err e) h = λ failed.
     (let q = h failed in
     record { fault = q.fault; out = q.out; err = q.err; unread = λ count t room held. q.unread count t (omega (arith, room)) held })
 
-pub plain_given_stops : (f : Option Files) (last_failure : LastFailure) (place : SourceLocation) (g : given.Statement) (line : StoredLine) (ts : List Lexeme) (old new : Assembler) (r : Answer) → g ≡ Plain line → ts ≡ tokens_in line → StopsQuietly (AnswersWithoutFile f last_failure (λ m t. IsRest m StepsTo t place ts)) 1 old new r → GivenStops f last_failure place g old new r
-plain_given_stops f last_failure place g line ts old new r is same h =
-    let Q : List Lexeme → Type 0 = λ ts. StopsQuietly (AnswersWithoutFile f last_failure (λ m t. IsRest m StepsTo t place ts)) 2 old new r in
-    subst (λ g. GivenStops f last_failure place g old new r) (sym is) (subst Q same (stops_wider _ old new r h))
+pub plain_given_stops : (f : Option Files) (last_failure : LastFailure) (location : SourceLocation) (g : given.Statement) (line : StoredLine) (ts : List Lexeme) (old new : Assembler) (r : Answer) → g ≡ Plain line → ts ≡ tokens_in line → StopsQuietly (AnswersWithoutFile f last_failure (λ m t. IsRest m StepsTo t location ts)) 1 old new r → GivenStops f last_failure location g old new r
+plain_given_stops f last_failure location g line ts old new r is same h =
+    let Q : List Lexeme → Type 0 = λ ts. StopsQuietly (AnswersWithoutFile f last_failure (λ m t. IsRest m StepsTo t location ts)) 2 old new r in
+    subst (λ g. GivenStops f last_failure location g old new r) (sym is) (subst Q same (stops_wider _ old new r h))

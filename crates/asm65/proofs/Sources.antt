@@ -186,7 +186,7 @@ module _ (m : Files) (first old mid : Run) (same : mid.assembler ≡ old.assembl
       let fits = next_fit m 0 (known_at u.symbols u.cursor) s.left (statement (statement_of x) a.0) s.fit a.1 in
       let room = few_opened h.count (measure_of old.expander) h.room (some_left (measure_of old.expander) (measure_of mid.expander) less) in
       let b = taken h.count u room (holds_same h.count u old.assembler mid.assembler same h.holds) in
-      let place = same_place m mid.expander a.0 a.2 in (
+      let location = same_place m mid.expander a.0 a.2 in (
         b.0,
         record {
           left = a.0;
@@ -194,8 +194,8 @@ module _ (m : Files) (first old mid : Run) (same : mid.assembler ≡ old.assembl
           walks = λ k. no_step a.0;
           stands = subst (λ e. RepresentsState m e a.0) (sym stays) a.2;
           fit = fewer_given m 0 (length (fitting.tokens_of (statement_of x))) a.0 fits.1;
-          goes = goes_on m machine_semantics (IsSource m machine_semantics job initial_state) s.left a.0 (statement_of x) u b.0 s.goes a.1 (subst (λ p. AssemblesExpanded m StepsTo u p (statement_of x) (Ok b.0)) (sym place) b.1);
-          taken = further s.left a.0 (statement_of x) u b.0 s.taken a.1 (subst (λ p. AssemblesExpanded m StepsTo u p (statement_of x) (Ok b.0)) (sym place) b.1);
+          goes = goes_on m machine_semantics (IsSource m machine_semantics job initial_state) s.left a.0 (statement_of x) u b.0 s.goes a.1 (subst (λ p. AssemblesExpanded m StepsTo u p (statement_of x) (Ok b.0)) (sym location) b.1);
+          taken = further s.left a.0 (statement_of x) u b.0 s.taken a.1 (subst (λ p. AssemblesExpanded m StepsTo u p (statement_of x) (Ok b.0)) (sym location) b.1);
           held = held_after u b.0 old mid new h b.3 less stays;
         },
       )
@@ -243,9 +243,9 @@ module _ (m : Files) (first old mid : Run) (same : mid.assembler ≡ old.assembl
       let a = answered_from m (known_at u.symbols u.cursor) s.left s.here (Ok None) mid.expander (s.walks (known_at u.symbols u.cursor)) (next u h s.here s.stands) in
       let holds = holds_same h.count u old.assembler mid.assembler same h.holds in
       let scope : mid.assembler.cursor.scope ≡ u.cursor.scope = ap (λ (w : Cursor). w.scope) holds.cursor in
-      let place = same_place m mid.expander a.0 a.2 in
+      let location = same_place m mid.expander a.0 a.2 in
       let all = ends m machine_semantics (IsSource m machine_semantics job initial_state) s.left a.0 u s.goes a.1 in
-      let all' : RunsStatements m job (record { following = u; fault = open_fault (place_of mid.expander) mid.assembler.cursor.scope }) = subst (λ n. RunsStatements m job (record { following = u; fault = open_fault (place_of mid.expander) n })) (sym scope) (subst (λ p. RunsStatements m job (record { following = u; fault = open_fault p u.cursor.scope })) place all) in
+      let all' : RunsStatements m job (record { following = u; fault = open_fault (place_of mid.expander) mid.assembler.cursor.scope }) = subst (λ n. RunsStatements m job (record { following = u; fault = open_fault (place_of mid.expander) n })) (sym scope) (subst (λ p. RunsStatements m job (record { following = u; fault = open_fault p u.cursor.scope })) location all) in
       subst (RefinesRun m job mid) (sym is) (by u h.count holds (is_open mid.assembler.cursor.scope) all')
     where
       by : (u : State) (count : ℕ) → Represents count u mid.assembler → (b : Bool) → RunsStatements m job (record { following = u; fault = if b then Some (record { place = place_of mid.expander; fault = BadScope }) else None }) → RefinesRun m job mid (if b then Err BadScope else Ok tt)
@@ -377,26 +377,26 @@ goes_passed m first e f a passes so_far job t opens defined held =
       },
     )
 
-module _ (o : Option Files) (last_failure : LastFailure) (place : SourceLocation) where
+module _ (o : Option Files) (last_failure : LastFailure) (location : SourceLocation) where
   -- at the place of the expander behind a statement
-  taken_at : (x : expand.ExpandedStatement) (mid f : Expander) (a b : Assembler) (r : Answer) → place ≡ place_of f → place_of mid ≡ place_of f → TakesOne o last_failure place x a b r → TakesOne o last_failure (place_of mid) x a b r
+  taken_at : (x : expand.ExpandedStatement) (mid f : Expander) (a b : Assembler) (r : Answer) → location ≡ place_of f → place_of mid ≡ place_of f → TakesOne o last_failure location x a b r → TakesOne o last_failure (place_of mid) x a b r
   taken_at x mid f a b r here at h = subst (λ p. TakesOne o last_failure p x a b r) (here ∙ sym at) h
 
-  pub line_running : (xs : List expand.ExpandedStatement) (e f : Expander) (a b : Assembler) → YieldsStatements e xs f → TakesAll o last_failure place xs a b (Ok tt) → place ≡ place_of f → IsRunning (run_of e a) → IsRunning (run_of f b)
+  pub line_running : (xs : List expand.ExpandedStatement) (e f : Expander) (a b : Assembler) → YieldsStatements e xs f → TakesAll o last_failure location xs a b (Ok tt) → location ≡ place_of f → IsRunning (run_of e a) → IsRunning (run_of f b)
   line_running [] e f a b (no_more _ _ passes) (none _) here (t, reached, held) = (t, reached, held_passed t e f a passes held)
   line_running _ e f a b (gives_more _ mid _ x xs follows at given) (one_more _ c _ _ _ _ one all) here held =
       line_running xs mid f c b given all here (still_running (run_of e a) (run_of mid a) refl follows.less o x (run_of mid c) tt (taken_at (statement_of x) mid f a c (Ok tt) here at one).taken refl held)
 
-module _ (m : Files) (last_failure : LastFailure) (place : SourceLocation) (first : Run) where
-  line_goes_on : (xs : List expand.ExpandedStatement) (e f : Expander) (a b : Assembler) → YieldsStatements e xs f → TakesAll (Some m) last_failure place xs a b (Ok tt) → place ≡ place_of f → Goes m first (run_of e a) → Goes m first (run_of f b)
+module _ (m : Files) (last_failure : LastFailure) (location : SourceLocation) (first : Run) where
+  line_goes_on : (xs : List expand.ExpandedStatement) (e f : Expander) (a b : Assembler) → YieldsStatements e xs f → TakesAll (Some m) last_failure location xs a b (Ok tt) → location ≡ place_of f → Goes m first (run_of e a) → Goes m first (run_of f b)
   line_goes_on [] e f a b (no_more _ _ passes) (none _) here so_far = goes_passed m first e f a passes so_far
   line_goes_on _ e f a b (gives_more _ mid _ x xs follows at given) (one_more _ c _ _ _ _ one all) here so_far =
-      line_goes_on xs mid f c b given all here (goes_further m first (run_of e a) (run_of mid a) refl x (run_of mid c) tt follows.less (λ t held. follows.next m (known_at t.symbols t.cursor)) (taken_at (Some m) last_failure place (statement_of x) mid f a c (Ok tt) here at one).taken refl so_far)
+      line_goes_on xs mid f c b given all here (goes_further m first (run_of e a) (run_of mid a) refl x (run_of mid c) tt follows.less (λ t held. follows.next m (known_at t.symbols t.cursor)) (taken_at (Some m) last_failure location (statement_of x) mid f a c (Ok tt) here at one).taken refl so_far)
 
-  line_refused : (xs : List expand.ExpandedStatement) (e f : Expander) (a b : Assembler) (g : AsmFault) → YieldsStatements e xs f → TakesAll (Some m) last_failure place xs a b (Err g) → place ≡ place_of f → Goes m first (run_of e a) → RanAll m first (run_of f b) (Err g) × StopsAll m last_failure first (run_of f b) (Err g)
+  line_refused : (xs : List expand.ExpandedStatement) (e f : Expander) (a b : Assembler) (g : AsmFault) → YieldsStatements e xs f → TakesAll (Some m) last_failure location xs a b (Err g) → location ≡ place_of f → Goes m first (run_of e a) → RanAll m first (run_of f b) (Err g) × StopsAll m last_failure first (run_of f b) (Err g)
   line_refused _ _ _ a b g (no_more old new _) x14 here so_far = elim x14 [ ]
   line_refused _ e f a b g (gives_more _ mid _ x xs follows at given) (refused _ _ _ _ _ one) here so_far =
-      let here_one = taken_at (Some m) last_failure place (statement_of x) mid f a b (Err g) here at one in
+      let here_one = taken_at (Some m) last_failure location (statement_of x) mid f a b (Err g) here at one in
       let next : NextBy m (run_of e a) (Ok (Some x)) (run_of mid a) = λ t held. follows.next m (known_at t.symbols t.cursor) in
       let wrong = goes_wrong m first (run_of e a) (run_of mid a) refl x (run_of mid b) g (Err g) refl follows.less next here_one.taken refl so_far in
       let stops = stops_wrong m first (run_of e a) (run_of mid a) refl last_failure x (run_of mid b) g (Err g) refl next follows.less here_one.stopped refl so_far in (
@@ -404,7 +404,7 @@ module _ (m : Files) (last_failure : LastFailure) (place : SourceLocation) (firs
         λ failed job begins. subst (λ p. RunStops m last_failure job (record { place = p; fault = g }) b.texts.out b.texts.err) at (stops failed job begins),
       )
   line_refused _ e f a b g (gives_more _ mid _ x xs follows at given) (one_more _ c _ _ _ _ one all) here so_far =
-      line_refused xs mid f c b g given all here (goes_further m first (run_of e a) (run_of mid a) refl x (run_of mid c) tt follows.less (λ t held. follows.next m (known_at t.symbols t.cursor)) (taken_at (Some m) last_failure place (statement_of x) mid f a c (Ok tt) here at one).taken refl so_far)
+      line_refused xs mid f c b g given all here (goes_further m first (run_of e a) (run_of mid a) refl x (run_of mid c) tt follows.less (λ t held. follows.next m (known_at t.symbols t.cursor)) (taken_at (Some m) last_failure location (statement_of x) mid f a c (Ok tt) here at one).taken refl so_far)
 
 module _ (o : Option Files) (last_failure : LastFailure) (first old new : Run) where
   pub all_on : TakesLine o last_failure old new (Ok tt) → IfSome o (λ m. Goes m first old) → IfSome o (λ m. Goes m first new)

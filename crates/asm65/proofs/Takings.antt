@@ -141,8 +141,8 @@ asked_beside segment x t = by (needs_section x)
 wider : (count more : ℕ) (cs : List Scope) → AreInside count cs → AreInside (count + more) cs
 wider count more cs h = all_same (λ (c : Scope). c.within ≤ count) (λ (c : Scope). c.within ≤ count + more) (λ c le. omega (arith, le)) cs h
 
-pub holds_stepped : (count : ℕ) (t : State) (place : SourceLocation) (x : Statement) (a : Assembler) (v : Cursor) (said : ConsoleOutput) → Represents count (asked_of (context_of t.cursor).segment x t) a → v ≡ cursor_after t.symbols t.cursor x → IsCounted (count + opened_by x) (cursor_after t.symbols t.cursor x) → said.out ≡ a.texts.out ++ out_of x → said.err ≡ a.texts.err ++ warning_of place x → Represents (count + opened_by x) (state_after_layout t place x) (record a { cursor = v; texts = said })
-holds_stepped count t place x a v said h cursor counted out err =
+pub holds_stepped : (count : ℕ) (t : State) (location : SourceLocation) (x : Statement) (a : Assembler) (v : Cursor) (said : ConsoleOutput) → Represents count (asked_of (context_of t.cursor).segment x t) a → v ≡ cursor_after t.symbols t.cursor x → IsCounted (count + opened_by x) (cursor_after t.symbols t.cursor x) → said.out ≡ a.texts.out ++ out_of x → said.err ≡ a.texts.err ++ warning_of location x → Represents (count + opened_by x) (state_after_layout t location x) (record a { cursor = v; texts = said })
+holds_stepped count t location x a v said h cursor counted out err =
     let u : State = asked_of (context_of t.cursor).segment x t in
     let same : u.cursor ≡ t.cursor = (asked_beside (context_of t.cursor).segment x t).cursor in
     record {
@@ -154,7 +154,7 @@ holds_stepped count t place x a v said h cursor counted out err =
       sections = h.sections;
       unsaid = h.unsaid;
       out = out ∙ ap (λ (o : List ℕ). o ++ out_of x) h.out;
-      err = err ∙ ap (λ (o : List ℕ). o ++ warning_of place x) h.err;
+      err = err ∙ ap (λ (o : List ℕ). o ++ warning_of location x) h.err;
     }
 
 -- ---- A statement is taken.
@@ -164,22 +164,22 @@ unless_either P true b h = tt
 unless_either P false true h = tt
 unless_either P false false h = h
 
-pub takes_refused : (t : State) (place : SourceLocation) (x : Statement) (e : AsmFault) → line_fault t.symbols t.cursor x ≡ Some e → StepsTo t place x (Err e)
-takes_refused t place x e h = subst (λ (f : Option AsmFault). UnlessFault f (StepsWithoutError t (laid_out_statement t.symbols t.cursor place x)) (Err e)) (sym h) refl
+pub takes_refused : (t : State) (location : SourceLocation) (x : Statement) (e : AsmFault) → line_fault t.symbols t.cursor x ≡ Some e → StepsTo t location x (Err e)
+takes_refused t location x e h = subst (λ (f : Option AsmFault). UnlessFault f (StepsWithoutError t (laid_out_statement t.symbols t.cursor location x)) (Err e)) (sym h) refl
 
 abbrev aside : State → Cursor → List ℕ → List ℕ → State
 aside t w o e = record t { cursor = w; out = o; err = e }
 
-one_aside : (place : SourceLocation) (s : Context) (u v : State) (w : Cursor) (o e : List ℕ) (p : Piece) → PieceStep place s (aside u w o e) p v → PieceStep place s u p (aside v u.cursor u.out u.err)
-one_aside place s u _ w o e p (at_once c settled) = at_once c settled
-one_aside place s u _ w o e p later = later
+one_aside : (location : SourceLocation) (s : Context) (u v : State) (w : Cursor) (o e : List ℕ) (p : Piece) → PieceStep location s (aside u w o e) p v → PieceStep location s u p (aside v u.cursor u.out u.err)
+one_aside location s u _ w o e p (at_once c settled) = at_once c settled
+one_aside location s u _ w o e p later = later
 
 -- pieces are put whatever stands beside them
-puts_aside : (place : SourceLocation) (s : Context) (u v : State) (w : Cursor) (o e : List ℕ) (ps : List Piece) → PieceSteps place s (aside u w o e) ps v → PieceSteps place s u ps (aside v u.cursor u.out u.err)
-puts_aside place s u v w o e [] h = ap (λ (x : State). aside x u.cursor u.out u.err) h
-puts_aside place s u v w o e (p ∷ ps) h =
+puts_aside : (location : SourceLocation) (s : Context) (u v : State) (w : Cursor) (o e : List ℕ) (ps : List Piece) → PieceSteps location s (aside u w o e) ps v → PieceSteps location s u ps (aside v u.cursor u.out u.err)
+puts_aside location s u v w o e [] h = ap (λ (x : State). aside x u.cursor u.out u.err) h
+puts_aside location s u v w o e (p ∷ ps) h =
     let x : State = h.0 in
-    (aside x u.cursor u.out u.err, one_aside place s u x w o e p h.1, puts_aside place s (aside x u.cursor u.out u.err) v x.cursor x.out x.err ps h.2)
+    (aside x u.cursor u.out u.err, one_aside location s u x w o e p h.1, puts_aside location s (aside x u.cursor u.out u.err) v x.cursor x.out x.err ps h.2)
 
 abbrev with_all : State → Symbols → Cursor → List ℕ → List ℕ → State
 with_all v y w o e = record { symbols = y; cursor = w; slots = v.slots; out = o; err = e }
@@ -191,24 +191,24 @@ all_same_state v y z w x o p e f a b c d =
     ∙ ap (λ (r : List ℕ). with_all v z x r e) c
     ∙ ap (λ (r : List ℕ). with_all v z x p r) d
 
-pub takes_entered : (count : ℕ) (t : State) (place : SourceLocation) (x : Statement) (s : Context) (m : StatementLayout) (old mid new : Assembler) → Represents count t old → IsMeasuredAt t x s m → Represents (count + opened_by x) (state_after_layout t place x) mid → EmitsThenDefines place s (pieces_of m.length m.settled x) (λ y. symbols_after y (laid_as place s m x)) mid new → (z : State) × StepsTo t place x (Ok z) × Represents (count + opened_by x) z new
-takes_entered count t place x s m old mid new h placed held turns =
-    let r : LaidOutStatement = laid_out_statement t.symbols t.cursor place x in
+pub takes_entered : (count : ℕ) (t : State) (location : SourceLocation) (x : Statement) (s : Context) (m : StatementLayout) (old mid new : Assembler) → Represents count t old → IsMeasuredAt t x s m → Represents (count + opened_by x) (state_after_layout t location x) mid → EmitsThenDefines location s (pieces_of m.length m.settled x) (λ y. symbols_after y (laid_as location s m x)) mid new → (z : State) × StepsTo t location x (Ok z) × Represents (count + opened_by x) z new
+takes_entered count t location x s m old mid new h placed held turns =
+    let r : LaidOutStatement = laid_out_statement t.symbols t.cursor location x in
     let u : State = asked_of (context_of t.cursor).segment x t in
     let beside = asked_beside (context_of t.cursor).segment x t in
     let ps : List Piece = pieces_of r.length r.settled x in
-    let measured : EmitsThenDefines place s ps (λ y. symbols_after y (laid_as place s (measure_of t.symbols t.cursor x) x)) mid new = subst (λ (n : StatementLayout). EmitsThenDefines place s (pieces_of n.length n.settled x) (λ y. symbols_after y (laid_as place s n x)) mid new) placed.measured turns in
-    let here : EmitsThenDefines place (context_of t.cursor) ps (λ y. symbols_after y r) mid new = subst (λ (q : Context). EmitsThenDefines place q ps (λ y. symbols_after y (laid_as place q (measure_of t.symbols t.cursor x) x)) mid new) placed.context measured in
+    let measured : EmitsThenDefines location s ps (λ y. symbols_after y (laid_as location s (measure_of t.symbols t.cursor x) x)) mid new = subst (λ (n : StatementLayout). EmitsThenDefines location s (pieces_of n.length n.settled x) (λ y. symbols_after y (laid_as location s n x)) mid new) placed.measured turns in
+    let here : EmitsThenDefines location (context_of t.cursor) ps (λ y. symbols_after y r) mid new = subst (λ (q : Context). EmitsThenDefines location q ps (λ y. symbols_after y (laid_as location q (measure_of t.symbols t.cursor x) x)) mid new) placed.context measured in
     let low : t.cursor.scope ≤ count = h.counted.scope in
     let inside : AreInside (count + opened_by x) (symbols_after u.symbols r).scopes = subst (λ (y : Symbols). AreInside (count + opened_by x) (y.scopes ++ scope_opened t.cursor.scope x)) (sym beside.symbols) (inside_after count t.cursor.scope t.symbols.scopes x low h.inside) in
     let unnamed : AreBefore (cursor_after t.symbols t.cursor x).unnamed (symbols_after u.symbols r).definitions = subst (λ (y : Symbols). AreBefore (cursor_after t.symbols t.cursor x).unnamed (y.definitions ++ definitions_of r)) (sym beside.symbols) (before_after x (context_of t.cursor) r.size t.symbols.definitions h.unnamed) in
-    let done = here (count + opened_by x) (state_after_layout t place x) held inside unnamed in
+    let done = here (count + opened_by x) (state_after_layout t location x) held inside unnamed in
     let v : State = done.0 in
     let w : State = aside v u.cursor u.out u.err in
-    let along = puts_beside place (context_of t.cursor) (state_after_layout t place x) v ps done.1 in
-    let puts : PieceSteps place (context_of t.cursor) u ps w = puts_aside place (context_of t.cursor) u v (cursor_after t.symbols t.cursor x) (u.out ++ out_of x) (u.err ++ warning_of place x) ps done.1 in
+    let along = puts_beside location (context_of t.cursor) (state_after_layout t location x) v ps done.1 in
+    let puts : PieceSteps location (context_of t.cursor) u ps w = puts_aside location (context_of t.cursor) u v (cursor_after t.symbols t.cursor x) (u.out ++ out_of x) (u.err ++ warning_of location x) ps done.1 in
     let same : record v { symbols = symbols_after u.symbols r } ≡ with_symbols w r =
-    all_same_state v (symbols_after u.symbols r) (symbols_after v.symbols r) v.cursor (cursor_after v.symbols u.cursor x) v.out (u.out ++ out_of x) v.err (u.err ++ warning_of place x)
+    all_same_state v (symbols_after u.symbols r) (symbols_after v.symbols r) v.cursor (cursor_after v.symbols u.cursor x) v.out (u.out ++ out_of x) v.err (u.err ++ warning_of location x)
     (ap (λ (y : Symbols). symbols_after y r) (sym along.symbols))
     (along.cursor ∙ ap (λ (y : Symbols). cursor_after y t.cursor x) (sym beside.symbols ∙ sym along.symbols) ∙ ap (λ (z : Cursor). cursor_after v.symbols z x) (sym beside.cursor))
     along.out along.err in
@@ -250,31 +250,31 @@ fault_none : (f : Option AsmFault) (u : Unit {0}) → unless_fault {A = Unit {0}
 fault_none None u h = refl
 fault_none (Some d) u h = absurd cc
 
-module _ (t : State) (place : SourceLocation) (name : List ℕ) (start len : Option Tree) (x : Statement) (is : x ≡ IncbinPath name start len) (e : AsmFault) where
+module _ (t : State) (location : SourceLocation) (name : List ℕ) (start len : Option Tree) (x : Statement) (is : x ≡ IncbinPath name start len) (e : AsmFault) where
   abbrev found : Option AsmFault
   found = unread_fault t.symbols t.cursor start len
 
-  whatever : found ≡ Some e → (m : Files) → StepsTo t place (with_bytes m place x) (Err e)
+  whatever : found ≡ Some e → (m : Files) → StepsTo t location (with_bytes m location x) (Err e)
   whatever h m =
-      subst (λ z. StepsTo t place (with_bytes m place z) (Err e)) (sym is)
-      (takes_refused t place (Incbin (bytes_for m place name) start len) e (unread_refused t.symbols t.cursor start len (bytes_for m place name) e h))
+      subst (λ z. StepsTo t location (with_bytes m location z) (Err e)) (sym is)
+      (takes_refused t location (Incbin (bytes_for m location name) start len) e (unread_refused t.symbols t.cursor start len (bytes_for m location name) e h))
 
-  without : found ≡ None → (m : Files) → file_named m (beside place.file name) ≡ None → StepsTo t place (with_bytes m place x) (Err FileNotFound)
+  without : found ≡ None → (m : Files) → file_named m (beside location.file name) ≡ None → StepsTo t location (with_bytes m location x) (Err FileNotFound)
   without h m none =
-      subst (λ z. StepsTo t place (with_bytes m place z) (Err FileNotFound)) (sym is)
-      (subst (λ b. StepsTo t place (Incbin b start len) (Err FileNotFound)) (sym none)
-      (takes_refused t place (Incbin None start len) FileNotFound (unread_missing t.symbols t.cursor start len h)))
+      subst (λ z. StepsTo t location (with_bytes m location z) (Err FileNotFound)) (sym is)
+      (subst (λ b. StepsTo t location (Incbin b start len) (Err FileNotFound)) (sym none)
+      (takes_refused t location (Incbin None start len) FileNotFound (unread_missing t.symbols t.cursor start len h)))
 
   -- it is refused whatever the file has
-  pub refused_unread : (f : Option Files) (last_failure : LastFailure) → is_failure e ≡ false → Unless (is_memory e) (unless_fault {A = Unit {0}} found tt ≡ Err e) → IsRefusedUnread f last_failure t place x e
+  pub refused_unread : (f : Option Files) (last_failure : LastFailure) → is_failure e ≡ false → Unless (is_memory e) (unless_fault {A = Unit {0}} found tt ≡ Err e) → IsRefusedUnread f last_failure t location x e
   refused_unread f last_failure inside h = record {
     inside = unless_then (is_system_error e) (λ p. whatever (fault_there found e p)) (unless_either _ (is_memory e) (is_failure e) h);
     failed = λ so. absurd cc;
   }
 
   -- its file can't be read
-  pub failed_unread : (f : Option Files) (last_failure : LastFailure) (u : Unit {0}) → is_system_error e ≡ true → (is_failure e ≡ true → FailedOn last_failure (beside place.file name)) → (is_failure e ≡ true → IfSome f (λ m. FailedWithin last_failure (beside place.file name) 0 (length (bytes_in (get m (beside place.file name)))))) → unless_fault {A = Unit {0}} found tt ≡ Ok u → IsRefusedUnread f last_failure t place x e
+  pub failed_unread : (f : Option Files) (last_failure : LastFailure) (u : Unit {0}) → is_system_error e ≡ true → (is_failure e ≡ true → FailedOn last_failure (beside location.file name)) → (is_failure e ≡ true → IfSome f (λ m. FailedWithin last_failure (beside location.file name) 0 (length (bytes_in (get m (beside location.file name)))))) → unless_fault {A = Unit {0}} found tt ≡ Ok u → IsRefusedUnread f last_failure t location x e
   failed_unread f last_failure u outside asked within h = record {
-    inside = subst (λ b. Unless b ((m : Files) → StepsTo t place (with_bytes m place x) (Err e))) (sym outside) tt;
-    failed = λ so. record { name = beside place.file name; asked = asked so; inside = within so; answered = without (fault_none found u h) };
+    inside = subst (λ b. Unless b ((m : Files) → StepsTo t location (with_bytes m location x) (Err e))) (sym outside) tt;
+    failed = λ so. record { name = beside location.file name; asked = asked so; inside = within so; answered = without (fault_none found u h) };
   }

@@ -58,5 +58,5 @@ module _ (count : ℕ) (t : State) (old new : Assembler) (h : Represents count t
   holds_entered c quiet feeds = holds_slots (resolved c ∷ []) (ap (λ ss. ss ++ []) quiet) feeds
 
 -- what waits is entered
-pub waits_enters : (old new : Assembler) (place : SourceLocation) (s : Context) (p : Piece) → DefersPiece place s p old new → EmitsPieces place s (p ∷ []) old new
-waits_enters old new place s p kept count t h = (with_fixup t (record { place = place; context = s; piece = p }), (with_fixup t (record { place = place; context = s; piece = p }), later, refl), kept count t h)
+pub waits_enters : (old new : Assembler) (location : SourceLocation) (s : Context) (p : Piece) → DefersPiece location s p old new → EmitsPieces location s (p ∷ []) old new
+waits_enters old new location s p kept count t h = (with_fixup t (record { place = location; context = s; piece = p }), (with_fixup t (record { place = location; context = s; piece = p }), later, refl), kept count t h)

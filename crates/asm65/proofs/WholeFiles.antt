@@ -74,9 +74,9 @@ part_read m file name slice line bytes start len x is same read =
 
 -- ---- A file of which more than the limit was read is refused as the whole file is.
 
-pub read_sound : (m : Files) (place : SourceLocation) (x : Statement) → IsWellFormedStatement x → IsWellFormedStatement (read_bytes m place x)
-read_sound m place (IncbinPath name start len) sound = tt
-read_sound m place _ sound = sound
+pub read_sound : (m : Files) (location : SourceLocation) (x : Statement) → IsWellFormedStatement x → IsWellFormedStatement (read_bytes m location x)
+read_sound m location (IncbinPath name start len) sound = tt
+read_sound m location _ sound = sound
 
 -- ---- Files that are too long.
 
@@ -105,29 +105,29 @@ too_long y w bytes start len long =
     part_bad : (p within : Bool) → within ≡ false → when (not (within && p)) BadPart ≡ Some BadPart
     part_bad p within e = subst (λ b. when (not (b && p)) BadPart ≡ Some BadPart) (sym e) refl
 
-takes_same : (t : State) (place : SourceLocation) (x z : Statement) (r : Result State AsmFault) (e : AsmFault) → line_fault t.symbols t.cursor x ≡ Some e → line_fault t.symbols t.cursor z ≡ Some e → StepsTo t place x r → StepsTo t place z r
-takes_same t place x z r e p q h =
-    let fails : r ≡ Err e = subst (λ (f : Option AsmFault). UnlessFault f (StepsWithoutError t (laid_out_statement t.symbols t.cursor place x)) r) p h in
-    subst (λ (f : Option AsmFault). UnlessFault f (StepsWithoutError t (laid_out_statement t.symbols t.cursor place z)) r) (sym q) fails
+takes_same : (t : State) (location : SourceLocation) (x z : Statement) (r : Result State AsmFault) (e : AsmFault) → line_fault t.symbols t.cursor x ≡ Some e → line_fault t.symbols t.cursor z ≡ Some e → StepsTo t location x r → StepsTo t location z r
+takes_same t location x z r e p q h =
+    let fails : r ≡ Err e = subst (λ (f : Option AsmFault). UnlessFault f (StepsWithoutError t (laid_out_statement t.symbols t.cursor location x)) r) p h in
+    subst (λ (f : Option AsmFault). UnlessFault f (StepsWithoutError t (laid_out_statement t.symbols t.cursor location z)) r) (sym q) fails
 
 -- ---- Whole files.
 
-whole : (t : State) (place : SourceLocation) (bytes : Option (List ℕ)) (start len : Option Tree) (r : Result State AsmFault) → StepsTo t place (Incbin (option_map (take 16777217) bytes) start len) r → StepsTo t place (Incbin bytes start len) r
-whole t place None start len r h = h
-whole t place (Some bytes) start len r h = by (nat_le (length bytes) file_limit) refl
+whole : (t : State) (location : SourceLocation) (bytes : Option (List ℕ)) (start len : Option Tree) (r : Result State AsmFault) → StepsTo t location (Incbin (option_map (take 16777217) bytes) start len) r → StepsTo t location (Incbin bytes start len) r
+whole t location None start len r h = h
+whole t location (Some bytes) start len r h = by (nat_le (length bytes) file_limit) refl
   where
-    by : (b : Bool) → nat_le (length bytes) file_limit ≡ b → StepsTo t place (Incbin (Some bytes) start len) r
+    by : (b : Bool) → nat_le (length bytes) file_limit ≡ b → StepsTo t location (Incbin (Some bytes) start len) r
     by true few =
         let most : length bytes ≤ 16777217 = grind (arith, nat_tests) in
-        subst (λ (all : List ℕ). StepsTo t place (Incbin (Some all) start len) r) (take_all 16777217 bytes most) h
+        subst (λ (all : List ℕ). StepsTo t location (Incbin (Some all) start len) r) (take_all 16777217 bytes most) h
     by false many =
         let most : 16777217 ≤ length bytes = grind (arith, nat_tests) in
         let front : length (take 16777217 bytes) ≡ 16777217 = length-take-le 16777217 bytes most in
         let cut : nat_le (length (take 16777217 bytes)) file_limit ≡ false = subst (λ n. nat_le n file_limit ≡ false) (sym front) refl in
-        takes_same t place (Incbin (Some (take 16777217 bytes)) start len) (Incbin (Some bytes) start len) r (long_fault t.symbols t.cursor start len)
+        takes_same t location (Incbin (Some (take 16777217 bytes)) start len) (Incbin (Some bytes) start len) r (long_fault t.symbols t.cursor start len)
         (too_long t.symbols t.cursor (take 16777217 bytes) start len cut) (too_long t.symbols t.cursor bytes start len many) h
 
 -- a statement is taken with what was read of its file as it is with the whole file
-pub takes_whole : (m : Files) (place : SourceLocation) (x : Statement) (t : State) (r : Result State AsmFault) → StepsTo t place (read_bytes m place x) r → StepsTo t place (with_bytes m place x) r
-takes_whole m place (IncbinPath name start len) t r h = whole t place (bytes_for m place name) start len r h
-takes_whole m place _ t r h = h
+pub takes_whole : (m : Files) (location : SourceLocation) (x : Statement) (t : State) (r : Result State AsmFault) → StepsTo t location (read_bytes m location x) r → StepsTo t location (with_bytes m location x) r
+takes_whole m location (IncbinPath name start len) t r h = whole t location (bytes_for m location name) start len r h
+takes_whole m location _ t r h = h

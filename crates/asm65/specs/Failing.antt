@@ -28,19 +28,19 @@ pub data IsTakenTo {S : Type 0} (m : Files) (b : StatementSemantics S) (first : 
 
 -- Expansion gives a statement next, at this location. Its error would be that its file isn't there, if the file of the last
 -- failed call weren't there. So that is this statement's file, and no error comes before this one.
-pub record IsNextAt {S : Type 0} (m : Files) (b : StatementSemantics S) (last_failure : LastFailure) (s : expand.State) (y : S) (place : SourceLocation) :
+pub record IsNextAt {S : Type 0} (m : Files) (b : StatementSemantics S) (last_failure : LastFailure) (s : expand.State) (y : S) (location : SourceLocation) :
     Type 0 where
   pub stated : expand.ExpandedStatement
   pub left : expand.State
   pub reaches : ReachesNext m (b.meaning y) s (statement stated left)
-  pub at : place ≡ left.left.place
-  pub unread : AnswersWithoutFile (Some m) last_failure (λ m y. AssemblesExpanded m b.takes y place stated) y (Err FileNotFound)
+  pub at : location ≡ left.left.place
+  pub unread : AnswersWithoutFile (Some m) last_failure (λ m y. AssemblesExpanded m b.takes y location stated) y (Err FileNotFound)
 
 -- The store failed at the next statement, whose file can't be read, or before expansion gave one.
 abbrev pub IsWhere : {S : Type 0} → Files → StatementSemantics S → LastFailure → expand.State → S → AsmFault → SourceLocation → Type 0
-IsWhere m b last_failure s y FileError place = IsNextAt m b last_failure s y place
-IsWhere m b last_failure s y (Expansion e) place = FailsBetweenStatements m last_failure (b.meaning y) s place
-IsWhere m b last_failure s y _ place = ⊥
+IsWhere m b last_failure s y FileError location = IsNextAt m b last_failure s y location
+IsWhere m b last_failure s y (Expansion e) location = FailsBetweenStatements m last_failure (b.meaning y) s location
+IsWhere m b last_failure s y _ location = ⊥
 
 -- The store failed after some of the statements, and what they print was printed.
 pub record StoreFailsAfter {S : Type 0} (b : StatementSemantics S) (first : S) (out_of err_of : S → List ℕ)

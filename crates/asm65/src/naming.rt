@@ -227,7 +227,7 @@ impl Assembler {
         size: AddressSize,
     ) -> Result<(), AllocError>
         requires new { definition_index (table_of self.old.symbols) (key_of key) ≡ None }
-        ensures { OnOk result ((place : SourceLocation) → EmitsThenDefines place context []
+        ensures { OnOk result ((location : SourceLocation) → EmitsThenDefines location context []
             (λ y. with_definition y (label_at (key_of key.entry) context size))
             self.old self.new) }
     {
@@ -244,7 +244,7 @@ impl Assembler {
     ) -> Result<(), AllocError>
         requires new { opened_twice (table_of self.old.symbols).scopes context.scope
             (option_map (λ n. n.now) name) ≡ None }
-        ensures { OnOk result ((place : SourceLocation) → EmitsThenDefines place context []
+        ensures { OnOk result ((location : SourceLocation) → EmitsThenDefines location context []
             (λ y. with_scope y (record {
               within = context.scope;
               name = option_map (λ n. n.now) name.entry;
@@ -267,7 +267,7 @@ impl Assembler {
         requires new { definition_index (table_of self.old.symbols) (named context.scope name.now) ≡ None }
         requires unopened { opened_twice (table_of self.old.symbols).scopes context.scope
             (Some name.now) ≡ None }
-        ensures { OnOk result ((place : SourceLocation) → EmitsThenDefines place context []
+        ensures { OnOk result ((location : SourceLocation) → EmitsThenDefines location context []
             (λ y. with_scope
             (with_definition y (label_at (named context.scope name.now) context size))
             (record { within = context.scope; name = Some name.now; is_proc = true }))
@@ -329,10 +329,10 @@ impl Assembler {
         requires named { is_put statement ≡ false }
         requires form { HasFinal (table_of self.old.symbols) site.context
             (first_tree statement) form }
-        ensures { OnOk result (let place = place_at site.entry.at in
+        ensures { OnOk result (let location = place_at site.entry.at in
             let s = site.entry.context in let m = measured in
-            EmitsThenDefines place s (pieces_of m.length m.settled statement)
-            (λ y. symbols_after y (laid_as place s m statement))
+            EmitsThenDefines location s (pieces_of m.length m.settled statement)
+            (λ y. symbols_after y (laid_as location s m statement))
             self.old self.new) }
     {
         let context = site.context;

@@ -70,7 +70,7 @@ fn nothing() -> ResolvedPiece
     }
 }
 
-/// One thing is put or said.
+/// Returns the result of a piece that has one entry.
 fn one(entry: SectionEntry) -> ResolvedPiece
     ensures made { (spot : FixupLocation) → made_at spot result ≡ quietly (entry_at spot entry) }
     ensures entry { result.entry ≡ Some entry }
@@ -81,36 +81,36 @@ fn one(entry: SectionEntry) -> ResolvedPiece
     }
 }
 
-/// One thing is said.
+/// Returns one declaration, with its location.
 fn told(
     alloc: Global,
     spot: FixupLocation<'_>,
-    said: Declaration,
+    declaration: Declaration,
 ) -> Result<ResolvedPiece, AllocError>
     ensures made { IfOk result (λ m. made_at spot.entry m ≡
-        quietly (declaration_content (said_at (place_here spot.entry) said ∷ []))) }
+        quietly (declaration_content (said_at (place_here spot.entry) declaration ∷ []))) }
     ensures standing { IfOk result (StandsAt spot.entry.pos) }
 {
-    let saying = LocatedDeclaration {
+    let located = LocatedDeclaration {
         pos: spot.pos,
-        said,
+        said: declaration,
     };
-    Ok(one(SectionEntry::DeclarationEntry(Box::new(alloc, saying)?)))
+    Ok(one(SectionEntry::DeclarationEntry(Box::new(alloc, located)?)))
 }
 
-/// One thing is said in a file whose name an object can hold.
+/// Returns one declaration, or an error if an object can't hold the name of its file.
 fn written(
     alloc: Global,
     spot: FixupLocation<'_>,
-    said: Declaration,
+    declaration: Declaration,
 ) -> Result<ResolvedPiece, AsmFault>
-    ensures made { Refines is_memory (made_at spot.entry) result (declaration_result (place_here spot.entry) said) }
+    ensures made { Refines is_memory (made_at spot.entry) result (declaration_result (place_here spot.entry) declaration) }
     ensures standing { IfOk result (StandsAt spot.entry.pos) }
 {
     if !is_file_name(spot.file()) {
         return Err(AsmFault::FileNameTooLong);
     }
-    Ok(told(alloc, spot, said)?)
+    Ok(told(alloc, spot, declaration)?)
 }
 
 /// Resolves a value of a list: to its bytes if it is a literal.
@@ -204,12 +204,12 @@ fn resolve_export(
     known: &mut FormCache,
     exported: &mut ExportedNames,
     spot: FixupLocation<'_>,
-    place: usize,
+    index: usize,
     name: ListVec<u8>,
 ) -> Result<ResolvedPiece, AsmFault>
     requires table { IsTable (table_of symbols.now) known.old }
     requires names { HasDefined (table_of symbols.now) (names_of exported.old) }
-    requires place { definition_index (table_of symbols.now) (named 0 name) ≡ Some place }
+    requires index { definition_index (table_of symbols.now) (named 0 name) ≡ Some index }
     ensures made { (must : Bool) (s : Site) → Refines is_memory (made_at spot.entry) result
         (piece_result (table_of symbols.now) (names_of exported.old) (place_here spot.entry) s
         (piece_of (Export must name))) }
@@ -222,7 +222,7 @@ fn resolve_export(
     if !enter_export(alloc, exported, name.as_slice())? {
         return Ok(nothing());
     }
-    let form = defined_norm(alloc, symbols, known, place)?;
+    let form = defined_norm(alloc, symbols, known, index)?;
     written(alloc, spot, Declaration::Exported { name, form })
 }
 
@@ -276,7 +276,7 @@ pub fn resolve(
         },
         FixupKind::ForcedImport(name) => Ok(told(alloc, spot, Declaration::ForcedImport(name))?),
         FixupKind::Export { must, name } => match defined(symbols, name.as_slice()) {
-            Some(place) => resolve_export(alloc, symbols, known, exported, spot, place, name),
+            Some(index) => resolve_export(alloc, symbols, known, exported, spot, index, name),
             None if must => Err(AsmFault::NotDefined(name)),
             None => Ok(nothing()),
         },

@@ -23,7 +23,7 @@ use crate::emission::PieceContext;
 use crate::emission::statements::{
     emit_incbin, emit_opcode, emit_reserve, emit_values, enter_operand, width_of,
 };
-use crate::emission::values::enter_value;
+use crate::emission::values::{ValueUse, defer, put_value};
 use ast65::{AsmFault, Operand, Statement};
 use base65::ListVec;
 use emit65::FixupKind;
@@ -160,10 +160,10 @@ impl Assembler {
             (first_tree statement) analysis.form }
         requires forms { HaveFinals (table_of self.old.symbols) site.context
             (items_in statement) analysis.forms.items }
-        ensures { OnOk result (let place = place_at site.entry.at in
+        ensures { OnOk result (let location = place_at site.entry.at in
             let s = site.entry.context in let m = analysis.measured in
-            EmitsThenDefines place s (pieces_of m.length m.settled statement)
-            (λ y. symbols_after y (laid_as place s m statement))
+            EmitsThenDefines location s (pieces_of m.length m.settled statement)
+            (λ y. symbols_after y (laid_as location s m statement))
             self.old self.new) }
     {
         let context = site.context;
@@ -192,12 +192,15 @@ impl Assembler {
                 action,
                 text,
             } => {
+                if put_value(alloc, self, site, form, ValueUse::Assertion)? {
+                    return Ok(());
+                }
                 let piece = FixupKind::Assertion {
                     action,
                     text,
                     value,
                 };
-                enter_value(alloc, self, site, form, piece)
+                defer(self, site, piece)
             }
             other => self.enter_names(alloc, site, measured, other, form),
         }
@@ -254,9 +257,9 @@ impl Assembler {
         requires { IsRepresentable self.old }
         ensures placed { (count : ℕ) (t : State) → Represents count t self.old → IfOk result (λ p.
             IsMeasuredAt t (Instruction mnemonic operand.now) p.context p.analysis.measured) }
-        ensures holds { (place : SourceLocation) (count : ℕ) (t : State) → Represents count t self.old →
+        ensures holds { (location : SourceLocation) (count : ℕ) (t : State) → Represents count t self.old →
             OnOk result (Represents (count + opened_by (Instruction mnemonic operand.now))
-            (state_after_layout t place (Instruction mnemonic operand.now)) self.new) }
+            (state_after_layout t location (Instruction mnemonic operand.now)) self.new) }
         ensures refused { (count : ℕ) (t : State) → Represents count t self.old → IfErr result
             (IsRefused t (Instruction mnemonic operand.now)) }
         ensures form { IfOk result (λ p. HasFinal (table_of self.new.symbols) p.context

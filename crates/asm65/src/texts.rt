@@ -119,34 +119,39 @@ impl ConsoleOutput {
             statement.now) }
     {
         match statement {
-            Statement::Out(words) => add_line(&mut self.out, words.as_slice()),
-            Statement::Warning(words) => warn(&mut self.err, at.file, at.line, words.as_slice()),
+            Statement::Out(message) => add_line(&mut self.out, message.as_slice()),
+            Statement::Warning(message) => warn(
+                &mut self.err,
+                at.file,
+                at.line,
+                message.as_slice(),
+            ),
             _ => Ok(()),
         }
     }
 }
 
-/// Adds a line of words.
+/// Adds a message and a line feed.
 #[inline(never)]
-fn add_line(out: &mut ListVec<u8>, words: &[u8]) -> Result<(), AllocError>
-    ensures { OnOk result (out.new ≡ out.old ++ (words.now ++ codes "\n")) }
+fn add_line(out: &mut ListVec<u8>, message: &[u8]) -> Result<(), AllocError>
+    ensures { OnOk result (out.new ≡ out.old ++ (message.now ++ codes "\n")) }
 {
-    out.extend_from_slice(words)?;
+    out.extend_from_slice(message)?;
     out.extend_from_slice(b"\n")?;
     Ok(())
 }
 
 /// Adds a warning at a line of a file.
 #[inline(never)]
-pub fn warn(err: &mut ListVec<u8>, file: &str, line: u32, words: &[u8]) -> Result<(), AllocError>
-    ensures { OnOk result (err.new ≡ err.old ++ warning_at (place_in file.now line) words.now) }
+pub fn warn(err: &mut ListVec<u8>, file: &str, line: u32, message: &[u8]) -> Result<(), AllocError>
+    ensures { OnOk result (err.new ≡ err.old ++ warning_at (place_in file.now line) message.now) }
 {
     let mut buffer = Buffer::new();
     err.extend_from_slice(file.as_bytes())?;
     err.extend_from_slice(b":")?;
     err.extend_from_slice(buffer.format(line).as_bytes())?;
     err.extend_from_slice(b": Warning: ")?;
-    err.extend_from_slice(words)?;
+    err.extend_from_slice(message)?;
     err.extend_from_slice(b"\n")?;
     Ok(())
 }

@@ -21,8 +21,9 @@ use Rattle.object65.specs.Form.{Form}
 use Rattle.object65.specs.Objects.{fits_width, value_bytes}
 use Rattle.base65.specs.declared.width.Width.{Width}
 use Rattle.ast65.specs.declared.fault.AsmFault.{AsmFault}
-use Rattle.emit65.specs.declared.fixups.FixupKind.{FixupKind}
-use Rattle.emit65.specs.declared.fixups.FixupKind.TheVariants.{Datum, Operand, Constant, Assertion}
+use Rattle.base65.specs.declared.action.Action.{Action}
+use Rattle.asm65.specs.declared.emission.values.ValueUse.{ValueUse}
+use Rattle.asm65.specs.declared.emission.values.ValueUse.TheVariants as use_of
 use Rattle.emit65.specs.declared.sections.Sections.{Sections}
 use Rattle.syntax65.specs.declared.lexing.tokens.AddressSize.{AddressSize}
 use Rattle.syntax65.specs.declared.lexing.tokens.AddressSize.TheVariants as size
@@ -64,9 +65,9 @@ pub record Represents (count : ℕ) (t : State) (a : Assembler) : Type 0 where
 
 -- Pieces of a statement in this context are emitted or deferred, in order; all else is unchanged.
 abbrev pub EmitsPieces : SourceLocation → Context → List piece.Piece → Assembler → Assembler → Type 0
-EmitsPieces place s ps old new =
+EmitsPieces location s ps old new =
     (count : ℕ) (t : State) → Represents count t old →
-    (u : State) × PieceSteps place s t ps u × Represents count u new
+    (u : State) × PieceSteps location s t ps u × Represents count u new
 
 -- ---- What names and expressions mean at a context.
 
@@ -87,9 +88,9 @@ pub record KeepsTables (old new : Assembler) : Type 0 where
 
 -- A piece of a statement in this context is deferred.
 abbrev pub DefersPiece : SourceLocation → Context → piece.Piece → Assembler → Assembler → Type 0
-DefersPiece place s p old new =
+DefersPiece location s p old new =
     (count : ℕ) (t : State) → Represents count t old →
-    Represents count (with_fixup t (record { place = place; context = s; piece = p })) new
+    Represents count (with_fixup t (record { place = location; context = s; piece = p })) new
 
 -- ---- Parts.
 
@@ -101,7 +102,7 @@ IsPut old new segment (Err e) true = ⊥
 
 -- what is stored of an operand's form
 abbrev pub operand_stored : Width → Context → SourceLocation → Form → Result Part AsmFault
-operand_stored width s place f = operand_form width s f >>= value_part width place
+operand_stored width s location f = operand_form width s f >>= value_part width location
 
 -- numbers that are in range, and their bytes
 pub record AreStored (width : Width) (ns value_part : List ℕ) : Type 0 where
@@ -112,16 +113,14 @@ pub record AreStored (width : Width) (ns value_part : List ℕ) : Type 0 where
 
 -- a piece of a statement in this context is emitted, or nothing changes
 abbrev pub EmitsIfResolved : SourceLocation → Context → piece.Piece → Assembler → Assembler → Bool → Type 0
-EmitsIfResolved place s p old new false = new ≡ old
-EmitsIfResolved place s p old new true = EmitsPieces place s (p ∷ []) old new
+EmitsIfResolved location s p old new false = new ≡ old
+EmitsIfResolved location s p old new true = EmitsPieces location s (p ∷ []) old new
 
--- the expression of a piece, if it has one
-abbrev pub tree_in : FixupKind → Option Tree
-tree_in (Datum width e) = Some e
-tree_in (Operand width e) = Some e
-tree_in (Constant e) = Some e
-tree_in (Assertion act words e) = Some e
-tree_in _ = None
+-- the purpose of a value that is used so; an assertion has this action and text
+abbrev pub purpose_of : ValueUse → Action → List ℕ → piece.Purpose
+purpose_of (use_of.Element width) action text = piece.datum width
+purpose_of (use_of.Operand width) action text = piece.operand width
+purpose_of use_of.Assertion action text = piece.asserted action text
 
 -- the form of the next element, if the list has one, and the rest of the list
 abbrev pub IsNext : List (Option Form) → Option Form → List (Option Form) → Type 0
@@ -132,9 +131,9 @@ IsNext (f ∷ fs) o rest = (o ≡ f) × (rest ≡ fs)
 
 -- a statement with what it lies by
 abbrev pub laid_as : SourceLocation → Context → StatementLayout → Statement → LaidOutStatement
-laid_as place s m x = record {
+laid_as location s m x = record {
   stated = x;
-  place = place;
+  place = location;
   context = s;
   length = m.length;
   size = m.size;
@@ -148,7 +147,7 @@ is_put (Values width items) = true
 is_put (Reserve n v) = true
 is_put (Align n v) = true
 is_put (Incbin bytes start len) = true
-is_put (Assert e act words) = true
+is_put (Assert e act message) = true
 is_put _ = false
 
 -- what a statement here defines and opens is not there yet
@@ -164,10 +163,10 @@ pub record KeepsPut (old new : Assembler) : Type 0 where
 
 -- Pieces of a statement in this context are emitted, and then the symbol table is updated.
 abbrev pub EmitsThenDefines : SourceLocation → Context → List piece.Piece → (Symbols → Symbols) → Assembler → Assembler → Type 0
-EmitsThenDefines place s ps becomes old new =
+EmitsThenDefines location s ps becomes old new =
     (count : ℕ) (t : State) → Represents count t old → AreInside count (becomes t.symbols).scopes →
     AreBefore t.cursor.unnamed (becomes t.symbols).definitions →
-    (u : State) × PieceSteps place s t ps u × Represents count (record u { symbols = becomes t.symbols }) new
+    (u : State) × PieceSteps location s t ps u × Represents count (record u { symbols = becomes t.symbols }) new
 
 -- some state is represented, after statements that one more may follow
 abbrev pub IsRepresentable : Assembler → Type 0
@@ -195,12 +194,12 @@ IsRefused t x e = Unless (is_system_error e) (line_fault t.symbols t.cursor x �
 
 -- the state in which a statement's pieces are entered
 abbrev pub state_after_layout : State → SourceLocation → Statement → State
-state_after_layout t place x =
+state_after_layout t location x =
     let u : State = asked_of (context_of t.cursor).segment x t in
     record u {
       cursor = cursor_after t.symbols t.cursor x;
       out = u.out ++ out_of x;
-      err = u.err ++ warning_of place x;
+      err = u.err ++ warning_of location x;
     }
 
 -- ---- Names.
@@ -220,11 +219,11 @@ name_use_piece (mention.Exported must) n = piece.exported must n
 
 -- pending pieces, in order
 abbrev pub all_awaiting : SourceLocation → Context → State → List piece.Piece → State
-all_awaiting place s t [] = t
-all_awaiting place s t (p ∷ ps) =
-    all_awaiting place s (with_fixup t (record { place = place; context = s; piece = p })) ps
+all_awaiting location s t [] = t
+all_awaiting location s t (p ∷ ps) =
+    all_awaiting location s (with_fixup t (record { place = location; context = s; piece = p })) ps
 
 -- the names that a statement mentions here are deferred
 abbrev pub DefersMentions : SourceLocation → Context → List piece.Piece → Assembler → Assembler → Type 0
-DefersMentions place s ps old new =
-    (count : ℕ) (t : State) → Represents count t old → Represents count (all_awaiting place s t ps) new
+DefersMentions location s ps old new =
+    (count : ℕ) (t : State) → Represents count t old → Represents count (all_awaiting location s t ps) new

@@ -67,8 +67,8 @@ SaysAs t a = (a.texts.out ≡ t.out) × (a.texts.err ≡ t.err)
 pub data IsReached : State → Type 0 where
   at_first : IsReached initial_state
   following :
-      (t u : State) (place : SourceLocation) (x : Statement) →
-      IsReached t → IsWellFormedStatement x → StepsTo t place x (Ok u) → IsReached u
+      (t u : State) (location : SourceLocation) (x : Statement) →
+      IsReached t → IsWellFormedStatement x → StepsTo t location x (Ok u) → IsReached u
 
 -- After a state, a result: the assembler represents the next state; or it has the error without further output, if the
 -- names are valid, unless that is a system error.
@@ -152,20 +152,20 @@ tokens_of (expand.plain ts) = ts
 abbrev pub TakesOne :
     Option Files → LastFailure → SourceLocation → expand.ExpandedStatement → Assembler → Assembler →
     Result (Unit {0}) AsmFault → Type 0
-TakesOne o last_failure place x = RefinesRead o last_failure (AreSymbolNames (tokens_of x)) (λ m t. AssemblesExpanded m StepsTo t place x) 2
+TakesOne o last_failure location x = RefinesRead o last_failure (AreSymbolNames (tokens_of x)) (λ m t. AssemblesExpanded m StepsTo t location x) 2
 
 -- statements are taken in order, up to the first that has an error
-pub data TakesAll (o : Option Files) (last_failure : LastFailure) (place : SourceLocation) :
+pub data TakesAll (o : Option Files) (last_failure : LastFailure) (location : SourceLocation) :
     List expand.ExpandedStatement → Assembler → Assembler → Result (Unit {0}) AsmFault → Type 0 where
-  none : (a : Assembler) → TakesAll o last_failure place [] a a (Ok tt)
+  none : (a : Assembler) → TakesAll o last_failure location [] a a (Ok tt)
   refused :
       (old new : Assembler) (x : expand.ExpandedStatement) (xs : List expand.ExpandedStatement) (e : AsmFault) →
-      TakesOne o last_failure place x old new (Err e) → TakesAll o last_failure place (x ∷ xs) old new (Err e)
+      TakesOne o last_failure location x old new (Err e) → TakesAll o last_failure location (x ∷ xs) old new (Err e)
   one_more :
       (old mid new : Assembler) (x : expand.ExpandedStatement) (xs : List expand.ExpandedStatement)
       (r : Result (Unit {0}) AsmFault) →
-      TakesOne o last_failure place x old mid (Ok tt) → TakesAll o last_failure place xs mid new r →
-      TakesAll o last_failure place (x ∷ xs) old new r
+      TakesOne o last_failure location x old mid (Ok tt) → TakesAll o last_failure location xs mid new r →
+      TakesAll o last_failure location (x ∷ xs) old new r
 
 -- The statements of the next line of a run are taken.
 pub record TakesLine (o : Option Files) (last_failure : LastFailure) (old new : Run) (r : Result (Unit {0}) AsmFault) : Type 0 where
@@ -185,15 +185,15 @@ TakesLineIf o last_failure old new (Err e) = TakesLine o last_failure old new (E
 
 -- a statement with the bytes of its file up to the limit, or up to one more, where there are more
 abbrev pub read_bytes : Files → SourceLocation → Statement → Statement
-read_bytes m place (IncbinPath name start len) =
-    Incbin (option_map (take 16777217) (bytes_for m place name)) start len
-read_bytes m place x = x
+read_bytes m location (IncbinPath name start len) =
+    Incbin (option_map (take 16777217) (bytes_for m location name)) start len
+read_bytes m location x = x
 
 -- A statement is refused before its file is read for what is wrong with it whatever the files have; where the store
 -- fails nothing is, so without its file the answer would be that it isn't there.
-pub record IsRefusedUnread (o : Option Files) (last_failure : LastFailure) (t : State) (place : SourceLocation) (x : Statement) (e : AsmFault) : Type 0 where
-  pub inside : Unless (is_system_error e) ((m : Files) → StepsTo t place (with_bytes m place x) (Err e))
-  pub failed : is_failure e ≡ true → AnswersWithoutFile o last_failure (λ m t. StepsTo t place (with_bytes m place x)) t (Err FileNotFound)
+pub record IsRefusedUnread (o : Option Files) (last_failure : LastFailure) (t : State) (location : SourceLocation) (x : Statement) (e : AsmFault) : Type 0 where
+  pub inside : Unless (is_system_error e) ((m : Files) → StepsTo t location (with_bytes m location x) (Err e))
+  pub failed : is_failure e ≡ true → AnswersWithoutFile o last_failure (λ m t. StepsTo t location (with_bytes m location x)) t (Err FileNotFound)
 
 -- ---- The result of a piece.
 
@@ -231,7 +231,7 @@ CanReplace files c e = AreSlotsAlike (resolved c ∷ []) (slot_of files e ∷ []
 
 -- the result of a declaration that is written with its location
 abbrev pub declaration_result : SourceLocation → Declaration → Result PieceResult AsmFault
-declaration_result place s = located_declarations place (said_at place s ∷ []) >>= as_said
+declaration_result location s = located_declarations location (said_at location s ∷ []) >>= as_said
 
 -- a name that isn't defined is none of these
 abbrev pub HasDefined : Symbols → List (List ℕ) → Type 0

@@ -1,6 +1,6 @@
 //! What statements that define no name put into sections.
 
-ghost use Rattle.std.specs.Prelude.{◌≡◌, ◌∷◌, [], OnOk, map};
+ghost use Rattle.std.specs.Prelude.{◌≡◌, ◌∷◌, [], OnOk, Some, map};
 ghost use Rattle.semantics65.specs.Contents.{operand_tree, file_bytes, opcode_part, room_part, Known};
 ghost use Rattle.semantics65.specs.Norms.{width_of};
 ghost use Rattle.symbols65.specs.Views.{table_of};
@@ -9,11 +9,11 @@ ghost use Rattle.std.specs.Vec.Iter.{into_iter_items};
 ghost use Rattle.asm65.specs.Internal.AssemblerState.{EmitsPieces, IsNext, KeepsTables};
 ghost use Rattle.syntax65.specs.declared.source_location.SourceLocation.{SourceLocation};
 ghost use Rattle.semantics65.specs.Views.{place_at};
-ghost use Rattle.semantics65.specs.Module.{given, item_piece, operand_pieces};
+ghost use Rattle.semantics65.specs.Module.{datum, given, item_piece, operand_pieces, valued};
 ghost use Rattle.ast65.specs.Items.{literal_item};
 
 use super::PieceContext;
-use super::values::{bytes_of, enter_value, file_bytes, items_of};
+use super::values::{ValueUse, bytes_of, defer, file_bytes, items_of, put_value};
 use crate::assembler::Assembler;
 use ast65::{Item, Items, ItemsKind, Operand};
 use base65::ListVec;
@@ -57,7 +57,7 @@ pub fn emit_opcode(
     context: Context,
     code: Option<u8>,
 ) -> Result<(), AllocError>
-    ensures entered { OnOk result ((place : SourceLocation) → EmitsPieces place context
+    ensures entered { OnOk result ((location : SourceLocation) → EmitsPieces location context
         (given (opcode_part code) ∷ []) assembler.old assembler.new) }
     ensures tables { KeepsTables assembler.old assembler.new }
 {
@@ -84,13 +84,10 @@ pub fn enter_operand(
 {
     match (width, operand_value(operand)) {
         (Some(width), Some(value)) => {
-            enter_value(
-                alloc,
-                assembler,
-                site,
-                form,
-                FixupKind::Operand { width, value },
-            )
+            if put_value(alloc, assembler, site, form, ValueUse::Operand(width))? {
+                return Ok(());
+            }
+            defer(assembler, site, FixupKind::Operand { width, value })
         }
         _ => Ok(()),
     }
@@ -104,6 +101,27 @@ fn next_form(forms: &mut IntoIter<Option<Norm>>) -> Option<Norm>
         Some(form) => form,
         None => None,
     }
+}
+
+/// Emits an element of a list at once if its form is final and has no error, else defers it.
+fn enter_element(
+    alloc: Global,
+    assembler: &mut Assembler,
+    site: PieceContext<'_>,
+    width: Width,
+    value: Expr,
+    form: Option<Norm>,
+) -> Result<(), AllocError>
+    requires { HasFinal (table_of assembler.old.symbols) site.context (Some value) form }
+    ensures entered { OnOk result (EmitsPieces
+        (place_at site.entry.at) site.entry.context
+        (valued (datum width) value ∷ []) assembler.old assembler.new) }
+    ensures tables { KeepsTables assembler.old assembler.new }
+{
+    if put_value(alloc, assembler, site, form, ValueUse::Element(width))? {
+        return Ok(());
+    }
+    defer(assembler, site, FixupKind::Datum { width, value })
 }
 
 /// Enters a list of any elements.
@@ -124,15 +142,7 @@ fn enter_mixed(
     for item in items.into_vec() {
         let form = next_form(&mut forms);
         match item {
-            Item::Value(value) => {
-                enter_value(
-                    alloc,
-                    assembler,
-                    site,
-                    form,
-                    FixupKind::Datum { width, value },
-                )?
-            }
+            Item::Value(value) => enter_element(alloc, assembler, site, width, value, form)?,
             Item::StringLiteral(bytes) => {
                 assembler
                     .sections
@@ -197,7 +207,7 @@ pub fn emit_reserve(
     count: u32,
     settled: EncodingChoice,
 ) -> Result<(), AllocError>
-    ensures { OnOk result ((place : SourceLocation) → EmitsPieces place context
+    ensures { OnOk result ((location : SourceLocation) → EmitsPieces location context
         (given (room_part count settled) ∷ []) assembler.old assembler.new) }
 {
     match settled {
@@ -215,7 +225,7 @@ pub fn emit_incbin(
     settled: EncodingChoice,
     bytes: Option<ListVec<u8>>,
 ) -> Result<(), AllocError>
-    ensures { OnOk result ((place : SourceLocation) → EmitsPieces place context
+    ensures { OnOk result ((location : SourceLocation) → EmitsPieces location context
         (given (Known (file_bytes count bytes settled)) ∷ []) assembler.old assembler.new) }
 {
     let part = file_bytes(&bytes, settled, count);

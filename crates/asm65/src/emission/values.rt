@@ -1,18 +1,20 @@
 //! Emits values and other parts of statements at once if they are settled without an error, or
 //! defers them.
 
-ghost use Rattle.std.specs.Prelude.{◌≡◌, drop, IfOk, IfSome, map, Ok, OnOk, Some, take, ◌∷◌, []};
+ghost use Rattle.std.specs.Prelude.{◌≡◌, drop, IfOk, IfSome, List, map, Ok, OnOk, Some, take, ℕ};
 ghost use Rattle.semantics65.specs.Contents.{file_bytes, section_part, value_part, Known};
 ghost use Rattle.ast65.specs.Items.{literal_item};
 ghost use Rattle.semantics65.specs.Views.{place_at};
 ghost use Rattle.symbols65.specs.Evaluations.{HasFinal};
 ghost use Rattle.symbols65.specs.Views.{table_of};
-ghost use Rattle.asm65.specs.Internal.AssemblerState.{AreStored, IsPut, operand_stored, KeepsTables, DefersPiece, EmitsIfResolved, EmitsPieces, tree_in};
+ghost use Rattle.asm65.specs.Internal.AssemblerState.{AreStored, IsPut, operand_stored, KeepsTables, DefersPiece, EmitsIfResolved, purpose_of};
 ghost use Rattle.base65.specs.Outcome.{Refines};
 ghost use Rattle.ast65.specs.Faults.{is_memory};
 ghost use Rattle.object65.specs.Objects.{is_file_name};
 ghost use Rattle.emit65.specs.SectionContents.{piece_of};
-ghost use Rattle.semantics65.specs.Module.{datum, valued};
+ghost use Rattle.semantics65.specs.Module.{valued};
+ghost use Rattle.base65.specs.declared.action.Action.{Action};
+ghost use Rattle.syntax65.specs.Trees.{Tree};
 
 use super::PieceContext;
 use crate::assembler::Assembler;
@@ -141,57 +143,41 @@ pub fn defer(
     assembler.sections.defer(site.at, site.context, piece)
 }
 
-/// Emits the value of a piece, whose form is final, if it has no fault.
-fn put_value(
-    alloc: Global,
-    assembler: &mut Assembler,
-    site: PieceContext<'_>,
-    form: Norm,
-    piece: &FixupKind,
-) -> Result<bool, AllocError>
-    requires { HasFinal (table_of assembler.old.symbols) site.context
-        (tree_in piece.now) (Some form) }
-    ensures tried { IfOk result (EmitsIfResolved
-        (place_at site.entry.at) site.entry.context
-        (piece_of piece.now) assembler.old assembler.new) }
-    ensures tables { KeepsTables assembler.old assembler.new }
-{
-    let segment = site.context.segment;
-    let sections = &mut assembler.sections;
-    match piece {
-        FixupKind::Datum { width, .. } => put_form(sections, segment, *width, site.at, form),
-        FixupKind::Operand { width, .. } => put_operand(alloc, sections, site, *width, form),
-        // An assertion that holds puts nothing.
-        FixupKind::Assertion { .. } => match literal_of(&form) {
-            Some(value) => Ok(value != 0),
-            None => Ok(false),
-        },
-        _ => Ok(false),
-    }
+/// The use of a value: an element of a list or an operand, which is stored, or an assertion.
+#[derive(Clone, Copy)]
+pub enum ValueUse {
+    Element(Width),
+    Operand(Width),
+    Assertion,
 }
 
-/// Emits a value at once if its form is final and has no fault, else defers it.
+/// Emits a value if its form is final and has no error. Returns whether it did.
 #[inline(never)]
-pub fn enter_value(
+pub fn put_value(
     alloc: Global,
     assembler: &mut Assembler,
     site: PieceContext<'_>,
     form: Option<Norm>,
-    piece: FixupKind,
-) -> Result<(), AllocError>
-    requires { HasFinal (table_of assembler.old.symbols) site.context (tree_in piece) form }
-    ensures entered { OnOk result (EmitsPieces
-        (place_at site.entry.at) site.entry.context
-        (piece_of piece ∷ []) assembler.old assembler.new) }
+    value_use: ValueUse,
+) -> Result<bool, AllocError>
+    ensures put { (e : Tree) (action : Action) (text : List ℕ) →
+        HasFinal (table_of assembler.old.symbols) site.context (Some e) form →
+        IfOk result (EmitsIfResolved (place_at site.entry.at) site.entry.context
+        (valued (purpose_of value_use action text) e) assembler.old assembler.new) }
     ensures tables { KeepsTables assembler.old assembler.new }
 {
-    match form {
-        Some(form) => {
-            if put_value(alloc, assembler, site, form, &piece)? {
-                return Ok(());
-            }
-            defer(assembler, site, piece)
-        }
-        None => defer(assembler, site, piece),
+    let Some(form) = form else {
+        return Ok(false);
+    };
+    let segment = site.context.segment;
+    let sections = &mut assembler.sections;
+    match value_use {
+        ValueUse::Element(width) => put_form(sections, segment, width, site.at, form),
+        ValueUse::Operand(width) => put_operand(alloc, sections, site, width, form),
+        // An assertion that holds emits nothing.
+        ValueUse::Assertion => match literal_of(&form) {
+            Some(value) => Ok(value != 0),
+            None => Ok(false),
+        },
     }
 }

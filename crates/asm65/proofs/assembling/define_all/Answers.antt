@@ -16,20 +16,20 @@ loop-one-init c = none_so_far (no_line c.args.job.now.source.now) (map define_of
 pub returns-in_err-define_one-clause-defined : goal.returns-in_err-define_one-clause-defined
 unfolding none
 returns-in_err-define_one-clause-defined c =
-    let place = no_line c.args.job.now.source.now in
+    let location = no_line c.args.job.now.source.now in
     let xs = c.args.job.now.defines.now in
     let i = c.loop-one.one-index in
     let lt : i < length xs = search rules in
     let p = err_from_is_err_and c.from_residual.result c.from_residual.ensures.1 in
-    let left = subst (λ (ds : List Define). SoFar place (map define_of xs) ds c.loop-one.assembler) (left_dropped xs i none lt) c.loop-one.invariant in
-    one_wrong place (map define_of xs) (map define_of (drop (i + 1) xs)) (define_of (get_or xs i none)) c.loop-one.assembler c.define_one.new.assembler c.in_err-define_one.field-0.0 c.from_residual.result (p.1 ∙ ap Err p.2) left c.in_err-define_one.ensures.taken
+    let left = subst (λ (ds : List Define). SoFar location (map define_of xs) ds c.loop-one.assembler) (left_dropped xs i none lt) c.loop-one.invariant in
+    one_wrong location (map define_of xs) (map define_of (drop (i + 1) xs)) (define_of (get_or xs i none)) c.loop-one.assembler c.define_one.new.assembler c.in_err-define_one.field-0.0 c.from_residual.result (p.1 ∙ ap Err p.2) left c.in_err-define_one.ensures.taken
 
 pub loop-one-preserved : goal.loop-one-preserved
 unfolding none
 loop-one-preserved c =
-    let place = no_line c.args.job.now.source.now in
+    let location = no_line c.args.job.now.source.now in
     let xs = c.args.job.now.defines.now in
     let i = c.loop-one.one-index in
     let lt : i < length xs = search rules in
-    let left = subst (λ (ds : List Define). SoFar place (map define_of xs) ds c.loop-one.assembler) (left_dropped xs i none lt) c.loop-one.invariant in
-    one_more place (map define_of xs) (map define_of (drop (i + 1) xs)) (define_of (get_or xs i none)) c.loop-one.assembler c.define_one.new.assembler c.in_ok-define_one.field-0 left c.in_ok-define_one.ensures.taken
+    let left = subst (λ (ds : List Define). SoFar location (map define_of xs) ds c.loop-one.assembler) (left_dropped xs i none lt) c.loop-one.invariant in
+    one_more location (map define_of xs) (map define_of (drop (i + 1) xs)) (define_of (get_or xs i none)) c.loop-one.assembler c.define_one.new.assembler c.in_ok-define_one.field-0 left c.in_ok-define_one.ensures.taken

@@ -12,11 +12,11 @@ use Rattle.asm65.proofs.assembling.define_one.Goals as goal
 
 pub returns-clause-taken : goal.returns-clause-taken
 returns-clause-taken c =
-    let place = place_in c.args.at.file.now c.args.at.line in
+    let location = place_in c.args.at.file.now c.args.at.line in
     let d = c.args.define.now in
     let old = c.args.assembler.now in
     let new = c.assemble_statement.new.self in
     let r = c.assemble_statement.result in
-    let P : List ℕ → Tree → Type 0 = λ n e. (count : ℕ) (t : State) → Represents count t old → count < opening_limit → RepresentsOrFails (StepsTo t place (Constant n e)) (λ u. Represents (count + 0) u new) r in
+    let P : List ℕ → Tree → Type 0 = λ n e. (count : ℕ) (t : State) → Represents count t old → count < opening_limit → RepresentsOrFails (StepsTo t location (Constant n e)) (λ u. Represents (count + 0) u new) r in
     let numbered : P c.in_ok-name.name (number d.value) = subst (P c.in_ok-name.name) c.new-value.ensures c.assemble_statement.ensures.taken in
-    defines_by place (define_of d) old new r (subst (λ n. P n (number d.value)) c.in_ok-name.ensures numbered) c.assemble_statement.ensures.texts
+    defines_by location (define_of d) old new r (subst (λ n. P n (number d.value)) c.in_ok-name.ensures numbered) c.assemble_statement.ensures.texts

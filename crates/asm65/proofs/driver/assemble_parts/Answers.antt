@@ -32,21 +32,21 @@ returns-in_err-take_label-clause-taken g c =
     let e = c.in_err-take_label.field-0.0 in
     let o = g.S.Store.files c.args.store.now in
     let last_failure = g.S.Store.last_failure c.take_label.new.store in
-    let place = place_in c.args.at.file.now c.args.at.line in
+    let location = place_in c.args.at.file.now c.args.at.line in
     let ls = lexemes c.args.parts.label.now in
     let ts = lexemes c.args.parts.rest.now in
     let some : ls ≡ [] → ⊥ = some_tokens c.args.parts.label.now (some_there (length c.args.parts.label.now) c.if-is_empty.ensures) in
-    let P : Answer → Type 0 = TakesAll o last_failure place (given_parts ls ts) c.args.assembler.now c.take_label.new.assembler in
-    subst P (sym (p.1 ∙ ap Err p.2)) (label_refused o last_failure place ls ts c.args.assembler.now c.take_label.new.assembler e some c.in_err-take_label.ensures.read.taken c.in_err-take_label.ensures.read.stopped)
+    let P : Answer → Type 0 = TakesAll o last_failure location (given_parts ls ts) c.args.assembler.now c.take_label.new.assembler in
+    subst P (sym (p.1 ∙ ap Err p.2)) (label_refused o last_failure location ls ts c.args.assembler.now c.take_label.new.assembler e some c.in_err-take_label.ensures.read.taken c.in_err-take_label.ensures.read.stopped)
 
 pub returns-clause-taken : goal.returns-clause-taken
 returns-clause-taken g c =
     let last_failure = g.S.Store.last_failure c.take_after-2.new.store in
-    let place = place_in c.args.at.file.now c.args.at.line in
+    let location = place_in c.args.at.file.now c.args.at.line in
     let ls = lexemes c.args.parts.label.now in
     let ts = lexemes c.args.parts.rest.now in
     let mid = c.take_label.new.assembler in
     let new = c.take_after-2.new.assembler in
     let some : ls ≡ [] → ⊥ = some_tokens c.args.parts.label.now (some_there (length c.args.parts.label.now) c.if-is_empty.ensures) in
-    let P : Option Files → Type 0 = λ o. TakesAll o last_failure place (given_after ts) mid new c.take_after-2.result in
-    label_taken (g.S.Store.files c.args.store.now) last_failure place ls ts c.args.assembler.now mid new c.in_ok-take_label.field-0 c.take_after-2.result some c.in_ok-take_label.ensures.read.taken (subst P c.in_ok-take_label.ensures.frame.files c.take_after-2.ensures.taken)
+    let P : Option Files → Type 0 = λ o. TakesAll o last_failure location (given_after ts) mid new c.take_after-2.result in
+    label_taken (g.S.Store.files c.args.store.now) last_failure location ls ts c.args.assembler.now mid new c.in_ok-take_label.field-0 c.take_after-2.result some c.in_ok-take_label.ensures.read.taken (subst P c.in_ok-take_label.ensures.frame.files c.take_after-2.ensures.taken)

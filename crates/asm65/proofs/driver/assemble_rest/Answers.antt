@@ -22,41 +22,41 @@ returns-in_err-read_part-clause-read g c =
     let r = c.from_residual-in_err-read_part.result in
     let p = err_from_is_err_and r c.from_residual-in_err-read_part.ensures.1 in
     let e = c.in_err-read_part.field-0.0 in
-    let place = place_in c.args.at.file.now c.args.at.line in
+    let location = place_in c.args.at.file.now c.args.at.line in
     let ts = lexemes c.args.tokens.now in
     let some : ts ≡ [] → ⊥ = some_tokens c.args.tokens.now (some_there (length c.args.tokens.now) c.if-is_empty.ensures) in
-    let P : Answer → Type 0 = TakesBy (AreSymbolNames ts) (RestBy (g.S.Store.files c.args.store.now) place ts) 1 c.args.assembler.now c.read_part.new.assembler in
+    let P : Answer → Type 0 = TakesBy (AreSymbolNames ts) (RestBy (g.S.Store.files c.args.store.now) location ts) 1 c.args.assembler.now c.read_part.new.assembler in
     record {
-      taken = subst P (sym (p.1 ∙ ap Err p.2)) (rest_unread (g.S.Store.files c.args.store.now) (g.S.Store.last_failure c.read_part.new.store) place c.in_ok-statement.statement c.args.assembler.now c.read_part.new.assembler e c.in_err-read_part.ensures.refused c.in_err-read_part.ensures.texts ts some c.in_ok-statement.ensures.value);
-      stopped = rest_stops (g.S.Store.files c.args.store.now) (g.S.Store.last_failure c.read_part.new.store) place c.in_ok-statement.statement c.args.assembler.now c.read_part.new.assembler e c.in_err-read_part.ensures.refused c.in_err-read_part.ensures.texts ts r some c.in_ok-statement.ensures.value c.in_err-read_part.ensures.failed (p.1 ∙ ap Err p.2);
+      taken = subst P (sym (p.1 ∙ ap Err p.2)) (rest_unread (g.S.Store.files c.args.store.now) (g.S.Store.last_failure c.read_part.new.store) location c.in_ok-statement.statement c.args.assembler.now c.read_part.new.assembler e c.in_err-read_part.ensures.refused c.in_err-read_part.ensures.texts ts some c.in_ok-statement.ensures.value);
+      stopped = rest_stops (g.S.Store.files c.args.store.now) (g.S.Store.last_failure c.read_part.new.store) location c.in_ok-statement.statement c.args.assembler.now c.read_part.new.assembler e c.in_err-read_part.ensures.refused c.in_err-read_part.ensures.texts ts r some c.in_ok-statement.ensures.value c.in_err-read_part.ensures.failed (p.1 ∙ ap Err p.2);
     }
 
 pub returns-in_err-operand-clause-read : goal.returns-in_err-operand-clause-read
 returns-in_err-operand-clause-read g c = record {
   taken = (let p = err_from_is_err_and c.from_residual.result c.from_residual.ensures.1 in
       let e = c.in_err-operand.field-0.0 in
-      let place = place_in c.args.at.file.now c.args.at.line in
+      let location = place_in c.args.at.file.now c.args.at.line in
       let ts = lexemes c.args.tokens.now in
       let some : ts ≡ [] → ⊥ = some_tokens c.args.tokens.now (some_there (length c.args.tokens.now) c.if-is_empty.ensures) in
       let wrong = unless_then (is_system_error e) (λ (i : IsOperand (lexemes c.in-Some.following.now) (Err e)). c.in-Some.ensures (Err e) (Err e, i, refl)) c.in_err-operand.ensures.value in
-      let P : Answer → Type 0 = TakesBy (AreSymbolNames ts) (RestBy (g.S.Store.files c.args.store.now) place ts) 1 c.args.assembler.now c.args.assembler.now in
-      subst P (sym (p.1 ∙ ap Err p.2)) (rest_wrong (g.S.Store.files c.args.store.now) place ts c.args.assembler.now e some wrong));
+      let P : Answer → Type 0 = TakesBy (AreSymbolNames ts) (RestBy (g.S.Store.files c.args.store.now) location ts) 1 c.args.assembler.now c.args.assembler.now in
+      subst P (sym (p.1 ∙ ap Err p.2)) (rest_wrong (g.S.Store.files c.args.store.now) location ts c.args.assembler.now e some wrong));
   stopped = first_of (search rules, grind (arith, common_steps));
 }
 
 pub returns-in-Some-clause-read : goal.returns-in-Some-clause-read
 returns-in-Some-clause-read g c = record {
   taken = (let o = g.S.Store.files c.args.store.now in
-      let place = place_in c.args.at.file.now c.args.at.line in
+      let location = place_in c.args.at.file.now c.args.at.line in
       let ts = lexemes c.args.tokens.now in
       let old = c.args.assembler.now in
       let new = c.assemble_instruction.new.self in
       let r = c.assemble_instruction.result in
       let x : Statement = Instruction c.in-Some.mnemonic c.in_ok-operand.operand in
       let some : ts ≡ [] → ⊥ = some_tokens c.args.tokens.now (some_there (length c.args.tokens.now) c.if-is_empty.ensures) in
-      rest_leaves o place ts x x old new r some (c.in-Some.ensures (Ok x) (Ok c.in_ok-operand.operand, c.in_ok-operand.ensures.value, refl))
-      (told_all o (λ m. x ≡ read_bytes m place x) (λ m. refl))
-      (sound_leaves place x old new r tt c.assemble_instruction.ensures.taken c.assemble_instruction.ensures.texts));
+      rest_leaves o location ts x x old new r some (c.in-Some.ensures (Ok x) (Ok c.in_ok-operand.operand, c.in_ok-operand.ensures.value, refl))
+      (told_all o (λ m. x ≡ read_bytes m location x) (λ m. refl))
+      (sound_leaves location x old new r tt c.assemble_instruction.ensures.taken c.assemble_instruction.ensures.texts));
   stopped = first_of (search rules, grind (arith, common_steps));
 }
 
@@ -68,14 +68,14 @@ take_sound-requires g c =
 pub returns-clause-read : goal.returns-clause-read
 returns-clause-read g c = record {
   taken = (let some : lexemes c.args.tokens.now ≡ [] → ⊥ = some_tokens c.args.tokens.now (some_there (length c.args.tokens.now) c.if-is_empty.ensures) in
-      let place = place_in c.args.at.file.now c.args.at.line in
+      let location = place_in c.args.at.file.now c.args.at.line in
       let ts = lexemes c.args.tokens.now in
       let x = c.in_ok-statement.statement in
       let y = c.read_part.new.statement in
-      takes_from (AreSymbolNames ts) (RestBy (g.S.Store.files c.args.store.now) place ts) 1 c.args.assembler.now c.read_part.new.assembler c.take_sound.new.assembler c.take_sound.result c.in_ok-read_part.ensures.held
-      (rest_leaves (g.S.Store.files c.args.store.now) place ts x y c.read_part.new.assembler c.take_sound.new.assembler c.take_sound.result some c.in_ok-statement.ensures.value c.in_ok-read_part.ensures.bytes c.take_sound.ensures.taken));
-  stopped = (let place = place_in c.args.at.file.now c.args.at.line in
-      never_stops (AnswersWithoutFile (g.S.Store.files c.args.store.now) (g.S.Store.last_failure c.read_part.new.store) (λ m t. IsRest m StepsTo t place (lexemes c.args.tokens.now))) 1 c.args.assembler.now c.take_sound.new.assembler c.take_sound.result c.take_sound.ensures.inside);
+      takes_from (AreSymbolNames ts) (RestBy (g.S.Store.files c.args.store.now) location ts) 1 c.args.assembler.now c.read_part.new.assembler c.take_sound.new.assembler c.take_sound.result c.in_ok-read_part.ensures.held
+      (rest_leaves (g.S.Store.files c.args.store.now) location ts x y c.read_part.new.assembler c.take_sound.new.assembler c.take_sound.result some c.in_ok-statement.ensures.value c.in_ok-read_part.ensures.bytes c.take_sound.ensures.taken));
+  stopped = (let location = place_in c.args.at.file.now c.args.at.line in
+      never_stops (AnswersWithoutFile (g.S.Store.files c.args.store.now) (g.S.Store.last_failure c.read_part.new.store) (λ m t. IsRest m StepsTo t location (lexemes c.args.tokens.now))) 1 c.args.assembler.now c.take_sound.new.assembler c.take_sound.result c.take_sound.ensures.inside);
 }
 
 pub assemble_instruction-requires : goal.assemble_instruction-requires

@@ -33,11 +33,11 @@ returns-in_err-taken-clause-next g c =
     let tokens = c.as_slice-2.result.now in
     let front : lexemes c.split_at.result.0.now ≡ take n ts = ap lexemes c.split_at.ensures.front ∙ sym (take-map lexeme_of n tokens) ∙ ap (take n) c.as_slice-2.ensures in
     let following : lexemes c.split_at.result.1.now ≡ drop n ts = ap lexemes c.split_at.ensures.back ∙ sym (drop-map lexeme_of n tokens) ∙ ap (drop n) c.as_slice-2.ensures in
-    let place = place_in c.place.result.0.now line.number in
-    let at : place ≡ place_of c.take_peeked.new.self = ap (λ f. place_in f line.number) c.place.ensures.place.0 ∙ sym c.take_peeked.ensures.place in
+    let location = place_in c.place.result.0.now line.number in
+    let at : location ≡ place_of c.take_peeked.new.self = ap (λ f. place_in f line.number) c.place.ensures.place.0 ∙ sym c.take_peeked.ensures.place in
     let o = g.S.Store.files c.args.store.now in
     let last_failure = g.S.Store.last_failure c.assemble_parts-taken.new.store in
-    let all = line_is o last_failure c.args.run.now c.take_peeked.new.self c.assemble_parts-taken.new.assembler n ts (lexemes c.split_at.result.0.now) (lexemes c.split_at.result.1.now) place c.assemble_parts-taken.result (c.take_peeked.ensures.given n ts ahead is) (c.take_peeked.ensures.less ts ahead) (λ m. c.take_peeked.ensures.placed m ts ahead) front following at c.assemble_parts-taken.ensures.taken in
+    let all = line_is o last_failure c.args.run.now c.take_peeked.new.self c.assemble_parts-taken.new.assembler n ts (lexemes c.split_at.result.0.now) (lexemes c.split_at.result.1.now) location c.assemble_parts-taken.result (c.take_peeked.ensures.given n ts ahead is) (c.take_peeked.ensures.less ts ahead) (λ m. c.take_peeked.ensures.placed m ts ahead) front following at c.assemble_parts-taken.ensures.taken in
     let R : Answer → Type 0 = λ q. TakesLine o last_failure c.args.run.now (record { expander = c.take_peeked.new.self; assembler = c.assemble_parts-taken.new.assembler }) q in
     let p = err_from_is_err_and c.from_residual.result c.from_residual.ensures.1 in
     rw (p.1, p.2) (subst R c.in_err-taken.was all)
@@ -56,10 +56,10 @@ returns-clause-next g c =
     let tokens = c.as_slice-2.result.now in
     let front : lexemes c.split_at.result.0.now ≡ take n ts = ap lexemes c.split_at.ensures.front ∙ sym (take-map lexeme_of n tokens) ∙ ap (take n) c.as_slice-2.ensures in
     let following : lexemes c.split_at.result.1.now ≡ drop n ts = ap lexemes c.split_at.ensures.back ∙ sym (drop-map lexeme_of n tokens) ∙ ap (drop n) c.as_slice-2.ensures in
-    let place = place_in c.place.result.0.now line.number in
-    let at : place ≡ place_of c.take_peeked.new.self = ap (λ f. place_in f line.number) c.place.ensures.place.0 ∙ sym c.take_peeked.ensures.place in
+    let location = place_in c.place.result.0.now line.number in
+    let at : location ≡ place_of c.take_peeked.new.self = ap (λ f. place_in f line.number) c.place.ensures.place.0 ∙ sym c.take_peeked.ensures.place in
     let o = g.S.Store.files c.args.store.now in
     let last_failure = g.S.Store.last_failure c.assemble_parts-taken.new.store in
-    let all = line_is o last_failure c.args.run.now c.take_peeked.new.self c.assemble_parts-taken.new.assembler n ts (lexemes c.split_at.result.0.now) (lexemes c.split_at.result.1.now) place c.assemble_parts-taken.result (c.take_peeked.ensures.given n ts ahead is) (c.take_peeked.ensures.less ts ahead) (λ m. c.take_peeked.ensures.placed m ts ahead) front following at c.assemble_parts-taken.ensures.taken in
+    let all = line_is o last_failure c.args.run.now c.take_peeked.new.self c.assemble_parts-taken.new.assembler n ts (lexemes c.split_at.result.0.now) (lexemes c.split_at.result.1.now) location c.assemble_parts-taken.result (c.take_peeked.ensures.given n ts ahead is) (c.take_peeked.ensures.less ts ahead) (λ m. c.take_peeked.ensures.placed m ts ahead) front following at c.assemble_parts-taken.ensures.taken in
     let R : Answer → Type 0 = λ q. TakesLine o last_failure c.args.run.now (record { expander = c.take_peeked.new.self; assembler = c.assemble_parts-taken.new.assembler }) q in
     subst R c.in_ok-taken.was all

@@ -9,12 +9,12 @@ use Rattle.asm65.proofs.driver.take_line.Goals as goal
 
 pub returns-in-Some-clause-read : goal.returns-in-Some-clause-read
 returns-in-Some-clause-read g c =
-    let place = place_in c.args.at.file.now c.args.at.line in
-    let P : List Lexeme → Type 0 = λ ts. RefinesRead (g.S.Store.files c.args.store.now) (g.S.Store.last_failure c.assemble_rest.new.store) (AreSymbolNames ts) (λ m t. IsRest m StepsTo t place ts) 1 c.args.assembler.now c.assemble_rest.new.assembler c.assemble_rest.result in
+    let location = place_in c.args.at.file.now c.args.at.line in
+    let P : List Lexeme → Type 0 = λ ts. RefinesRead (g.S.Store.files c.args.store.now) (g.S.Store.last_failure c.assemble_rest.new.store) (AreSymbolNames ts) (λ m t. IsRest m StepsTo t location ts) 1 c.args.assembler.now c.assemble_rest.new.assembler c.assemble_rest.result in
     subst P (c.in-Some.ensures.tokens) c.assemble_rest.ensures.read
 
 pub returns-in_ok-tokens-in-None-clause-read : goal.returns-in_ok-tokens-in-None-clause-read
 returns-in_ok-tokens-in-None-clause-read g c =
-    let place = place_in c.args.at.file.now c.args.at.line in
-    let P : List Lexeme → Type 0 = λ ts. RefinesRead (g.S.Store.files c.args.store.now) (g.S.Store.last_failure c.assemble_rest-in-None.new.store) (AreSymbolNames ts) (λ m t. IsRest m StepsTo t place ts) 1 c.args.assembler.now c.assemble_rest-in-None.new.assembler c.assemble_rest-in-None.result in
+    let location = place_in c.args.at.file.now c.args.at.line in
+    let P : List Lexeme → Type 0 = λ ts. RefinesRead (g.S.Store.files c.args.store.now) (g.S.Store.last_failure c.assemble_rest-in-None.new.store) (AreSymbolNames ts) (λ m t. IsRest m StepsTo t location ts) 1 c.args.assembler.now c.assemble_rest-in-None.new.assembler c.assemble_rest-in-None.result in
     subst P (ap lexemes c.deref.ensures.value ∙ c.in_ok-tokens-in-None.ensures) c.assemble_rest-in-None.ensures.read

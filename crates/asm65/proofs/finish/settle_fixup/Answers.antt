@@ -35,7 +35,7 @@ returns-in-Err-clause-settled c =
     let files : List (List ℕ) = map (string_bytes {Z = Global}) c.args.whole.files.now in
     let w : Fixup = fixup_of files c.args.fixup in
     let here : SourceLocation = place_in c.file.result.now c.args.fixup.pos.line in
-    let place : here ≡ w.place = ap (λ (n : List ℕ). place_in n c.args.fixup.pos.line) c.file.ensures in
+    let location : here ≡ w.place = ap (λ (n : List ℕ). place_in n c.args.fixup.pos.line) c.file.ensures in
     λ (h : nat_lt c.args.fixup.pos.file (length files) ≡ true).
     unless (is_diagnostic_system_error c.of_fault.result) (IsFaulty (table_of c.args.whole.symbols.now) (deferred w) c.of_fault.result c.args.ending.now (record { known = c.resolve.new.known; exported = c.resolve.new.exported; err = c.args.ending.now.err }))
     (λ (e : is_diagnostic_system_error c.of_fault.result ≡ false).
@@ -44,7 +44,7 @@ returns-in-Err-clause-settled c =
     record {
       found =
           ap (at_place w.place) (found_inside c.in-Err.fault _ c.in-Err.ensures.made inside)
-          ∙ ap (λ (p : SourceLocation). lost (record { place = p; fault = c.in-Err.fault })) (sym place)
+          ∙ ap (λ (p : SourceLocation). lost (record { place = p; fault = c.in-Err.fault })) (sym location)
           ∙ ap lost (sym (c.of_fault.ensures.placed e));
       err = refl;
     })

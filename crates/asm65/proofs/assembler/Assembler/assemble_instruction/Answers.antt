@@ -15,18 +15,18 @@ place_instruction-requires c = (let (count, t, h, few) = c.requires in (count, t
 pub returns-in-Err-clause-taken : goal.returns-in-Err-clause-taken
 returns-in-Err-clause-taken c = λ count t h few.
     (let e = c.in-Err.fault in
-    let place = place_in c.args.at.file.now c.args.at.line in
+    let location = place_in c.args.at.file.now c.args.at.line in
     let x : Statement = Instruction c.args.mnemonic c.args.operand in
-    rw c.refused_operand.ensures (unless_then (is_system_error e) (takes_refused t place x e) (c.in-Err.ensures.refused count t (represents_searched count t c.args.self.now c.search_operand.new.symbols c.search_operand.ensures h))))
+    rw c.refused_operand.ensures (unless_then (is_system_error e) (takes_refused t location x e) (c.in-Err.ensures.refused count t (represents_searched count t c.args.self.now c.search_operand.new.symbols c.search_operand.ensures h))))
 
 pub returns-in_ok-enter_settled-in-Ok-clause-taken : goal.returns-in_ok-enter_settled-in-Ok-clause-taken
 returns-in_ok-enter_settled-in-Ok-clause-taken c = λ count t h few.
     (let found = c.in-Ok.field-0 in
     let searched : Assembler = record c.args.self.now { symbols = c.search_operand.new.symbols } in
     let held : Represents count t searched = represents_searched count t c.args.self.now c.search_operand.new.symbols c.search_operand.ensures h in
-    let place = place_in c.args.at.file.now c.args.at.line in
+    let location = place_in c.args.at.file.now c.args.at.line in
     let x : Statement = Instruction c.args.mnemonic c.args.operand in
     let mid = c.place_instruction.new.self in
     let new = c.enter_settled.new.self in
-    takes_entered count t place x found.context found.analysis.measured searched mid new held (c.in-Ok.ensures.placed count t held) (c.in-Ok.ensures.holds place count t held)
-    (adds_pieces place found.context found.analysis.measured mid new x (λ y. nothing_follows y) c.in_ok-enter_settled-in-Ok.ensures))
+    takes_entered count t location x found.context found.analysis.measured searched mid new held (c.in-Ok.ensures.placed count t held) (c.in-Ok.ensures.holds location count t held)
+    (adds_pieces location found.context found.analysis.measured mid new x (λ y. nothing_follows y) c.in_ok-enter_settled-in-Ok.ensures))

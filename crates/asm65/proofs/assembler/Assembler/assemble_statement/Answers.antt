@@ -12,8 +12,8 @@ lay_out-requires c = (let (count, t, h, few) = c.requires in (count, t, represen
 pub returns-in-Err-clause-taken : goal.returns-in-Err-clause-taken
 returns-in-Err-clause-taken c = λ count t h few.
     (let e = c.in-Err.fault in
-    let place = place_in c.args.at.file.now c.args.at.line in
-    rw c.refused.ensures (unless_then (is_system_error e) (takes_refused t place c.args.statement e) (c.in-Err.ensures.refused count t (represents_searched count t c.args.self.now c.search_statement.new.symbols c.search_statement.ensures h))))
+    let location = place_in c.args.at.file.now c.args.at.line in
+    rw c.refused.ensures (unless_then (is_system_error e) (takes_refused t location c.args.statement e) (c.in-Err.ensures.refused count t (represents_searched count t c.args.self.now c.search_statement.new.symbols c.search_statement.ensures h))))
 
 pub returns-in_ok-emit_statement-in-Ok-clause-taken : goal.returns-in_ok-emit_statement-in-Ok-clause-taken
 returns-in_ok-emit_statement-in-Ok-clause-taken c = λ count t h few.

@@ -36,9 +36,9 @@ pub returns : goal.returns
 returns c =
     let old : Assembler = c.args.self.now in
     let mid : Assembler = c.enter_constant.new.self in
-    let place : SourceLocation = place_in c.args.site.at.file.now c.args.site.at.line in
+    let location : SourceLocation = place_in c.args.site.at.file.now c.args.site.at.line in
     let s : Context = c.args.site.context in
     let d : Definition = record { key = named s.scope c.args.name.now; value = Some c.args.value; context = s; size = c.args.size } in
     where_ok c.define.result (λ table.
-    turns_after place s (valued equated c.args.value ∷ []) (λ y. with_definition y d) old mid c.define.new.self c.in_ok-enter_constant.ensures.entered c.define.ensures.keeps table)
+    turns_after location s (valued equated c.args.value ∷ []) (λ y. with_definition y d) old mid c.define.new.self c.in_ok-enter_constant.ensures.entered c.define.ensures.keeps table)
     c.define.ensures.table

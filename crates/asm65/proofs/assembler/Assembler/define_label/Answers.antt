@@ -11,6 +11,6 @@ returns c =
     let old = c.args.self.now in
     let s = c.args.context in
     let d = label_at (key_of c.args.key) s c.args.size in
-    where_ok c.define.result (λ table place.
-    turns_after place s [] (λ y. with_definition y d) old old c.define.new.self (enters_none place s old) c.define.ensures.keeps (table ∙ ap (with_definition (table_of old.symbols)) (c.label.ensures.seen (key_of c.args.key))))
+    where_ok c.define.result (λ table location.
+    turns_after location s [] (λ y. with_definition y d) old old c.define.new.self (enters_none location s old) c.define.ensures.keeps (table ∙ ap (with_definition (table_of old.symbols)) (c.label.ensures.seen (key_of c.args.key))))
     c.define.ensures.table

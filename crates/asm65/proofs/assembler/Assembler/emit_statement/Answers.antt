@@ -7,63 +7,63 @@ use Rattle.asm65.proofs.assembler.Assembler.emit_statement.Goals as goal
 
 pub returns-in-Instruction : goal.returns-in-Instruction
 returns-in-Instruction c =
-    let place = place_in c.args.site.at.file.now c.args.site.at.line in
+    let location = place_in c.args.site.at.file.now c.args.site.at.line in
     let s = c.args.site.context in
     let m = c.args.analysis.measured in
     let old = c.args.self.now in
     let new = c.enter_settled.new.self in
     let x : Statement = statement.Instruction c.in-Instruction.mnemonic c.in-Instruction.operand in
-    taken_as place s m old new c.enter_settled.result x c.args.statement (sym c.in-Instruction.is) (λ h. adds_pieces place s m old new x (λ y. nothing_follows y) h) c.enter_settled.ensures
+    taken_as location s m old new c.enter_settled.result x c.args.statement (sym c.in-Instruction.is) (λ h. adds_pieces location s m old new x (λ y. nothing_follows y) h) c.enter_settled.ensures
 
 pub returns-in-Values : goal.returns-in-Values
 returns-in-Values c =
-    let place = place_in c.args.site.at.file.now c.args.site.at.line in
+    let location = place_in c.args.site.at.file.now c.args.site.at.line in
     let s = c.args.site.context in
     let m = c.args.analysis.measured in
     let old = c.args.self.now in
     let new = c.emit_values.new.assembler in
     let x : Statement = statement.Values c.in-Values.width c.in-Values.items in
-    taken_as place s m old new c.emit_values.result x c.args.statement (sym c.in-Values.is) (λ h. adds_pieces place s m old new x (λ y. nothing_follows y) h) c.emit_values.ensures
+    taken_as location s m old new c.emit_values.result x c.args.statement (sym c.in-Values.is) (λ h. adds_pieces location s m old new x (λ y. nothing_follows y) h) c.emit_values.ensures
 
 pub returns-in-Reserve : goal.returns-in-Reserve
 returns-in-Reserve c =
-    let place = place_in c.args.site.at.file.now c.args.site.at.line in
+    let location = place_in c.args.site.at.file.now c.args.site.at.line in
     let s = c.args.site.context in
     let m = c.args.analysis.measured in
     let old = c.args.self.now in
     let new = c.emit_reserve.new.assembler in
     let x : Statement = statement.Reserve c.in-Reserve.count c.in-Reserve.value in
-    taken_as place s m old new c.emit_reserve.result x c.args.statement (sym c.in-Reserve.is) (λ h. adds_pieces place s m old new x (λ y. nothing_follows y) (h place)) c.emit_reserve.ensures
+    taken_as location s m old new c.emit_reserve.result x c.args.statement (sym c.in-Reserve.is) (λ h. adds_pieces location s m old new x (λ y. nothing_follows y) (h location)) c.emit_reserve.ensures
 
 pub returns-in-Align : goal.returns-in-Align
 returns-in-Align c =
-    let place = place_in c.args.site.at.file.now c.args.site.at.line in
+    let location = place_in c.args.site.at.file.now c.args.site.at.line in
     let s = c.args.site.context in
     let m = c.args.analysis.measured in
     let old = c.args.self.now in
     let new = c.emit_reserve-in-Align.new.assembler in
     let x : Statement = statement.Align c.in-Align.alignment c.in-Align.value in
-    taken_as place s m old new c.emit_reserve-in-Align.result x c.args.statement (sym c.in-Align.is) (λ h. adds_pieces place s m old new x (λ y. nothing_follows y) (h place)) c.emit_reserve-in-Align.ensures
+    taken_as location s m old new c.emit_reserve-in-Align.result x c.args.statement (sym c.in-Align.is) (λ h. adds_pieces location s m old new x (λ y. nothing_follows y) (h location)) c.emit_reserve-in-Align.ensures
 
 pub returns-in-Incbin : goal.returns-in-Incbin
 returns-in-Incbin c =
-    let place = place_in c.args.site.at.file.now c.args.site.at.line in
+    let location = place_in c.args.site.at.file.now c.args.site.at.line in
     let s = c.args.site.context in
     let m = c.args.analysis.measured in
     let old = c.args.self.now in
     let new = c.emit_incbin.new.assembler in
     let x : Statement = statement.Incbin c.in-Incbin.bytes c.in-Incbin.start c.in-Incbin.len in
-    taken_as place s m old new c.emit_incbin.result x c.args.statement (sym c.in-Incbin.is) (λ h. adds_pieces place s m old new x (λ y. nothing_follows y) (h place)) c.emit_incbin.ensures
+    taken_as location s m old new c.emit_incbin.result x c.args.statement (sym c.in-Incbin.is) (λ h. adds_pieces location s m old new x (λ y. nothing_follows y) (h location)) c.emit_incbin.ensures
 
 pub returns-in-Assert : goal.returns-in-Assert
 returns-in-Assert c =
-    let place = place_in c.args.site.at.file.now c.args.site.at.line in
+    let location = place_in c.args.site.at.file.now c.args.site.at.line in
     let s = c.args.site.context in
     let m = c.args.analysis.measured in
     let old = c.args.self.now in
     let new = c.enter_value.new.assembler in
     let x : Statement = statement.Assert c.in-Assert.value c.in-Assert.action c.in-Assert.text in
-    taken_as place s m old new c.enter_value.result x c.args.statement (sym c.in-Assert.is) (λ h. adds_pieces place s m old new x (λ y. nothing_follows y) h) c.enter_value.ensures.entered
+    taken_as location s m old new c.enter_value.result x c.args.statement (sym c.in-Assert.is) (λ h. adds_pieces location s m old new x (λ y. nothing_follows y) h) c.enter_value.ensures.entered
 
 pub enter_names-requires-clause-named : goal.enter_names-requires-clause-named
 enter_names-requires-clause-named c =

@@ -28,17 +28,17 @@ final_there y s e (Some f) q h = (f, within_final y s e f h)
 pub returns-then-is_some-clause-entered : goal.returns-then-is_some-clause-entered
 returns-then-is_some-clause-entered c =
     let old : Assembler = c.args.self.now in
-    let place : SourceLocation = place_in c.args.site.at.file.now c.args.site.at.line in
+    let location : SourceLocation = place_in c.args.site.at.file.now c.args.site.at.line in
     let s : Context = c.args.site.context in
     let e : Tree = c.args.value.now in
     let found = final_there (table_of old.symbols) s e c.args.form.now (sym c.is_some.ensures ∙ c.if-is_some.true) c.requires in
-    fed_enters old old.sections place s (valued equated e) (declaration_content []) refl (says_nothing old.sections) (final_settles (table_of old.symbols) place s equated e found.0 (declaration_content []) found.1 refl)
+    fed_enters old old.sections location s (valued equated e) (declaration_content []) refl (says_nothing old.sections) (final_settles (table_of old.symbols) location s equated e found.0 (declaration_content []) found.1 refl)
 
 pub returns-clause-entered : goal.returns-clause-entered
 returns-clause-entered c =
     let old : Assembler = c.args.self.now in
     let new : Assembler = c.defer.new.assembler in
-    let place : SourceLocation = place_in c.args.site.at.file.now c.args.site.at.line in
+    let location : SourceLocation = place_in c.args.site.at.file.now c.args.site.at.line in
     let s : Context = c.args.site.context in
-    subst (λ (e : Tree). OnOk c.defer.result (EmitsPieces place s (valued equated e ∷ []) old new)) c.in_ok-value.ensures
-    (ok_then c.defer.result (λ kept. waits_enters old new place s (valued equated c.in_ok-value.value) kept) c.defer.ensures.waits)
+    subst (λ (e : Tree). OnOk c.defer.result (EmitsPieces location s (valued equated e ∷ []) old new)) c.in_ok-value.ensures
+    (ok_then c.defer.result (λ kept. waits_enters old new location s (valued equated c.in_ok-value.value) kept) c.defer.ensures.waits)

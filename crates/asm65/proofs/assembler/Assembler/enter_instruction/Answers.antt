@@ -11,13 +11,13 @@ use Rattle.asm65.proofs.assembler.Assembler.enter_instruction.Goals as goal
 
 pub returns : goal.returns
 returns c =
-    let place = place_in c.args.site.at.file.now c.args.site.at.line in
+    let location = place_in c.args.site.at.file.now c.args.site.at.line in
     let s = c.args.site.context in
     let old = c.args.self.now in
     let mid = c.emit_opcode.new.assembler in
     let new = c.enter_operand.new.assembler in
-    let code = subst (λ code. EmitsPieces place s (given (opcode_part code) ∷ []) old mid) c.opcode.ensures (c.in_ok-emit_opcode.ensures.entered place) in
+    let code = subst (λ code. EmitsPieces location s (given (opcode_part code) ∷ []) old mid) c.opcode.ensures (c.in_ok-emit_opcode.ensures.entered location) in
     ok_then c.enter_operand.result
-    (λ value. enters_both place s (given (opcode_part (opcode_of c.args.mnemonic c.args.mode)) ∷ []) (operand_pieces (width_of c.args.mode) (operand_tree c.args.operand)) old mid new code
-    (subst (λ width. EmitsPieces place s (operand_pieces width (operand_tree c.args.operand)) mid new) c.width_of.ensures value))
+    (λ value. enters_both location s (given (opcode_part (opcode_of c.args.mnemonic c.args.mode)) ∷ []) (operand_pieces (width_of c.args.mode) (operand_tree c.args.operand)) old mid new code
+    (subst (λ width. EmitsPieces location s (operand_pieces width (operand_tree c.args.operand)) mid new) c.width_of.ensures value))
     c.enter_operand.ensures

@@ -12,12 +12,12 @@ returns c =
     let old = c.args.self.now in
     let first = c.mention.new.self in
     let mid = c.mention-2.new.self in
-    let place = place_in c.args.site.at.file.now c.args.site.at.line in
+    let location = place_in c.args.site.at.file.now c.args.site.at.line in
     let s = c.args.site.context in
     let names = c.args.names.now in
     let ps : List Piece = map imported names in
     let qs : List Piece = map demanded names in
-    let both = enters_both place s ps qs old first mid (mentions_enter place s ps old first c.in_ok-mention.ensures.mentioned) (mentions_enter place s qs first mid c.in_ok-mention-2.ensures.mentioned) in
+    let both = enters_both location s ps qs old first mid (mentions_enter location s ps old first c.in_ok-mention.ensures.mentioned) (mentions_enter location s qs first mid c.in_ok-mention-2.ensures.mentioned) in
     where_ok c.import.result (λ table.
-    turns_after place s (ps ++ qs) (λ y. with_names y false names) old mid c.import.new.self both c.import.ensures.keeps table)
+    turns_after location s (ps ++ qs) (λ y. with_names y false names) old mid c.import.new.self both c.import.ensures.keeps table)
     c.import.ensures.table

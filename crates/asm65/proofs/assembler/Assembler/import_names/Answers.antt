@@ -9,11 +9,11 @@ pub returns : goal.returns
 returns c =
     let old = c.args.self.now in
     let mid = c.mention.new.self in
-    let place = place_in c.args.site.at.file.now c.args.site.at.line in
+    let location = place_in c.args.site.at.file.now c.args.site.at.line in
     let s = c.args.site.context in
     let names = c.args.names.now in
     let ps = map (name_use_piece c.args.mention) names in
     let b = is_for_zero_page c.args.size in
     where_ok c.import.result (λ table.
-    turns_after place s ps (λ y. with_names y b names) old mid c.import.new.self (mentions_enter place s ps old mid c.in_ok-mention.ensures.mentioned) c.import.ensures.keeps (table ∙ ap (λ z. with_names (table_of mid.symbols) z names) c.is_for_zero_page.ensures))
+    turns_after location s ps (λ y. with_names y b names) old mid c.import.new.self (mentions_enter location s ps old mid c.in_ok-mention.ensures.mentioned) c.import.ensures.keeps (table ∙ ap (λ z. with_names (table_of mid.symbols) z names) c.is_for_zero_page.ensures))
     c.import.ensures.table

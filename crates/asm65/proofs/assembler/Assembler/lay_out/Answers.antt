@@ -52,7 +52,7 @@ returns-clause-holds c = λ count t h.
     (let old : Assembler = c.args.self.now in
     let mid : Assembler = c.request_section.new.self in
     let x : Statement = c.args.statement.now in
-    let place : SourceLocation = place_in c.args.at.file.now c.args.at.line in
+    let location : SourceLocation = place_in c.args.at.file.now c.args.at.line in
     let m : StatementLayout = c.in_ok-analysis.analysis.measured in
     let y : Symbols = table_of old.symbols in
     let w : Cursor = old.cursor in
@@ -65,7 +65,7 @@ returns-clause-holds c = λ count t h.
     ∙ ap (λ (z : Symbols). cursor_with_bytes z mid.cursor x m.length m.alignment) same
     ∙ ap (λ (v : Cursor). cursor_with_bytes y v x m.length m.alignment) site
     ∙ moved_after count t old h x m c.in_ok-analysis.ensures.measured in
-    holds_stepped count t place x mid c.advance.new.self c.record_output.new.self held moved (more_counted count t old h x m c.in_ok-analysis.ensures.measured) c.in_ok-record_output.ensures.out c.in_ok-record_output.ensures.err)
+    holds_stepped count t location x mid c.advance.new.self c.record_output.new.self held moved (more_counted count t old h x m c.in_ok-analysis.ensures.measured) c.in_ok-record_output.ensures.out c.in_ok-record_output.ensures.err)
 
 pub returns-in_err-analysis-clause-refused : goal.returns-in_err-analysis-clause-refused
 returns-in_err-analysis-clause-refused c = λ count t h.

@@ -12,7 +12,7 @@ use Rattle.asm65.proofs.assembler.Assembler.mention.Goals as goal
 
 pub loop-name-preserved : goal.loop-name-preserved
 loop-name-preserved c =
-    let place : SourceLocation = place_in c.args.site.at.file.now c.args.site.at.line in
+    let location : SourceLocation = place_in c.args.site.at.file.now c.args.site.at.line in
     let s : Context = c.args.site.context in
     let before : Assembler = c.loop-name.self in
     let new : Assembler = c.defer.new.assembler in
@@ -22,10 +22,10 @@ loop-name-preserved c =
     let is : piece_of c.in_ok-piece.piece ≡ f n = c.in_ok-piece.ensures ∙ ap f c.as_slice.ensures in
     record {
       mentioned = λ count t h.
-          subst (λ (ps : List piece.Piece). Represents count (all_awaiting place s t ps) new) (taken_more f c.args.names.now c.loop-name.name-index c.name-item.result (omega arith) c.name-item.is)
-          (subst (λ (u : State). Represents count u new) (sym (one_more_awaiting place s t some (f n)))
-          (subst (λ (p : piece.Piece). Represents count (with_fixup (all_awaiting place s t some) (record { place = place; context = s; piece = p })) new) is
-          (c.in_ok-defer.ensures.waits count (all_awaiting place s t some) (c.loop-name.invariant.mentioned count t h))));
+          subst (λ (ps : List piece.Piece). Represents count (all_awaiting location s t ps) new) (taken_more f c.args.names.now c.loop-name.name-index c.name-item.result (omega arith) c.name-item.is)
+          (subst (λ (u : State). Represents count u new) (sym (one_more_awaiting location s t some (f n)))
+          (subst (λ (p : piece.Piece). Represents count (with_fixup (all_awaiting location s t some) (record { place = location; context = s; piece = p })) new) is
+          (c.in_ok-defer.ensures.waits count (all_awaiting location s t some) (c.loop-name.invariant.mentioned count t h))));
       tables = keeps_both c.args.self.now before new c.loop-name.invariant.tables c.in_ok-defer.ensures.tables;
     }
 

@@ -12,6 +12,6 @@ returns c =
     let old = c.args.self.now in
     let s = c.args.context in
     let b : Scope = record { within = c.args.context.scope; name = option_map (λ n. n.now) c.args.name; is_proc = false } in
-    where_ok c.open_scope.result (λ table place.
-    turns_after place s [] (λ y. with_scope y b) old old c.open_scope.new.self (enters_none place s old) c.open_scope.ensures.keeps table)
+    where_ok c.open_scope.result (λ table location.
+    turns_after location s [] (λ y. with_scope y b) old old c.open_scope.new.self (enters_none location s old) c.open_scope.ensures.keeps table)
     c.open_scope.ensures.table

@@ -16,7 +16,7 @@ returns c =
     let d : Definition = label_at key c.args.context c.args.size in
     let b : Scope = record { within = c.args.context.scope; name = Some c.args.name.now; is_proc = true } in
     let first : table_of mid.symbols ≡ with_definition (table_of old.symbols) d = c.in_ok-define.ensures.table ∙ ap (with_definition (table_of old.symbols)) (c.label.ensures.seen key) in
-    where_ok c.open_scope.result (λ table place count t h inside unnamed.
+    where_ok c.open_scope.result (λ table location count t h inside unnamed.
     (let y : Symbols = with_definition t.symbols d in
     let here : table_of mid.symbols ≡ y = first ∙ ap (λ (z : Symbols). with_definition z d) h.symbols in
     let held = holds_grown count t old mid y h c.in_ok-define.ensures.keeps here h.inside unnamed in

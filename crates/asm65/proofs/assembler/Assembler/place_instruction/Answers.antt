@@ -29,7 +29,7 @@ returns-clause-placed c = λ count t h.
     placed_is count t c.args.self.now h (Instruction c.args.mnemonic c.args.operand.now) c.in_ok-analysis.analysis.measured c.context-context.result c.in_ok-analysis.ensures.measured c.context-context.ensures
 
 pub returns-clause-holds : goal.returns-clause-holds
-returns-clause-holds c = λ place count t h.
+returns-clause-holds c = λ location count t h.
     (let old : Assembler = c.args.self.now in
     let x : Statement = Instruction c.args.mnemonic c.args.operand.now in
     let m : StatementLayout = c.in_ok-analysis.analysis.measured in
@@ -44,7 +44,7 @@ returns-clause-holds c = λ place count t h.
     c.advance_by.ensures y c.args.mnemonic c.args.operand.now
     ∙ ap (λ (k : ℕ). cursor_with_bytes y w x m.length k) one
     ∙ moved_after count t old h x m c.in_ok-analysis.ensures.measured in
-    holds_stepped count t place x mid c.advance_by.new.self old.texts held moved (more_counted count t old h x m c.in_ok-analysis.ensures.measured) (sym (append-nil old.texts.out)) (sym (append-nil old.texts.err)))
+    holds_stepped count t location x mid c.advance_by.new.self old.texts held moved (more_counted count t old h x m c.in_ok-analysis.ensures.measured) (sym (append-nil old.texts.out)) (sym (append-nil old.texts.err)))
 
 pub returns-in_err-analysis-clause-refused : goal.returns-in_err-analysis-clause-refused
 returns-in_err-analysis-clause-refused c = λ count t h.

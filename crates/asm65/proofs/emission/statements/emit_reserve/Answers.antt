@@ -6,7 +6,7 @@ use Rattle.symbols65.proofs.Measures.{ok_then}
 use Rattle.asm65.proofs.emission.statements.emit_reserve.Goals as goal
 
 pub returns-in-FillByte : goal.returns-in-FillByte
-returns-in-FillByte c = rw c.in-FillByte.is (ok_then c.fill.result (λ feeds place. given_enters c.args.assembler.now c.fill.new.self place c.args.context (room_part c.args.count (FillByte c.in-FillByte.byte)) feeds) c.fill.ensures)
+returns-in-FillByte c = rw c.in-FillByte.is (ok_then c.fill.result (λ feeds location. given_enters c.args.assembler.now c.fill.new.self location c.args.context (room_part c.args.count (FillByte c.in-FillByte.byte)) feeds) c.fill.ensures)
 
 pub returns-in_default : goal.returns-in_default
-returns-in_default c = ok_then c.reserve_bytes.result (λ feeds place. given_enters c.args.assembler.now c.reserve_bytes.new.self place c.args.context (room_part c.args.count c.args.settled) (rw (other_room c.args.count c.args.settled c.in_default.not-FillByte) feeds)) c.reserve_bytes.ensures
+returns-in_default c = ok_then c.reserve_bytes.result (λ feeds location. given_enters c.args.assembler.now c.reserve_bytes.new.self location c.args.context (room_part c.args.count c.args.settled) (rw (other_room c.args.count c.args.settled c.in_default.not-FillByte) feeds)) c.reserve_bytes.ensures

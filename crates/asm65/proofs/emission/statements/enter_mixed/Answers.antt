@@ -17,7 +17,7 @@ use Rattle.asm65.proofs.Enterings.{enters_both, enters_none, given_enters, next_
 use Rattle.asm65.proofs.emission.statements.enter_mixed.Goals as goal
 
 abbrev Entered : SourceLocation → Context → Width → (old new : Assembler) → List Item → Type 0
-Entered place s width old new items = EmitsPieces place s (map (item_piece width) items) old new
+Entered location s width old new items = EmitsPieces location s (map (item_piece width) items) old new
 
 pub loop-item-init : goal.loop-item-init
 loop-item-init c = record {
@@ -33,98 +33,98 @@ loop-item-init c = record {
 
 pub loop-item-preserved : goal.loop-item-preserved
 loop-item-preserved c =
-    let place = place_in c.args.site.at.file.now c.args.site.at.line in
+    let location = place_in c.args.site.at.file.now c.args.site.at.line in
     let s = c.args.site.context in
     let width = c.args.width in
     let a : Assembler = c.loop-item.assembler in
     let mid : Assembler = record a { sections = c.append.new.self } in
     let rest = into_iter_items c.next.new.self in
-    let one : EmitsPieces place s (item_piece width c.in-Some.item ∷ []) a mid =
-    rw c.in-StringLiteral.is (given_enters a c.append.new.self place s (Known c.in-StringLiteral.bytes)
+    let one : EmitsPieces location s (item_piece width c.in-Some.item ∷ []) a mid =
+    rw c.in-StringLiteral.is (given_enters a c.append.new.self location s (Known c.in-StringLiteral.bytes)
     (subst (λ (bytes : List ℕ). AppendsSlot a.sections c.append.new.self (resolved (section_part s.segment (Known bytes)))) c.as_slice.ensures c.in_ok-append-in-StringLiteral.ensures)) in
     record {
       entered = λ b h.
           c.loop-item.invariant.entered b
-          (subst (Entered place s width a b) (sym c.in-Some.ensures.steps.0)
-          (enters_both place s (item_piece width c.in-Some.item ∷ []) (map (item_piece width) rest) a mid b one h));
+          (subst (Entered location s width a b) (sym c.in-Some.ensures.steps.0)
+          (enters_both location s (item_piece width c.in-Some.item ∷ []) (map (item_piece width) rest) a mid b one h));
       finals = (next_finals (table_of a.symbols) s c.in-Some.item rest (into_iter_items c.loop-item.forms) c.next_form-form.result (into_iter_items c.next_form-form.new.forms)
           (subst (λ (items : List Item). HaveFinals (table_of a.symbols) s items (into_iter_items c.loop-item.forms)) c.in-Some.ensures.steps.0 c.loop-item.invariant.finals) c.next_form-form.ensures).1;
     }
 
 pub loop-item-preserved-in_ok-append-in-StringLiteral : goal.loop-item-preserved-in_ok-append-in-StringLiteral
 loop-item-preserved-in_ok-append-in-StringLiteral c =
-    let place = place_in c.args.site.at.file.now c.args.site.at.line in
+    let location = place_in c.args.site.at.file.now c.args.site.at.line in
     let s = c.args.site.context in
     let width = c.args.width in
     let a : Assembler = c.loop-item.assembler in
     let mid : Assembler = record a { sections = c.append.new.self } in
     let rest = into_iter_items c.next.new.self in
-    let one : EmitsPieces place s (item_piece width c.in-Some.item ∷ []) a mid =
-    rw c.in-StringLiteral.is (given_enters a c.append.new.self place s (Known c.in-StringLiteral.bytes)
+    let one : EmitsPieces location s (item_piece width c.in-Some.item ∷ []) a mid =
+    rw c.in-StringLiteral.is (given_enters a c.append.new.self location s (Known c.in-StringLiteral.bytes)
     (subst (λ (bytes : List ℕ). AppendsSlot a.sections c.append.new.self (resolved (section_part s.segment (Known bytes)))) c.as_slice.ensures c.in_ok-append-in-StringLiteral.ensures)) in
     record {
       entered = λ b h.
           c.loop-item.invariant.entered b
-          (subst (Entered place s width a b) (sym c.in-Some.ensures.steps.0)
-          (enters_both place s (item_piece width c.in-Some.item ∷ []) (map (item_piece width) rest) a mid b one h));
+          (subst (Entered location s width a b) (sym c.in-Some.ensures.steps.0)
+          (enters_both location s (item_piece width c.in-Some.item ∷ []) (map (item_piece width) rest) a mid b one h));
       finals = (next_finals (table_of a.symbols) s c.in-Some.item rest (into_iter_items c.loop-item.forms) c.next_form-form.result (into_iter_items c.next_form-form.new.forms)
           (subst (λ (items : List Item). HaveFinals (table_of a.symbols) s items (into_iter_items c.loop-item.forms)) c.in-Some.ensures.steps.0 c.loop-item.invariant.finals) c.next_form-form.ensures).1;
     }
 
 pub loop-item-preserved-in_ok-append-in-StringLiteral-2 : goal.loop-item-preserved-in_ok-append-in-StringLiteral-2
 loop-item-preserved-in_ok-append-in-StringLiteral-2 c =
-    let place = place_in c.args.site.at.file.now c.args.site.at.line in
+    let location = place_in c.args.site.at.file.now c.args.site.at.line in
     let s = c.args.site.context in
     let width = c.args.width in
     let a : Assembler = c.loop-item.assembler in
     let mid : Assembler = record a { sections = c.append.new.self } in
     let rest = into_iter_items c.next.new.self in
-    let one : EmitsPieces place s (item_piece width c.in-Some.item ∷ []) a mid =
-    rw c.in-StringLiteral.is (given_enters a c.append.new.self place s (Known c.in-StringLiteral.bytes)
+    let one : EmitsPieces location s (item_piece width c.in-Some.item ∷ []) a mid =
+    rw c.in-StringLiteral.is (given_enters a c.append.new.self location s (Known c.in-StringLiteral.bytes)
     (subst (λ (bytes : List ℕ). AppendsSlot a.sections c.append.new.self (resolved (section_part s.segment (Known bytes)))) c.as_slice.ensures c.in_ok-append-in-StringLiteral.ensures)) in
     record {
       entered = λ b h.
           c.loop-item.invariant.entered b
-          (subst (Entered place s width a b) (sym c.in-Some.ensures.steps.0)
-          (enters_both place s (item_piece width c.in-Some.item ∷ []) (map (item_piece width) rest) a mid b one h));
+          (subst (Entered location s width a b) (sym c.in-Some.ensures.steps.0)
+          (enters_both location s (item_piece width c.in-Some.item ∷ []) (map (item_piece width) rest) a mid b one h));
       finals = (next_finals (table_of a.symbols) s c.in-Some.item rest (into_iter_items c.loop-item.forms) c.next_form-form.result (into_iter_items c.next_form-form.new.forms)
           (subst (λ (items : List Item). HaveFinals (table_of a.symbols) s items (into_iter_items c.loop-item.forms)) c.in-Some.ensures.steps.0 c.loop-item.invariant.finals) c.next_form-form.ensures).1;
     }
 
 pub loop-item-preserved-in_ok-append-in-StringLiteral-3 : goal.loop-item-preserved-in_ok-append-in-StringLiteral-3
 loop-item-preserved-in_ok-append-in-StringLiteral-3 c =
-    let place = place_in c.args.site.at.file.now c.args.site.at.line in
+    let location = place_in c.args.site.at.file.now c.args.site.at.line in
     let s = c.args.site.context in
     let width = c.args.width in
     let a : Assembler = c.loop-item.assembler in
     let mid : Assembler = record a { sections = c.append.new.self } in
     let rest = into_iter_items c.next.new.self in
-    let one : EmitsPieces place s (item_piece width c.in-Some.item ∷ []) a mid =
-    rw c.in-StringLiteral.is (given_enters a c.append.new.self place s (Known c.in-StringLiteral.bytes)
+    let one : EmitsPieces location s (item_piece width c.in-Some.item ∷ []) a mid =
+    rw c.in-StringLiteral.is (given_enters a c.append.new.self location s (Known c.in-StringLiteral.bytes)
     (subst (λ (bytes : List ℕ). AppendsSlot a.sections c.append.new.self (resolved (section_part s.segment (Known bytes)))) c.as_slice.ensures c.in_ok-append-in-StringLiteral.ensures)) in
     record {
       entered = λ b h.
           c.loop-item.invariant.entered b
-          (subst (Entered place s width a b) (sym c.in-Some.ensures.steps.0)
-          (enters_both place s (item_piece width c.in-Some.item ∷ []) (map (item_piece width) rest) a mid b one h));
+          (subst (Entered location s width a b) (sym c.in-Some.ensures.steps.0)
+          (enters_both location s (item_piece width c.in-Some.item ∷ []) (map (item_piece width) rest) a mid b one h));
       finals = (next_finals (table_of a.symbols) s c.in-Some.item rest (into_iter_items c.loop-item.forms) c.next_form-form.result (into_iter_items c.next_form-form.new.forms)
           (subst (λ (items : List Item). HaveFinals (table_of a.symbols) s items (into_iter_items c.loop-item.forms)) c.in-Some.ensures.steps.0 c.loop-item.invariant.finals) c.next_form-form.ensures).1;
     }
 
 pub loop-item-preserved-in-Continue-1 : goal.loop-item-preserved-in-Continue-1
 loop-item-preserved-in-Continue-1 c =
-    let place = place_in c.args.site.at.file.now c.args.site.at.line in
+    let location = place_in c.args.site.at.file.now c.args.site.at.line in
     let s = c.args.site.context in
     let width = c.args.width in
     let a = c.loop-item.assembler in
     let mid = c.enter_value.new.assembler in
     let rest = into_iter_items c.next.new.self in
-    let one : EmitsPieces place s (item_piece width c.in-Some.item ∷ []) a mid = rw c.in-Value.is c.in_ok-enter_value-in-Value.ensures.entered in
+    let one : EmitsPieces location s (item_piece width c.in-Some.item ∷ []) a mid = rw c.in-Value.is c.in_ok-enter_value-in-Value.ensures.entered in
     record {
       entered = λ b h.
           c.loop-item.invariant.entered b
-          (subst (Entered place s width a b) (sym c.in-Some.ensures.steps.0)
-          (enters_both place s (item_piece width c.in-Some.item ∷ []) (map (item_piece width) rest) a mid b one h));
+          (subst (Entered location s width a b) (sym c.in-Some.ensures.steps.0)
+          (enters_both location s (item_piece width c.in-Some.item ∷ []) (map (item_piece width) rest) a mid b one h));
       finals =
           let later = (next_finals (table_of a.symbols) s c.in-Some.item rest (into_iter_items c.loop-item.forms) c.next_form-form.result (into_iter_items c.next_form-form.new.forms)
           (subst (λ (items : List Item). HaveFinals (table_of a.symbols) s items (into_iter_items c.loop-item.forms)) c.in-Some.ensures.steps.0 c.loop-item.invariant.finals) c.next_form-form.ensures).1 in
@@ -141,8 +141,8 @@ enter_value-requires c =
 
 pub returns : goal.returns
 returns c =
-    let place = place_in c.args.site.at.file.now c.args.site.at.line in
+    let location = place_in c.args.site.at.file.now c.args.site.at.line in
     let s = c.args.site.context in
     let a = c.loop-item.assembler in
     let none : into_iter_items c.loop-item.item-iterator ≡ [] = grind (arith, common_steps) in
-    c.loop-item.invariant.entered a (subst (Entered place s c.args.width a a) (sym none) (enters_none place s a))
+    c.loop-item.invariant.entered a (subst (Entered location s c.args.width a a) (sym none) (enters_none location s a))

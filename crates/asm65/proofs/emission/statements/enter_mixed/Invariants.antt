@@ -11,10 +11,10 @@ use Rattle.asm65.proofs.emission.statements.enter_mixed.Given as goal
 -- whatever is behind the items that are left is behind them all
 abbrev pub invariant-loop-item : goal.invariant-loop-item
 invariant-loop-item l =
-    let place = place_in l.site.at.file.now l.site.at.line in
+    let location = place_in l.site.at.file.now l.site.at.line in
     let s = l.site.context in
     record {
-      entered : (b : Assembler) → EmitsPieces place s (map (item_piece l.width) (into_iter_items l.item-iterator)) l.assembler b →
-          EmitsPieces place s (map (item_piece l.width) l.fn.items) l.fn.assembler b;
+      entered : (b : Assembler) → EmitsPieces location s (map (item_piece l.width) (into_iter_items l.item-iterator)) l.assembler b →
+          EmitsPieces location s (map (item_piece l.width) l.fn.items) l.fn.assembler b;
       finals : HaveFinals (table_of l.assembler.symbols) s (into_iter_items l.item-iterator) (into_iter_items l.forms);
     }

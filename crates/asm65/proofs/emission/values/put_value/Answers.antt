@@ -20,34 +20,34 @@ pub returns-in-Datum-clause-tried : goal.returns-in-Datum-clause-tried
 returns-in-Datum-clause-tried c =
     let old : Assembler = c.args.assembler.now in
     let new = c.put_form.new.sections in
-    let place : SourceLocation = place_in c.args.site.at.file.now c.args.site.at.line in
+    let location : SourceLocation = place_in c.args.site.at.file.now c.args.site.at.line in
     let s : Context = c.args.site.context in
     let e : Tree = c.in-Datum.value in
     let width = c.in-Datum.width in
     let f : Form = c.args.form in
     let final : IsFinal (table_of old.symbols) s e f = within_final (table_of old.symbols) s e f (rw c.in-Datum.is at c.requires) in
-    rw c.in-Datum.is (ok_with (IsPut old.sections new s.segment (value_part width place f)) (EmitsIfResolved place s (valued (datum width) e) old (record old { sections = new })) c.put_form.result
-    (λ b put. datum_tried old new place s width e f b final put) c.put_form.ensures)
+    rw c.in-Datum.is (ok_with (IsPut old.sections new s.segment (value_part width location f)) (EmitsIfResolved location s (valued (datum width) e) old (record old { sections = new })) c.put_form.result
+    (λ b put. datum_tried old new location s width e f b final put) c.put_form.ensures)
 
 pub returns-in-Operand-clause-tried : goal.returns-in-Operand-clause-tried
 returns-in-Operand-clause-tried c =
     let old : Assembler = c.args.assembler.now in
     let new = c.put_operand.new.sections in
-    let place : SourceLocation = place_in c.args.site.at.file.now c.args.site.at.line in
+    let location : SourceLocation = place_in c.args.site.at.file.now c.args.site.at.line in
     let s : Context = c.args.site.context in
     let e : Tree = c.in-Operand.value in
     let width = c.in-Operand.width in
     let f : Form = c.args.form in
     let final : IsFinal (table_of old.symbols) s e f = within_final (table_of old.symbols) s e f (rw c.in-Operand.is at c.requires) in
-    rw c.in-Operand.is (ok_with (IsPut old.sections new s.segment (operand_stored width s place f)) (EmitsIfResolved place s (valued (operand width) e) old (record old { sections = new })) c.put_operand.result
-    (λ b put. operand_tried old new place s width e f b final put) c.put_operand.ensures)
+    rw c.in-Operand.is (ok_with (IsPut old.sections new s.segment (operand_stored width s location f)) (EmitsIfResolved location s (valued (operand width) e) old (record old { sections = new })) c.put_operand.result
+    (λ b put. operand_tried old new location s width e f b final put) c.put_operand.ensures)
 
 pub returns-in-Some-clause-tried : goal.returns-in-Some-clause-tried
 returns-in-Some-clause-tried c =
     let old : Assembler = c.args.assembler.now in
-    let place : SourceLocation = place_in c.args.site.at.file.now c.args.site.at.line in
+    let location : SourceLocation = place_in c.args.site.at.file.now c.args.site.at.line in
     let s : Context = c.args.site.context in
     let e : Tree = c.in-Assertion.value in
     let f : Form = c.args.form in
     let final : IsFinal (table_of old.symbols) s e f = within_final (table_of old.symbols) s e f (rw c.in-Assertion.is at c.requires) in
-    rw c.in-Assertion.is (assertion_tried old place s c.in-Assertion.action c.in-Assertion.text e f c.in-Some.value final (sym c.literal_of.ensures ∙ c.in-Some.is) _ (λ yes is. grind (arith, common_steps)))
+    rw c.in-Assertion.is (assertion_tried old location s c.in-Assertion.action c.in-Assertion.text e f c.in-Some.value final (sym c.literal_of.ensures ∙ c.in-Some.is) _ (λ yes is. grind (arith, common_steps)))

@@ -1,7 +1,7 @@
 #!/usr/bin/env python3
-"""Runs `rt ci` and, on the processors that it leaves idle, tries mutants of the crates that it has proved (mutants.py).
+"""Runs `rt ci` (by rt_ci.py) and, on the processors that it leaves idle, tries mutants of the crates that it has proved (mutants.py).
 
-usage: ci.py    RT_JOBS is how many checks `rt ci` runs at once, each with one process (default: one for each processor, as far as memory holds).
+usage: ci.py
 Each minute it prints what is running; at the end how long each part took. If something fails, it prints at once and at the end the crate,
 the function or file, and the first thing that the prover said. The last line is 'N passed, M failed'."""
 import os
@@ -151,9 +151,8 @@ def main():
     beside, reader, starts, passed, failed = Beside(rt, crates), Reader(), {}, 0, 1
     kit.say("mutants during the proofs: {} of every gate, {} of changed functions, {} in rotation".format(*beside.kinds))
     threading.Thread(target=tell, args=(begun, ended), daemon=True).start()
-    # By its own estimate of memory `rt ci` would prove small crates before the next one of the longest chain.
-    environment = {"RT_JOBS": str(kit.lanes(rt)), **os.environ}
-    with subprocess.Popen(["rt", "ci"], cwd=kit.ROOT, env=environment, stdout=subprocess.PIPE, stderr=subprocess.STDOUT, errors="replace") as ran:
+    words = [sys.executable, f"{kit.ROOT}/gate/rt_ci.py"]
+    with subprocess.Popen(words, cwd=kit.ROOT, stdout=subprocess.PIPE, stderr=subprocess.STDOUT, errors="replace") as ran:
         for line in map(str.rstrip, ran.stdout):
             counted = COUNTS.fullmatch(line)
             if counted:

@@ -11,17 +11,13 @@ import subprocess
 import sys
 import threading
 import time
-from concurrent.futures import FIRST_COMPLETED, Future, wait
 
 import kit
+import lanes
 import reasons
 
 PROGRAM = f"{kit.ROOT}/crates/bin65/out/bin65"
 SUM = f"{PROGRAM}.sum"
-# A proof is three or four processes of 1 to 2 GB.
-MEMORY = 5_000_000_000
-# A crate outside the longest chain has a lower priority: one step of niceness for each SLACK bytes of code by which its own chain is shorter.
-SLACK = 30_000
 
 
 def sum_of(files, begun=b""):
@@ -59,10 +55,8 @@ def log_of(name):
     return f"{kit.ROOT}/crates/{name}/out/prove.log"
 
 
-def prove(rt, crate, jobs, priority):
+def prove(rt, crate, jobs):
     """Builds a library, and returns None, or why the gate would refuse it."""
-    # (of this thread, and of what it starts)
-    os.setpriority(os.PRIO_PROCESS, 0, priority)
     os.makedirs(f"{crate.folder}/out", exist_ok=True)
     crate = copy.copy(crate)
     with open(log_of(crate.name), "w", errors="replace") as crate.out:
@@ -79,18 +73,6 @@ def prove(rt, crate, jobs, priority):
     return why
 
 
-def chains(rt, crates):
-    """Returns for each of these crates, which are sorted lowest first, how many bytes of code are in the longest chain below it, and in the longest
-    chain that begins with it."""
-    sizes = {it: sum(os.path.getsize(file) for file in rt.rtlib.files_of(it.folder) if file.endswith(".rt")) for it in crates}
-    before, after = {}, {}
-    for it in crates:
-        before[it] = max((before[that] + sizes[that] for that in it.below() if that in sizes), default=0)
-    for it in reversed(crates):
-        after[it] = sizes[it] + max((after[that] for that in after if it in that.below()), default=0)
-    return {it: (before[it], after[it]) for it in crates}
-
-
 def far(name):
     """Returns how many functions of a crate are proved, as its log says last."""
     said = [line for line in kit.lines_of(log_of(name)) if line.startswith("so far: ")]
@@ -98,56 +80,40 @@ def far(name):
 
 
 class Proofs:
-    """The proofs of crates, and how long each took."""
+    """The proofs of crates, lowest first, and how long each took."""
 
     def __init__(self, rt, crates, proved):
         self.rt, self.crates, self.proved, self.processors = rt, crates, proved, rt.processors()
-        self.through = {it: sum(lengths) for it, lengths in chains(rt, sorted(crates, key=lambda it: len(it.below()))).items()}
-        self.left, self.running, self.took, self.why = [it for it in crates if it not in proved], {}, {}, {}
+        self.running, self.took, self.why = [], {}, {}
         self.begun, self.ended = time.time(), threading.Event()
 
-    def start(self, crate, is_alone):
-        """Starts a proof in a thread of its own, of two processes, or of up to four if no other proof runs beside it. A crate of the longest chain
-        has the highest priority."""
-        jobs = min(self.processors, 4 if is_alone else 2)
-        priority = min(5, (max(self.through.values()) - self.through[crate]) // SLACK)
-        begun, done = time.time(), Future()
-
-        def run():
-            done.set_result(prove(self.rt, crate, jobs, priority))
-
-        self.left.remove(crate)
-        self.running[done] = crate, begun
-        threading.Thread(target=run, daemon=True).start()
-
-    def end(self, done):
-        crate, begun = self.running.pop(done)
-        self.took[crate.name] = time.time() - begun
-        if done.result():
-            self.why[crate.name], self.left = done.result(), []
-        else:
-            self.proved.add(crate)
+    def prove(self, crate, jobs):
+        """Proves a crate, unless it is proved or another one failed."""
+        if self.why:
+            return
+        if crate not in self.proved and not crate.is_built():
+            begun = time.time()
+            self.running.append(crate)
+            why = prove(self.rt, crate, jobs)
+            self.running.remove(crate)
+            self.took[crate.name] = time.time() - begun
+            if why:
+                self.why[crate.name] = why
+                return
+        self.proved.add(crate)
 
     def run(self):
-        """Proves the crates in the order that is given, each once those below it are proved, and returns whether all are."""
-        while self.left or self.running:
-            ready = [it for it in self.left if {*it.below()} <= self.proved]
-            same = [it for it in ready if it.is_built()]
-            if same:
-                self.left = [it for it in self.left if it not in same]
-                self.proved.update(same)
-                continue
-            is_alone = len(ready) == 1 and not self.running
-            for crate in ready:
-                if not self.running or len(self.running) < self.processors and self.rt.free() > MEMORY:
-                    self.start(crate, is_alone)
-            for done in wait([*self.running], timeout=20, return_when=FIRST_COMPLETED).done:
-                self.end(done)
+        """Proves the crates, each once those below it are proved, and returns whether all are."""
+        tasks = {}
+        for it in self.crates:
+            size = sum(os.path.getsize(file) for file in self.rt.rtlib.files_of(it.folder) if file.endswith(".rt"))
+            tasks[it] = lanes.Task(tuple(that for that in it.below() if that in tasks), size, lambda given, jobs, it=it: self.prove(it, jobs))
+        lanes.run(tasks, self.processors, lambda: self.rt.free() > lanes.MEMORY)
         return not self.why
 
     def tell(self):
         while not self.ended.wait(60):
-            now = ", ".join(f"{it.name}{far(it.name)}" for it, _ in [*self.running.values()])
+            now = ", ".join(f"{it.name}{far(it.name)}" for it in [*self.running])
             kit.say(f"{kit.minutes(time.time() - self.begun)}: {len(self.proved)} of {len(self.crates)} crates proved; now {now or 'the program'}")
 
 
@@ -175,16 +141,14 @@ def build(proofs):
 
 
 def chosen(rt, names):
-    """Returns the libraries that these, or the program, depend on, those of the longest chains first; None if a name is unknown."""
+    """Returns the libraries that these, or the program, depend on, lowest first; None if a name is unknown."""
     crates = kit.crates(rt)
     unknown = [name for name in names if not any(it.name == name and not it.is_program for it in crates)]
     if unknown:
         kit.say(f"{unknown[0]} is no library of crates.txt")
         return None
     asked = [it for it in crates if it.name in names or not names and it.is_program]
-    after = {it: lengths[1] for it, lengths in chains(rt, crates).items()}
-    below = [it for it in crates if not it.is_program and (it in asked or any(it in that.below() for that in asked))]
-    return sorted(below, key=lambda it: -after[it])
+    return [it for it in crates if not it.is_program and (it in asked or any(it in that.below() for that in asked))]
 
 
 def main(names):
@@ -202,9 +166,9 @@ def main(names):
     if crates is None:
         return 2
     held = rt.rtlib.lock(kit.crates(rt))
-    proofs = Proofs(rt, crates, built(sorted(crates, key=lambda it: len(it.below()))))
-    if proofs.left:
-        kit.say(f"{len(proofs.left)} crates to prove on {proofs.processors} processors. Later runs prove only what changed.")
+    proofs = Proofs(rt, crates, built(crates))
+    if len(proofs.proved) < len(crates):
+        kit.say(f"{len(crates) - len(proofs.proved)} crates to prove on {proofs.processors} processors. Later runs prove only what changed.")
     threading.Thread(target=proofs.tell, daemon=True).start()
     is_proved = proofs.run()
     for it in held:

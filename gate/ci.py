@@ -121,25 +121,51 @@ class Beside:
         return max(0, self.count - lost), self.failed + untried
 
 
-def running():
-    """Returns what checks run now, a word each: the crate, and (tests) or (mutants)."""
-    found = set()
+def checks():
+    """Yields the toolchain's processes that run now: a key, what each checks, and the seconds of a processor that it has used."""
     for number in filter(str.isdigit, os.listdir("/proc")):
         try:
             with open(f"/proc/{number}/cmdline", "rb") as it:
                 words = it.read().decode(errors="replace").split("\0")
+            if not words[0].endswith("/bin/rattle") or "--crate-name" not in words:
+                continue
             folder = os.readlink(f"/proc/{number}/cwd")
+            with open(f"/proc/{number}/stat", encoding="utf-8") as it:
+                # (the fields after the program's name, which may contain spaces)
+                fields = it.read().rpartition(")")[2].split()
         except OSError:
             continue
-        if words[0].endswith("/bin/rattle") and "--crate-name" in words:
-            name = words[words.index("--crate-name") + 1]
-            found.add(name + (" (mutants)" if "/rt-edit-" in folder else " (tests)" if "--test" in words else ""))
-    return sorted(found)
+        kind = " (mutants)" if "/rt-edit-" in folder else " (tests)" if "--test" in words else ""
+        yield (number, fields[19]), words[words.index("--crate-name") + 1] + kind, sum(map(int, fields[11:13])) / os.sysconf("SC_CLK_TCK")
 
 
-def tell(begun, ended):
-    while not ended.wait(60):
-        kit.say(f"{kit.minutes(time.time() - begun)}: {', '.join(running()) or 'nothing runs'}")
+class Usage:
+    """The time of processors by crate and kind of check, as sampled: what a process used since the last sample is lost when it ends."""
+
+    def __init__(self):
+        self.seconds = {}
+
+    def sample(self):
+        """Samples the processes that run now and returns what they check."""
+        now = {key: (what, used) for key, what, used in checks()}
+        self.seconds.update(now)
+        return sorted({what for what, _ in now.values()})
+
+    def by_part(self):
+        found = {}
+        for what, used in self.seconds.values():
+            found[what] = found.get(what, 0) + used
+        return found
+
+
+def tell(begun, ended, usage):
+    """Samples what runs every five seconds, and prints it once a minute."""
+    said = 0
+    while not ended.wait(5):
+        running, minute = usage.sample(), int(time.time() - begun) // 60
+        if minute > said:
+            said = minute
+            kit.say(f"{kit.minutes(time.time() - begun)}: {', '.join(running) or 'nothing runs'}")
 
 
 def main():
@@ -150,7 +176,8 @@ def main():
     waits = any(os.path.isdir(f"{it.folder}/out/rlib") for it in crates)
     beside, reader, starts, passed, failed = Beside(rt, crates), Reader(), {}, 0, 1
     kit.say("mutants during the proofs: {} of every gate, {} of changed functions, {} in rotation".format(*beside.kinds))
-    threading.Thread(target=tell, args=(begun, ended), daemon=True).start()
+    usage = Usage()
+    threading.Thread(target=tell, args=(begun, ended, usage), daemon=True).start()
     words = [sys.executable, f"{kit.ROOT}/gate/rt_ci.py"]
     with subprocess.Popen(words, cwd=kit.ROOT, stdout=subprocess.PIPE, stderr=subprocess.STDOUT, errors="replace") as ran:
         for line in map(str.rstrip, ran.stdout):
@@ -174,6 +201,10 @@ def main():
     ended.set()
     kit.table("Minutes after which each crate was proved:", starts.items())
     kit.table("Mutants:", beside.took.items())
+    parts = usage.by_part()
+    kit.table("Minutes of a processor, sampled:", parts.items())
+    kinds = {kind: sum(used for what, used in parts.items() if what.partition(" ")[2] == kind) for kind in ("", "(tests)", "(mutants)")}
+    kit.say("sampled: proofs {}, tests' proofs {}, mutants {} minutes of a processor".format(*map(kit.minutes, kinds.values())))
     used = os.times()
     kit.say(f"rt ci: {kit.minutes(proofs)}; with the mutants {kit.minutes(time.time() - begun)}, {kit.minutes(used.children_user + used.children_system)} of processors")
     failed += len(why) + (ran.returncode != 0 and not failed)

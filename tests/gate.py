@@ -3,7 +3,8 @@
 
 Mutants in one check (gate/batches.py) are tried on a crate that is made up, with what a prover prints written down here: which ones can be tried
 together, and that one counts as refused only if something is found in a function that it changes. Then: which mutants a gate tries
-(gate/mutants.py), what a failed gate says (gate/reasons.py, gate/ci.py, tests/all.py), what runs beside the proofs, which words are refused
+(gate/mutants.py), what a failed gate says (gate/reasons.py, gate/ci.py, tests/all.py), what runs beside the proofs, in which order proofs run
+(gate/lanes.py), which words are refused
 (gate/wording.py), and which names in pages (gate/check_docs.py).
 
 usage: gate.py. The last line is 'N passed, M failed'."""
@@ -13,6 +14,8 @@ import os
 import subprocess
 import sys
 import tempfile
+import threading
+import time
 
 sys.path.insert(0, f"{os.path.dirname(os.path.dirname(os.path.abspath(__file__)))}/gate")
 import all as gate  # noqa: E402
@@ -20,6 +23,7 @@ import batches  # noqa: E402
 import check_docs  # noqa: E402
 import ci  # noqa: E402
 import kit  # noqa: E402
+import lanes  # noqa: E402
 import mutants  # noqa: E402
 import reasons  # noqa: E402
 import results  # noqa: E402
@@ -321,6 +325,38 @@ def beside():
     }
 
 
+def plan():
+    """Checks in which order tasks run, with how many processes and with which priority."""
+
+    def begun(processors, has_memory):
+        """Returns what ran, in order: a task, its processes, its niceness, and what had ended."""
+        found, lock = [], threading.Lock()
+
+        def task(key, size, *waits):
+            def call(given, jobs):
+                with lock:
+                    found.append((key, jobs, os.getpriority(os.PRIO_PROCESS, 0), sorted(it for it in given if it != "tests of low")))
+                # (so that what can run beside it begins)
+                time.sleep(0.2)
+                return key.upper()
+            return lanes.Task(waits, size, call)
+
+        tasks = {"low": task("low", 10), "tests of low": task("tests of low", 0), "side": task("side", 1, "low"),
+                 "middle": task("middle", 10, "low"), "high": task("high", 10, "middle", "side")}
+        results_of = lanes.run(tasks, processors, lambda: has_memory)
+        return [it for it in found if it[0] != "tests of low"], results_of == {it: it.upper() for it in tasks}
+
+    two, is_whole = begun(8, True)
+    one, _ = begun(8, False)
+    by_name = {it[0]: it for it in two}
+    return {
+        "each task waits for what it needs": [it[3] for it in two] == [[], ["low"], ["low"], ["low", "middle", "side"]] and is_whole,
+        "a task that runs alone has four processes": [by_name[it][1] for it in ("low", "middle", "side", "high")] == [4, 2, 2, 4],
+        "the longest chain comes first": [it[0] for it in one] == ["low", "middle", "side", "high"] and by_name["side"][2] > by_name["middle"][2],
+        "without memory one task runs at a time": [len(it[3]) for it in one] == [0, 1, 2, 3],
+    }
+
+
 # Definitions whose names are refused, and others.
 BAD_NAMES = ("abbrev pub Takes : State → Statement → Type 0", "pub record Holds (a : Assembler) : Type 0 where", "pub data Stopped : State → Type 0 where",
              "abbrev pub joined : List ℕ → List ℕ", "abbrev pub begun : State", "unfoldable pub scanned : Outline → Entry → Result Item ObjectFault")
@@ -348,7 +384,7 @@ def names():
 
 
 def main():
-    checks = {**together(kit.load()), **turns(), **failures(), **listed(), **earlier(), **scripts(), **beside(), **words(), **names()}
+    checks = {**together(kit.load()), **turns(), **failures(), **listed(), **earlier(), **scripts(), **beside(), **plan(), **words(), **names()}
     return results.report(checks)
 
 

@@ -15,7 +15,7 @@ use symbols65::constants::constant;
 use symbols65::{Cursor, Symbols, definition_of};
 use syntax65::{Expr, Name};
 
-/// What is known of names and expressions at a context, by the definitions before it.
+/// The names and expressions that are known in a context, by the definitions before it.
 #[derive(Clone, Copy)]
 pub struct Knowledge<'a> {
     pub symbols: &'a Symbols,
@@ -34,7 +34,7 @@ impl Knows for Knowledge<'_> {
     }
 }
 
-/// What the assembler holds between two statements.
+/// The state of the assembler between two statements.
 #[derive(Drop)]
 pub struct Assembler {
     pub symbols: Symbols,
@@ -45,7 +45,7 @@ pub struct Assembler {
 }
 
 impl Assembler {
-    /// The assembler before the first statement.
+    /// Creates the assembler before the first statement.
     pub fn new(alloc: Global, seed: Seed) -> Result<Self, AllocError>
         ensures { IfOk result (Represents 0 initial_state) }
     {

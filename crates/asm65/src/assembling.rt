@@ -39,29 +39,29 @@ pub struct Define<'a> {
     pub value: u32,
 }
 
-/// What is assembled.
+/// A source to assemble, with the options of the command line.
 #[derive(Clone, Copy)]
 pub struct AsmJob<'a> {
-    /// The source's file.
+    /// The file name of the source.
     pub source: &'a str,
-    /// The folders in which included files are looked for, after that of the including file.
+    /// The folders that are searched for included files, after the folder of the including file.
     pub include: &'a [PathString],
     /// Constants of the global scope, defined before the first line.
     pub defines: &'a [Define<'a>],
 }
 
-/// What assembling gives.
+/// The result of assembling a source.
 #[derive(Drop)]
 pub struct Assembly {
-    /// The object, or the first fault.
+    /// The object, or the first error.
     pub result: Result<Object, Diagnostic>,
-    /// What goes to standard output, up to there.
+    /// The text for standard output, up to an error.
     pub out: ListVec<u8>,
-    /// What goes to standard error, up to there.
+    /// The text for standard error, up to an error.
     pub err: ListVec<u8>,
 }
 
-/// Takes a constant.
+/// Defines a constant of the command line.
 fn define_one(
     alloc: Global,
     assembler: &mut Assembler,
@@ -234,7 +234,7 @@ fn finished<S: Store>(alloc: Global, store: &mut S, run: Run) -> Assembly
     }
 }
 
-/// Assembles a job with an assembler that has taken nothing.
+/// Assembles a job with a new assembler.
 fn assembled<S: Store>(
     alloc: Global,
     store: &mut S,
@@ -273,7 +273,8 @@ fn assembled<S: Store>(
     }
 }
 
-/// Assembles a source: its object, or the first fault and its place; and what is said up to there.
+/// Assembles a source. Returns its object, or the first error with its location, and the texts that
+/// are printed up to there.
 pub fn assemble<S: Store>(alloc: Global, store: &mut S, job: &AsmJob<'_>) -> Assembly
     ensures assembled { IfSome (S.files store.old) (λ m. RefinesProp is_diagnostic_system_error
         (λ r. IsOutcome m (job_of job.now) (answer_of result r)) result.result) }
@@ -283,11 +284,11 @@ pub fn assemble<S: Store>(alloc: Global, store: &mut S, job: &AsmJob<'_>) -> Ass
     // An object can be written.
     ensures good { IfOk result.result (λ o. is_well_formed_object o ≡ true) }
     ensures numbers { IfOk result.result ObjectFits }
-    // Where the store fails, what the statements before say is said, and where it was, by the name that its last failed call
-    // asked for where the store tells that.
+    // If the store fails, the texts of the statements before are printed. The error's location follows from the call that
+    // failed last, if the store tells it.
     ensures stopped { IfSome (S.files store.old) (λ m.
         StopsSo m (S.last_failure store.new) (job_of job.now) result) }
-    // Where memory runs out nothing is said.
+    // If memory runs out, nothing is printed.
     ensures silent { is_from_memory result.result ≡ true → (result.out ≡ []) × (result.err ≡ []) }
 {
     match Assembler::new(alloc, store.seed()) {

@@ -6,7 +6,7 @@ use base65::ListVec;
 use std::alloc::{AllocError, Global};
 use syntax65::{Expr, ExprKind, Identifier, Name, Operands};
 
-/// A copy of names with `::` between them.
+/// Copies a name whose parts are separated by `::`.
 fn copy_of_name(alloc: Global, name: &Name) -> Result<Name, AllocError>
     ensures { IfOk result (λ n. n ≡ name.now) }
 {
@@ -20,7 +20,7 @@ fn copy_of_name(alloc: Global, name: &Name) -> Result<Name, AllocError>
     })
 }
 
-/// A copy of an expression.
+/// Copies an expression.
 pub fn copy_of(alloc: Global, value: &Expr) -> Result<Expr, AllocError>
     ensures { IfOk result (λ e. e ≡ value.now) }
 {

@@ -27,11 +27,11 @@ use semantics65::{GLOBAL_SCOPE, LocationRef};
 use std::alloc::Global;
 use syntax65::{LineTokens, Token, TokenKind};
 
-/// The number of tokens up to which nothing is allocated. Most lines have no more.
+/// The number of tokens that are stored without an allocation. Most lines have no more.
 const FEW_TOKENS: usize = 8;
 
-/// The refusal of a statement that objects can't hold. (What a statement holds is let go here, not
-/// where most statements go by.)
+/// Rejects a statement that an object can't store. The statement is dropped here, so that the code for
+/// valid statements has no drop.
 #[inline(never)]
 fn not_understood(_statement: Statement) -> Result<(), AsmFault>
     ensures { result ≡ Err NotUnderstood }
@@ -39,8 +39,8 @@ fn not_understood(_statement: Statement) -> Result<(), AsmFault>
     Err(AsmFault::NotUnderstood)
 }
 
-/// Takes a statement. What it hands to the object is seen to here, since a store that tells nothing of its files tells
-/// nothing of their lines.
+/// Assembles a statement. Checks here that an object can store its names and text, since nothing is known of the lines of a
+/// store that doesn't tell its files.
 #[inline(always)]
 fn take_sound(
     alloc: Global,
@@ -61,7 +61,7 @@ fn take_sound(
     }
 }
 
-/// Takes the rest of a line after its label.
+/// Assembles the rest of a line after its label.
 pub fn assemble_rest<S: Store>(
     alloc: Global,
     store: &mut S,
@@ -87,7 +87,7 @@ pub fn assemble_rest<S: Store>(
     take_sound(alloc, assembler, at, statement)
 }
 
-/// Takes a label, if there is one.
+/// Assembles a label, if there is one.
 fn take_front(
     alloc: Global,
     assembler: &mut Assembler,
@@ -106,7 +106,7 @@ fn take_front(
     }
 }
 
-/// Takes a label's tokens.
+/// Assembles the tokens of a label.
 #[inline(never)]
 fn take_label<S: Store>(
     alloc: Global,
@@ -133,7 +133,7 @@ pub struct Parts<'a, 'b> {
     pub rest: &'b [Token<'a>],
 }
 
-/// Takes the rest of a line after its label, unless it is empty.
+/// Assembles the rest of a line after its label, unless it is empty.
 #[inline(always)]
 fn take_after<S: Store>(
     alloc: Global,
@@ -154,7 +154,7 @@ fn take_after<S: Store>(
     assemble_rest(alloc, store, assembler, at, tokens)
 }
 
-/// Takes the statements of a line.
+/// Assembles the statements of a line.
 #[inline(always)]
 pub fn assemble_parts<S: Store>(
     alloc: Global,
@@ -177,7 +177,7 @@ pub fn assemble_parts<S: Store>(
     take_after(alloc, store, assembler, at, parts.rest)
 }
 
-/// Takes a line without a label.
+/// Assembles a line without a label.
 fn take_line<S: Store>(
     alloc: Global,
     store: &mut S,
@@ -205,7 +205,7 @@ fn take_line<S: Store>(
     }
 }
 
-/// Takes a statement that expansion gives.
+/// Assembles a statement that expansion returned.
 pub fn take_given<S: Store>(
     alloc: Global,
     store: &mut S,
@@ -230,13 +230,13 @@ pub fn take_given<S: Store>(
 /// A source that is being assembled.
 #[derive(Drop)]
 pub struct Run {
-    /// The statements that are left.
+    /// The remaining statements.
     pub expander: Expander,
-    /// What those before came to.
+    /// The state after the statements before.
     pub assembler: Assembler,
 }
 
-/// The next statement, by what is known before it, or none where no line is left.
+/// Returns the next statement, or none after the last line. Conditions are decided by the definitions so far.
 fn next<S: Store>(run: &mut Run, store: &mut S) -> Result<Option<Given>, ExpandFault>
     requires { IsRunning run.old }
     ensures next { IfSome (S.files store.old) (λ m. (t : State) → RunRepresents t run.old →
@@ -259,7 +259,7 @@ fn next<S: Store>(run: &mut Run, store: &mut S) -> Result<Option<Given>, ExpandF
     run.expander.next(store, &knowledge)
 }
 
-/// Takes a statement at its location.
+/// Assembles a statement at its location.
 fn take_next<S: Store>(
     alloc: Global,
     store: &mut S,
@@ -277,8 +277,8 @@ fn take_next<S: Store>(
     take_given(alloc, store, &mut run.assembler, at, statement)
 }
 
-/// Takes the statements of the next line if it is a file's and is given unchanged. Returns whether
-/// it was.
+/// Assembles the statements of the next line if it comes from a file and expansion doesn't change it.
+/// Returns whether it did.
 #[inline(always)]
 fn take_at_hand<S: Store>(alloc: Global, store: &mut S, run: &mut Run) -> Result<bool, AsmFault>
     requires { IsRunning run.old }
@@ -306,7 +306,7 @@ fn take_at_hand<S: Store>(alloc: Global, store: &mut S, run: &mut Run) -> Result
     Ok(true)
 }
 
-/// Refuses a scope that is open.
+/// Returns an error if a scope is open.
 fn check_closed(run: &Run) -> Result<(), AsmFault>
     ensures { result ≡ (if is_open run.now.assembler.cursor.scope then Err BadScope else Ok tt) }
 {
@@ -317,7 +317,7 @@ fn check_closed(run: &Run) -> Result<(), AsmFault>
     }
 }
 
-/// Takes the remaining statements, after which no scope may be open.
+/// Assembles the remaining statements. Returns an error if a scope is open after the last one.
 pub fn assemble_all<S: Store>(alloc: Global, store: &mut S, run: &mut Run) -> Result<(), AsmFault>
     requires { IsRunning run.old }
     ensures ran { IfSome (S.files store.old) (λ m. (job : Job) (t : State) →

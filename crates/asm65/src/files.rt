@@ -25,8 +25,8 @@ use std::mem::replace;
 use symbols65::{LineState, check_unread};
 use syntax65::MAX_FILE;
 
-/// Reads a file in the folder of another one, if it is there. Of a file over the size limit one
-/// byte more than the limit is read.
+/// Reads a file in the folder of another one, if it exists. Of a file over the size limit, one byte
+/// more than the limit is read.
 #[inline(never)]
 fn bytes_beside<S: Store>(
     alloc: Global,
@@ -55,7 +55,7 @@ fn bytes_beside<S: Store>(
     }
 }
 
-/// Refuses a part of a file for what is wrong with it whatever the file has.
+/// Returns the error that a part of a file has whatever the file contains.
 #[inline(never)]
 fn check_range(alloc: Global, assembler: &Assembler, range: IncbinRange<'_>) -> Result<(), AsmFault>
     ensures checked { (count : ℕ) (t : State) → Represents count t assembler.now →
@@ -70,8 +70,8 @@ fn check_range(alloc: Global, assembler: &Assembler, range: IncbinRange<'_>) -> 
     check_unread(alloc, before, range)
 }
 
-/// A statement with the bytes that it takes from a file. The file is read only where nothing is wrong with the
-/// statement whatever the file has.
+/// Reads the bytes of an `.incbin` into its statement. The file is read only if the statement has no error whatever the file
+/// contains.
 #[inline(never)]
 fn with_bytes<S: Store>(
     alloc: Global,
@@ -106,7 +106,7 @@ fn with_bytes<S: Store>(
     }
 }
 
-/// Reads the bytes that a statement takes from a file into it. Most take none, and stay where they are.
+/// Reads the bytes of a statement if it is an `.incbin`. Other statements aren't moved.
 #[inline(always)]
 pub fn read_part<S: Store>(
     alloc: Global,

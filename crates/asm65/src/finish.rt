@@ -34,7 +34,7 @@ pub struct ResolveState {
     /// The forms of constants.
     pub known: FormCache,
     pub exported: ExportedNames,
-    /// What goes to standard error.
+    /// The text for standard error.
     pub err: ListVec<u8>,
 }
 
@@ -48,7 +48,7 @@ pub struct FinalTables<'a> {
 }
 
 /// Returns the entry of a resolved fixup, and prints its warning. A fixup that emits and declares
-/// nothing becomes room of no byte.
+/// nothing becomes a reserve of no bytes.
 fn apply_resolved(
     err: &mut ListVec<u8>,
     spot: FixupLocation<'_>,
@@ -162,7 +162,7 @@ fn settle_all(
     Ok(())
 }
 
-/// Makes the object of the sections after the last statement, or returns the first error of a
+/// Builds the object from the sections after the last statement, or returns the first error of a
 /// fixup.
 fn object_of(
     alloc: Global,
@@ -212,7 +212,8 @@ fn is_from_outside(answer: &Result<Object, Diagnostic>) -> bool
     }
 }
 
-/// An answer, with what was said up to there. Where memory ran out or the store failed, nothing is.
+/// Returns an object or error with the printed texts; without texts if memory ran out or the store
+/// failed.
 fn answered(alloc: Global, answer: Result<Object, Diagnostic>, texts: ConsoleOutput) -> Assembly
     ensures answer { result.result ≡ answer }
     ensures concluded { (o : Outcome) → (is_from_outside answer ≡ false →
@@ -263,7 +264,7 @@ pub fn finish_assembly(alloc: Global, assembler: Assembler) -> Assembly
     answered(alloc, found, ConsoleOutput { out, err })
 }
 
-/// What is answered at a line's fault.
+/// Returns the result of an assembly that ends with an error at a line.
 pub fn fail_at_line(
     alloc: Global,
     assembler: Assembler,

@@ -28,17 +28,17 @@ use std::alloc::{AllocError, Global};
 use symbols65::{Definition, Key, StatementLayout, Symbols, blocker_of, define};
 use syntax65::{AddressSize, Expr};
 
-/// How a statement mentions a name.
+/// The use of a name by a directive.
 #[derive(Clone, Copy)]
 pub enum NameUse {
     Imported,
-    /// It is imported though nothing may use it.
+    /// Imported even if nothing uses it.
     ForcedImport,
-    /// It is exported where it is defined, or has to be.
+    /// Exported if it is defined; it is an error if it `must` be and isn't.
     Exported { must: bool },
 }
 
-/// Returns the pending piece of a name that is mentioned.
+/// Returns the piece of a name that is deferred.
 fn piece_of(alloc: Global, mention: NameUse, name: &[u8]) -> Result<FixupKind, AllocError>
     ensures { IfOk result (λ p. piece_of p ≡ name_use_piece mention name.now) }
 {
@@ -61,7 +61,7 @@ fn blocker(symbols: &Symbols, context: Context, value: &Expr, form: &Option<Norm
 }
 
 impl Assembler {
-    /// A new key is defined.
+    /// Defines a new key.
     pub fn define(
         &mut self,
         alloc: Global,
@@ -80,7 +80,7 @@ impl Assembler {
         define(alloc, &mut self.symbols, key, definition)
     }
 
-    /// A scope is opened within another, which has none of this name.
+    /// Opens a scope within another one that has no scope of this name.
     pub fn open_scope(
         &mut self,
         alloc: Global,
@@ -102,7 +102,7 @@ impl Assembler {
             .open_scope(alloc, within as usize, name, is_proc)
     }
 
-    /// Names are imported, perhaps for the zero page.
+    /// Imports names, for the zero page if `is_zero_page`.
     pub fn import(
         &mut self,
         alloc: Global,
@@ -116,7 +116,7 @@ impl Assembler {
         self.symbols.import(alloc, names, is_zero_page)
     }
 
-    /// Defers names that are mentioned, in order.
+    /// Defers the names of a directive, in order.
     #[inline(never)]
     pub fn mention(
         &mut self,
@@ -157,7 +157,7 @@ impl Assembler {
         defer(self, site, FixupKind::Constant(value))
     }
 
-    /// A constant is defined.
+    /// Defines a constant.
     #[inline(never)]
     pub fn define_constant(
         &mut self,
@@ -234,7 +234,7 @@ impl Assembler {
         self.define(alloc, key, label(context, size))
     }
 
-    /// A scope is opened, perhaps of a name.
+    /// Opens a scope, which may have a name.
     #[inline(never)]
     pub fn open_block(
         &mut self,
@@ -255,7 +255,7 @@ impl Assembler {
         self.open_scope(alloc, context.scope, name, false)
     }
 
-    /// A label is defined, and a scope of its name opened beside it.
+    /// Defines a label and opens a scope of the same name.
     #[inline(never)]
     pub fn open_proc(
         &mut self,
@@ -278,7 +278,7 @@ impl Assembler {
         self.open_scope(alloc, context.scope, Some(name), true)
     }
 
-    /// Names are imported, of this address size.
+    /// Imports names with an address size.
     #[inline(never)]
     pub fn import_names(
         &mut self,
@@ -297,7 +297,7 @@ impl Assembler {
         self.import(alloc, names, is_for_zero_page(size))
     }
 
-    /// Names are imported, whether anything uses them or not.
+    /// Imports names even if nothing uses them.
     #[inline(never)]
     pub fn force_import_names(
         &mut self,

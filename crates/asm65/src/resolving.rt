@@ -28,7 +28,7 @@ use std::alloc::{AllocError, Global};
 use symbols65::constants::literal_of;
 use symbols65::{FormCache, Key, Symbols, defined_norm, norm, operand_form};
 
-/// The names that were exported.
+/// The names exported so far.
 pub type ExportedNames = IndexSet<Vec<u8>, Seed>;
 
 /// The result of a piece.
@@ -36,11 +36,11 @@ pub type ExportedNames = IndexSet<Vec<u8>, Seed>;
 pub struct ResolvedPiece {
     /// The content or declaration, if there is one.
     pub entry: Option<SectionEntry>,
-    /// The text of an assertion that failed, where that is a warning.
+    /// The text of a failed assertion, if it is a warning.
     pub warning: Option<ListVec<u8>>,
 }
 
-/// The location of a pending piece, in one of these files.
+/// The location of a deferred piece, with the table of files that it refers to.
 #[derive(Clone, Copy)]
 pub struct FixupLocation<'a> {
     pub files: &'a [String],
@@ -48,7 +48,7 @@ pub struct FixupLocation<'a> {
 }
 
 impl<'a> FixupLocation<'a> {
-    /// The name of the file, empty where there is none.
+    /// Returns the name of the file; it is empty if there is none.
     pub fn file(self) -> &'a str
         ensures { result.now ≡ (place_here self.entry).file }
     {
@@ -59,7 +59,7 @@ impl<'a> FixupLocation<'a> {
     }
 }
 
-/// Nothing is put anywhere.
+/// Returns the result of a piece that emits nothing.
 fn nothing() -> ResolvedPiece
     ensures made { (spot : FixupLocation) → made_at spot result ≡ quietly (declaration_content []) }
     ensures entry { result.entry ≡ None }
@@ -113,7 +113,7 @@ fn written(
     Ok(told(alloc, spot, declaration)?)
 }
 
-/// Resolves a value of a list: to its bytes if it is a literal.
+/// Resolves a stored value: to bytes if it is a number.
 fn use_datum(
     alloc: Global,
     width: Width,
@@ -173,7 +173,7 @@ fn use_assertion(
     }
 }
 
-/// The place of the definition of a name in the global scope.
+/// Returns the index of the definition of a name in the global scope.
 fn defined(symbols: &Symbols, name: &[u8]) -> Option<usize>
     ensures { result ≡ definition_index (table_of symbols.now) (named 0 name.now) }
 {
@@ -183,7 +183,7 @@ fn defined(symbols: &Symbols, name: &[u8]) -> Option<usize>
     })
 }
 
-/// Puts a name in among those that were exported, and says whether it is new there.
+/// Adds a name to the exported names. Returns whether it is new.
 fn enter_export(
     alloc: Global,
     exported: &mut ExportedNames,
@@ -196,8 +196,8 @@ fn enter_export(
     Ok(exported.insert(Vec::from_slice(alloc, name)?)?)
 }
 
-/// Resolves an export of a name that is defined at this index: to its form, or to nothing if it was
-/// exported before.
+/// Resolves an export of the name whose definition has this index: to its form, or to nothing if it
+/// was exported before.
 fn resolve_export(
     alloc: Global,
     symbols: &Symbols,
@@ -226,7 +226,7 @@ fn resolve_export(
     written(alloc, spot, Declaration::Exported { name, form })
 }
 
-/// Resolves a pending piece, or returns its error.
+/// Resolves a deferred piece, or returns its error.
 pub fn resolve(
     alloc: Global,
     symbols: &Symbols,

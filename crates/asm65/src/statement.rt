@@ -1,4 +1,4 @@
-//! One statement of the source is taken, of names and texts that objects can hold.
+//! Assembles one statement, whose names and text an object can store.
 
 ghost use Rattle.std.specs.Prelude.{◌≡◌, true, Err, ◌+◌, ◌<◌, ℕ, IfErr, IfOk, OnOk, false};
 ghost use Rattle.std.specs.List.{list_all};
@@ -36,7 +36,7 @@ use symbols65::{
 };
 use syntax65::{Mnemonic, Mode, opcode};
 
-/// How many bytes a text has fewer than.
+/// An assertion's text has fewer bytes than this.
 const LEN_LIMIT: usize = 256;
 
 #[inline(never)]
@@ -46,7 +46,7 @@ fn are_names(names: &[ListVec<u8>]) -> bool
     names.iter().all(|name| is_name(name.as_slice()))
 }
 
-/// Returns whether objects can hold what a statement hands to them.
+/// Returns whether an object can store a statement's names and text.
 pub fn is_sound(statement: &Statement) -> bool
     ensures sound { result ≡ true → IsWellFormedStatement statement.now }
     ensures all { IsWellFormedStatement statement.now → result ≡ true }
@@ -62,14 +62,14 @@ pub fn is_sound(statement: &Statement) -> bool
     }
 }
 
-/// The context of a statement, and its analysis there.
+/// The context and the analysis of a statement.
 #[derive(Drop)]
 struct LaidOut {
     context: Context,
     analysis: Analysis,
 }
 
-/// The refusal of a statement. (What it holds is let go here, not where most statements go by.)
+/// Returns the error of a statement, which is dropped here: so the code for valid statements has no drop.
 #[inline(never)]
 fn refused(_statement: Statement, fault: AsmFault) -> Result<(), AsmFault>
     ensures { result ≡ Err fault }
@@ -77,7 +77,7 @@ fn refused(_statement: Statement, fault: AsmFault) -> Result<(), AsmFault>
     Err(fault)
 }
 
-/// The refusal of an instruction, whose operand is let go here.
+/// Returns the error of an instruction, whose operand is dropped here.
 #[inline(never)]
 fn refused_operand(_operand: Operand, fault: AsmFault) -> Result<(), AsmFault>
     ensures { result ≡ Err fault }
@@ -86,7 +86,7 @@ fn refused_operand(_operand: Operand, fault: AsmFault) -> Result<(), AsmFault>
 }
 
 impl Assembler {
-    /// A statement asks for its section, where it asks for one.
+    /// Requests the section of a statement, if it needs one.
     #[inline(always)]
     fn request_section(&mut self, segment: u32, statement: &Statement) -> Result<(), AllocError>
         ensures asked { OnOk result (RequestsSection segment statement.now self.old self.new) }
@@ -98,7 +98,7 @@ impl Assembler {
         Ok(())
     }
 
-    /// Enters an instruction of a form.
+    /// Emits an instruction in an addressing mode.
     #[inline(always)]
     fn enter_instruction(
         &mut self,
@@ -119,7 +119,7 @@ impl Assembler {
         enter_operand(alloc, self, site, width_of(mode), operand, form)
     }
 
-    /// An instruction is entered in the form that is settled.
+    /// Emits an instruction in the addressing mode of its encoding.
     #[inline(always)]
     fn enter_settled(
         &mut self,
@@ -146,7 +146,7 @@ impl Assembler {
         }
     }
 
-    /// The pieces of a statement are entered, and then its names are known.
+    /// Emits the pieces of a statement, then defines its names.
     #[inline(never)]
     fn emit_statement(
         &mut self,
@@ -207,7 +207,7 @@ impl Assembler {
     }
 
     /// Computes the length and the context of a statement, or its first error; requests its
-    /// section, prints its output, and moves on.
+    /// section, prints its output, and advances the cursor.
     #[inline(always)]
     fn lay_out(
         &mut self,
@@ -246,7 +246,7 @@ impl Assembler {
     }
 
     /// Computes the length and the context of an instruction, or its first error; requests its
-    /// section, and moves on.
+    /// section, and advances the cursor.
     #[inline(always)]
     fn place_instruction(
         &mut self,
@@ -278,7 +278,7 @@ impl Assembler {
         Ok(LaidOut { context, analysis })
     }
 
-    /// Takes an instruction, as `take` does.
+    /// Assembles an instruction, as `assemble_statement` does.
     pub fn assemble_instruction(
         &mut self,
         alloc: Global,
@@ -306,7 +306,7 @@ impl Assembler {
         }
     }
 
-    /// Takes one statement. An error of the statement leaves the output unchanged.
+    /// Assembles a statement. If it has an error, the output stays unchanged.
     pub fn assemble_statement(
         &mut self,
         alloc: Global,

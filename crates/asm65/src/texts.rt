@@ -30,17 +30,17 @@ pub fn is_system_error(fault: &AsmFault) -> bool
     fault.is_memory() || is_failure(fault)
 }
 
-/// Why a source has no object, and where: the line is 0 where none was read.
+/// The error for which a source has no object, with its location. The line is 0 if none was read.
 #[derive(Drop)]
 pub struct Diagnostic {
-    /// The file of the line, or the source where no line was read; none where memory ran out, or where the source could not be opened.
+    /// The file of the line, or the source if no line was read; none if memory ran out or the source couldn't be opened.
     pub file: Option<PathString>,
     pub line: u32,
     pub fault: AsmFault,
 }
 
 impl Diagnostic {
-    /// Memory ran out, perhaps for the name of a file.
+    /// Creates the error *out of memory*, without a file's name.
     pub fn without_memory() -> Self
         ensures outside { is_diagnostic_system_error result ≡ true }
         ensures inside { has_failed result ≡ false }
@@ -52,7 +52,7 @@ impl Diagnostic {
         }
     }
 
-    /// The refusal of a fault at a line.
+    /// Creates the diagnostic of an error at a line.
     pub fn of_fault(alloc: Global, at: LocationRef<'_>, fault: AsmFault) -> Self
         ensures placed { is_diagnostic_system_error result ≡ false → placed_of result ≡
             record { place = place_at at.entry; fault = fault } }
@@ -70,7 +70,7 @@ impl Diagnostic {
         }
     }
 
-    /// The name of the file; empty where there is none.
+    /// Returns the name of the file; it is empty if there is none.
     pub fn file_name(&self) -> &str
         ensures { result.now ≡ unwrap_or self.now.file [] }
     {
@@ -88,7 +88,7 @@ impl Diagnostic {
     }
 }
 
-/// What is said: to standard output, and to standard error.
+/// The texts for standard output and standard error.
 #[derive(Drop)]
 pub struct ConsoleOutput {
     pub out: ListVec<u8>,
@@ -96,7 +96,7 @@ pub struct ConsoleOutput {
 }
 
 impl ConsoleOutput {
-    /// Nothing is said.
+    /// Creates empty texts.
     pub fn new(alloc: Global) -> Self
         ensures out { result.out ≡ [] }
         ensures err { result.err ≡ [] }
@@ -107,7 +107,7 @@ impl ConsoleOutput {
         }
     }
 
-    /// Adds what a statement prints.
+    /// Adds the text that a statement prints.
     pub fn record_output(
         &mut self,
         at: LocationRef<'_>,
@@ -141,7 +141,7 @@ fn add_line(out: &mut ListVec<u8>, message: &[u8]) -> Result<(), AllocError>
     Ok(())
 }
 
-/// Adds a warning at a line of a file.
+/// Adds a warning with its file and line.
 #[inline(never)]
 pub fn warn(err: &mut ListVec<u8>, file: &str, line: u32, message: &[u8]) -> Result<(), AllocError>
     ensures { OnOk result (err.new ≡ err.old ++ warning_at (place_in file.now line) message.now) }

@@ -1,4 +1,4 @@
-//! What statements that define no name put into sections.
+//! Emits the contents of statements that define no name.
 
 ghost use Rattle.std.specs.Prelude.{◌≡◌, ◌∷◌, [], OnOk, Some, map};
 ghost use Rattle.semantics65.specs.Contents.{operand_tree, file_bytes, opcode_part, room_part, Known};
@@ -24,7 +24,7 @@ use std::alloc::{AllocError, Global};
 use std::vec::IntoIter;
 use syntax65::{Expr, Mode};
 
-/// How wide the operand of an instruction of a form is stored, if it has a value.
+/// Returns the width of the operand in an addressing mode; none if the mode has no operand.
 pub fn width_of(mode: Mode) -> Option<Width>
     ensures { result ≡ width_of mode }
 {
@@ -36,7 +36,7 @@ pub fn width_of(mode: Mode) -> Option<Width>
     }
 }
 
-/// The expression of an operand, if it has one.
+/// Returns the expression of an operand, if it has one.
 fn operand_value(operand: Operand) -> Option<Expr>
     ensures { result ≡ operand_tree operand }
 {
@@ -50,7 +50,7 @@ fn operand_value(operand: Operand) -> Option<Expr>
     }
 }
 
-/// Enters the code of an instruction.
+/// Emits the opcode of an instruction.
 #[inline(always)]
 pub fn emit_opcode(
     assembler: &mut Assembler,
@@ -67,7 +67,7 @@ pub fn emit_opcode(
     }
 }
 
-/// Enters the value of an operand, if there is one.
+/// Emits the value of an operand at once if its form is final and has no error, else defers it.
 #[inline(always)]
 pub fn enter_operand(
     alloc: Global,
@@ -93,7 +93,7 @@ pub fn enter_operand(
     }
 }
 
-/// The form of the next element of a list, if one was handed on.
+/// Returns the form of the next element of a list, if it has a final one.
 fn next_form(forms: &mut IntoIter<Option<Norm>>) -> Option<Norm>
     ensures { IsNext (into_iter_items forms.old) result (into_iter_items forms.new) }
 {
@@ -124,7 +124,7 @@ fn enter_element(
     defer(assembler, site, FixupKind::Datum { width, value })
 }
 
-/// Enters a list of any elements.
+/// Emits a list of expressions and strings.
 fn enter_mixed(
     alloc: Global,
     assembler: &mut Assembler,
@@ -153,7 +153,7 @@ fn enter_mixed(
     Ok(())
 }
 
-/// Enters a list of numbers: in one go, if each is in range.
+/// Emits a list of numbers: their bytes together if each number is in range, else one by one.
 fn enter_numbers(
     alloc: Global,
     assembler: &mut Assembler,
@@ -176,7 +176,7 @@ fn enter_numbers(
     }
 }
 
-/// Enters a list.
+/// Emits a list.
 #[inline(never)]
 pub fn emit_values(
     alloc: Global,
@@ -199,7 +199,7 @@ pub fn emit_values(
     }
 }
 
-/// Emits room of this many bytes, filled with the byte that is decided, if there is one.
+/// Emits `count` bytes with the fill byte of the statement or, if it has none, the linker's.
 #[inline(never)]
 pub fn emit_reserve(
     assembler: &mut Assembler,
@@ -216,7 +216,7 @@ pub fn emit_reserve(
     }
 }
 
-/// Emits this many bytes of a file, from the offset that is decided.
+/// Emits `count` bytes of a file, from the offset in the statement's encoding.
 #[inline(never)]
 pub fn emit_incbin(
     assembler: &mut Assembler,

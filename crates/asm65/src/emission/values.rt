@@ -1,5 +1,4 @@
-//! Emits values and other parts of statements at once if they are settled without an error, or
-//! defers them.
+//! Emits values at once if their forms are final and have no error, or defers them.
 
 ghost use Rattle.std.specs.Prelude.{◌≡◌, drop, IfOk, IfSome, List, map, Ok, OnOk, Some, take, ℕ};
 ghost use Rattle.semantics65.specs.Contents.{file_bytes, section_part, value_part, Known};
@@ -51,7 +50,7 @@ pub fn bytes_of(
     Ok(Some(bytes))
 }
 
-/// Numbers as elements of a list.
+/// Returns numbers as elements of a list.
 pub fn items_of(alloc: Global, numbers: &[u32]) -> Result<ListVec<Item>, AllocError>
     ensures { IfOk result (λ items. items ≡ map literal_item numbers.now) }
 {
@@ -62,7 +61,8 @@ pub fn items_of(alloc: Global, numbers: &[u32]) -> Result<ListVec<Item>, AllocEr
     Ok(items)
 }
 
-/// Puts what is stored of a form into the section of a segment, if it has no fault.
+/// Emits the stored value of a form into the section of a segment, if it has no error. Returns
+/// whether it did.
 pub fn put_form(
     sections: &mut Sections,
     segment: u32,
@@ -86,7 +86,7 @@ pub fn put_form(
     }
 }
 
-/// Emits the stored form of an operand, if it has no error.
+/// Emits the stored form of an operand, if it has no error. Returns whether it did.
 fn put_operand(
     alloc: Global,
     sections: &mut Sections,
@@ -106,7 +106,7 @@ fn put_operand(
     }
 }
 
-/// So many bytes of a file, if it is there, from the one on that is settled.
+/// Returns `count` bytes of a file from the offset of the encoding; none if there is no file.
 pub fn file_bytes(bytes: &Option<ListVec<u8>>, settled: EncodingChoice, count: u32) -> &[u8]
     ensures { result.now ≡ file_bytes count bytes.now settled }
 {

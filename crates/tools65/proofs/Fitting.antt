@@ -34,10 +34,10 @@ line_fits (Some m) mid new fo fm fn line last_failure o io status same early lat
   where
     by : IsFittingOutcome line m o ⊎ (o ≡ failing (line_memory line)) → PerformsOutcome o m new io status ⊎ StopsShort o (line_memory line) m new io status → LineObjectFits line m ⊎ PerformsOutcome (failing (line_memory line)) m new io status
     by (inl (does, fits)) carried = inl fits
-    by (inr memory) (inl said) = inr (subst (λ (x : Outcome). PerformsOutcome x m new io status) memory said)
+    by (inr memory) (inl printed) = inr (subst (λ (x : Outcome). PerformsOutcome x m new io status) memory printed)
     by (inr memory) (inr short) =
         let none : o.outputs ≡ [] = ap (λ (x : Outcome). x.outputs) memory in
-        absurd (stops_nowhere short.place m new (subst (λ (os : List OutputFile). RelatesFiles (StopsAt os short.place) (Some m) new) none short.left))
+        absurd (stops_nowhere short.index m new (subst (λ (os : List OutputFile). RelatesFiles (StopsAt os short.index) (Some m) new) none short.left))
 
 -- memory ran out before there was an outcome
 pub only_memory_fits : (known new : Option Files) (line : CommandView) (out err_old err_new : Option (List ℕ)) (out_refused err_refused : Bool) (status : Status) (Q : Type 0) → new ≡ known → status ≡ Failure → out_refused ≡ false → PrintsText err_old err_new (line_memory line) (not err_refused) → IfSome known (λ m. Q → RunObjectFits line m new (streams out out out_refused err_old err_new err_refused) status)

@@ -86,18 +86,18 @@ line_failed fo fm fn o status early fails rose failing_so = by
 
 -- ---- Words.
 
-pub failed_words : (known new : Option Files) (fo fn : ℕ) (words : List (List ℕ)) (line : CommandView) (last_failure : LastFailure) (io : Streams) (status : Status) → line_of words ≡ Ok line → IfSome known (λ m. HasFailed fo fn → FailsLine line m new last_failure io status) → IfSome known (λ m. HasFailed fo fn → FailsWords fo words m new last_failure io status)
+pub failed_words : (known new : Option Files) (fo fn : ℕ) (args : List (List ℕ)) (line : CommandView) (last_failure : LastFailure) (io : Streams) (status : Status) → line_of args ≡ Ok line → IfSome known (λ m. HasFailed fo fn → FailsLine line m new last_failure io status) → IfSome known (λ m. HasFailed fo fn → FailsWords fo args m new last_failure io status)
 unfolding FailsWords
-failed_words None new fo fn words line last_failure io status e h = tt
-failed_words (Some m) new fo fn words line last_failure io status e h = λ some. rw e (inl (h some))
+failed_words None new fo fn args line last_failure io status e h = tt
+failed_words (Some m) new fo fn args line last_failure io status e h = λ some. rw e (inl (h some))
 
 -- words that are no line, or for which memory ran out
-pub refused_fails : (known new : Option Files) (count : ℕ) (words : List (List ℕ)) (e : LineFault) (last_failure : LastFailure) (out err_old err_new : Option (List ℕ)) (out_refused err_refused : Bool) (status : Status) → new ≡ known → status ≡ Failure → RefinesErr is_line_system_error e (line_of words) → out_refused ≡ false → PrintsText err_old err_new (line_message_of e) (not err_refused) → IfSome known (λ m. HasFailed count count → FailsWords count words m new last_failure (streams out out out_refused err_old err_new err_refused) status)
+pub refused_fails : (known new : Option Files) (count : ℕ) (args : List (List ℕ)) (e : LineFault) (last_failure : LastFailure) (out err_old err_new : Option (List ℕ)) (out_refused err_refused : Bool) (status : Status) → new ≡ known → status ≡ Failure → RefinesErr is_line_system_error e (line_of args) → out_refused ≡ false → PrintsText err_old err_new (line_message_of e) (not err_refused) → IfSome known (λ m. HasFailed count count → FailsWords count args m new last_failure (streams out out out_refused err_old err_new err_refused) status)
 unfolding FailsWords
-refused_fails None new count words e last_failure out err_old err_new out_refused err_refused status same f h quiet p = tt
-refused_fails (Some m) new count words BadArguments last_failure out err_old err_new out_refused err_refused status same f h quiet p =
+refused_fails None new count args e last_failure out err_old err_new out_refused err_refused status same f h quiet p = tt
+refused_fails (Some m) new count args BadArguments last_failure out err_old err_new out_refused err_refused status same f h quiet p =
     λ _. rw h (failing (line_message_of BadArguments), inl refl, inl (says m new out err_old err_new (line_message_of BadArguments) out_refused err_refused status same f quiet p))
-refused_fails (Some m) new count words OutOfMemory last_failure out err_old err_new out_refused err_refused status same f h quiet p = λ some. either (line_of words) (at_last some)
+refused_fails (Some m) new count args OutOfMemory last_failure out err_old err_new out_refused err_refused status same f h quiet p = λ some. either (line_of args) (at_last some)
   where
     printed : PerformsOutcome (failing line_memory_message) m new (streams out out out_refused err_old err_new err_refused) status
     printed = says m new out err_old err_new line_memory_message out_refused err_refused status same f quiet p

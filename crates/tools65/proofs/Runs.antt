@@ -62,16 +62,16 @@ line_done (Some m) mid new fo fm fn line last_failure o io status same early lat
     by (inr memory) = inr memory
 
 -- a line that was run
-pub line_run : (known new : Option Files) (fo fn : ℕ) (words : List (List ℕ)) (line : CommandView) (io : Streams) (status : Status) → line_of words ≡ Ok line → IfSome known (λ m. NoneFailed fo fn → RunSatisfies (IsOutcomeOfCommand line) (line_memory line) m new io status) → IfSome known (λ m. NoneFailed fo fn → RunsCommand words m new io status)
-line_run None new fo fn words line io status e h = tt
-line_run (Some m) new fo fn words line io status e h = λ none. rw e (inl (h none))
+pub line_run : (known new : Option Files) (fo fn : ℕ) (args : List (List ℕ)) (line : CommandView) (io : Streams) (status : Status) → line_of args ≡ Ok line → IfSome known (λ m. NoneFailed fo fn → RunSatisfies (IsOutcomeOfCommand line) (line_memory line) m new io status) → IfSome known (λ m. NoneFailed fo fn → RunsCommand args m new io status)
+line_run None new fo fn args line io status e h = tt
+line_run (Some m) new fo fn args line io status e h = λ none. rw e (inl (h none))
 
 -- words that are no line, or for which memory ran out
-pub refused_words : (known new : Option Files) (words : List (List ℕ)) (e : LineFault) (out err_old err_new : Option (List ℕ)) (out_refused err_refused : Bool) (status : Status) (Q : Type 0) → new ≡ known → status ≡ Failure → RefinesErr is_line_system_error e (line_of words) → out_refused ≡ false → PrintsText err_old err_new (line_message_of e) (not err_refused) → IfSome known (λ m. Q → RunsCommand words m new (streams out out out_refused err_old err_new err_refused) status)
-refused_words None new words e out err_old err_new out_refused err_refused status Q same f h quiet p = tt
-refused_words (Some m) new words BadArguments out err_old err_new out_refused err_refused status Q same f h quiet p =
+pub refused_words : (known new : Option Files) (args : List (List ℕ)) (e : LineFault) (out err_old err_new : Option (List ℕ)) (out_refused err_refused : Bool) (status : Status) (Q : Type 0) → new ≡ known → status ≡ Failure → RefinesErr is_line_system_error e (line_of args) → out_refused ≡ false → PrintsText err_old err_new (line_message_of e) (not err_refused) → IfSome known (λ m. Q → RunsCommand args m new (streams out out out_refused err_old err_new err_refused) status)
+refused_words None new args e out err_old err_new out_refused err_refused status Q same f h quiet p = tt
+refused_words (Some m) new args BadArguments out err_old err_new out_refused err_refused status Q same f h quiet p =
     λ _. rw h (failing (line_message_of BadArguments), inl refl, inl (says m new out err_old err_new (line_message_of BadArguments) out_refused err_refused status same f quiet p))
-refused_words (Some m) new words OutOfMemory out err_old err_new out_refused err_refused status Q same f h quiet p = λ _. either (line_of words)
+refused_words (Some m) new args OutOfMemory out err_old err_new out_refused err_refused status Q same f h quiet p = λ _. either (line_of args)
   where
     printed : PerformsOutcome (failing line_memory_message) m new (streams out out out_refused err_old err_new err_refused) status
     printed = says m new out err_old err_new line_memory_message out_refused err_refused status same f quiet p

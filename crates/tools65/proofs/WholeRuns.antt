@@ -163,12 +163,12 @@ module _ (m : Files) (new : Option Files) (io : Streams) (status : Status) where
   either l (inl ran) = inl (links_whole (link l) l ran refl)
   either l (inr p) = inr p
 
-  words_link : (words : Result CommandView LineFault) → ArgsRunSatisfies words m new io status → WordsLinkWhole words m new io status
+  words_link : (parsed : Result CommandView LineFault) → ArgsRunSatisfies parsed m new io status → WordsLinkWhole parsed m new io status
   unfolding WordsLinkWhole
-  words_link words ran l same = either l (subst (λ (z : Result CommandView LineFault). ArgsRunSatisfies z m new io status) same ran)
+  words_link parsed ran l same = either l (subst (λ (z : Result CommandView LineFault). ArgsRunSatisfies z m new io status) same ran)
 
 pub words_law : RunsLaw
-words_law words m new io status ran = words_link m new io status (line_of words) ran
+words_law args m new io status ran = words_link m new io status (line_of args) ran
 
 pub lines_law : LineRunsLaw
 lines_law line m new io status ran = line_links m new io status line ran
@@ -179,6 +179,6 @@ line_whole None new fo fn line io status h = tt
 line_whole (Some m) new fo fn line io status h = λ none. line_links m new io status line (h none)
 
 -- words that were run
-pub words_whole : (known new : Option Files) (fo fn : ℕ) (words : List (List ℕ)) (io : Streams) (status : Status) → IfSome known (λ m. NoneFailed fo fn → RunsCommand words m new io status) → IfSome known (λ m. NoneFailed fo fn → WordsLinkWhole (line_of words) m new io status)
-words_whole None new fo fn words io status h = tt
-words_whole (Some m) new fo fn words io status h = λ none. words_link m new io status (line_of words) (h none)
+pub words_whole : (known new : Option Files) (fo fn : ℕ) (args : List (List ℕ)) (io : Streams) (status : Status) → IfSome known (λ m. NoneFailed fo fn → RunsCommand args m new io status) → IfSome known (λ m. NoneFailed fo fn → WordsLinkWhole (line_of args) m new io status)
+words_whole None new fo fn args io status h = tt
+words_whole (Some m) new fo fn args io status h = λ none. words_link m new io status (line_of args) (h none)

@@ -71,4 +71,4 @@ FailsAs count (Err e) m new last_failure io status =
     ArgsRunSatisfies (Err e) m new io status
 
 unfoldable pub FailsWords : ℕ → List (List ℕ) → Files → Option Files → LastFailure → Streams → Status → Type 0
-FailsWords count words = FailsAs count (line_of words)
+FailsWords count args = FailsAs count (line_of args)

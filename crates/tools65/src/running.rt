@@ -116,7 +116,7 @@ pub fn run_line<S: Store, W: Write, E: Write>(
 /// Runs arguments over two streams, the first being the program's name, and returns the status.
 pub fn run_with_streams<A: AsStr, S: Store, W: Write, E: Write>(
     alloc: Global,
-    words: &[A],
+    args: &[A],
     store: &mut S,
     out: &mut Stream<'_, W>,
     err: &mut Stream<'_, E>,
@@ -125,21 +125,21 @@ pub fn run_with_streams<A: AsStr, S: Store, W: Write, E: Write>(
     requires err { err.old.has_failed ≡ false }
     ensures same { AreSame out.old out.new err.old err.new }
     ensures done { IfSome (S.files store.old) (λ m. NoneFailed (S.failures store.old) (S.failures store.new) →
-        RunsCommand (map A.text words.now) m (S.files store.new)
+        RunsCommand (map A.text args.now) m (S.files store.new)
         (between W.contents E.contents out.old out.new err.old err.new) result) }
     ensures fits { IfSome (S.files store.old) (λ m. NoneFailed (S.failures store.old) (S.failures store.new) →
-        WordsObjectFits (map A.text words.now) m (S.files store.new)
+        WordsObjectFits (map A.text args.now) m (S.files store.new)
         (between W.contents E.contents out.old out.new err.old err.new) result) }
     ensures failed { IfSome (S.files store.old) (λ m. HasFailed (S.failures store.old) (S.failures store.new) →
-        FailsWords (S.failures store.old) (map A.text words.now) m (S.files store.new) (S.last_failure store.new)
+        FailsWords (S.failures store.old) (map A.text args.now) m (S.files store.new) (S.last_failure store.new)
         (between W.contents E.contents out.old out.new err.old err.new) result) }
     ensures one_program { IfSome (S.files store.old) (λ m. NoneFailed (S.failures store.old) (S.failures store.new) →
-        WordsLinkWhole (line_of (map A.text words.now)) m (S.files store.new)
+        WordsLinkWhole (line_of (map A.text args.now)) m (S.files store.new)
         (between W.contents E.contents out.old out.new err.old err.new) result) }
     ensures later { S.failures store.old ≤ S.failures store.new }
     ensures rose { HasFailed (S.failures store.old) (S.failures store.new) → result ≡ Status.Failure }
 {
-    match read_line(alloc, words) {
+    match read_line(alloc, args) {
         Ok(line) => run_line_with_streams(alloc, &line, store, out, err),
         Err(fault) => {
             print(err, fault_message(fault));
@@ -151,29 +151,29 @@ pub fn run_with_streams<A: AsStr, S: Store, W: Write, E: Write>(
 /// Runs arguments over streams over these writers, the first being the program's name, and returns the status.
 pub fn run<A: AsStr, S: Store, W: Write, E: Write>(
     alloc: Global,
-    words: &[A],
+    args: &[A],
     store: &mut S,
     out: &mut W,
     err: &mut E,
 ) -> Status
     ensures done { IfSome (S.files store.old) (λ m. NoneFailed (S.failures store.old) (S.failures store.new) →
         OverWriters (W.contents out.old) (W.contents out.new) (E.contents err.old) (E.contents err.new)
-        (λ io. RunsCommand (map A.text words.now) m (S.files store.new) io result)) }
+        (λ io. RunsCommand (map A.text args.now) m (S.files store.new) io result)) }
     ensures fits { IfSome (S.files store.old) (λ m. NoneFailed (S.failures store.old) (S.failures store.new) →
         OverWriters (W.contents out.old) (W.contents out.new) (E.contents err.old) (E.contents err.new)
-        (λ io. WordsObjectFits (map A.text words.now) m (S.files store.new) io result)) }
+        (λ io. WordsObjectFits (map A.text args.now) m (S.files store.new) io result)) }
     ensures failed { IfSome (S.files store.old) (λ m. HasFailed (S.failures store.old) (S.failures store.new) →
         OverWriters (W.contents out.old) (W.contents out.new) (E.contents err.old) (E.contents err.new)
-        (λ io. FailsWords (S.failures store.old) (map A.text words.now) m (S.files store.new) (S.last_failure store.new) io result)) }
+        (λ io. FailsWords (S.failures store.old) (map A.text args.now) m (S.files store.new) (S.last_failure store.new) io result)) }
     ensures one_program { IfSome (S.files store.old) (λ m. NoneFailed (S.failures store.old) (S.failures store.new) →
         OverWriters (W.contents out.old) (W.contents out.new) (E.contents err.old) (E.contents err.new)
-        (λ io. WordsLinkWhole (line_of (map A.text words.now)) m (S.files store.new) io result)) }
+        (λ io. WordsLinkWhole (line_of (map A.text args.now)) m (S.files store.new) io result)) }
     ensures later { S.failures store.old ≤ S.failures store.new }
     ensures rose { HasFailed (S.failures store.old) (S.failures store.new) → result ≡ Status.Failure }
 {
     run_with_streams(
         alloc,
-        words,
+        args,
         store,
         &mut Stream::over(out),
         &mut Stream::over(err),

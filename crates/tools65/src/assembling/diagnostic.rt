@@ -17,16 +17,16 @@ pub fn asm_message(
 ) -> Result<ListVec<u8>, AllocError>
     ensures { IfOk result (λ text. text ≡ asm_message source.now (placed_of refusal.now)) }
 {
-    let mut words = ListVec::new(alloc);
-    words.extend_from_slice(refusal.fault.words().as_bytes())?;
-    words.extend_from_slice(refusal.fault.name())?;
+    let mut message = ListVec::new(alloc);
+    message.extend_from_slice(refusal.fault.words().as_bytes())?;
+    message.extend_from_slice(refusal.fault.name())?;
     if refusal.line == 0 {
-        return file_message(alloc, source.as_bytes(), words.as_slice());
+        return file_message(alloc, source.as_bytes(), message.as_slice());
     }
     line_message(
         alloc,
         refusal.file_name().as_bytes(),
         refusal.line as usize,
-        words.as_slice(),
+        message.as_slice(),
     )
 }

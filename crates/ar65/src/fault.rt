@@ -17,7 +17,7 @@ use std::alloc::{AllocError, Global};
 pub enum ArchiveFault {
     /// The library can't be read, is none, has no such member or would be too long.
     Library(LibraryFault),
-    /// The file at this place of the line can't be read or can't be a member.
+    /// The file at this index of the line can't be read or can't be a member.
     File(usize, LibraryFault),
 }
 
@@ -80,11 +80,11 @@ pub fn error_message(
             line.library.as_bytes(),
             fault_text(alloc, fault)?.as_slice(),
         ),
-        ArchiveFault::File(place, fault) => {
-            let words = fault_text(alloc, fault)?;
-            match line.files.as_slice().get(*place) {
-                Some(name) => file_message(alloc, name.as_bytes(), words.as_slice()),
-                None => file_message(alloc, b"", words.as_slice()),
+        ArchiveFault::File(index, fault) => {
+            let message = fault_text(alloc, fault)?;
+            match line.files.as_slice().get(*index) {
+                Some(name) => file_message(alloc, name.as_bytes(), message.as_slice()),
+                None => file_message(alloc, b"", message.as_slice()),
             }
         }
     }

@@ -80,10 +80,10 @@ pub fn put_files<S: Store>(
     ensures count { PropagatesIoErrors is_failure (S.failures store.old) (S.failures store.new) result }
     ensures named { IfErr result (NamesFiles (S.last_failure store.new) (map (λ s. s.now) files.now)) }
 {
-    for (place, file) in files.iter().enumerate() {
+    for (index, file) in files.iter().enumerate() {
         match put_file(alloc, store, library, file) {
             Ok(()) => {}
-            Err(fault) => return Err(ArchiveFault::File(place, fault)),
+            Err(fault) => return Err(ArchiveFault::File(index, fault)),
         }
     }
     Ok(())

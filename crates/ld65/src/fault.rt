@@ -23,9 +23,9 @@ pub enum LinkCommandFault {
     ScriptFile(StoreFault),
     /// It is no script.
     Script(ScriptFault),
-    /// The input at this place of the line can't be read or is no object.
+    /// The input at this index of the line can't be read or is no object.
     Object(usize, ObjectFault),
-    /// The library at this place of the line can't be read or is none.
+    /// The library at this index of the line can't be read or is none.
     Library(usize, LibraryFault),
     /// The library's member of this module's name can't be read or is no object.
     Member(ListVec<u8>, ObjectFault),
@@ -84,12 +84,12 @@ impl LinkCommandFault {
         }
     }
 
-    /// The refusal of the object at a place of the line: a fault of its own is named by the place.
-    pub fn of_input(place: usize, fault: LinkFault) -> LinkCommandFault
-        ensures { result ≡ refusal_at place fault }
+    /// The refusal of the object at an index of the line: a fault of its own is named by the index.
+    pub fn of_input(index: usize, fault: LinkFault) -> LinkCommandFault
+        ensures { result ≡ refusal_at index fault }
     {
         match fault {
-            LinkFault::Malformed(fault) => LinkCommandFault::Object(place, fault),
+            LinkFault::Malformed(fault) => LinkCommandFault::Object(index, fault),
             fault => LinkCommandFault::Link(fault),
         }
     }
@@ -110,31 +110,36 @@ impl LinkCommandFault {
 fn link_message(alloc: Global, fault: &LinkFault) -> Result<ListVec<u8>, AllocError>
     ensures { IfOk result (λ text. text ≡ link_message fault.now) }
 {
-    let words = fault_text(alloc, fault)?;
+    let message = fault_text(alloc, fault)?;
     match fault {
         LinkFault::Circular(site)
         | LinkFault::OutOfRange(site)
         | LinkFault::NoValue(site)
         | LinkFault::Assertion(site, _) => {
             let name = location_name(alloc, site)?;
-            line_message(alloc, name.as_slice(), site.line as usize, words.as_slice())
+            line_message(
+                alloc,
+                name.as_slice(),
+                site.line as usize,
+                message.as_slice(),
+            )
         }
-        _ => file_message(alloc, b"ld65", words.as_slice()),
+        _ => file_message(alloc, b"ld65", message.as_slice()),
     }
 }
 
-/// The message of a fault of the input at a place of the line.
+/// The message of a fault of the input at an index of the line.
 fn input_message(
     alloc: Global,
     line: &LinkArgs<'_>,
-    place: usize,
-    words: &str,
+    index: usize,
+    message: &str,
 ) -> Result<ListVec<u8>, AllocError>
-    ensures { IfOk result (λ text. text ≡ file_message (input_name_at (linking line.now).inputs place) words.now) }
+    ensures { IfOk result (λ text. text ≡ file_message (input_name_at (linking line.now).inputs index) message.now) }
 {
-    match line.inputs.as_slice().get(place) {
-        Some(name) => file_message(alloc, name.as_bytes(), words.as_bytes()),
-        None => file_message(alloc, b"", words.as_bytes()),
+    match line.inputs.as_slice().get(index) {
+        Some(name) => file_message(alloc, name.as_bytes(), message.as_bytes()),
+        None => file_message(alloc, b"", message.as_bytes()),
     }
 }
 
@@ -160,18 +165,18 @@ fn cause_message(
                 fault.to_string(alloc)?.as_bytes(),
             )
         }
-        LinkCommandFault::Object(place, fault) => {
-            input_message(alloc, line, *place, fault.to_string(alloc)?.as_str())
+        LinkCommandFault::Object(index, fault) => {
+            input_message(alloc, line, *index, fault.to_string(alloc)?.as_str())
         }
-        LinkCommandFault::Library(place, fault) => {
-            input_message(alloc, line, *place, fault.to_string(alloc)?.as_str())
+        LinkCommandFault::Library(index, fault) => {
+            input_message(alloc, line, *index, fault.to_string(alloc)?.as_str())
         }
         LinkCommandFault::Member(name, fault) => {
             file_message(alloc, name.as_slice(), fault.to_string(alloc)?.as_bytes())
         }
         LinkCommandFault::Disagrees(name) => {
-            let words = fault_text(alloc, &LinkFault::IndexDisagrees)?;
-            file_message(alloc, name.as_slice(), words.as_slice())
+            let message = fault_text(alloc, &LinkFault::IndexDisagrees)?;
+            file_message(alloc, name.as_slice(), message.as_slice())
         }
         LinkCommandFault::Link(fault) => link_message(alloc, fault),
     }

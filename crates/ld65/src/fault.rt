@@ -1,4 +1,4 @@
-//! Why nothing is linked.
+//! The errors of the command ld65, and their messages.
 
 ghost use Rattle.std.specs.Prelude.{◌≡◌, IfOk, map};
 ghost use Rattle.link65.specs.declared.fault.LinkFault.{LinkFault};
@@ -15,23 +15,23 @@ use object65::ObjectFault;
 use script65::{Fault, ScriptFault};
 use std::alloc::{AllocError, Global};
 
-/// Why nothing is linked.
+/// An error of the command ld65.
 #[derive(Drop)]
 pub enum LinkCommandFault {
     OutOfMemory,
     /// The script can't be read.
     ScriptFile(StoreFault),
-    /// It is no script.
+    /// The script has an error.
     Script(ScriptFault),
-    /// The input at this index of the line can't be read or is no object.
+    /// The input at this index of the command line can't be read or isn't an object.
     Object(usize, ObjectFault),
-    /// The library at this index of the line can't be read or is none.
+    /// The input at this index of the command line can't be read or isn't a valid library.
     Library(usize, LibraryFault),
-    /// The library's member of this module's name can't be read or is no object.
+    /// The library's member of this module's name can't be read or isn't an object.
     Member(ListVec<u8>, ObjectFault),
     /// The index of a library disagrees with the member of this module's name.
     Disagrees(ListVec<u8>),
-    /// The objects aren't linked.
+    /// The objects can't be linked.
     Link(LinkFault),
 }
 
@@ -84,7 +84,7 @@ impl LinkCommandFault {
         }
     }
 
-    /// The refusal of the object at an index of the line: a fault of its own is named by the index.
+    /// Returns the error of the object at an index of the command line. An error in the object itself is reported for this index.
     pub fn of_input(index: usize, fault: LinkFault) -> LinkCommandFault
         ensures { result ≡ refusal_at index fault }
     {
@@ -94,7 +94,7 @@ impl LinkCommandFault {
         }
     }
 
-    /// The refusal of a library's member: a fault of its own is named by its module.
+    /// Returns the error of a library's member. An error in the member itself is reported for its module.
     pub fn of_member(name: ListVec<u8>, fault: LinkFault) -> LinkCommandFault
         ensures { result ≡ refusal_in name fault }
     {
@@ -106,7 +106,7 @@ impl LinkCommandFault {
     }
 }
 
-/// The message of a fault of linking: that of a value at its module, file and line, any other as the linker's.
+/// Returns the message of a link error. An error of a value is reported with its module, file and line, any other as the linker's.
 fn link_message(alloc: Global, fault: &LinkFault) -> Result<ListVec<u8>, AllocError>
     ensures { IfOk result (λ text. text ≡ link_message fault.now) }
 {
@@ -128,7 +128,7 @@ fn link_message(alloc: Global, fault: &LinkFault) -> Result<ListVec<u8>, AllocEr
     }
 }
 
-/// The message of a fault of the input at an index of the line.
+/// Returns the message of an error in the input at an index of the command line.
 fn input_message(
     alloc: Global,
     line: &LinkArgs<'_>,
@@ -143,7 +143,7 @@ fn input_message(
     }
 }
 
-/// The message of a refusal, where memory didn't run out.
+/// Returns the message of an error other than *out of memory*.
 fn cause_message(
     alloc: Global,
     line: &LinkArgs<'_>,
@@ -182,7 +182,7 @@ fn cause_message(
     }
 }
 
-/// The message of a refusal, by the line that asked.
+/// Returns the message of an error of a command line.
 pub fn error_message(
     alloc: Global,
     line: &LinkArgs<'_>,

@@ -1,4 +1,4 @@
-//! The members of a library that are needed.
+//! Feeds the members of a library that are needed.
 
 ghost use Rattle.std.specs.Prelude.{◌≡◌, ◌+◌, ◌≤◌, List, IfErr, IfOk, IfSome, false, true, ◌∷◌, [], option_map, slice_get};
 ghost use Rattle.std.specs.List.{AllByRecursion};
@@ -19,14 +19,14 @@ use link65::Linker;
 use object65::RecordReader;
 use std::alloc::{AllocError, Global};
 
-/// An input of the line: its index there, and its name.
+/// An input of the command line: its index and its name.
 #[derive(Clone, Copy)]
 pub struct Named<'a> {
     pub index: usize,
     pub name: &'a str,
 }
 
-/// The index of a library.
+/// Reads the index of a library.
 fn index_of<S: Store>(
     alloc: Global,
     store: &mut S,
@@ -65,7 +65,7 @@ struct LibraryMember<'a> {
     entry: &'a Entry,
 }
 
-/// The name of a member's module.
+/// Returns the name of a member's module.
 fn module_name(alloc: Global, member: &LibraryMember<'_>) -> Result<ListVec<u8>, AllocError>
     ensures { IfOk result (λ name. name ≡ member_module member.now.library.now member.now.entry.now.name) }
 {

@@ -1,4 +1,4 @@
-//! One command.
+//! Runs a command.
 
 ghost use Rattle.std.specs.Prelude.{◌≡◌, ◌≤◌, IfOk, IfSome, false, map};
 ghost use Rattle.base65.specs.Store.{HasFailed, NoneFailed};
@@ -32,7 +32,7 @@ fn memory_name<'a>(line: &'a Line<'_>) -> &'a str
     }
 }
 
-/// Reads what a line names, and computes its outcome; nothing is said or written.
+/// Reads the files that a line names, and computes its outcome. Prints and writes nothing.
 fn compute<S: Store>(alloc: Global, line: &Line<'_>, store: &mut S) -> Result<Outcome, AllocError>
     ensures computed { IfSome (S.files store.old) (λ m. IfOk result (ComputesOutcome (view line.now) m
         (S.last_failure store.new) (S.failures store.old) (S.failures store.new))) }
@@ -81,7 +81,7 @@ pub fn run_line_with_streams<S: Store, W: Write, E: Write>(
     }
 }
 
-/// Runs a command line over streams over these writers, and returns the status.
+/// Runs a command line over two writers, and returns the status.
 pub fn run_line<S: Store, W: Write, E: Write>(
     alloc: Global,
     line: &Line<'_>,
@@ -148,7 +148,7 @@ pub fn run_with_streams<A: AsStr, S: Store, W: Write, E: Write>(
     }
 }
 
-/// Runs arguments over streams over these writers, the first being the program's name, and returns the status.
+/// Runs arguments over two writers, the first being the program's name, and returns the status.
 pub fn run<A: AsStr, S: Store, W: Write, E: Write>(
     alloc: Global,
     args: &[A],

@@ -1,4 +1,4 @@
-//! Why a source has no object, as ca65 says it.
+//! The message for a source that has no object.
 
 ghost use Rattle.std.specs.Prelude.{◌≡◌, IfOk};
 ghost use Rattle.asm65.specs.Assembly.{placed_of};
@@ -9,7 +9,7 @@ use base65::ListVec;
 use cli65::{file_message, line_message};
 use std::alloc::{AllocError, Global};
 
-/// The message of a refusal.
+/// Returns the message of a diagnostic.
 pub fn asm_message(
     alloc: Global,
     source: &str,

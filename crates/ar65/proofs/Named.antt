@@ -6,14 +6,14 @@ use Rattle.library65.specs.declared.fault.LibraryFault.TheVariants.{BadIndex, Ba
 use Rattle.ar65.specs.declared.fault.ArchiveFault.TheVariants.{File}
 use Rattle.ar65.specs.Naming.{NamesFiles}
 
-pub of_file : (last_failure : LastFailure) (files : List (List ℕ)) (place : ℕ) (name : List ℕ) (f : LibraryFault) → slice_get files place ≡ Some name → (f ≡ FileError → FailedOn last_failure name) → NamesFiles last_failure files (File place f)
-of_file last_failure files place name FileError at asked h = (place, name, at, refl, asked refl)
-of_file last_failure files place name OutOfMemory at asked h = absurd cc
-of_file last_failure files place name NotALibrary at asked h = absurd cc
-of_file last_failure files place name CutShort at asked h = absurd cc
-of_file last_failure files place name BadIndex at asked h = absurd cc
-of_file last_failure files place name (NoSuchMember n) at asked h = absurd cc
-of_file last_failure files place name NotAnObject at asked h = absurd cc
-of_file last_failure files place name IndexDisagrees at asked h = absurd cc
-of_file last_failure files place name FileNotFound at asked h = absurd cc
-of_file last_failure files place name BadMemberName at asked h = absurd cc
+pub of_file : (last_failure : LastFailure) (files : List (List ℕ)) (index : ℕ) (name : List ℕ) (f : LibraryFault) → slice_get files index ≡ Some name → (f ≡ FileError → FailedOn last_failure name) → NamesFiles last_failure files (File index f)
+of_file last_failure files index name FileError at asked h = (index, name, at, refl, asked refl)
+of_file last_failure files index name OutOfMemory at asked h = absurd cc
+of_file last_failure files index name NotALibrary at asked h = absurd cc
+of_file last_failure files index name CutShort at asked h = absurd cc
+of_file last_failure files index name BadIndex at asked h = absurd cc
+of_file last_failure files index name (NoSuchMember n) at asked h = absurd cc
+of_file last_failure files index name NotAnObject at asked h = absurd cc
+of_file last_failure files index name IndexDisagrees at asked h = absurd cc
+of_file last_failure files index name FileNotFound at asked h = absurd cc
+of_file last_failure files index name BadMemberName at asked h = absurd cc

@@ -16,7 +16,7 @@ IsOfLibrary last_failure library e = (e ≡ Library FileError) × FailedOn last_
 -- one of these files, for which it asked
 abbrev pub IsOfFiles : LastFailure → List (List ℕ) → ArchiveFault → Type 0
 IsOfFiles last_failure files e =
-    (place : ℕ) × (name : List ℕ) × (slice_get files place ≡ Some name) × (e ≡ File place FileError) × FailedOn last_failure name
+    (index : ℕ) × (name : List ℕ) × (slice_get files index ≡ Some name) × (e ≡ File index FileError) × FailedOn last_failure name
 
 abbrev pub IsOfLine : LastFailure → Archiving → ArchiveFault → Type 0
 IsOfLine last_failure a e =

@@ -24,7 +24,7 @@ use std::alloc::Global;
 pub enum Archived {
     /// The library's new bytes.
     Library(ListVec<u8>),
-    /// The names of the members, one a line.
+    /// The names of the members, one per line.
     Names(ListVec<u8>),
     /// Members, each to be written to a file of its name.
     Members(ListVec<MemberFile>),

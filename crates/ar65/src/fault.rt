@@ -1,4 +1,4 @@
-//! Why a line of the librarian is refused.
+//! The errors of the librarian, and their messages.
 
 ghost use Rattle.std.specs.Prelude.{◌≡◌, IfOk, map};
 ghost use Rattle.library65.specs.Fault.{fault_text};
@@ -12,12 +12,12 @@ use cli65::{ArchiveArgs, file_message};
 use library65::LibraryFault;
 use std::alloc::{AllocError, Global};
 
-/// Why a line of the librarian is refused.
+/// An error of the librarian.
 #[derive(Drop)]
 pub enum ArchiveFault {
-    /// The library can't be read, is none, has no such member or would be too long.
+    /// The library can't be read, isn't valid, has no such member or would be too long.
     Library(LibraryFault),
-    /// The file at this place of the line can't be read or can't be a member.
+    /// The file at this index of the command line can't be read or can't be a member.
     File(usize, LibraryFault),
 }
 
@@ -50,7 +50,7 @@ impl ArchiveFault {
     }
 }
 
-/// The words of a fault.
+/// Returns the text of an error.
 fn fault_text(alloc: Global, fault: &LibraryFault) -> Result<ListVec<u8>, AllocError>
     ensures { IfOk result (λ text. text ≡ fault_text fault.now) }
 {
@@ -60,7 +60,7 @@ fn fault_text(alloc: Global, fault: &LibraryFault) -> Result<ListVec<u8>, AllocE
     }
 }
 
-/// The message of a refusal, by the line that asked.
+/// Returns the message of an error of a command line.
 pub fn error_message(
     alloc: Global,
     line: &ArchiveArgs<'_>,
@@ -80,11 +80,11 @@ pub fn error_message(
             line.library.as_bytes(),
             fault_text(alloc, fault)?.as_slice(),
         ),
-        ArchiveFault::File(place, fault) => {
-            let words = fault_text(alloc, fault)?;
-            match line.files.as_slice().get(*place) {
-                Some(name) => file_message(alloc, name.as_bytes(), words.as_slice()),
-                None => file_message(alloc, b"", words.as_slice()),
+        ArchiveFault::File(index, fault) => {
+            let message = fault_text(alloc, fault)?;
+            match line.files.as_slice().get(*index) {
+                Some(name) => file_message(alloc, name.as_bytes(), message.as_slice()),
+                None => file_message(alloc, b"", message.as_slice()),
             }
         }
     }

@@ -2,7 +2,7 @@
 
 ghost use Rattle.ar65.specs.Laws.{EditsPreserveLibrary, ArchiveNamingIsUnique, ExtractThenAddIsIdentity, ArchiveExists};
 
-/// Whatever the files, a command line has a result or a first error of the files.
+/// For all files, a command line has a result or a first error of the files.
 pub fn archive_exists()
     ensures { ArchiveExists }
 {}
@@ -12,12 +12,12 @@ pub fn edits_preserve_library()
     ensures { EditsPreserveLibrary }
 {}
 
-/// The files that `x` writes are put together by `r` to the same library, byte for byte.
+/// From the files that `x` writes, `r` builds the same library, byte for byte.
 pub fn extract_then_add_is_identity()
     ensures { ExtractThenAddIsIdentity }
 {}
 
-/// A call that failed while files were read has one message, by the name that it asked for.
+/// A call that failed while files were read has one message, with the name that it requested.
 pub fn archive_naming_is_unique()
     ensures { ArchiveNamingIsUnique }
 {}

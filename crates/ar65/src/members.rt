@@ -1,4 +1,4 @@
-//! The members of a library: read, put in, taken out, listed, made files, and written.
+//! The members of a library: adds, deletes, lists, extracts and writes them.
 
 ghost use Rattle.std.specs.Prelude.{◌≡◌, IfErr, IfOk, IfSome, IsErrOf, OnOk, map, true};
 ghost use Rattle.std.specs.FinMap as map;
@@ -30,7 +30,7 @@ fn member_name(file: &str) -> &str
     }
 }
 
-/// The library of a file, or one of no member where there is no such file.
+/// Reads the library of a file; if the file doesn't exist, returns a library without members.
 pub fn load_or_begin<S: Store>(
     alloc: Global,
     store: &mut S,
@@ -48,8 +48,8 @@ pub fn load_or_begin<S: Store>(
     }
 }
 
-/// Puts the object of a file in, under the name of the file: its own faults come first, then that
-/// of the name, then those of the object. No more is read than tells that the file is too long.
+/// Adds the object of a file, under the name of the file. The errors of the file come first, then
+/// that of the name, then those of the object. At most one byte more than the size limit is read.
 fn put_file<S: Store>(
     alloc: Global,
     store: &mut S,
@@ -65,7 +65,7 @@ fn put_file<S: Store>(
     library.replace(member_name(file).as_bytes(), &bytes)
 }
 
-/// Puts the objects of files in, in order. The first fault is that of the first file that has one.
+/// Adds the objects of files, in order. The first error is that of the first file that has one.
 pub fn put_files<S: Store>(
     alloc: Global,
     store: &mut S,
@@ -80,16 +80,16 @@ pub fn put_files<S: Store>(
     ensures count { PropagatesIoErrors is_failure (S.failures store.old) (S.failures store.new) result }
     ensures named { IfErr result (NamesFiles (S.last_failure store.new) (map (λ s. s.now) files.now)) }
 {
-    for (place, file) in files.iter().enumerate() {
+    for (index, file) in files.iter().enumerate() {
         match put_file(alloc, store, library, file) {
             Ok(()) => {}
-            Err(fault) => return Err(ArchiveFault::File(place, fault)),
+            Err(fault) => return Err(ArchiveFault::File(index, fault)),
         }
     }
     Ok(())
 }
 
-/// Takes the members of files' names out, in order.
+/// Deletes the members of files' names, in order.
 pub fn delete_files(library: &mut Library, files: &[&str]) -> Result<(), LibraryFault>
     ensures deleted { Refines is_memory (λ _. library.new)
         result (without_files library.old (map (λ s. s.now) files.now)) }
@@ -101,7 +101,7 @@ pub fn delete_files(library: &mut Library, files: &[&str]) -> Result<(), Library
     Ok(())
 }
 
-/// The names of the members, one a line.
+/// Returns the names of the members, one per line.
 pub fn list_names(alloc: Global, library: &Library) -> Result<ListVec<u8>, AllocError>
     ensures { IfOk result (λ text. text ≡ names_text (member_names library.now)) }
 {
@@ -113,14 +113,14 @@ pub fn list_names(alloc: Global, library: &Library) -> Result<ListVec<u8>, Alloc
     Ok(text)
 }
 
-/// A member as it is written, to a file of its name.
+/// A member that is extracted to a file of its name.
 #[derive(Drop)]
 pub struct MemberFile {
     pub name: PathString,
     pub bytes: ListVec<u8>,
 }
 
-/// The file of the member of a name.
+/// Returns the file of the member with a name.
 fn file_of(alloc: Global, library: &Library, name: &str) -> Result<MemberFile, LibraryFault>
     ensures found { Refines is_memory (λ file. file) result (file_of library.now name.now) }
     ensures cause { IsErrOf result FileError → ⊥ }
@@ -134,7 +134,7 @@ fn file_of(alloc: Global, library: &Library, name: &str) -> Result<MemberFile, L
     }
 }
 
-/// The files of the members of files' names, in order.
+/// Returns the files of the members with files' names, in order.
 fn named_files(
     alloc: Global,
     library: &Library,
@@ -151,7 +151,7 @@ fn named_files(
     Ok(found)
 }
 
-/// A name as text.
+/// Returns a name as text.
 fn text_of(name: &[u8]) -> &str
     ensures { is_utf8 name.now ≡ true → result.now ≡ name.now }
 {
@@ -161,7 +161,7 @@ fn text_of(name: &[u8]) -> &str
     }
 }
 
-/// The files of all members of a library whose names are text, in order.
+/// Returns the files of all members of a library whose names are text, in order.
 fn all_files(alloc: Global, library: &Library) -> Result<ListVec<MemberFile>, LibraryFault>
     ensures found { AreTexts (member_names library.now) →
         Refines is_memory (λ found. found) result (files_of library.now (member_names library.now)) }
@@ -174,8 +174,8 @@ fn all_files(alloc: Global, library: &Library) -> Result<ListVec<MemberFile>, Li
     Ok(found)
 }
 
-/// The files of the members of files' names, in order; those of all members where no file is named.
-/// The names of a library that was read are text.
+/// Returns the files of the members with files' names, in order; those of all members if no file is
+/// named. The names of a library that was read are text.
 pub fn extract_files(
     alloc: Global,
     library: &Library,
@@ -191,7 +191,7 @@ pub fn extract_files(
     named_files(alloc, library, files)
 }
 
-/// The bytes of a library.
+/// Returns the bytes of a library.
 pub fn library_bytes(alloc: Global, library: &Library) -> Result<ListVec<u8>, LibraryFault>
     ensures { Refines is_memory (λ bytes. bytes) result (bytes_within_limit library.now) }
 {

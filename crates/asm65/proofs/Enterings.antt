@@ -148,7 +148,12 @@ pub assertion_tried : (old : Assembler) (location : SourceLocation) (s : Context
 assertion_tried old location s act message e f v final is true other = so_enters old location s act message e v (other refl) (subst (IsFinal (table_of old.symbols) s e) (literal_is f v is) final)
 assertion_tried old location s act message e f v final is false other = refl
 
--- ---- Later.
+-- ---- At once, or later.
+
+-- what is emitted at once
+pub emitted_at_once : (old new : Assembler) (location : SourceLocation) (s : Context) (p : Piece) (b : Bool) → EmitsIfResolved location s p old new b → b ≡ true → EmitsPieces location s (p ∷ []) old new
+emitted_at_once old new location s p true h e = h
+emitted_at_once old new location s p false h e = absurd cc
 
 -- what isn't put at once waits
 pub tried_waits : (old mid new : Assembler) (location : SourceLocation) (s : Context) (p : Piece) (b : Bool) → EmitsIfResolved location s p old mid b → b ≡ false → DefersPiece location s p mid new → EmitsPieces location s (p ∷ []) old new

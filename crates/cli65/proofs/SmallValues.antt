@@ -82,7 +82,7 @@ value_small text = by (number_in text) (number_small text)
     by (Some v) h = h
     by None h = tt
 
-at_small : (text : Text) (place : Option ℕ) → IfOk (define_at text place) HasSmall
+at_small : (text : Text) (offset : Option ℕ) → IfOk (define_at text offset) HasSmall
 at_small text None = then_ok HasSmall (named_in text) _ (λ n. omega arith)
 at_small text (Some i) =
     then_ok HasSmall (named_in (take i text)) _ (λ n.
@@ -119,6 +119,6 @@ said_small : (found : Option (Text × List Row)) → IfOk (command_of_matches fo
 said_small None = tt
 said_small (Some p) = said_by_small p.0 p.1
 
-pub line_small : (words : List Text) → IfOk (line_of words) HasSmallValues
+pub line_small : (args : List Text) → IfOk (line_of args) HasSmallValues
 unfolding line_of
-line_small words = then_ok HasSmallValues (clap_matches words) command_of_matches said_small
+line_small args = then_ok HasSmallValues (clap_matches args) command_of_matches said_small

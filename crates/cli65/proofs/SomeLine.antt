@@ -24,7 +24,7 @@ as_value_own None = bad BadArguments refl
 value_own : (text : Text) → Own is_system_error (valued_in text)
 value_own text = as_value_own (number_in text)
 
-at_own : (text : Text) (place : Option ℕ) → Own is_system_error (define_at text place)
+at_own : (text : Text) (offset : Option ℕ) → Own is_system_error (define_at text offset)
 at_own text None = next (named_in text) _ (name_own text) (λ n. good _)
 at_own text (Some i) = next (named_in (take i text)) _ (name_own (take i text)) (λ n. next (valued_in (drop (i + 1) text)) _ (value_own (drop (i + 1) text)) (λ v. good _))
 
@@ -36,13 +36,13 @@ assembling_own : (rows : List Row) → Own is_system_error (assembling_of rows)
 unfolding assembling_of
 assembling_own rows = next (try_map define_of (all_given (codes "define") rows)) _ (each_own define_of define_own (all_given (codes "define") rows)) (λ defines. good _)
 
-operation_own : (word : Text) → Own is_system_error (operation_of word)
+operation_own : (arg : Text) → Own is_system_error (operation_of arg)
 unfolding operation_of
-operation_own word =
-    choice (bytes_eq word (codes "r")) _ _ (good _)
-    (choice (bytes_eq word (codes "d")) _ _ (good _)
-    (choice (bytes_eq word (codes "t")) _ _ (good _)
-    (choice (bytes_eq word (codes "x")) _ _ (good _) (bad BadArguments refl))))
+operation_own arg =
+    choice (bytes_eq arg (codes "r")) _ _ (good _)
+    (choice (bytes_eq arg (codes "d")) _ _ (good _)
+    (choice (bytes_eq arg (codes "t")) _ _ (good _)
+    (choice (bytes_eq arg (codes "x")) _ _ (good _) (bad BadArguments refl))))
 
 archiving_own : (rows : List Row) → Own is_system_error (archiving_of rows)
 unfolding archiving_of
@@ -71,13 +71,13 @@ kinds_own : {A : Type 0} (kinds : Kinds) (x : A) → Own is_system_error (unless
 kinds_own [] x = good x
 kinds_own (k ∷ ks) x = bad BadArguments refl
 
-taken_own : (words : List Text) → Own is_system_error (clap_matches words)
+taken_own : (args : List Text) → Own is_system_error (clap_matches args)
 unfolding clap_matches
-taken_own words = kinds_own (fault_of bin65 words) (subcommand_of bin65 words)
+taken_own args = kinds_own (fault_of bin65 args) (subcommand_of bin65 args)
 
-line_own : (words : List Text) → Own is_system_error (line_of words)
+line_own : (args : List Text) → Own is_system_error (line_of args)
 unfolding line_of
-line_own words = next (clap_matches words) command_of_matches (taken_own words) said_own
+line_own args = next (clap_matches args) command_of_matches (taken_own args) said_own
 
 pub some_line : LineExists
-some_line words = (line_own words).own
+some_line args = (line_own args).own

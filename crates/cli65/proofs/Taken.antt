@@ -30,26 +30,26 @@ refuses [] x k (inr h) = absurd h
 refuses (y ∷ ks) x kind.OutOfMemory (inr h) = tt
 refuses (y ∷ ks) x k (inr h) = refl
 
-module _ (a : App) (is : a ≡ bin65) (words : List Text) where
+module _ (a : App) (is : a ≡ bin65) (args : List Text) where
   -- what clap gives is the answer
-  pub takes_words : (m : ArgMatches) → (is_simple_and_free a ≡ true → fault_of a words ≡ []) → HasMatchesOf a words m → clap_matches words ≡ Ok (subcommand_rows_of m)
+  pub takes_words : (m : ArgMatches) → (is_simple_and_free a ≡ true → fault_of a args ≡ []) → HasMatchesOf a args m → clap_matches args ≡ Ok (subcommand_rows_of m)
   unfolding clap_matches
   takes_words m none has =
       let free : is_simple_and_free a ≡ true = ap is_simple_and_free is ∙ bin65_free in
       let simple : is_simple a ≡ true = ap is_simple is ∙ bin65_simple in
-      takes_all (fault_of bin65 words) (subcommand_of bin65 words) (subcommand_rows_of m)
-      (ap (λ (b : App). fault_of b words) (sym is) ∙ none free)
-      ((has simple).1 ∙ ap (λ (b : App). subcommand_of b words) is)
+      takes_all (fault_of bin65 args) (subcommand_of bin65 args) (subcommand_rows_of m)
+      (ap (λ (b : App). fault_of b args) (sym is) ∙ none free)
+      ((has simple).1 ∙ ap (λ (b : App). subcommand_of b args) is)
 
   -- what clap refuses is refused, unless memory ran out
-  pub refuses_words : (e : Error) → (is_simple_and_free a ≡ true → HasKind (fault_of a words) e) → RefinesErr is_system_error (of_kind (kind_of e)) (clap_matches words)
+  pub refuses_words : (e : Error) → (is_simple_and_free a ≡ true → HasKind (fault_of a args) e) → RefinesErr is_system_error (of_kind (kind_of e)) (clap_matches args)
   unfolding clap_matches
   refuses_words e has =
       let free : is_simple_and_free a ≡ true = ap is_simple_and_free is ∙ bin65_free in
-      let at : HasKind (fault_of bin65 words) e = subst (λ (b : App). HasKind (fault_of b words) e) is (has free) in
-      refuses (fault_of bin65 words) (subcommand_of bin65 words) (kind_of e) at
+      let at : HasKind (fault_of bin65 args) e = subst (λ (b : App). HasKind (fault_of b args) e) is (has free) in
+      refuses (fault_of bin65 args) (subcommand_of bin65 args) (kind_of e) at
 
 -- what is refused of words is refused of their line
-pub refused_line : (words : List Text) (e : LineFault) → RefinesErr is_system_error e (clap_matches words) → RefinesErr is_system_error e (line_of words)
+pub refused_line : (args : List Text) (e : LineFault) → RefinesErr is_system_error e (clap_matches args) → RefinesErr is_system_error e (line_of args)
 unfolding line_of
-refused_line words e refused = grind (arith, common_steps)
+refused_line args e refused = grind (arith, common_steps)

@@ -45,7 +45,7 @@ as_value None = Err BadArguments
 abbrev pub valued_in : Text → Result ℕ LineFault
 valued_in text = as_value (number_in text)
 
--- `NAME[=NUMBER]`, by the place of the first `=`; without a number, 0
+-- `NAME[=NUMBER]`, by the offset of the first `=`; without a number, 0
 abbrev pub define_at : Text → Option ℕ → Result Defining LineFault
 define_at text None = named_in text >>= (λ n. Ok (record { name = n; value = 0 }))
 define_at text (Some i) = named_in (take i text) >>= (λ n. valued_in (drop (i + 1) text) >>= (λ v. Ok (record { name = n; value = v })))

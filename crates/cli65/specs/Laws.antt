@@ -7,4 +7,4 @@ use Rattle.cli65.specs.LineFaults.{is_system_error}
 
 -- words are a command line or bad arguments, the only error that is no system error
 abbrev pub LineExists : Type 0
-LineExists = (words : List Text) → IsNoSystemError is_system_error (line_of words)
+LineExists = (args : List Text) → IsNoSystemError is_system_error (line_of args)

@@ -22,7 +22,7 @@ unless_kinds (k ∷ ks) x = Err BadArguments
 
 -- the subcommand that clap finds in the words, with its matches, where it takes them
 unfoldable pub clap_matches : List Text → Result (Option (Text × List Row)) LineFault
-clap_matches words = unless_kinds (fault_of bin65 words) (subcommand_of bin65 words)
+clap_matches args = unless_kinds (fault_of bin65 args) (subcommand_of bin65 args)
 
 -- the arguments of ld65
 pub record Linking : Type 0 where
@@ -82,11 +82,11 @@ assembling_of rows = do
 
 -- the operation of a word: `r`, `d`, `t` or `x`
 unfoldable pub operation_of : Text → Result Operation LineFault
-operation_of word =
-    if bytes_eq word (codes "r") then Ok Replace
-    else if bytes_eq word (codes "d") then Ok Delete
-    else if bytes_eq word (codes "t") then Ok Names
-    else if bytes_eq word (codes "x") then Ok Extract
+operation_of arg =
+    if bytes_eq arg (codes "r") then Ok Replace
+    else if bytes_eq arg (codes "d") then Ok Delete
+    else if bytes_eq arg (codes "t") then Ok Names
+    else if bytes_eq arg (codes "x") then Ok Extract
     else Err BadArguments
 
 -- `ar65 OP LIBRARY [FILE]..`
@@ -121,7 +121,7 @@ command_of_matches (Some p) = said_by p.0 p.1
 
 -- the line that the words are, or why they are none
 unfoldable pub line_of : List Text → Result CommandView LineFault
-line_of words = clap_matches words >>= command_of_matches
+line_of args = clap_matches args >>= command_of_matches
 
 -- the arguments of ld65, as values without references
 abbrev pub linking : LinkArgs → Linking

@@ -40,10 +40,10 @@ fn define<'a>(text: &'a str) -> Result<Define<'a>, LineFault>
                 value: 0,
             })
         }
-        Some(place) => {
-            let name = bytes.split_at(place).0;
+        Some(offset) => {
+            let name = bytes.split_at(offset).0;
             check_name(name)?;
-            match number_in(bytes.split_at(place + 1).1) {
+            match number_in(bytes.split_at(offset + 1).1) {
                 Some(value) => Ok(Define { name, value }),
                 None => Err(LineFault::BadArguments),
             }
@@ -53,7 +53,7 @@ fn define<'a>(text: &'a str) -> Result<Define<'a>, LineFault>
 
 /// Returns the index of the first `=`.
 fn place_of_equal(bytes: &[u8]) -> Option<usize>
-    ensures place { result ≡ position (λ b. b == 61) bytes.now }
+    ensures offset { result ≡ position (λ b. b == 61) bytes.now }
     ensures inside { IfSome result (λ i. i < length bytes.now) }
 {
     bytes.iter().position(|b| *b == b'=')

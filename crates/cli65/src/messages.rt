@@ -8,27 +8,27 @@ use base65::{ListVec, join};
 use itoa::Buffer;
 use std::alloc::{AllocError, Global};
 
-/// `name: Error: words`
-pub fn file_message(alloc: Global, name: &[u8], words: &[u8]) -> Result<ListVec<u8>, AllocError>
-    ensures { IfOk result (λ text. text ≡ file_message name.now words.now) }
+/// `name: Error: message`
+pub fn file_message(alloc: Global, name: &[u8], message: &[u8]) -> Result<ListVec<u8>, AllocError>
+    ensures { IfOk result (λ text. text ≡ file_message name.now message.now) }
 {
-    join(alloc, &[name, b": Error: ", words, b"\n"])
+    join(alloc, &[name, b": Error: ", message, b"\n"])
 }
 
-/// `name:line: Error: words`
+/// `name:line: Error: message`
 pub fn line_message(
     alloc: Global,
     name: &[u8],
     line: usize,
-    words: &[u8],
+    message: &[u8],
 ) -> Result<ListVec<u8>, AllocError>
-    ensures { IfOk result (λ text. text ≡ line_message name.now line words.now) }
+    ensures { IfOk result (λ text. text ≡ line_message name.now line message.now) }
 {
     let mut buffer = Buffer::new();
     let number = buffer.format(line);
     join(
         alloc,
-        &[name, b":", number.as_bytes(), b": Error: ", words, b"\n"],
+        &[name, b":", number.as_bytes(), b": Error: ", message, b"\n"],
     )
 }
 

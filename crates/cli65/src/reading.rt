@@ -17,10 +17,10 @@ use std::convert::AsStr;
 
 /// The line that words are; the first is the program's name. Words that are no line are bad arguments.
 #[tactic(auto, unfolding(crate::specs::Line::line_of))]
-pub fn read_line<'a, A: AsStr>(alloc: Global, words: &'a [A]) -> Result<Line<'a>, LineFault>
-    ensures { Refines is_system_error view result (line_of (map A.text words.entry.now)) }
+pub fn read_line<'a, A: AsStr>(alloc: Global, args: &'a [A]) -> Result<Line<'a>, LineFault>
+    ensures { Refines is_system_error view result (line_of (map A.text args.entry.now)) }
 {
-    let found = command(alloc)?.try_get_matches_from(words)?;
+    let found = command(alloc)?.try_get_matches_from(args)?;
     let Some((name, own)) = found.subcommand() else {
         return Err(LineFault::BadArguments);
     };
@@ -68,10 +68,10 @@ fn link_line<'a>(alloc: Global, own: &ArgMatches<'a>) -> Result<LinkArgs<'a>, Al
 
 /// The operation of a word.
 #[tactic(auto, unfolding(crate::specs::Line::operation_of))]
-fn operation_of(word: &str) -> Result<Operation, LineFault>
-    ensures { Refines is_system_error (λ operation. operation) result (operation_of word.now) }
+fn operation_of(arg: &str) -> Result<Operation, LineFault>
+    ensures { Refines is_system_error (λ operation. operation) result (operation_of arg.now) }
 {
-    match word {
+    match arg {
         "r" => Ok(Operation::Replace),
         "d" => Ok(Operation::Delete),
         "t" => Ok(Operation::List),

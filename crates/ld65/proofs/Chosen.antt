@@ -110,32 +110,32 @@ module _ (known : Option Files) (library : List ℕ) (all : List Entry) where
           (h ∙ in_turn old.script m modules some left)
           (subst (λ (s : Script). RefinesErr is_system_error x (with_members s m library modules some)) script refused)
 
--- ---- Places of an index.
+-- ---- Indices of entries.
 
 any_default : (xs : List ℕ) (k d e : ℕ) → k < length xs → get_or xs k d ≡ get_or xs k e
 any_default [] k d e h = absurd (omega (arith, h))
 any_default (x ∷ xs) zero d e h = refl
 any_default (x ∷ xs) (suc k) d e h = any_default xs k d e (omega (arith, h))
 
--- what is left of the places begins with the one at its turn
-place_at : (known : Option Files) (library : List ℕ) (es : List Entry) (places : List ℕ) (k d : ℕ) (old mid : LinkerView) → k < length places → IsAfter known library (selected_entries es places) (selected_entries es (drop k places)) old mid → IsAfter known library (selected_entries es places) (chosen_at es (get_or places k d) ++ selected_entries es (drop (k + 1) places)) old mid
-place_at known library es places k d old mid lt is =
-    let place = get_or places k d in
-    subst (λ (left : List Entry). IsAfter known library (selected_entries es places) left old mid) (ap (selected_entries es) (drop_item places k place lt (any_default places k d place lt))) is
+-- what is left of the indices begins with the one at its turn
+place_at : (known : Option Files) (library : List ℕ) (es : List Entry) (entry_indices : List ℕ) (k d : ℕ) (old mid : LinkerView) → k < length entry_indices → IsAfter known library (selected_entries es entry_indices) (selected_entries es (drop k entry_indices)) old mid → IsAfter known library (selected_entries es entry_indices) (chosen_at es (get_or entry_indices k d) ++ selected_entries es (drop (k + 1) entry_indices)) old mid
+place_at known library es entry_indices k d old mid lt is =
+    let entry_index = get_or entry_indices k d in
+    subst (λ (left : List Entry). IsAfter known library (selected_entries es entry_indices) left old mid) (ap (selected_entries es) (drop_item entry_indices k entry_index lt (any_default entry_indices k d entry_index lt))) is
 
-module _ (known now : Option Files) (library : List ℕ) (es : List Entry) (places : List ℕ) (k d : ℕ) (old mid new : LinkerView) (lt : k < length places) (same : now ≡ known) (script : mid.script ≡ old.script) (is : IsAfter known library (selected_entries es places) (selected_entries es (drop k places)) old mid) where
-  pub turn_refused : (x : LinkCommandFault) → FeedsMembers now library (chosen_at es (get_or places k d)) mid new (Err x) → FeedsMembers known library (selected_entries es places) old new (Err x)
-  turn_refused x fed = after_refused known library (selected_entries es places) (chosen_at es (get_or places k d)) (selected_entries es (drop (k + 1) places)) now old mid new x same script (place_at known library es places k d old mid lt is) fed
+module _ (known now : Option Files) (library : List ℕ) (es : List Entry) (entry_indices : List ℕ) (k d : ℕ) (old mid new : LinkerView) (lt : k < length entry_indices) (same : now ≡ known) (script : mid.script ≡ old.script) (is : IsAfter known library (selected_entries es entry_indices) (selected_entries es (drop k entry_indices)) old mid) where
+  pub turn_refused : (x : LinkCommandFault) → FeedsMembers now library (chosen_at es (get_or entry_indices k d)) mid new (Err x) → FeedsMembers known library (selected_entries es entry_indices) old new (Err x)
+  turn_refused x fed = after_refused known library (selected_entries es entry_indices) (chosen_at es (get_or entry_indices k d)) (selected_entries es (drop (k + 1) entry_indices)) now old mid new x same script (place_at known library es entry_indices k d old mid lt is) fed
 
-  pub turn_fed : FeedsMembers now library (chosen_at es (get_or places k d)) mid new (Ok tt) → IsAfter known library (selected_entries es places) (selected_entries es (drop (k + 1) places)) old new
-  turn_fed fed = after_more known library (selected_entries es places) (chosen_at es (get_or places k d)) (selected_entries es (drop (k + 1) places)) now old mid new same script (place_at known library es places k d old mid lt is) fed
+  pub turn_fed : FeedsMembers now library (chosen_at es (get_or entry_indices k d)) mid new (Ok tt) → IsAfter known library (selected_entries es entry_indices) (selected_entries es (drop (k + 1) entry_indices)) old new
+  turn_fed fed = after_more known library (selected_entries es entry_indices) (chosen_at es (get_or entry_indices k d)) (selected_entries es (drop (k + 1) entry_indices)) now old mid new same script (place_at known library es entry_indices k d old mid lt is) fed
 
-pub entry_there : (known : Option Files) (library : List ℕ) (es : List Entry) (place : ℕ) (e : Entry) (old new : LinkerView) (r : Result (Unit {0}) LinkCommandFault) → Some e ≡ slice_get es place → FeedsMembers known library (e ∷ []) old new r → FeedsMembers known library (chosen_at es place) old new r
-entry_there known library es place e old new r there fed =
+pub entry_there : (known : Option Files) (library : List ℕ) (es : List Entry) (index : ℕ) (e : Entry) (old new : LinkerView) (r : Result (Unit {0}) LinkCommandFault) → Some e ≡ slice_get es index → FeedsMembers known library (e ∷ []) old new r → FeedsMembers known library (chosen_at es index) old new r
+entry_there known library es index e old new r there fed =
     subst (λ (o : Option Entry). FeedsMembers known library (option_map_or (λ e. e ∷ []) o []) old new r) there fed
 
-pub none_there : (known : Option Files) (library : List ℕ) (es : List Entry) (place : ℕ) (old : LinkerView) → None ≡ slice_get es place → FeedsMembers known library (chosen_at es place) old old (Ok tt)
-none_there known library es place old there =
+pub none_there : (known : Option Files) (library : List ℕ) (es : List Entry) (index : ℕ) (old : LinkerView) → None ≡ slice_get es index → FeedsMembers known library (chosen_at es index) old old (Ok tt)
+none_there known library es index old there =
     subst (λ (o : Option Entry). FeedsMembers known library (option_map_or (λ e. e ∷ []) o []) old old (Ok tt)) there nothing
   where
     nothing : FeedsMembers known library [] old old (Ok tt)
@@ -154,10 +154,10 @@ after_none known library all old before stands = (before, stands, go known)
     go (Some m) = refl
 
 -- behind the last
-pub after_all : (known : Option Files) (library : List ℕ) (es : List Entry) (places : List ℕ) (k : ℕ) (old new : LinkerView) → length places ≤ k → IsAfter known library (selected_entries es places) (selected_entries es (drop k places)) old new → FeedsMembers known library (selected_entries es places) old new (Ok tt)
-after_all known library es places k old new le is before stands =
+pub after_all : (known : Option Files) (library : List ℕ) (es : List Entry) (entry_indices : List ℕ) (k : ℕ) (old new : LinkerView) → length entry_indices ≤ k → IsAfter known library (selected_entries es entry_indices) (selected_entries es (drop k entry_indices)) old new → FeedsMembers known library (selected_entries es entry_indices) old new (Ok tt)
+after_all known library es entry_indices k old new le is before stands =
     let p = is before stands in
-    (p.0, subst (λ (ps : List ℕ). IfSome known (λ m. with_members old.script m library before (selected_entries es places) ≡ with_members old.script m library p.0 (selected_entries es ps))) (drop_past places k le) p.2, p.1)
+    (p.0, subst (λ (ps : List ℕ). IfSome known (λ m. with_members old.script m library before (selected_entries es entry_indices) ≡ with_members old.script m library p.0 (selected_entries es ps))) (drop_past entry_indices k le) p.2, p.1)
   where
     drop_past : (ps : List ℕ) (k : ℕ) → length ps ≤ k → drop k ps ≡ []
     drop_past ps k le = grind (arith, common_steps)
@@ -173,18 +173,18 @@ indexed (Some m) k library es h = go (index_in m library) h
     go (Ok x) h = let same : x ≡ es = cc in ap Ok same
     go (Err f) h = absurd cc
 
--- the members were fed, an index and places of it as they are borrowed
-pub library_fed : (known : Option Files) (k : ℕ) (library : List ℕ) (es entries : List Entry) (places ps : List ℕ) (old new : LinkerView) (r : Result (Unit {0}) LinkCommandFault) → entries ≡ es → ps ≡ places → IfSome known (λ m. as_library k (index_in m library) ≡ Ok es) → AreChosen es places old → FeedsMembers known library (selected_entries entries ps) old new r → FeedsLibrary known k library old new r
-library_fed known k library es entries places ps old new r same_es same_places read chosen_so fed before stands = by r (rw (same_es, same_places) at fed before stands)
+-- the members were fed, an index and indices of its entries as they are borrowed
+pub library_fed : (known : Option Files) (k : ℕ) (library : List ℕ) (es entries : List Entry) (entry_indices ps : List ℕ) (old new : LinkerView) (r : Result (Unit {0}) LinkCommandFault) → entries ≡ es → ps ≡ entry_indices → IfSome known (λ m. as_library k (index_in m library) ≡ Ok es) → AreChosen es entry_indices old → FeedsMembers known library (selected_entries entries ps) old new r → FeedsLibrary known k library old new r
+library_fed known k library es entries entry_indices ps old new r same_es same_places read chosen_so fed before stands = by r (rw (same_es, same_places) at fed before stands)
   where
     index : IfSome known (λ m. index_in m library ≡ Ok es)
     index = indexed known k library es read
 
     all_in : Files → Result (List Module) LinkCommandFault
-    all_in m = with_members old.script m library before (selected_entries es places)
+    all_in m = with_members old.script m library before (selected_entries es entry_indices)
 
     as_input : (m : Files) (q : Result (List Module) LinkCommandFault) → index_in m library ≡ Ok es → all_in m ≡ q → IsLibraryInput old.script m k before library q
-    as_input m q index h = rw index (places, chosen_so before stands, sym h)
+    as_input m q index h = rw index (entry_indices, chosen_so before stands, sym h)
 
     told : (f : Option Files) (q : Result (List Module) LinkCommandFault) → IfSome f (λ m. index_in m library ≡ Ok es) → IfSome f (λ m. all_in m ≡ q) → IfSome f (λ m. IsLibraryInput old.script m k before library q)
     told None q index h = tt

@@ -119,15 +119,15 @@ module _ {X : Type 0} {files_of : X → Option Files} {failures_of : X → ℕ} 
     named = λ modules stands. tt;
   }
 
-  pub file_left : (place : ℕ) (name : List ℕ) (e : LinkFault) → LeavesObject files_of failures_of last_failure_of name old new before (Err e) → FeedFrame files_of failures_of last_failure_of (λ _ b. NamesFailure (IsOfObject b place name)) old new before after (Err (refusal_at place e))
-  file_left place name e left = record {
+  pub file_left : (index : ℕ) (name : List ℕ) (e : LinkFault) → LeavesObject files_of failures_of last_failure_of name old new before (Err e) → FeedFrame files_of failures_of last_failure_of (λ _ b. NamesFailure (IsOfObject b index name)) old new before after (Err (refusal_at index e))
+  file_left index name e left = record {
     opened = tt;
     keeps = keeps;
     files = files;
-    count = λ modules stands. named_count (refusal_at place) _ _ e refl (is_stored_at place e) (left modules stands).count;
+    count = λ modules stands. named_count (refusal_at index) _ _ e refl (is_stored_at index e) (left modules stands).count;
     named = λ modules stands failed.
-        let fault = is_stored_at place e failed in
-        let P : LinkFault → Type 0 = λ f. IsOfObject (last_failure_of new) place name (refusal_at place f) in
+        let fault = is_stored_at index e failed in
+        let P : LinkFault → Type 0 = λ f. IsOfObject (last_failure_of new) index name (refusal_at index f) in
         subst P (sym fault) (refl, (left modules stands).last_failure (ap Err fault));
   }
 
@@ -192,8 +192,8 @@ unasked IsOf old before e free = record {
 
 -- ---- The front of an input.
 
-failed_front : (place : ℕ) (f : ObjectFault) → is_failure (Object place f) ≡ true → f ≡ object.FileError
-failed_front place f h = let same : link.Malformed f ≡ file_failed = is_stored_at place (link.Malformed f) h in cc
+failed_front : (index : ℕ) (f : ObjectFault) → is_failure (Object index f) ≡ true → f ≡ object.FileError
+failed_front index f h = let same : link.Malformed f ≡ file_failed = is_stored_at index (link.Malformed f) h in cc
 
 module _ {X : Type 0} {files_of : X → Option Files} {failures_of : X → ℕ} {last_failure_of : X → LastFailure} (NamesAfter : List Module → LastFailure → LinkCommandFault → Type 0) (name : List ℕ) (old new : X) (before : LinkerView) where
   pub front_read : (b : Bool) → is_open before ≡ false → StoreFrame files_of failures_of last_failure_of object.FileError name old new (Ok b) → FeedFrame files_of failures_of last_failure_of NamesAfter old new before before (Ok tt)
@@ -205,19 +205,19 @@ module _ {X : Type 0} {files_of : X → Option Files} {failures_of : X → ℕ} 
     named = λ modules stands. tt;
   }
 
-pub front_unread : {X : Type 0} {files_of : X → Option Files} {failures_of : X → ℕ} {last_failure_of : X → LastFailure} (IsOf : List Module → LastFailure → LinkCommandFault → Type 0) (name : List ℕ) (old new : X) (before : LinkerView) (place : ℕ) (f : ObjectFault) → ((modules : List Module) (e : LinkCommandFault) → IsOfFront (last_failure_of new) place name e → IsOf modules (last_failure_of new) e) → StoreFrame {T = Bool} files_of failures_of last_failure_of object.FileError name old new (Err f) → (IsErrOf {T = Bool} (Err f) object.FileError → FailedWithin (last_failure_of new) name 0 4) → FeedFrame files_of failures_of last_failure_of (λ modules b. NamesFailure (IsOf modules b)) old new before before (Err (Object place f))
-front_unread {X} {files_of} {failures_of} {last_failure_of} IsOf name old new before place f so left within = record {
+pub front_unread : {X : Type 0} {files_of : X → Option Files} {failures_of : X → ℕ} {last_failure_of : X → LastFailure} (IsOf : List Module → LastFailure → LinkCommandFault → Type 0) (name : List ℕ) (old new : X) (before : LinkerView) (index : ℕ) (f : ObjectFault) → ((modules : List Module) (e : LinkCommandFault) → IsOfFront (last_failure_of new) index name e → IsOf modules (last_failure_of new) e) → StoreFrame {T = Bool} files_of failures_of last_failure_of object.FileError name old new (Err f) → (IsErrOf {T = Bool} (Err f) object.FileError → FailedWithin (last_failure_of new) name 0 4) → FeedFrame files_of failures_of last_failure_of (λ modules b. NamesFailure (IsOf modules b)) old new before before (Err (Object index f))
+front_unread {X} {files_of} {failures_of} {last_failure_of} IsOf name old new before index f so left within = record {
   opened = tt;
   keeps = record { script = refl; output = refl };
   files = left.files;
   count = λ modules stands. record {
     later = left.count.later;
-    told = λ h. let same : f ≡ object.FileError = cc (left.count.told h) in ap (λ x. is_failure (Object place x)) same;
-    cause = λ h. left.count.cause (ap Err (failed_front place f h));
+    told = λ h. let same : f ≡ object.FileError = cc (left.count.told h) in ap (λ x. is_failure (Object index x)) same;
+    cause = λ h. left.count.cause (ap Err (failed_front index f h));
   };
   named = λ modules stands failed.
-      let same = failed_front place f failed in
-      so modules (Object place f) (ap (λ x. Object place x) same, within (ap Err same));
+      let same = failed_front index f failed in
+      so modules (Object index f) (ap (λ x. Object index x) same, within (ap Err same));
 }
 
 -- ---- All inputs.

@@ -45,9 +45,9 @@ record IsInMember (m : Files) (l : Linking) (c : FailedCall) (i : ℕ) (entry : 
 
 -- its message names the member
 record NamesMember (m : Files) (l : Linking) (c : FailedCall) (e : LinkCommandFault) : Type 0 where
-  place : ℕ
+  entry_index : ℕ
   entry : Entry
-  within : IsInMember m l c place entry
+  within : IsInMember m l c entry_index entry
   says : error_message l e ≡ failure_of (member_module c.name entry.name)
 
 -- or it names a file, and no member was asked for
@@ -189,7 +189,7 @@ module _ (m : Files) (l : Linking) (c : FailedCall) (tells : TellsPart m c) wher
       let p = h.named in
       let is : name ≡ c.name = sym p.1.0 in
       record {
-        place = h.place;
+        entry_index = h.entry_index;
         entry = h.entry;
         within = record {
           script = s;
@@ -221,9 +221,9 @@ module _ (m : Files) (l : Linking) (c : FailedCall) (tells : TellsPart m c) wher
 
   one_message : (e f : LinkCommandFault) → NamesFile m l c e ⊎ NamesMember m l c e → NamesFile m l c f ⊎ NamesMember m l c f → error_message l e ≡ error_message l f
   one_message e f (inl x) (inl y) = x.says ∙ sym y.says
-  one_message e f (inl x) (inr y) = absurd (x.apart y.place y.entry y.within)
-  one_message e f (inr x) (inl y) = absurd (y.apart x.place x.entry x.within)
-  one_message e f (inr x) (inr y) = x.says ∙ ap (λ (d : Entry). failure_of (member_module c.name d.name)) (one_member x.place y.place x.entry y.entry x.within y.within) ∙ sym y.says
+  one_message e f (inl x) (inr y) = absurd (x.apart y.entry_index y.entry y.within)
+  one_message e f (inr x) (inl y) = absurd (y.apart x.entry_index x.entry x.within)
+  one_message e f (inr x) (inr y) = x.says ∙ ap (λ (d : Entry). failure_of (member_module c.name d.name)) (one_member x.entry_index y.entry_index x.entry y.entry x.within y.within) ∙ sym y.says
 
 pub one_naming : LinkNamingIsUnique
 one_naming m l c e f tells a b = one_message m l c tells e f (of_line m l c tells e a) (of_line m l c tells f b)

@@ -127,8 +127,8 @@ library_own k (Err e) h = record { own = library_fault k e h }
 
 some_needed : (s : Script) (m : Files) (library : List ℕ) (before : List Module) (es : List Entry) → Has is_system_error (AreNeeded s m library before es)
 some_needed s m library before es =
-    let places = some_selection es (open_names s (program_of before)) (given_names s (program_of before)) in
-    (with_members s m library before (selected_entries es places.0), (places.0, places.1, refl), members_own s m library before (selected_entries es places.0))
+    let entry_indices = some_selection es (open_names s (program_of before)) (given_names s (program_of before)) in
+    (with_members s m library before (selected_entries es entry_indices.0), (entry_indices.0, entry_indices.1, refl), members_own s m library before (selected_entries es entry_indices.0))
 
 some_library : (s : Script) (m : Files) (k : ℕ) (before : List Module) (library : List ℕ) → Has is_system_error (IsLibraryInput s m k before library)
 some_library s m k before library =

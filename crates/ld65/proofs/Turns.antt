@@ -33,44 +33,44 @@ later_in (Some c) name begin at end le h = (h.0, h.1, h.2, omega (arith, le, h.3
 
 -- a reading of an object's file that failed, as the linker's
 pub read_within : {A B : Type 0} (b : LastFailure) (name : List ℕ) (begin at end : ℕ) (f : ObjectFault) → begin ≤ at → at ≤ end → (IsErrOf {T = A} (Err f) object.FileError → at ≤ end → FailedWithin b name at end) → IsErrOf {T = B} (Err (of_object f)) file_failed → FailedWithin b name begin end
-read_within b name begin at end f le room within h =
-    later_in b name begin at end le (within (ap Err (stored f (err_is _ _ h))) room)
+read_within b name begin at end f le fits within h =
+    later_in b name begin at end le (within (ap Err (stored f (err_is _ _ h))) fits)
 
 -- ---- The members of a library.
 
 -- the members before a turn were fed
 abbrev pub IsTurn : Option Files → List ℕ → List Entry → List ℕ → ℕ → LinkerView → LinkerView → Type 0
-IsTurn known library es places k old now =
+IsTurn known library es entry_indices k old now =
     (before : List Module) → IsFed old before
     → (modules : List Module) × IsFed now modules
-    × IfSome known (λ m. with_members old.script m library before (selected_entries es (take k places)) ≡ Ok modules)
+    × IfSome known (λ m. with_members old.script m library before (selected_entries es (take k entry_indices)) ≡ Ok modules)
 
-pub first_turn : (known : Option Files) (library : List ℕ) (es : List Entry) (places : List ℕ) (old : LinkerView) → IsTurn known library es places 0 old old
-first_turn known library es places old before stands = (before, stands, go known)
+pub first_turn : (known : Option Files) (library : List ℕ) (es : List Entry) (entry_indices : List ℕ) (old : LinkerView) → IsTurn known library es entry_indices 0 old old
+first_turn known library es entry_indices old before stands = (before, stands, go known)
   where
-    go : (f : Option Files) → IfSome f (λ m. with_members old.script m library before (selected_entries es (take 0 places)) ≡ Ok before)
+    go : (f : Option Files) → IfSome f (λ m. with_members old.script m library before (selected_entries es (take 0 entry_indices)) ≡ Ok before)
     go None = tt
     go (Some m) = refl
 
-module _ (known now : Option Files) (library : List ℕ) (es : List Entry) (places : List ℕ) (k d : ℕ) (old mid new : LinkerView) where
-  -- with one more place
-  one_more : k < length places → selected_entries es (take (k + 1) places) ≡ selected_entries es (take k places) ++ chosen_at es (get_or places k d)
+module _ (known now : Option Files) (library : List ℕ) (es : List Entry) (entry_indices : List ℕ) (k d : ℕ) (old mid new : LinkerView) where
+  -- with one more index
+  one_more : k < length entry_indices → selected_entries es (take (k + 1) entry_indices) ≡ selected_entries es (take k entry_indices) ++ chosen_at es (get_or entry_indices k d)
   one_more lt =
-      ap (selected_entries es) (take_more places k d lt) ∙ flat_map-append (chosen_at es) (take k places) (get_or places k d ∷ [])
-      ∙ ap (λ xs. selected_entries es (take k places) ++ xs) (append-nil (chosen_at es (get_or places k d)))
+      ap (selected_entries es) (take_more entry_indices k d lt) ∙ flat_map-append (chosen_at es) (take k entry_indices) (get_or entry_indices k d ∷ [])
+      ∙ ap (λ xs. selected_entries es (take k entry_indices) ++ xs) (append-nil (chosen_at es (get_or entry_indices k d)))
 
-  pub next_turn : k < length places → now ≡ known → mid.script ≡ old.script → IsTurn known library es places k old mid → FeedsMembers now library (chosen_at es (get_or places k d)) mid new (Ok tt) → IsTurn known library es places (k + 1) old new
+  pub next_turn : k < length entry_indices → now ≡ known → mid.script ≡ old.script → IsTurn known library es entry_indices k old mid → FeedsMembers now library (chosen_at es (get_or entry_indices k d)) mid new (Ok tt) → IsTurn known library es entry_indices (k + 1) old new
   next_turn lt same script is fed before stands =
       let p = is before stands in
       let q = fed p.0 p.1 in
       (q.0, q.2, go p.0 q.0 known p.2 (rw same at q.1))
     where
-      go : (modules more : List Module) (f : Option Files) → IfSome f (λ m. with_members old.script m library before (selected_entries es (take k places)) ≡ Ok modules) → IfSome f (λ m. with_members mid.script m library modules (chosen_at es (get_or places k d)) ≡ Ok more) → IfSome f (λ m. with_members old.script m library before (selected_entries es (take (k + 1) places)) ≡ Ok more)
+      go : (modules more : List Module) (f : Option Files) → IfSome f (λ m. with_members old.script m library before (selected_entries es (take k entry_indices)) ≡ Ok modules) → IfSome f (λ m. with_members mid.script m library modules (chosen_at es (get_or entry_indices k d)) ≡ Ok more) → IfSome f (λ m. with_members old.script m library before (selected_entries es (take (k + 1) entry_indices)) ≡ Ok more)
       go modules more None h added = tt
       go modules more (Some m) h added =
-          let this = chosen_at es (get_or places k d) in
+          let this = chosen_at es (get_or entry_indices k d) in
           ap (with_members old.script m library before) (one_more lt)
-          ∙ in_turn known library [] old.script m before (selected_entries es (take k places)) this
+          ∙ in_turn known library [] old.script m before (selected_entries es (take k entry_indices)) this
           ∙ ap (λ r. r >>= (λ ms. with_members old.script m library ms this)) h
           ∙ subst (λ (s : Script). with_members s m library modules this ≡ Ok more) script added
 
@@ -81,21 +81,21 @@ stands_at (x ∷ xs) zero d h = refl
 stands_at (x ∷ xs) (suc k) d h = stands_at xs k d (omega (arith, h))
 
 -- the member at a turn was refused
-pub of_needed : (known : Option Files) (place : ℕ) (library : List ℕ) (es : List Entry) (places : List ℕ) (k d : ℕ) (entry : Entry) (old mid : LinkerView) (b : LastFailure) (e : LinkCommandFault) (input : ℕ) → IfSome known (λ m. as_library place (index_in m library) ≡ Ok es) → AreChosen es places old → k < length places → Some entry ≡ slice_get es (get_or places k d) → IsTurn known library es places k old mid → (before : List Module) → IsFed old before → (modules : List Module) × IsFed mid modules × (NamesFailure (IsOfMember b library entry) e → NamesFailure (IsOfLibrary known old.script before b input library) e)
-of_needed known place library es places k d entry old mid b e input read chosen_so lt there is before stands =
+pub of_needed : (known : Option Files) (input_index : ℕ) (library : List ℕ) (es : List Entry) (entry_indices : List ℕ) (k d : ℕ) (entry : Entry) (old mid : LinkerView) (b : LastFailure) (e : LinkCommandFault) (input : ℕ) → IfSome known (λ m. as_library input_index (index_in m library) ≡ Ok es) → AreChosen es entry_indices old → k < length entry_indices → Some entry ≡ slice_get es (get_or entry_indices k d) → IsTurn known library es entry_indices k old mid → (before : List Module) → IsFed old before → (modules : List Module) × IsFed mid modules × (NamesFailure (IsOfMember b library entry) e → NamesFailure (IsOfLibrary known old.script before b input library) e)
+of_needed known input_index library es entry_indices k d entry old mid b e input read chosen_so lt there is before stands =
     let p = is before stands in (
       p.0,
       p.1,
       λ named failed. inr (record {
         entries = es;
-        index = indexed known place library es read;
-        places = places;
+        index = indexed known input_index library es read;
+        entry_indices = entry_indices;
         needed = chosen_so before stands;
         turn = k;
         modules = p.0;
         linked = p.2;
-        place = get_or places k d;
-        its_turn = stands_at places k d lt;
+        entry_index = get_or entry_indices k d;
+        its_turn = stands_at entry_indices k d lt;
         entry = entry;
         there = sym there;
         named = named failed;
@@ -176,13 +176,13 @@ kind (Some m) name b h = go (get m name) h
     go None h = absurd cc
     go (Some bytes) h = cc
 
-module _ (known : Option Files) (s : Script) (place : ℕ) (name : List ℕ) where
+module _ (known : Option Files) (s : Script) (index : ℕ) (name : List ℕ) where
   -- what a refusal names, of an object, as of an input
-  pub by_object : (modules : List Module) (b : LastFailure) (r : Result (Unit {0}) LinkCommandFault) → IfSome known (λ m. is_library_in m name ≡ false) → IfErr r (NamesFailure (IsOfObject b place name)) → IfErr r (NamesFailure (IsOfInput known s modules b place name))
+  pub by_object : (modules : List Module) (b : LastFailure) (r : Result (Unit {0}) LinkCommandFault) → IfSome known (λ m. is_library_in m name ≡ false) → IfErr r (NamesFailure (IsOfObject b index name)) → IfErr r (NamesFailure (IsOfInput known s modules b index name))
   by_object modules b (Ok u) kind h = tt
   by_object modules b (Err e) kind h = λ failed. inr (inl (kind, h failed))
 
 -- (the files are as before)
-pub by_library : (known now : Option Files) (s : Script) (place : ℕ) (name : List ℕ) → now ≡ known → (modules : List Module) (b : LastFailure) (r : Result (Unit {0}) LinkCommandFault) → IfSome known (λ m. is_library_in m name ≡ true) → IfErr r (NamesFailure (IsOfLibrary now s modules b place name)) → IfErr r (NamesFailure (IsOfInput known s modules b place name))
-by_library known now s place name same modules b (Ok u) kind h = tt
-by_library known now s place name same modules b (Err e) kind h = λ failed. inr (inr (kind, subst (λ (f : Option Files). IsOfLibrary f s modules b place name e) same (h failed)))
+pub by_library : (known now : Option Files) (s : Script) (index : ℕ) (name : List ℕ) → now ≡ known → (modules : List Module) (b : LastFailure) (r : Result (Unit {0}) LinkCommandFault) → IfSome known (λ m. is_library_in m name ≡ true) → IfErr r (NamesFailure (IsOfLibrary now s modules b index name)) → IfErr r (NamesFailure (IsOfInput known s modules b index name))
+by_library known now s index name same modules b (Ok u) kind h = tt
+by_library known now s index name same modules b (Err e) kind h = λ failed. inr (inr (kind, subst (λ (f : Option Files). IsOfLibrary f s modules b index name e) same (h failed)))

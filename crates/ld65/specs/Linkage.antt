@@ -29,7 +29,7 @@ use Rattle.ld65.specs.declared.fault.LinkCommandFault.{LinkCommandFault}
 use Rattle.ld65.specs.declared.fault.LinkCommandFault.TheVariants as refusal
 use Rattle.ld65.specs.Faults.{refusal_at, refusal_in}
 
--- the faults of the parts as the command's; an input is named by its place in the line
+-- the faults of the parts as the command's; an input is named by its index in the line
 abbrev pub as_script : Result Script ScriptFault → Result Script LinkCommandFault
 as_script (Ok s) = Ok s
 as_script (Err e) = Err (refusal.Script e)
@@ -104,20 +104,20 @@ abbrev pub with_members : Script → Files → List ℕ → List Module → List
 with_members s m library before [] = Ok before
 with_members s m library before (e ∷ es) = with_member s m library before e >>= (λ ms. with_members s m library ms es)
 
--- the entry at a place of an index, if there is one
+-- the entry at an index of a library's index, if there is one
 abbrev pub chosen_at : List Entry → ℕ → List Entry
-chosen_at es place = option_map_or (λ e. e ∷ []) (slice_get es place) []
+chosen_at es index = option_map_or (λ e. e ∷ []) (slice_get es index) []
 
 abbrev pub selected_entries : List Entry → List ℕ → List Entry
-selected_entries es places = flat_map (chosen_at es) places
+selected_entries es entry_indices = flat_map (chosen_at es) entry_indices
 
 -- The members of an index that the modules before the library need, in file order: the first exporters of the
 -- names in a least set. The set has the names that these modules leave undefined; and with each name those
 -- that its first exporter imports and that they don't define.
 abbrev pub AreNeeded : Script → Files → List ℕ → List Module → List Entry → Result (List Module) LinkCommandFault → Type 0
 AreNeeded s m library before es r =
-    (places : List ℕ) × IsSelection es (open_names s (program_of before)) (given_names s (program_of before)) places
-    × (r ≡ with_members s m library before (selected_entries es places))
+    (entry_indices : List ℕ) × IsSelection es (open_names s (program_of before)) (given_names s (program_of before)) entry_indices
+    × (r ≡ with_members s m library before (selected_entries es entry_indices))
 
 abbrev pub index_in : Files → List ℕ → Result (List Entry) LibraryFault
 index_in m library = in_library (get m library) index_at

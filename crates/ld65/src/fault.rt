@@ -1,4 +1,4 @@
-//! Why nothing is linked.
+//! The errors of the command ld65, and their messages.
 
 ghost use Rattle.std.specs.Prelude.{◌≡◌, IfOk, map};
 ghost use Rattle.link65.specs.declared.fault.LinkFault.{LinkFault};
@@ -15,23 +15,23 @@ use object65::ObjectFault;
 use script65::{Fault, ScriptFault};
 use std::alloc::{AllocError, Global};
 
-/// Why nothing is linked.
+/// An error of the command ld65.
 #[derive(Drop)]
 pub enum LinkCommandFault {
     OutOfMemory,
     /// The script can't be read.
     ScriptFile(StoreFault),
-    /// It is no script.
+    /// The script has an error.
     Script(ScriptFault),
-    /// The input at this place of the line can't be read or is no object.
+    /// The input at this index of the command line can't be read or isn't an object.
     Object(usize, ObjectFault),
-    /// The library at this place of the line can't be read or is none.
+    /// The input at this index of the command line can't be read or isn't a valid library.
     Library(usize, LibraryFault),
-    /// The library's member of this module's name can't be read or is no object.
+    /// The library's member of this module's name can't be read or isn't an object.
     Member(ListVec<u8>, ObjectFault),
     /// The index of a library disagrees with the member of this module's name.
     Disagrees(ListVec<u8>),
-    /// The objects aren't linked.
+    /// The objects can't be linked.
     Link(LinkFault),
 }
 
@@ -84,17 +84,17 @@ impl LinkCommandFault {
         }
     }
 
-    /// The refusal of the object at a place of the line: a fault of its own is named by the place.
-    pub fn of_input(place: usize, fault: LinkFault) -> LinkCommandFault
-        ensures { result ≡ refusal_at place fault }
+    /// Returns the error of the object at an index of the command line. An error in the object itself is reported for this index.
+    pub fn of_input(index: usize, fault: LinkFault) -> LinkCommandFault
+        ensures { result ≡ refusal_at index fault }
     {
         match fault {
-            LinkFault::Malformed(fault) => LinkCommandFault::Object(place, fault),
+            LinkFault::Malformed(fault) => LinkCommandFault::Object(index, fault),
             fault => LinkCommandFault::Link(fault),
         }
     }
 
-    /// The refusal of a library's member: a fault of its own is named by its module.
+    /// Returns the error of a library's member. An error in the member itself is reported for its module.
     pub fn of_member(name: ListVec<u8>, fault: LinkFault) -> LinkCommandFault
         ensures { result ≡ refusal_in name fault }
     {
@@ -106,39 +106,44 @@ impl LinkCommandFault {
     }
 }
 
-/// The message of a fault of linking: that of a value at its module, file and line, any other as the linker's.
+/// Returns the message of a link error. An error of a value is reported with its module, file and line, any other as the linker's.
 fn link_message(alloc: Global, fault: &LinkFault) -> Result<ListVec<u8>, AllocError>
     ensures { IfOk result (λ text. text ≡ link_message fault.now) }
 {
-    let words = fault_text(alloc, fault)?;
+    let message = fault_text(alloc, fault)?;
     match fault {
         LinkFault::Circular(site)
         | LinkFault::OutOfRange(site)
         | LinkFault::NoValue(site)
         | LinkFault::Assertion(site, _) => {
             let name = location_name(alloc, site)?;
-            line_message(alloc, name.as_slice(), site.line as usize, words.as_slice())
+            line_message(
+                alloc,
+                name.as_slice(),
+                site.line as usize,
+                message.as_slice(),
+            )
         }
-        _ => file_message(alloc, b"ld65", words.as_slice()),
+        _ => file_message(alloc, b"ld65", message.as_slice()),
     }
 }
 
-/// The message of a fault of the input at a place of the line.
+/// Returns the message of an error in the input at an index of the command line.
 fn input_message(
     alloc: Global,
     line: &LinkArgs<'_>,
-    place: usize,
-    words: &str,
+    index: usize,
+    message: &str,
 ) -> Result<ListVec<u8>, AllocError>
-    ensures { IfOk result (λ text. text ≡ file_message (input_name_at (linking line.now).inputs place) words.now) }
+    ensures { IfOk result (λ text. text ≡ file_message (input_name_at (linking line.now).inputs index) message.now) }
 {
-    match line.inputs.as_slice().get(place) {
-        Some(name) => file_message(alloc, name.as_bytes(), words.as_bytes()),
-        None => file_message(alloc, b"", words.as_bytes()),
+    match line.inputs.as_slice().get(index) {
+        Some(name) => file_message(alloc, name.as_bytes(), message.as_bytes()),
+        None => file_message(alloc, b"", message.as_bytes()),
     }
 }
 
-/// The message of a refusal, where memory didn't run out.
+/// Returns the message of an error other than *out of memory*.
 fn cause_message(
     alloc: Global,
     line: &LinkArgs<'_>,
@@ -160,24 +165,24 @@ fn cause_message(
                 fault.to_string(alloc)?.as_bytes(),
             )
         }
-        LinkCommandFault::Object(place, fault) => {
-            input_message(alloc, line, *place, fault.to_string(alloc)?.as_str())
+        LinkCommandFault::Object(index, fault) => {
+            input_message(alloc, line, *index, fault.to_string(alloc)?.as_str())
         }
-        LinkCommandFault::Library(place, fault) => {
-            input_message(alloc, line, *place, fault.to_string(alloc)?.as_str())
+        LinkCommandFault::Library(index, fault) => {
+            input_message(alloc, line, *index, fault.to_string(alloc)?.as_str())
         }
         LinkCommandFault::Member(name, fault) => {
             file_message(alloc, name.as_slice(), fault.to_string(alloc)?.as_bytes())
         }
         LinkCommandFault::Disagrees(name) => {
-            let words = fault_text(alloc, &LinkFault::IndexDisagrees)?;
-            file_message(alloc, name.as_slice(), words.as_slice())
+            let message = fault_text(alloc, &LinkFault::IndexDisagrees)?;
+            file_message(alloc, name.as_slice(), message.as_slice())
         }
         LinkCommandFault::Link(fault) => link_message(alloc, fault),
     }
 }
 
-/// The message of a refusal, by the line that asked.
+/// Returns the message of an error of a command line.
 pub fn error_message(
     alloc: Global,
     line: &LinkArgs<'_>,

@@ -2,7 +2,7 @@
 
 ghost use Rattle.ld65.specs.Laws.{LinkNamingIsUnique, CommandLinkExists, ScriptedLinkExists};
 
-/// By any script a command line has a result: files, warnings and a map, or a first error of the
+/// With any script a command line has a result: files, warnings and a map, or a first error of the
 /// files.
 pub fn scripted_link_exists()
     ensures { ScriptedLinkExists }
@@ -14,8 +14,8 @@ pub fn command_link_exists()
     ensures { CommandLinkExists }
 {}
 
-/// A call that failed while files were read has one message, where its file and place tell which part of a library it
-/// asked for.
+/// A call that failed while files were read has one message, if its file and offset determine which part of a library it
+/// requested.
 pub fn link_naming_is_unique()
     ensures { LinkNamingIsUnique }
 {}

@@ -1,4 +1,4 @@
-//! From the inputs of a line to what they are linked to.
+//! Links the inputs of a command line.
 
 ghost use Rattle.std.specs.Prelude.{◌≡◌, ◌≤◌, [], List, ℕ, OnOk, Option, true, false, IfErr, IfOk, IfSome, IsErrOf, Ok, map};
 ghost use Rattle.base65.specs.Store.{PropagatesIoErrors, FailsAtLastCount, FailedWithin};
@@ -36,7 +36,7 @@ use std::alloc::Global;
 pub struct ObjectInput<'a> {
     pub file: &'a str,
     pub begin: u64,
-    /// The end of its room: it ends there at the latest.
+    /// The offset at which it ends at the latest.
     pub end: u64,
     pub name: &'a [u8],
     pub entry: Option<&'a Entry>,
@@ -79,7 +79,7 @@ fn feed_records<S: Store>(
     }
 }
 
-/// Feeds an object as a module, where none is open.
+/// Feeds an object as a module. No module may be open.
 pub fn feed_object<S: Store>(
     store: &mut S,
     linker: &mut Linker,
@@ -106,7 +106,7 @@ pub fn feed_object<S: Store>(
     linker.end_module()
 }
 
-/// With these bytes a library begins.
+/// The bytes with which a library begins.
 const LIBRARY: [u8; 4] = [0x52, 0x36, 0x35, 0x6c];
 
 /// Returns whether a file begins as a library.
@@ -120,7 +120,7 @@ fn is_library<S: Store>(store: &mut S, name: &str) -> Result<bool, ObjectFault>
     Ok(front[..n] == LIBRARY[..])
 }
 
-/// Feeds the object that takes a whole file, as a module of the file's name.
+/// Feeds a file that is an object, as a module of the file's name.
 fn feed_file<S: Store>(
     store: &mut S,
     linker: &mut Linker,
@@ -128,9 +128,9 @@ fn feed_file<S: Store>(
     input: &Named<'_>,
 ) -> Result<(), LinkCommandFault>
     requires { is_open linker.old ≡ false }
-    ensures fed { FeedsFile (S.files store.old) input.now.place input.now.name.now linker.old linker.new result }
+    ensures fed { FeedsFile (S.files store.old) input.now.index input.now.name.now linker.old linker.new result }
     ensures frame { FeedFrame S.files S.failures S.last_failure
-        (λ _ b. NamesFailure (IsOfObject b input.now.place input.now.name.now))
+        (λ _ b. NamesFailure (IsOfObject b input.now.index input.now.name.now))
         store.old store.new linker.old linker.new result }
 {
     let object = ObjectInput {
@@ -142,7 +142,7 @@ fn feed_file<S: Store>(
     };
     match feed_object(store, linker, reader, &object) {
         Ok(()) => Ok(()),
-        Err(fault) => Err(LinkCommandFault::of_input(input.place, fault)),
+        Err(fault) => Err(LinkCommandFault::of_input(input.index, fault)),
     }
 }
 
@@ -155,16 +155,16 @@ fn feed_input<S: Store>(
     input: &Named<'_>,
 ) -> Result<(), LinkCommandFault>
     requires { is_open linker.old ≡ false }
-    ensures fed { FeedsInput (S.files store.old) input.now.place input.now.name.now linker.old linker.new result }
+    ensures fed { FeedsInput (S.files store.old) input.now.index input.now.name.now linker.old linker.new result }
     ensures frame { FeedFrame S.files S.failures S.last_failure
         (λ before b. NamesFailure (IsOfInput (S.files store.old) linker.old.script before b
-        input.now.place input.now.name.now))
+        input.now.index input.now.name.now))
         store.old store.new linker.old linker.new result }
 {
     match is_library(store, input.name) {
         Ok(true) => feed_library(alloc, store, linker, input),
         Ok(false) => feed_file(store, linker, reader, input),
-        Err(fault) => Err(LinkCommandFault::Object(input.place, fault)),
+        Err(fault) => Err(LinkCommandFault::Object(input.index, fault)),
     }
 }
 
@@ -183,8 +183,8 @@ fn feed_inputs<S: Store>(
         store.old store.new linker.old linker.new result }
 {
     let mut reader = RecordReader::new();
-    for (place, name) in inputs.iter().enumerate() {
-        feed_input(alloc, store, linker, &mut reader, &Named { place, name })?;
+    for (index, name) in inputs.iter().enumerate() {
+        feed_input(alloc, store, linker, &mut reader, &Named { index, name })?;
     }
     Ok(())
 }
@@ -210,7 +210,7 @@ fn link_inputs<S: Store>(
     Ok(linker.finish()?)
 }
 
-/// The script's bytes, no more of them than tell that it is too long.
+/// Reads the bytes of a script, at most one more than the size limit.
 fn read_text<S: Store>(
     alloc: Global,
     store: &mut S,

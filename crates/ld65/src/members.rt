@@ -1,4 +1,4 @@
-//! The members of a library that are needed.
+//! Feeds the members of a library that are needed.
 
 ghost use Rattle.std.specs.Prelude.{◌≡◌, ◌+◌, ◌≤◌, List, IfErr, IfOk, IfSome, false, true, ◌∷◌, [], option_map, slice_get};
 ghost use Rattle.std.specs.List.{AllByRecursion};
@@ -19,41 +19,41 @@ use link65::Linker;
 use object65::RecordReader;
 use std::alloc::{AllocError, Global};
 
-/// An input of the line: its place there, and its name.
+/// An input of the command line: its index and its name.
 #[derive(Clone, Copy)]
 pub struct Named<'a> {
-    pub place: usize,
+    pub index: usize,
     pub name: &'a str,
 }
 
-/// The index of a library.
+/// Reads the index of a library.
 fn index_of<S: Store>(
     alloc: Global,
     store: &mut S,
     input: &Named<'_>,
 ) -> Result<Index, LinkCommandFault>
-    ensures read { IfSome (S.files store.old) (λ m. Refines is_system_error (λ x. x.entries) result (as_library input.now.place (index_in m input.now.name.now))) }
+    ensures read { IfSome (S.files store.old) (λ m. Refines is_system_error (λ x. x.entries) result (as_library input.now.index (index_in m input.now.name.now))) }
     ensures within { IfOk result (λ x. AllByRecursion (λ e. e.place + e.size ≤ file_limit) x.entries) }
     ensures frame { NamedStoreFrame S.files S.failures S.last_failure
-        (λ b. NamesFailure (IsOfIndex (S.files store.old) b input.now.place input.now.name.now))
+        (λ b. NamesFailure (IsOfIndex (S.files store.old) b input.now.index input.now.name.now))
         store.old store.new result }
 {
     match read_index(alloc, store, input.name) {
         Ok(index) => Ok(index),
-        Err(fault) => Err(LinkCommandFault::Library(input.place, fault)),
+        Err(fault) => Err(LinkCommandFault::Library(input.index, fault)),
     }
 }
 
 /// Returns the indices of the members that the script and the modules fed so far need.
 fn places_of(alloc: Global, linker: &Linker, index: &Index) -> Result<Vec<usize>, LinkCommandFault>
-    ensures chosen { IfOk result (λ places. AreChosen index.now.entries places.items linker.now) }
+    ensures chosen { IfOk result (λ entry_indices. AreChosen index.now.entries entry_indices.items linker.now) }
     ensures memory { (modules : List Module) → IsFed linker.now modules → IfErr result (λ e. is_memory e ≡ true) }
     ensures cause { IfErr result (λ e. is_failure e ≡ false) }
 {
     let wanted = linker.open_names()?;
     let defined = linker.defined_names()?;
     match select(alloc, index, &wanted, &defined) {
-        Ok(places) => Ok(places),
+        Ok(entry_indices) => Ok(entry_indices),
         Err(_) => Err(LinkCommandFault::OutOfMemory),
     }
 }
@@ -65,7 +65,7 @@ struct LibraryMember<'a> {
     entry: &'a Entry,
 }
 
-/// The name of a member's module.
+/// Returns the name of a member's module.
 fn module_name(alloc: Global, member: &LibraryMember<'_>) -> Result<ListVec<u8>, AllocError>
     ensures { IfOk result (λ name. name ≡ member_module member.now.library.now member.now.entry.now.name) }
 {
@@ -109,10 +109,10 @@ fn feed_member<S: Store>(
     }
 }
 
-fn entry_at(entries: &[Entry], place: usize) -> Option<&Entry>
-    ensures { option_map (λ e. e.now) result ≡ slice_get entries.now place }
+fn entry_at(entries: &[Entry], index: usize) -> Option<&Entry>
+    ensures { option_map (λ e. e.now) result ≡ slice_get entries.now index }
 {
-    entries.get(place)
+    entries.get(index)
 }
 
 /// Feeds the members of a library that the script and the modules fed so far need. Of the library only its index and
@@ -124,19 +124,19 @@ pub fn feed_library<S: Store>(
     input: &Named<'_>,
 ) -> Result<(), LinkCommandFault>
     requires { is_open linker.old ≡ false }
-    ensures fed { FeedsLibrary (S.files store.old) input.now.place input.now.name.now linker.old linker.new result }
+    ensures fed { FeedsLibrary (S.files store.old) input.now.index input.now.name.now linker.old linker.new result }
     ensures frame { FeedFrame S.files S.failures S.last_failure
         (λ before b. NamesFailure (IsOfLibrary (S.files store.old) linker.old.script before b
-        input.now.place input.now.name.now))
+        input.now.index input.now.name.now))
         store.old store.new linker.old linker.new result }
 {
     let index = index_of(alloc, store, input)?;
-    let places = places_of(alloc, linker, &index)?;
+    let entry_indices = places_of(alloc, linker, &index)?;
     let library = input.name;
     let entries = index.entries.as_slice();
     let mut reader = RecordReader::new();
-    for place in places.as_slice() {
-        if let Some(entry) = entry_at(entries, *place) {
+    for entry_index in entry_indices.as_slice() {
+        if let Some(entry) = entry_at(entries, *entry_index) {
             let member = LibraryMember { library, entry };
             feed_member(alloc, store, linker, &mut reader, &member)?;
         }

@@ -51,7 +51,7 @@ whole_image len fill pieces image x same = grind (arith, common_steps)
 pub first_bytes : (len start : ℕ) (ls : List RowImage) (l : RowImage) (w : IsWhole len (pieces_in start ls)) → l ≡ get_or ls 0 l → l.bytes ≡ (w.0).bytes
 first_bytes len start x l y e = grind (arith, common_steps)
 
-pub one_row : (len start : ℕ) (ls : List RowImage) (l : RowImage) → 1 ≤ length ls → length ls < 2 → l ≡ get_or ls 0 l → l.place.load ≤ start → length l.bytes ≡ len → IsWhole len (pieces_in start ls)
+pub one_row : (len start : ℕ) (ls : List RowImage) (l : RowImage) → 1 ≤ length ls → length ls < 2 → l ≡ get_or ls 0 l → l.placement.load ≤ start → length l.bytes ≡ len → IsWhole len (pieces_in start ls)
 one_row len start [] l some few is le long = absurd (omega arith)
 one_row len start (x ∷ y ∷ ls) l some few is le long = absurd (omega arith)
 one_row len start (x ∷ []) l some few is le long = (piece_at start (view l), ap (λ (z : RowImage). piece_at start (view z) ∷ []) (sym is), omega arith, long)
@@ -70,8 +70,8 @@ full_over start [] i before = refl
 full_over start (l ∷ ls) i before = grind (arith, common_steps, (full_over start ls i), none_laid)
 
 -- the file of an area's rows, by its length and those that have bytes
-pub file_of : (a : MemoryArea) (place : AreaPlacement) (ls items : List RowImage) (len : ℕ) (image : List ℕ) → items ≡ filter has_bytes ls → len ≡ file_len a place (map placed_in ls) → IsImage len a.fill_value (pieces_in place.start items) image → IsFileOf a place (map view ls) image
-file_of a place ls items len image are long file = grind (arith, common_steps, there, full_over, placed_all)
+pub file_of : (a : MemoryArea) (placement : AreaPlacement) (ls items : List RowImage) (len : ℕ) (image : List ℕ) → items ≡ filter has_bytes ls → len ≡ file_len a placement (map placed_in ls) → IsImage len a.fill_value (pieces_in placement.start items) image → IsFileOf a placement (map view ls) image
+file_of a placement ls items len image are long file = grind (arith, common_steps, there, full_over, placed_all)
 
 -- ---- By what rows hold.
 
@@ -84,8 +84,8 @@ all_pieces start bytes [] = refl
 all_pieces start bytes (p ∷ ps) = ap (λ qs. record { offset = offset_of start p; bytes = bytes p.row } ∷ qs) (all_pieces start bytes ps)
 
 -- the file of rows with their bytes is that of the rows
-pub file_by : (bytes : RowBytes) (a : MemoryArea) (place : AreaPlacement) (hs : List PlacedBytes) (ps : List PlacedRow) (image : List ℕ) → hs ≡ map (held_by bytes) ps → IsFileOf a place hs image → IsFileBy bytes a place ps image
-file_by bytes a place hs ps image are file = grind (arith, common_steps, firsts, all_pieces)
+pub file_by : (bytes : RowBytes) (a : MemoryArea) (placement : AreaPlacement) (hs : List PlacedBytes) (ps : List PlacedRow) (image : List ℕ) → hs ≡ map (held_by bytes) ps → IsFileOf a placement hs image → IsFileBy bytes a placement ps image
+file_by bytes a placement hs ps image are file = grind (arith, common_steps, firsts, all_pieces)
 
 -- ---- The rows of each area's file.
 
@@ -106,38 +106,38 @@ own_bytes bytes k r e = grind (arith, common_steps)
 
 -- the rows of an area's file among some, with their bytes
 abbrev held_in : RowBytes → ℕ → List SegmentRow → List RowPlacement → List PlacedBytes
-held_in bytes k rows places = map (held_by bytes) (loaded_in k rows places)
+held_in bytes k rows placements = map (held_by bytes) (loaded_in k rows placements)
 
 -- what the rows so far and the rest are
 abbrev pub Collects : RowBytes → ℕ → List SegmentRow → List RowPlacement → ℕ → Option (List RowImage) → Type 0
-Collects bytes k rows places i o = (m : List RowImage) × (o ≡ Some m) × (map view m ++ held_in bytes k (drop i rows) (drop i places) ≡ held_in bytes k rows places)
+Collects bytes k rows placements i o = (m : List RowImage) × (o ≡ Some m) × (map view m ++ held_in bytes k (drop i rows) (drop i placements) ≡ held_in bytes k rows placements)
 
-module _ (bytes : RowBytes) (k : ℕ) (rows : List SegmentRow) (places : List RowPlacement) where
-  pub collects_none : (o : Option (List RowImage)) → o ≡ Some [] → Collects bytes k rows places 0 o
+module _ (bytes : RowBytes) (k : ℕ) (rows : List SegmentRow) (placements : List RowPlacement) where
+  pub collects_none : (o : Option (List RowImage)) → o ≡ Some [] → Collects bytes k rows placements 0 o
   collects_none o e = grind (arith, common_steps)
 
-  pub collects_more : (i : ℕ) (l : RowImage) (old new : Option (List RowImage)) → i < length rows → l.row.now ≡ get_or rows i l.row.now → slice_get places i ≡ Some l.place → l.bytes ≡ written_row_bytes bytes l.row.now → new ≡ option_map (with_if (is_loaded k l.row.now) l) old → Collects bytes k rows places i old → Collects bytes k rows places (i + 1) new
+  pub collects_more : (i : ℕ) (l : RowImage) (old new : Option (List RowImage)) → i < length rows → l.row.now ≡ get_or rows i l.row.now → slice_get placements i ≡ Some l.placement → l.bytes ≡ written_row_bytes bytes l.row.now → new ≡ option_map (with_if (is_loaded k l.row.now) l) old → Collects bytes k rows placements i old → Collects bytes k rows placements (i + 1) new
   collects_more i l old new lt at there own e h =
       (with_if (is_loaded k l.row.now) l h.0, e ∙ ap (option_map (with_if (is_loaded k l.row.now) l)) h.1, by (is_loaded k l.row.now) mine (front ∙ h.2))
     where
       rest : List PlacedRow
-      rest = loaded_in k (drop (i + 1) rows) (drop (i + 1) places)
+      rest = loaded_in k (drop (i + 1) rows) (drop (i + 1) placements)
 
       mine : is_loaded k l.row.now ≡ true → view l ≡ held_by bytes (placed_in l)
       mine is = ap (λ (b : List ℕ). (placed_in l, b)) (own ∙ own_bytes bytes k l.row.now is)
 
-      front : map view h.0 ++ map (held_by bytes) (loaded_in k (l.row.now ∷ drop (i + 1) rows) (l.place ∷ drop (i + 1) places)) ≡ map view h.0 ++ held_in bytes k (drop i rows) (drop i places)
-      front = ap (λ rs. map view h.0 ++ map (held_by bytes) (loaded_in k rs (l.place ∷ drop (i + 1) places))) (sym (drop_item rows i l.row.now lt at)) ∙ ap (λ ps. map view h.0 ++ map (held_by bytes) (loaded_in k (drop i rows) ps)) (sym (rw add-one (drop_at places i l.place there)))
+      front : map view h.0 ++ map (held_by bytes) (loaded_in k (l.row.now ∷ drop (i + 1) rows) (l.placement ∷ drop (i + 1) placements)) ≡ map view h.0 ++ held_in bytes k (drop i rows) (drop i placements)
+      front = ap (λ rs. map view h.0 ++ map (held_by bytes) (loaded_in k rs (l.placement ∷ drop (i + 1) placements))) (sym (drop_item rows i l.row.now lt at)) ∙ ap (λ ps. map view h.0 ++ map (held_by bytes) (loaded_in k (drop i rows) ps)) (sym (rw add-one (drop_at placements i l.placement there)))
 
-      by : (b : Bool) → (b ≡ true → view l ≡ held_by bytes (placed_in l)) → map view h.0 ++ map (held_by bytes) (if b then placed_in l ∷ rest else rest) ≡ held_in bytes k rows places → map view (with_if b l h.0) ++ map (held_by bytes) rest ≡ held_in bytes k rows places
+      by : (b : Bool) → (b ≡ true → view l ≡ held_by bytes (placed_in l)) → map view h.0 ++ map (held_by bytes) (if b then placed_in l ∷ rest else rest) ≡ held_in bytes k rows placements → map view (with_if b l h.0) ++ map (held_by bytes) rest ≡ held_in bytes k rows placements
       by true same t = ap (λ m. m ++ map (held_by bytes) rest) (map-append view h.0 (l ∷ [])) ∙ append_assoc (map view h.0) (view l ∷ []) (map (held_by bytes) rest) ∙ ap (λ x. map view h.0 ++ x ∷ map (held_by bytes) rest) (same refl) ∙ t
       by false same t = t
 
-  -- a row without a place
-  pub collects_past : (i : ℕ) (o : Option (List RowImage)) → slice_get places i ≡ None → Collects bytes k rows places i o → Collects bytes k rows places (i + 1) o
+  -- a row without a placement
+  pub collects_past : (i : ℕ) (o : Option (List RowImage)) → slice_get placements i ≡ None → Collects bytes k rows placements i o → Collects bytes k rows placements (i + 1) o
   collects_past i o past h = grind (arith, common_steps, none_past, drop_all, loaded_none)
 
-  pub collects_all : (i : ℕ) (o : Option (List RowImage)) → length rows ≤ i → Collects bytes k rows places i o → HoldsLoads bytes k rows places o
+  pub collects_all : (i : ℕ) (o : Option (List RowImage)) → length rows ≤ i → Collects bytes k rows placements i o → HoldsLoads bytes k rows placements o
   collects_all i o le h = grind (arith, common_steps)
 
 -- the bytes of a row, by what was taken of all at its place
@@ -179,7 +179,7 @@ get_next p os n = rw one_more refl
 set_next : (p : OutputFile) (os : List OutputFile) (n : ℕ) (o : OutputFile) → slice_set (p ∷ os) (1 + n) o ≡ p ∷ slice_set os n o
 set_next p os n o = rw one_more refl
 
--- the file of a name, at its place
+-- the file of a name, at its index
 pub added_more : (name bytes : List ℕ) (os : List OutputFile) (o : OutputFile) → slice_get os (position_or_len (bytes_eq name) (names os)) ≡ Some o → slice_set os (position_or_len (bytes_eq name) (names os)) (record { name = o.name; bytes = o.bytes ++ bytes }) ≡ with_bytes name bytes os
 added_more name bytes [] o e = absurd cc
 added_more name bytes (p ∷ os) o e = grind (arith, common_steps, (added_more name bytes os o), set_next, get_next)
@@ -200,46 +200,46 @@ module _ (name : List ℕ) where
   pub no_file : (keys : List (Bor (List ℕ))) (os : List OutputFile) (new : Bool) → map (λ k. k.now) keys ≡ names os → new ≡ true → new ≡ not (list_any is keys) → list_any (bytes_eq name) (names os) ≡ false
   no_file keys os new same is_new e = grind (arith, common_steps, any_name)
 
-  pub file_at : (keys : List (Bor (List ℕ))) (os : List OutputFile) (place : ℕ) → map (λ k. k.now) keys ≡ names os → place ≡ position_or_len is keys → place ≡ position_or_len (bytes_eq name) (names os)
-  file_at keys os place same e = e ∙ at_name keys ∙ ap (position_or_len (bytes_eq name)) same
+  pub file_at : (keys : List (Bor (List ℕ))) (os : List OutputFile) (index : ℕ) → map (λ k. k.now) keys ≡ names os → index ≡ position_or_len is keys → index ≡ position_or_len (bytes_eq name) (names os)
+  file_at keys os index same e = e ∙ at_name keys ∙ ap (position_or_len (bytes_eq name)) same
 
   pub keys_stay : (keys added : List (Bor (List ℕ))) (k : Bor (List ℕ)) (new : Bool) → new ≡ false → new ≡ not (list_any is keys) → added ≡ (if list_any is keys then keys else keys ++ k ∷ []) → added ≡ keys
   keys_stay keys added k new old e grown = grind (arith, common_steps)
 
--- bytes more in the file at its place
-pub more_there : (name bytes : List ℕ) (os new : List OutputFile) (place : ℕ) → place < length os → place ≡ position_or_len (bytes_eq name) (names os) → ((o : OutputFile) → slice_get os place ≡ Some o → new ≡ slice_set os place (record { name = o.name; bytes = o.bytes ++ bytes })) → new ≡ with_bytes name bytes os
-more_there name bytes os new place lt at h = by (slice_get os place) refl
+-- bytes more in the file at its index
+pub more_there : (name bytes : List ℕ) (os new : List OutputFile) (index : ℕ) → index < length os → index ≡ position_or_len (bytes_eq name) (names os) → ((o : OutputFile) → slice_get os index ≡ Some o → new ≡ slice_set os index (record { name = o.name; bytes = o.bytes ++ bytes })) → new ≡ with_bytes name bytes os
+more_there name bytes os new index lt at h = by (slice_get os index) refl
   where
-    by : (o : Option OutputFile) → slice_get os place ≡ o → new ≡ with_bytes name bytes os
-    by None e = absurd (none_within os place lt e)
+    by : (o : Option OutputFile) → slice_get os index ≡ o → new ≡ with_bytes name bytes os
+    by None e = absurd (none_within os index lt e)
     by (Some o) e =
         let there = subst (λ (n : ℕ). slice_get os n ≡ Some o) at e in
         h o e ∙ ap (λ n. slice_set os n (record { name = o.name; bytes = o.bytes ++ bytes })) at ∙ added_more name bytes os o there
 
-same_name : (os : List OutputFile) (place : ℕ) (o : OutputFile) (bytes : List ℕ) → slice_get os place ≡ Some o → names (slice_set os place (record { name = o.name; bytes = bytes })) ≡ names os
-same_name [] place o bytes e = absurd cc
+same_name : (os : List OutputFile) (index : ℕ) (o : OutputFile) (bytes : List ℕ) → slice_get os index ≡ Some o → names (slice_set os index (record { name = o.name; bytes = bytes })) ≡ names os
+same_name [] index o bytes e = absurd cc
 same_name (p ∷ os) zero o bytes e = let is : p ≡ o = cc in ap (λ (q : OutputFile). q.name ∷ names os) (sym is)
 same_name (p ∷ os) (suc n) o bytes e = ap (λ l. p.name ∷ l) (same_name os n o bytes e)
 
-pub names_stay : (bytes : List ℕ) (os new : List OutputFile) (place : ℕ) → place < length os → ((o : OutputFile) → slice_get os place ≡ Some o → new ≡ slice_set os place (record { name = o.name; bytes = o.bytes ++ bytes })) → names new ≡ names os
-names_stay bytes os new place lt h = by (slice_get os place) refl
+pub names_stay : (bytes : List ℕ) (os new : List OutputFile) (index : ℕ) → index < length os → ((o : OutputFile) → slice_get os index ≡ Some o → new ≡ slice_set os index (record { name = o.name; bytes = o.bytes ++ bytes })) → names new ≡ names os
+names_stay bytes os new index lt h = by (slice_get os index) refl
   where
-    by : (o : Option OutputFile) → slice_get os place ≡ o → names new ≡ names os
-    by None e = absurd (none_within os place lt e)
-    by (Some o) e = ap names (h o e) ∙ same_name os place o (o.bytes ++ bytes) e
+    by : (o : Option OutputFile) → slice_get os index ≡ o → names new ≡ names os
+    by None e = absurd (none_within os index lt e)
+    by (Some o) e = ap names (h o e) ∙ same_name os index o (o.bytes ++ bytes) e
 
 -- one area more
 module _ (output : List ℕ) (bytes : RowBytes) (rows : List SegmentRow) (p : Placement) where
   abbrev Adds : ℕ → List MemoryArea → List OutputFile → List OutputFile → Type 0
   Adds = AddsAreas output (IsAreaFile rows p bytes)
 
-  by_rows : (b : Bool) (name : List ℕ) (a : MemoryArea) (place : AreaPlacement) (hs : List PlacedBytes) (ps : List PlacedRow) (before after : List OutputFile) → hs ≡ map (held_by bytes) ps → AddsArea b name (IsFileOf a place hs) before after → AddsArea b name (IsFileBy bytes a place ps) before after
-  by_rows true name a place hs ps before after are e = e
-  by_rows false name a place hs ps before after are e = (e.0, file_by bytes a place hs ps e.0 are e.1, e.2)
+  by_rows : (b : Bool) (name : List ℕ) (a : MemoryArea) (placement : AreaPlacement) (hs : List PlacedBytes) (ps : List PlacedRow) (before after : List OutputFile) → hs ≡ map (held_by bytes) ps → AddsArea b name (IsFileOf a placement hs) before after → AddsArea b name (IsFileBy bytes a placement ps) before after
+  by_rows true name a placement hs ps before after are e = e
+  by_rows false name a placement hs ps before after are e = (e.0, file_by bytes a placement hs ps e.0 are e.1, e.2)
 
-  pub next_area : (areas : List MemoryArea) (k : ℕ) (a : MemoryArea) (name : List ℕ) (place : AreaPlacement) (loads : List PlacedBytes) (before mid after : List OutputFile) → k < length areas → a ≡ get_or areas k a → name ≡ file_name output a.file → place ≡ area_at p k → loads ≡ map (held_by bytes) (loaded_in k rows p.rows) → AddsArea (length name == 0) name (IsFileOf a place loads) before mid → Adds (k + 1) (drop (k + 1) areas) mid after → Adds k (drop k areas) before after
-  next_area areas k a name place loads before mid after lt is named stands are adds rest =
-      let so = subst (λ (n : List ℕ). AddsArea (length n == 0) n (IsFileOf a place loads) before mid) named adds in
+  pub next_area : (areas : List MemoryArea) (k : ℕ) (a : MemoryArea) (name : List ℕ) (placement : AreaPlacement) (loads : List PlacedBytes) (before mid after : List OutputFile) → k < length areas → a ≡ get_or areas k a → name ≡ file_name output a.file → placement ≡ area_at p k → loads ≡ map (held_by bytes) (loaded_in k rows p.rows) → AddsArea (length name == 0) name (IsFileOf a placement loads) before mid → Adds (k + 1) (drop (k + 1) areas) mid after → Adds k (drop k areas) before after
+  next_area areas k a name placement loads before mid after lt is named stands are adds rest =
+      let so = subst (λ (n : List ℕ). AddsArea (length n == 0) n (IsFileOf a placement loads) before mid) named adds in
       let there = subst (λ (q : AreaPlacement). AddsArea (length (file_name output a.file) == 0) (file_name output a.file) (IsFileOf a q loads) before mid) stands so in
       let here = by_rows (length (file_name output a.file) == 0) (file_name output a.file) a (area_at p k) loads (loaded_in k rows p.rows) before mid are there in
       subst (λ (l : List MemoryArea). Adds k l before after) (sym (drop_item areas k a lt is)) (mid, here, rest)

@@ -165,8 +165,8 @@ resolved_all s p placement n runs are own exports weak run members = same_all (r
         ∙ ap (λ (es : List Exported). provider_of (script_definitions s placement) es n.weak.now name) exports
         ∙ ap (λ (ds : List ScriptSymbol). provider_of (script_definitions s placement) p.exports ds name) weak
 
-    at : (place : SectionPlace) → address_in runs place ≡ address_of s.rows placement.rows place
-    at place = ap (λ (r : ℕ). cast_signed w64 ((r + place.offset) % 2 ^ 64)) (run place.segment)
+    at : (section : SectionPlace) → address_in runs section ≡ address_of s.rows placement.rows section
+    at section = ap (λ (r : ℕ). cast_signed w64 ((r + section.offset) % 2 ^ 64)) (run section.segment)
 
     one : (m : LinkedModule) → resolved_by n runs m ≡ module_bindings s p placement m
     one m =

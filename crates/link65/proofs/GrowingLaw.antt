@@ -126,10 +126,10 @@ place_longer owner f s t gs l = grind (arith, common_steps)
 -- what becomes of segments and places where one section has a fragment more
 pub record Grows (owner : ℕ) (f : Fragment) (s : Section) (gs : List Programs.Segment) (ss ts : List Section) (k : ℕ) : Type 0 where
   pub segments : Programs.with_sections owner gs ts ≡ Growing.with_more s.name (fragment_len f) (Programs.fragment_cells owner f) (Programs.with_sections owner gs ss)
-  pub place : SectionPlace
-  pub there : slice_get (Programs.section_places owner gs ss) k ≡ Some place
-  pub named : place.segment ≡ s.name
-  pub places : Programs.section_places owner gs ts ≡ slice_set (Programs.section_places owner gs ss) k (Growing.longer place (fragment_len f))
+  pub placement : SectionPlace
+  pub there : slice_get (Programs.section_places owner gs ss) k ≡ Some placement
+  pub named : placement.segment ≡ s.name
+  pub placements : Programs.section_places owner gs ts ≡ slice_set (Programs.section_places owner gs ss) k (Growing.longer placement (fragment_len f))
 
 pub grows : (owner : ℕ) (f : Fragment) (s t : Section) (gs : List Programs.Segment) (ss : List Section) (k : ℕ) → slice_get ss k ≡ Some s → IsLonger owner f s t → AreApart ss → Grows owner f s gs ss (slice_set ss k t) k
 grows owner f s t gs [] k there l apart = cc
@@ -142,10 +142,10 @@ grows owner f s t gs (x ∷ ss) zero there l apart =
     let hs = Programs.with_section owner gs s in
     subst (λ (y : Section). Grows owner f s gs (y ∷ ss) (t ∷ ss) zero) (sym same) (record {
       segments = ap (λ (is : List Programs.Segment). Programs.with_sections owner is ss) head ∙ tail_sections owner s.name len cells ss hs other;
-      place = Programs.section_place gs s;
+      placement = Programs.section_place gs s;
       there = refl;
       named = refl;
-      places = ap (λ (p : SectionPlace). p ∷ Programs.section_places owner (Programs.with_section owner gs t) ss) (place_longer owner f s t gs l)
+      placements = ap (λ (p : SectionPlace). p ∷ Programs.section_places owner (Programs.with_section owner gs t) ss) (place_longer owner f s t gs l)
           ∙ ap (λ (is : List Programs.Segment). Growing.longer (Programs.section_place gs s) len ∷ Programs.section_places owner is ss) head
           ∙ ap (λ ps. Growing.longer (Programs.section_place gs s) len ∷ ps) (tail_places owner s.name len cells ss hs other);
     })
@@ -153,10 +153,10 @@ grows owner f s t gs (x ∷ ss) (suc k) there l apart =
     let rest = grows owner f s t (Programs.with_section owner gs x) ss k there l apart.1 in
     record {
       segments = rest.segments;
-      place = rest.place;
+      placement = rest.placement;
       there = rest.there;
       named = rest.named;
-      places = ap (λ ps. Programs.section_place gs x ∷ ps) rest.places;
+      placements = ap (λ ps. Programs.section_place gs x ∷ ps) rest.placements;
     }
 
 -- ---- An item.
@@ -181,9 +181,9 @@ names_apart (d ∷ ds) names =
 
 -- what has come of a module, by its sections
 abbrev made : Program → Scanning.State → List Programs.Segment → List SectionPlace → Growing.PartialProgram
-made p s gs places = record {
+made p s gs placements = record {
   program = record { members = p.members; segments = gs; exports = p.exports ++ map (linked_export (length p.members)) s.exports; asserts = p.asserts ++ map (linked_assertion (length p.members)) s.asserts };
-  sections = places;
+  sections = placements;
   imports = s.imports;
   files = s.files;
 }
@@ -199,15 +199,15 @@ part_step p s k offset f d names there =
     let cells = Programs.fragment_cells owner f in
     let ss = map Scanning.section_from s.drafts in
     let gs = Programs.with_sections owner p.segments ss in
-    let places = Programs.section_places owner p.segments ss in
+    let placements = Programs.section_places owner p.segments ss in
     let t = Scanning.section_from (Items.draft_with_fragment d f) in
     let found : slice_get ss k ≡ Some (Scanning.section_from d) = slice_get-map Scanning.section_from s.drafts k ∙ ap (option_map Scanning.section_from) there in
     let g = grows owner f (Scanning.section_from d) t p.segments ss k found (grown_longer owner d f) (names_apart s.drafts names) in
     let now : map Scanning.section_from (Items.with_piece s.drafts k f) ≡ slice_set ss k t = ap (λ (o : Option Draft). map Scanning.section_from (Items.with_piece_in s.drafts k f o)) there ∙ map-set Scanning.section_from s.drafts k (Items.draft_with_fragment d f) in
     by_sections p s (map Scanning.section_from (Items.with_piece s.drafts k f)) (slice_set ss k t) now
     ∙ ap (λ (hs : List Programs.Segment). made p s hs (Programs.section_places owner p.segments (slice_set ss k t))) g.segments
-    ∙ ap (made p s (Growing.with_more d.name len cells gs)) g.places
-    ∙ ap (λ (n : List ℕ). made p s (Growing.with_more n len cells gs) (slice_set places k (Growing.longer g.place len))) (sym g.named)
+    ∙ ap (made p s (Growing.with_more d.name len cells gs)) g.placements
+    ∙ ap (λ (n : List ℕ). made p s (Growing.with_more n len cells gs) (slice_set placements k (Growing.longer g.placement len))) (sym g.named)
     ∙ sym (ap (Growing.with_part (Growing.growth_of p s) k f) g.there)
 
 section_step : (p : Program) (s : Scanning.State) (name : List ℕ) (size align : ℕ) → Growing.growth_of p (Items.with_item s (item.Section name size align)) ≡ Growing.grown_by (Growing.growth_of p s) (item.Section name size align)

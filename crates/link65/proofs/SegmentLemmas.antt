@@ -181,15 +181,15 @@ place_stays : {X : Type 0} (p : X → Bool) (xs more : List X) (i : ℕ) → pos
 place_stays p [] more i e = cc
 place_stays p (x ∷ xs) more i e = stay_step p x xs more i (p x) refl e (place_stays p xs more)
 
-pub places_stay : (names more : List (List ℕ)) (ss : List SectionPlace) (places : List ℕ) → places_of names ss ≡ map Some places → places_of (names ++ more) ss ≡ map Some places
+pub places_stay : (names more : List (List ℕ)) (ss : List SectionPlace) (indices : List ℕ) → places_of names ss ≡ map Some indices → places_of (names ++ more) ss ≡ map Some indices
 places_stay names more [] [] e = refl
-places_stay names more [] (i ∷ places) e = cc
+places_stay names more [] (i ∷ indices) e = cc
 places_stay names more (s ∷ ss) [] e = cc
-places_stay names more (s ∷ ss) (i ∷ places) e =
+places_stay names more (s ∷ ss) (i ∷ indices) e =
     let here : place_in s.segment names ≡ Some i = cc in
     let first : place_in s.segment (names ++ more) ≡ Some i = place_stays _ names more i here in
-    let there : places_of names ss ≡ map Some places = cc in
-    let rest : places_of (names ++ more) ss ≡ map Some places = places_stay names more ss places there in
+    let there : places_of names ss ≡ map Some indices = cc in
+    let rest : places_of (names ++ more) ss ≡ map Some indices = places_stay names more ss indices there in
     cc
 
 pub place_within : {X : Type 0} (p : X → Bool) (xs : List X) (i : ℕ) → position p xs ≡ Some i → i < length xs
@@ -204,20 +204,20 @@ some_same : {A : Type 0} (x y : A) → ◌≡◌ {A = Option A} (Some x) (Some y
 some_same x y e = cc
 
 -- a section at a place, and the place of its segment
-pub section_there : (names : List (List ℕ)) (ss : List SectionPlace) (places : List ℕ) (k at : ℕ) → places_of names ss ≡ map Some places → k < length ss → slice_get places k ≡ Some at → (s : SectionPlace) × (slice_get ss k ≡ Some s) × (place_in s.segment names ≡ Some at)
-section_there names ss places k at e lt there =
+pub section_there : (names : List (List ℕ)) (ss : List SectionPlace) (indices : List ℕ) (k at : ℕ) → places_of names ss ≡ map Some indices → k < length ss → slice_get indices k ≡ Some at → (s : SectionPlace) × (slice_get ss k ≡ Some s) × (place_in s.segment names ≡ Some at)
+section_there names ss indices k at e lt there =
     let s = some_there ss k lt in
     let f : SectionPlace → Option ℕ = λ x. place_in x.segment names in (
       s.0,
       s.1,
       some_same (f s.0) (Some at)
-          (sym (slice_get-map f ss k ∙ ap (option_map f) s.1) ∙ ap (λ (xs : List (Option ℕ)). slice_get xs k) e ∙ slice_get-map Some places k ∙ ap (option_map Some) there),
+          (sym (slice_get-map f ss k ∙ ap (option_map f) s.1) ∙ ap (λ (xs : List (Option ℕ)). slice_get xs k) e ∙ slice_get-map Some indices k ∙ ap (option_map Some) there),
     )
 
 -- ---- Sections that come and grow.
 
-pub section_more : (names : List (List ℕ)) (ss : List SectionPlace) (places : List ℕ) (s : SectionPlace) (at : ℕ) → places_of names ss ≡ map Some places → place_in s.segment names ≡ Some at → places_of names (ss ++ s ∷ []) ≡ map Some (places ++ at ∷ [])
-section_more names ss places s at e here = grind (arith, common_steps)
+pub section_more : (names : List (List ℕ)) (ss : List SectionPlace) (indices : List ℕ) (s : SectionPlace) (at : ℕ) → places_of names ss ≡ map Some indices → place_in s.segment names ≡ Some at → places_of names (ss ++ s ∷ []) ≡ map Some (indices ++ at ∷ [])
+section_more names ss indices s at e here = grind (arith, common_steps)
 
 pub longer_stays : (names : List (List ℕ)) (ss : List SectionPlace) (k : ℕ) (s : SectionPlace) (n : ℕ) → slice_get ss k ≡ Some s → places_of names (slice_set ss k (longer s n)) ≡ places_of names ss
 longer_stays names [] k s n e = cc
@@ -231,7 +231,7 @@ opened_is : (owner m : ℕ) (g h : Programs.Segment) (name : List ℕ) (align : 
 opened_is owner m g h name align is opened = grind (arith, common_steps)
 
 abbrev pub put : PartialProgram → List Programs.Segment → List SectionPlace → PartialProgram
-put g gs places = record { program = with_segments g.program gs; sections = places; imports = g.imports; files = g.files }
+put g gs placements = record { program = with_segments g.program gs; sections = placements; imports = g.imports; files = g.files }
 
 pub bare_begun : (g : PartialProgram) (mid : ProgramBuilder) (at m begin : ℕ) (c h : SegmentContent) (name : List ℕ) (align : ℕ) → growth_in mid ≡ having g (with_name name g.program.segments) → names_in mid ≡ map (λ x. x.name) mid.contents.items → place_in name (names_in mid) ≡ Some at → at < length mid.contents.items → c ≡ get_or mid.contents.items at c → m ≡ 2 ^ align → segment_from h ≡ record (with_gap (rounded_up c.size m - c.size) (segment_from c)) { size = rounded_up c.size m; align = max c.align m } → ◌≡◌ {A = Result ℕ LinkFault} (Ok (rounded_up c.size m)) (Ok begin) → put (growth_in mid) (segments_from (slice_set mid.contents.items at h)) (mid.sections.items ++ (record { segment = name; offset = begin; size = 0 }) ∷ []) ≡ with_bare g (bare_section name align)
 bare_begun g mid at m begin c h name align grew named there within is alignment opened answered =
@@ -241,8 +241,8 @@ bare_begun g mid at m begin c h name align grew named there within is alignment 
     let owner = length g.program.members in
     let bare = bare_section name align in
     let all : segments_from cs ≡ with_name name gs = ap (λ (x : PartialProgram). x.program.segments) grew in
-    let place : place_in name (map (λ (x : Programs.Segment). x.name) (segments_from cs)) ≡ Some at = ap (place_in name) (segment_names cs ∙ sym named) ∙ there in
-    let a = at_place name (segments_from cs) at place in
+    let index : place_in name (map (λ (x : Programs.Segment). x.name) (segments_from cs)) ≡ Some at = ap (place_in name) (segment_names cs ∙ sym named) ∙ there in
+    let a = at_place name (segments_from cs) at index in
     let found : slice_get (segments_from cs) at ≡ Some (segment_from c) = slice_get-map segment_from cs at ∙ ap (option_map segment_from) (slice_get_read cs (length cs) at c refl within is) in
     let same : a.segment ≡ segment_from c = some_same a.segment (segment_from c) (sym a.there ∙ found) in
     let now : segments_from (slice_set cs at h) ≡ Programs.with_section owner gs bare =
@@ -255,10 +255,10 @@ bare_begun g mid at m begin c h name align grew named there within is alignment 
     let end : Programs.end_of gs name ≡ c.size = sym (begun_end name gs) ∙ ap (λ (hs : List Programs.Segment). Programs.end_of hs name) (sym all) ∙ a.end ∙ ap (λ (x : Programs.Segment). x.size) same in
     let offset : begin ≡ Programs.begin_after (Programs.end_of gs name) bare = begins ∙ ap (rounded_up c.size) alignment ∙ ap (λ n. rounded_up n (2 ^ align)) (sym end) in
     let placed : List SectionPlace → ℕ → List SectionPlace = λ old b. old ++ (record { segment = name; offset = b; size = 0 }) ∷ [] in
-    let places : mid.sections.items ≡ g.sections = ap (λ (x : PartialProgram). x.sections) grew in
+    let placements : mid.sections.items ≡ g.sections = ap (λ (x : PartialProgram). x.sections) grew in
     ap (λ (x : PartialProgram). put x (segments_from (slice_set cs at h)) (placed mid.sections.items begin)) grew
     ∙ ap (λ (hs : List Programs.Segment). put g hs (placed mid.sections.items begin)) now
-    ∙ ap (λ (old : List SectionPlace). put g (Programs.with_section owner gs bare) (placed old begin)) places
+    ∙ ap (λ (old : List SectionPlace). put g (Programs.with_section owner gs bare) (placed old begin)) placements
     ∙ ap (λ b. put g (Programs.with_section owner gs bare) (placed g.sections b)) offset
 
 -- ---- A fragment goes to its section's segment.
@@ -267,11 +267,11 @@ of_content : (r : Option SegmentContent) (s : Programs.Segment) → option_map s
 of_content x s e = grind (arith, common_steps)
 
 pub part_added : (g : ProgramBuilder) (k at : ℕ) (f : Fragment) (p : SectionPlace) (contents : List SegmentContent) (sections : List SectionPlace) → names_in g ≡ map (λ x. x.name) g.contents.items → slice_get g.sections.items k ≡ Some p → place_in p.segment (names_in g) ≡ Some at → ((x : SegmentContent) → slice_get g.contents.items at ≡ Some x → segments_from contents ≡ slice_set (segments_from g.contents.items) at (with_cells (fragment_len f) (Programs.fragment_cells (length g.members) f) (segment_from x))) → sections ≡ slice_set g.sections.items k (longer p (fragment_len f)) → put (growth_in g) (segments_from contents) sections ≡ with_part (growth_in g) k f (slice_get g.sections.items k)
-part_added g k at f p contents sections named there place added lengthened =
+part_added g k at f p contents sections named there index added lengthened =
     let cs = g.contents.items in
     let len = fragment_len f in
     let cells = Programs.fragment_cells (length g.members) f in
-    let a = at_place p.segment (segments_from cs) at (ap (place_in p.segment) (segment_names cs ∙ sym named) ∙ place) in
+    let a = at_place p.segment (segments_from cs) at (ap (place_in p.segment) (segment_names cs ∙ sym named) ∙ index) in
     let x = of_content (slice_get cs at) a.segment (sym (slice_get-map segment_from cs at) ∙ a.there) in
     ap (λ (hs : List Programs.Segment). put (growth_in g) hs sections) (added x.0 x.1 ∙ ap (λ (s : Programs.Segment). slice_set (segments_from cs) at (with_cells len cells s)) x.2 ∙ sym (a.more len cells))
     ∙ ap (put (growth_in g) (with_more p.segment len cells (segments_from cs))) lengthened

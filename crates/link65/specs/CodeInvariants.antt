@@ -57,10 +57,10 @@ place_in name names = position (λ n. bytes_eq name n) names
 abbrev pub names_in : ProgramBuilder → List (List ℕ)
 names_in g = map (λ n. n.items) g.names.keys
 
--- segments are found by their names, and those of the open module's sections by their places
+-- segments are found by their names, and those of the open module's sections by their indices
 pub record NamesResolve (g : ProgramBuilder) : Type 0 where
   pub names : names_in g ≡ map (λ c. c.name) g.contents.items
-  pub sections : map (λ s. place_in s.segment (names_in g)) g.sections.items ≡ map Some g.places.items
+  pub sections : map (λ s. place_in s.segment (names_in g)) g.sections.items ≡ map Some g.segment_indices.items
 
 -- it is what a program has grown to, and its segments are found
 pub record IsGrown (g : ProgramBuilder) (new : PartialProgram) : Type 0 where

@@ -21,7 +21,7 @@ pub record RowPiece : Type 0 where
 -- a row and where it is placed
 pub record PlacedRow : Type 0 where
   pub row : SegmentRow
-  pub place : RowPlacement
+  pub placement : RowPlacement
 
 -- whether a row's bytes are in the file of the area at a place of the script
 abbrev pub is_loaded : ℕ → SegmentRow → Bool
@@ -29,13 +29,13 @@ is_loaded k r = r.load == k && is_written r.access
 
 -- the rows of which that is so, in the script's order
 abbrev pub loaded_in : ℕ → List SegmentRow → List RowPlacement → List PlacedRow
-loaded_in k (r ∷ rs) (p ∷ ps) = if is_loaded k r then record { row = r; place = p } ∷ loaded_in k rs ps else loaded_in k rs ps
+loaded_in k (r ∷ rs) (p ∷ ps) = if is_loaded k r then record { row = r; placement = p } ∷ loaded_in k rs ps else loaded_in k rs ps
 loaded_in k [] ps = []
 loaded_in k (r ∷ rs) [] = []
 
 -- the offset from an area's start at which a row is loaded
 abbrev pub offset_of : ℕ → PlacedRow → ℕ
-offset_of start p = p.place.load - start
+offset_of start p = p.placement.load - start
 
 -- the bytes of rows
 abbrev pub RowBytes : Type 0
@@ -52,11 +52,11 @@ area_pieces start bytes (p ∷ ps) = record { offset = offset_of start p; bytes 
 -- the end of the last row of a size above 0; unchanged if there is none
 abbrev pub end_after : ℕ → ℕ → List PlacedRow → ℕ
 end_after start before [] = before
-end_after start before (p ∷ ps) = end_after start (if p.place.size == 0 then before else offset_of start p + p.place.size) ps
+end_after start before (p ∷ ps) = end_after start (if p.placement.size == 0 then before else offset_of start p + p.placement.size) ps
 
 -- the length of the file of an area that is placed so
 abbrev pub file_len : MemoryArea → AreaPlacement → List PlacedRow → ℕ
-file_len a place ps = if a.fill then place.size else end_after place.start 0 ps
+file_len a placement ps = if a.fill then placement.size else end_after placement.start 0 ps
 
 -- whether a place is one of bytes that begin at another
 abbrev pub is_inside : ℕ → ℕ → List ℕ → Bool
@@ -78,7 +78,7 @@ pub record IsImage (len fill : ℕ) (pieces : List RowPiece) (image : List ℕ) 
 -- The file of a placed area, from the rows that are loaded there: its byte i is that at the address i after
 -- the area's start.
 abbrev pub IsFileBy : RowBytes → MemoryArea → AreaPlacement → List PlacedRow → List ℕ → Type 0
-IsFileBy bytes a place ps image = IsImage (file_len a place ps) a.fill_value (area_pieces place.start bytes ps) image
+IsFileBy bytes a placement ps image = IsImage (file_len a placement ps) a.fill_value (area_pieces placement.start bytes ps) image
 
 abbrev pub nowhere : AreaPlacement
 nowhere = record { start = 0; size = 0; last = 0 }

@@ -40,10 +40,10 @@ row_definitions r p =
     else []
 
 abbrev pub areas_definitions : List MemoryArea → List AreaPlacement → List ScriptSymbol
-areas_definitions areas places = flat_zip area_definitions areas places
+areas_definitions areas placements = flat_zip area_definitions areas placements
 
 abbrev pub rows_definitions : List SegmentRow → List RowPlacement → List ScriptSymbol
-rows_definitions rows places = flat_zip row_definitions rows places
+rows_definitions rows placements = flat_zip row_definitions rows placements
 
 abbrev pub export_definition : SymbolKind → List ℕ → List ScriptSymbol
 export_definition (kind.Export n) name = record { name = name; value = cast_signed w64 n } ∷ []

@@ -195,8 +195,8 @@ lines_by own weak exports values =
 
 -- the map, by the lines of its symbols
 abbrev pub map_by : List LinkedModule → List SegmentRow → List RowPlacement → List ℕ → List ℕ
-map_by members rows places symbols =
-    concat_texts (codes "MODULES\n" ∷ flat_map member_lines members ∷ codes "SEGMENTS\n" ∷ row_lines rows places ∷ codes "SYMBOLS\n" ∷ symbols ∷ [])
+map_by members rows placements symbols =
+    concat_texts (codes "MODULES\n" ∷ flat_map member_lines members ∷ codes "SEGMENTS\n" ∷ row_lines rows placements ∷ codes "SYMBOLS\n" ∷ symbols ∷ [])
 
 -- the bytes of a cell, by the fill value of its row, and those of rows
 abbrev pub cell_in : PlacedProgram → ℕ → Cell → List ℕ

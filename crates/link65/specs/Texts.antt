@@ -19,9 +19,9 @@ use Rattle.link65.specs.Names.{defined_at, exported_at, script_definitions, weak
 
 -- ---- What the linker warns of.
 
--- `ld65: Warning: segment name words`
+-- `ld65: Warning: segment name message`
 abbrev pub segment_warning : List ℕ → List ℕ → List ℕ
-segment_warning name words = concat_texts (codes "ld65: Warning: segment " ∷ name ∷ words ∷ codes "\n" ∷ [])
+segment_warning name message = concat_texts (codes "ld65: Warning: segment " ∷ name ∷ message ∷ codes "\n" ∷ [])
 
 -- a row whose segment no module has
 abbrev pub absence_warning : SegmentRow → List ℕ
@@ -92,7 +92,7 @@ abbrev pub row_line : SegmentRow → RowPlacement → List ℕ
 row_line r p = concat_texts (r.name ∷ codes " " ∷ address_text p.run ∷ codes " " ∷ address_text p.load ∷ codes " " ∷ address_text p.size ∷ codes "\n" ∷ [])
 
 abbrev pub row_lines : List SegmentRow → List RowPlacement → List ℕ
-row_lines rows places = flat_zip row_line rows places
+row_lines rows placements = flat_zip row_line rows placements
 
 -- `name value`, the value as sixteen digits of its two's complement
 abbrev pub symbol_line : List ℕ → ℕ → List ℕ

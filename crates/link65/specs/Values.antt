@@ -98,16 +98,16 @@ abbrev pub needs_of : Program → List SegmentNeed
 needs_of p = map need_of p.segments
 
 abbrev pub run_at : List RowPlacement → Option ℕ → ℕ
-run_at places (Some i) = option_map_or (λ p. p.run) (slice_get places i) 0
-run_at places None = 0
+run_at placements (Some i) = option_map_or (λ p. p.run) (slice_get placements i) 0
+run_at placements None = 0
 
 -- the address at which a segment runs: that of its row
 abbrev pub run_of : List SegmentRow → List RowPlacement → List ℕ → ℕ
-run_of rows places name = run_at places (position_in (map (λ r. r.name) rows) name)
+run_of rows placements name = run_at placements (position_in (map (λ r. r.name) rows) name)
 
 -- modulo 2 ^ 64, as a signed number
 abbrev pub address_of : List SegmentRow → List RowPlacement → SectionPlace → ℤ
-address_of rows places p = cast_signed w64 ((run_of rows places p.segment + p.offset) % 2 ^ 64)
+address_of rows placements p = cast_signed w64 ((run_of rows placements p.segment + p.offset) % 2 ^ 64)
 
 -- a module's sections at their addresses, and who gives its imports
 abbrev pub module_bindings : Script → Program → Placement → LinkedModule → Resolved

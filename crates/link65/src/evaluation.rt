@@ -59,12 +59,12 @@ fn try_import(marks: &[ExportState], provider: Provider) -> Result<i64, EvalBloc
 }
 
 /// Who gives a module's import; nobody does where there is no such module or import.
-fn provider_at(resolved: Option<&Resolved>, place: usize) -> Provider
-    ensures { result ≡ provider_at (option_copied resolved.entry) place }
+fn provider_at(resolved: Option<&Resolved>, index: usize) -> Provider
+    ensures { result ≡ provider_at (option_copied resolved.entry) index }
 {
     match resolved {
         None => Provider::Nobody,
-        Some(resolved) => match resolved.providers.as_slice().get(place) {
+        Some(resolved) => match resolved.providers.as_slice().get(index) {
             Some(provider) => *provider,
             None => Provider::Nobody,
         },
@@ -98,7 +98,7 @@ pub fn try_form(
             let base = base_at(resolved, *section as usize);
             Ok(base.wrapping_add(*offset))
         }
-        Node::ImportedName(place) => try_import(marks, provider_at(resolved, *place as usize)),
+        Node::ImportedName(index) => try_import(marks, provider_at(resolved, *index as usize)),
         Node::Prefix(op, part) => {
             let value = try_form(part, resolved, marks)?;
             Ok(apply1(*op, value))
@@ -117,12 +117,12 @@ fn try_export(
     modules: &[Resolved],
     exports: &[Exported],
     marks: &[ExportState],
-    place: usize,
+    index: usize,
 ) -> Attempt
-    requires { place < length exports.now }
-    ensures { result ≡ export_tried modules.now marks.now (slice_get exports.now place) }
+    requires { index < length exports.now }
+    ensures { result ≡ export_tried modules.now marks.now (slice_get exports.now index) }
 {
-    let export = &exports[place];
+    let export = &exports[index];
     match try_form(&export.form, modules.get(export.owner), marks) {
         Ok(value) => Attempt::Settled(Ok(value)),
         Err(EvalBlocked::Fault(fault)) => Attempt::Settled(Err(fault)),

@@ -18,7 +18,7 @@ use std::mem;
 #[derive(Drop)]
 pub struct RowImage<'a> {
     pub row: &'a SegmentRow,
-    pub place: RowPlacement,
+    pub placement: RowPlacement,
     pub bytes: ListVec<u8>,
 }
 
@@ -26,7 +26,7 @@ pub struct RowImage<'a> {
 #[derive(Drop)]
 pub struct AreaImage<'b, 'a> {
     pub area: &'b MemoryArea,
-    pub place: AreaPlacement,
+    pub placement: AreaPlacement,
     pub loads: ListVec<RowImage<'a>>,
 }
 
@@ -69,16 +69,23 @@ fn loads_of<'a>(
     alloc: Global,
     areas: usize,
     rows: &'a [SegmentRow],
-    places: &[RowPlacement],
+    placements: &[RowPlacement],
     mut contents: Vec<ListVec<u8>>,
 ) -> Result<Vec<ListVec<RowImage<'a>>>, AllocError>
-    ensures { IfOk result (λ v. (bytes : RowBytes) → contents.items ≡ map (written_row_bytes bytes) rows.entry.now → (k : ℕ) → k < areas → HoldsLoads bytes k rows.entry.now places.now (slice_get v.items k)) }
+    ensures { IfOk result (λ v. (bytes : RowBytes) → contents.items ≡ map (written_row_bytes bytes) rows.entry.now → (k : ℕ) → k < areas → HoldsLoads bytes k rows.entry.now placements.now (slice_get v.items k)) }
 {
     let mut loads = no_loads(alloc, areas)?;
     for (i, row) in rows.iter().enumerate() {
         let bytes = take_at(alloc, &mut contents, i);
-        match places.get(i).copied() {
-            Some(place) => add_row(&mut loads, RowImage { row, place, bytes })?,
+        match placements.get(i).copied() {
+            Some(placement) => add_row(
+                &mut loads,
+                RowImage {
+                    row,
+                    placement,
+                    bytes,
+                },
+            )?,
             None => (),
         }
     }
@@ -90,8 +97,8 @@ fn overlay(image: &mut [u8], at: usize, bytes: &[u8])
     ensures { OverlaysBytes image.old at bytes.now image.new }
 {
     if at < image.len() {
-        let room = image.len() - at;
-        let len = bytes.len().min(room);
+        let capacity = image.len() - at;
+        let len = bytes.len().min(capacity);
         image[at..at + len].copy_from_slice(&bytes[..len]);
     }
 }
@@ -101,7 +108,7 @@ fn lay_rows(image: &mut [u8], start: u64, loads: &[RowImage<'_>])
     ensures { LaysAll (map (piece_at start) (map view loads.now)) image.old image.new }
 {
     for load in loads {
-        let offset = load.place.load.saturating_sub(start);
+        let offset = load.placement.load.saturating_sub(start);
         overlay(image, offset as usize, load.bytes.as_slice());
     }
 }
@@ -112,9 +119,9 @@ fn end_of(start: u64, loads: &[RowImage<'_>]) -> u128
 {
     let mut end = 0;
     for load in loads {
-        if load.place.size != 0 {
-            let offset = load.place.load.saturating_sub(start);
-            end = u128::from(offset) + u128::from(load.place.size);
+        if load.placement.size != 0 {
+            let offset = load.placement.load.saturating_sub(start);
+            end = u128::from(offset) + u128::from(load.placement.size);
         }
     }
     end
@@ -122,12 +129,12 @@ fn end_of(start: u64, loads: &[RowImage<'_>]) -> u128
 
 /// The length of an area's file.
 fn file_len(filled: &AreaImage<'_, '_>) -> u128
-    ensures { result ≡ file_len filled.now.area.now filled.now.place (map placed_in filled.now.loads) }
+    ensures { result ≡ file_len filled.now.area.now filled.now.placement (map placed_in filled.now.loads) }
 {
     if filled.area.fill {
-        u128::from(filled.place.size)
+        u128::from(filled.placement.size)
     } else {
-        end_of(filled.place.start, filled.loads.as_slice())
+        end_of(filled.placement.start, filled.loads.as_slice())
     }
 }
 
@@ -136,7 +143,7 @@ fn is_whole(len: usize, start: u64, loads: &[RowImage<'_>]) -> bool
     ensures { result ≡ true → IsWhole len (map (piece_at start) (map view loads.now)) }
 {
     match loads {
-        [load] => load.place.load <= start && load.bytes.len() == len,
+        [load] => load.placement.load <= start && load.bytes.len() == len,
         _ => false,
     }
 }
@@ -144,12 +151,12 @@ fn is_whole(len: usize, start: u64, loads: &[RowImage<'_>]) -> bool
 /// The bytes of an area's file, of which memory has to take all: those of rows, and the fill between them. Where one
 /// row's are all of them, they aren't copied.
 fn area_file(alloc: Global, filled: AreaImage<'_, '_>) -> Result<ListVec<u8>, AllocError>
-    ensures { IfOk result (λ image. IsFileOf filled.entry.area.now filled.entry.place (map view filled.entry.loads) image) }
+    ensures { IfOk result (λ image. IsFileOf filled.entry.area.now filled.entry.placement (map view filled.entry.loads) image) }
 {
     let Ok(len) = usize::try_from(file_len(&filled)) else {
         return Err(AllocError);
     };
-    let start = filled.place.start;
+    let start = filled.placement.start;
     let mut loads = filled.loads.into_vec();
     loads.retain(|load| load.bytes.len() != 0);
     if is_whole(len, start, loads.as_slice()) {
@@ -187,13 +194,13 @@ impl<'a> OutputFiles<'a> {
         ensures files { OnOk result (self.new.outputs.items ≡ with_bytes name.entry.now bytes self.old.outputs.items) }
         ensures named { OnOk result (AreFileNames self.new) }
     {
-        let (place, is_new) = self.names.insert_full(name)?;
+        let (index, is_new) = self.names.insert_full(name)?;
         if is_new {
             let name = PathString::copy_of(alloc, name)?;
             self.outputs.push(OutputFile { name, bytes })?;
             return Ok(());
         }
-        self.outputs[place]
+        self.outputs[index]
             .bytes
             .extend_from_slice(bytes.as_slice())?;
         Ok(())
@@ -207,7 +214,7 @@ impl<'a> OutputFiles<'a> {
         filled: AreaImage<'_, '_>,
     ) -> Result<(), AllocError>
         requires { AreFileNames self.old }
-        ensures files { OnOk result (AddsArea (length name.entry.now == 0) name.entry.now (IsFileOf filled.entry.area.now filled.entry.place (map view filled.entry.loads)) self.old.outputs.items self.new.outputs.items) }
+        ensures files { OnOk result (AddsArea (length name.entry.now == 0) name.entry.now (IsFileOf filled.entry.area.now filled.entry.placement (map view filled.entry.loads)) self.old.outputs.items self.new.outputs.items) }
         ensures named { OnOk result (AreFileNames self.new) }
     {
         if name.is_empty() {
@@ -223,7 +230,7 @@ fn area_at(placement: &Placement, k: usize) -> AreaPlacement
     ensures { result ≡ area_at placement.now k }
 {
     match placement.areas.as_slice().get(k) {
-        Some(place) => *place,
+        Some(area_placement) => *area_placement,
         None => AreaPlacement {
             start: 0,
             size: 0,
@@ -260,7 +267,7 @@ pub fn files_of(
         let name = file_name(output, &area.file);
         let filled = AreaImage {
             area,
-            place: area_at(placement, k),
+            placement: area_at(placement, k),
             loads: take_at(alloc, &mut loads, k),
         };
         files.add_area(alloc, name, filled)?;

@@ -28,15 +28,15 @@ pub type SegmentNames = IndexSet<Vec<u8>, Seed>;
 pub struct ProgramBuilder {
     pub alloc: Global,
     pub members: ListVec<LinkedModule>,
-    /// The names of the segments, by which their places are found.
+    /// The names of the segments, by which their indices are found.
     pub names: SegmentNames,
     pub contents: Vec<SegmentContent>,
     pub exports: ListVec<Exported>,
     pub asserts: ListVec<Asserted>,
     /// Where the sections of the open module lie.
     pub sections: Vec<SectionPlace>,
-    /// The places of their segments.
-    pub places: Vec<usize>,
+    /// The indices of their segments.
+    pub segment_indices: Vec<usize>,
     /// The names that the open module imports.
     pub imports: ListVec<ListVec<u8>>,
     /// The names of the open module's files.
@@ -129,26 +129,26 @@ fn add_fragment(
     Ok(())
 }
 
-/// The place of the segment of a name, if there is one.
+/// The index of the segment of a name, if there is one.
 pub fn place_of(names: &SegmentNames, name: &[u8]) -> Option<usize>
-    ensures place { result ≡ place_in name.now (map (λ n. n.items) names.now.keys) }
+    ensures index { result ≡ place_in name.now (map (λ n. n.items) names.now.keys) }
     ensures within { IfSome result (λ i. i < length names.now.keys) }
 {
     names.get_index_of(name)
 }
 
-/// The place of the segment of a name, which is begun where there is none.
+/// The index of the segment of a name, which is begun where there is none.
 fn segment_at(growing: &mut ProgramBuilder, name: &[u8]) -> Result<usize, AllocError>
     requires { NamesResolve growing.old }
     ensures added { OnOk result (IsGrown growing.new (having (growth_in growing.old) (with_name name.now (segments_from growing.old.contents.items)))) }
-    ensures place { IfOk result (λ i. place_in name.now (names_in growing.new) ≡ Some i) }
+    ensures index { IfOk result (λ i. place_in name.now (names_in growing.new) ≡ Some i) }
     ensures within { IfOk result (λ i. i < length growing.new.contents.items) }
 {
-    if let Some(place) = place_of(&growing.names, name) {
-        return Ok(place);
+    if let Some(index) = place_of(&growing.names, name) {
+        return Ok(index);
     }
     let alloc = growing.alloc;
-    let place = growing.contents.len();
+    let index = growing.contents.len();
     let key = Vec::from_slice(alloc, name)?;
     growing.contents.push(SegmentContent {
         name: ListVec::copy_of(alloc, name)?,
@@ -157,7 +157,7 @@ fn segment_at(growing: &mut ProgramBuilder, name: &[u8]) -> Result<usize, AllocE
         pieces: ListVec::new(alloc),
     })?;
     growing.names.insert(key)?;
-    Ok(place)
+    Ok(index)
 }
 
 /// Begins a section of the open module, after the earlier sections of its segment.
@@ -177,7 +177,7 @@ fn begin_section(
         offset: begin,
         size: 0,
     })?;
-    growing.places.push(at)?;
+    growing.segment_indices.push(at)?;
     Ok(())
 }
 
@@ -190,10 +190,10 @@ fn add_part(growing: &mut ProgramBuilder, k: usize, fragment: Fragment) -> Resul
         return Ok(());
     }
     let owner = growing.members.len();
-    let at = growing.places[k];
+    let at = growing.segment_indices[k];
     let len = fragment_size(&fragment);
-    let place = &mut growing.sections[k];
-    place.size = sum(place.size, len)?;
+    let placement = &mut growing.sections[k];
+    placement.size = sum(placement.size, len)?;
     add_fragment(&mut growing.contents[at], owner, len, fragment)?;
     Ok(())
 }
@@ -248,7 +248,7 @@ pub fn end_module(growing: &mut ProgramBuilder, name: ListVec<u8>) -> Result<(),
     ensures memory { IfErr result (λ e. is_memory e ≡ true) }
 {
     let alloc = growing.alloc;
-    growing.places.clear();
+    growing.segment_indices.clear();
     let sections = mem::replace(&mut growing.sections, Vec::new(alloc));
     let imports = mem::replace(&mut growing.imports, ListVec::new(alloc));
     let files = mem::replace(&mut growing.files, ListVec::new(alloc));
@@ -273,7 +273,7 @@ pub fn no_module(alloc: Global, seed: Seed) -> ProgramBuilder
         exports: ListVec::new(alloc),
         asserts: ListVec::new(alloc),
         sections: Vec::new(alloc),
-        places: Vec::new(alloc),
+        segment_indices: Vec::new(alloc),
         imports: ListVec::new(alloc),
         files: ListVec::new(alloc),
     }

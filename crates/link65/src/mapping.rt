@@ -44,16 +44,16 @@ fn address_text(number: u64) -> ArrayVec<u8, 16>
 }
 
 /// `  segment offset size`
-fn add_section_line(text: &mut ListVec<u8>, place: &SectionPlace) -> Result<(), AllocError>
-    ensures { OnOk result (text.new ≡ text.old ++ section_line place.now) }
+fn add_section_line(text: &mut ListVec<u8>, placement: &SectionPlace) -> Result<(), AllocError>
+    ensures { OnOk result (text.new ≡ text.old ++ section_line placement.now) }
 {
-    let offset = address_text(place.offset);
-    let size = address_text(place.size);
+    let offset = address_text(placement.offset);
+    let size = address_text(placement.size);
     add_all(
         text,
         &[
             b"  ",
-            place.segment.as_slice(),
+            placement.segment.as_slice(),
             b" ",
             offset.as_slice(),
             b" ",
@@ -68,8 +68,8 @@ fn add_member_lines(text: &mut ListVec<u8>, member: &LinkedModule) -> Result<(),
     ensures { OnOk result (text.new ≡ text.old ++ member_lines member.now) }
 {
     add_all(text, &[member.name.as_slice(), b"\n"])?;
-    for place in member.sections.as_slice() {
-        add_section_line(text, place)?;
+    for placement in member.sections.as_slice() {
+        add_section_line(text, placement)?;
     }
     Ok(())
 }
@@ -89,13 +89,13 @@ fn members_text(alloc: Global, members: &[LinkedModule]) -> Result<ListVec<u8>, 
 fn add_row_line(
     text: &mut ListVec<u8>,
     row: &SegmentRow,
-    place: RowPlacement,
+    placement: RowPlacement,
 ) -> Result<(), AllocError>
-    ensures { OnOk result (text.new ≡ text.old ++ row_line row.now place) }
+    ensures { OnOk result (text.new ≡ text.old ++ row_line row.now placement) }
 {
-    let run = address_text(place.run);
-    let load = address_text(place.load);
-    let size = address_text(place.size);
+    let run = address_text(placement.run);
+    let load = address_text(placement.load);
+    let size = address_text(placement.size);
     add_all(
         text,
         &[
@@ -115,13 +115,13 @@ fn add_row_line(
 fn rows_text(
     alloc: Global,
     rows: &[SegmentRow],
-    places: &[RowPlacement],
+    placements: &[RowPlacement],
 ) -> Result<ListVec<u8>, AllocError>
-    ensures { IfOk result (λ text. text ≡ row_lines rows.now places.now) }
+    ensures { IfOk result (λ text. text ≡ row_lines rows.now placements.now) }
 {
     let mut text = ListVec::new(alloc);
-    for (row, place) in rows.iter().zip(places) {
-        add_row_line(&mut text, row, *place)?;
+    for (row, placement) in rows.iter().zip(placements) {
+        add_row_line(&mut text, row, *placement)?;
     }
     Ok(text)
 }

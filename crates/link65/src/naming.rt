@@ -50,16 +50,16 @@ fn add_areas(
     alloc: Global,
     definitions: &mut ListVec<ScriptSymbol>,
     areas: &[MemoryArea],
-    places: &[AreaPlacement],
+    placements: &[AreaPlacement],
 ) -> Result<(), AllocError>
-    ensures { OnOk result (definitions.new ≡ definitions.old ++ areas_definitions areas.now places.now) }
+    ensures { OnOk result (definitions.new ≡ definitions.old ++ areas_definitions areas.now placements.now) }
 {
-    for (area, place) in areas.iter().zip(places) {
+    for (area, placement) in areas.iter().zip(placements) {
         if area.define {
             let name = area.name.as_slice();
-            definitions.push(attribute_symbol(alloc, name, b"START", place.start)?)?;
-            definitions.push(attribute_symbol(alloc, name, b"SIZE", place.size)?)?;
-            definitions.push(attribute_symbol(alloc, name, b"LAST", place.last)?)?;
+            definitions.push(attribute_symbol(alloc, name, b"START", placement.start)?)?;
+            definitions.push(attribute_symbol(alloc, name, b"SIZE", placement.size)?)?;
+            definitions.push(attribute_symbol(alloc, name, b"LAST", placement.last)?)?;
         }
     }
     Ok(())
@@ -70,16 +70,16 @@ fn add_rows(
     alloc: Global,
     definitions: &mut ListVec<ScriptSymbol>,
     rows: &[SegmentRow],
-    places: &[RowPlacement],
+    placements: &[RowPlacement],
 ) -> Result<(), AllocError>
-    ensures { OnOk result (definitions.new ≡ definitions.old ++ rows_definitions rows.now places.now) }
+    ensures { OnOk result (definitions.new ≡ definitions.old ++ rows_definitions rows.now placements.now) }
 {
-    for (row, place) in rows.iter().zip(places) {
+    for (row, placement) in rows.iter().zip(placements) {
         if row.define {
             let name = row.name.as_slice();
-            definitions.push(attribute_symbol(alloc, name, b"LOAD", place.load)?)?;
-            definitions.push(attribute_symbol(alloc, name, b"RUN", place.run)?)?;
-            definitions.push(attribute_symbol(alloc, name, b"SIZE", place.size)?)?;
+            definitions.push(attribute_symbol(alloc, name, b"LOAD", placement.load)?)?;
+            definitions.push(attribute_symbol(alloc, name, b"RUN", placement.run)?)?;
+            definitions.push(attribute_symbol(alloc, name, b"SIZE", placement.size)?)?;
         }
     }
     Ok(())

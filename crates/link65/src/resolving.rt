@@ -104,15 +104,15 @@ impl<'a> DefinedSymbols<'a> {
 pub fn runs_of<'a>(
     alloc: Global,
     rows: &'a [SegmentRow],
-    places: &[RowPlacement],
+    placements: &[RowPlacement],
 ) -> Result<Runs<'a>, AllocError>
-    ensures { IfOk result (λ runs. (name : List ℕ) → run_in runs name ≡ run_of rows.entry.now places.now name) }
+    ensures { IfOk result (λ runs. (name : List ℕ) → run_in runs name ≡ run_of rows.entry.now placements.now name) }
 {
     let mut runs = IndexMap::with_hasher(alloc, Seed::default());
     for i in (0..rows.len()).rev() {
         let row = &rows[i];
-        let run = match places.get(i) {
-            Some(place) => place.run,
+        let run = match placements.get(i) {
+            Some(placement) => placement.run,
             None => 0,
         };
         runs.insert(row.name.as_slice(), run)?;
@@ -121,12 +121,12 @@ pub fn runs_of<'a>(
 }
 
 /// Returns the run address of a section: its offset after the address of its row.
-fn address_of(runs: &Runs<'_>, place: &SectionPlace) -> i64
-    ensures { result ≡ address_in runs.now place.now }
+fn address_of(runs: &Runs<'_>, placement: &SectionPlace) -> i64
+    ensures { result ≡ address_in runs.now placement.now }
 {
-    match runs.get(place.segment.as_slice()) {
-        Some(run) => run.wrapping_add(place.offset).cast_signed(),
-        None => place.offset.cast_signed(),
+    match runs.get(placement.segment.as_slice()) {
+        Some(run) => run.wrapping_add(placement.offset).cast_signed(),
+        None => placement.offset.cast_signed(),
     }
 }
 

@@ -56,11 +56,11 @@ pub fn fault_text(alloc: Global, fault: &LinkFault) -> Result<ListVec<u8>, Alloc
     }
 }
 
-/// `ld65: Warning: segment name words`
-fn segment_warning(alloc: Global, name: &[u8], words: &[u8]) -> Result<ListVec<u8>, AllocError>
-    ensures { IfOk result (λ text. text ≡ segment_warning name.now words.now) }
+/// `ld65: Warning: segment name message`
+fn segment_warning(alloc: Global, name: &[u8], message: &[u8]) -> Result<ListVec<u8>, AllocError>
+    ensures { IfOk result (λ text. text ≡ segment_warning name.now message.now) }
 {
-    join(alloc, &[b"ld65: Warning: segment ", name, words, b"\n"])
+    join(alloc, &[b"ld65: Warning: segment ", name, message, b"\n"])
 }
 
 /// A row whose segment the object lacks.

@@ -28,7 +28,7 @@ use std::alloc::{AllocError, Global};
 #[derive(Clone, Copy)]
 pub struct PlacedProgram<'a> {
     pub members: &'a [LinkedModule],
-    /// The names of the segments, by which their places are found.
+    /// The names of the segments, by which their indices are found.
     pub names: &'a SegmentNames,
     pub contents: &'a [SegmentContent],
     pub exports: &'a [Exported],
@@ -45,7 +45,7 @@ pub fn content_of<'a>(program: &PlacedProgram<'a>, name: &[u8]) -> Option<&'a Se
     ensures { option_map segment_from (option_copied result) ≡ segment_of (segments_in program.now) name.now }
 {
     match place_of(program.names, name) {
-        Some(place) => program.contents.get(place),
+        Some(index) => program.contents.get(index),
         None => None,
     }
 }
@@ -58,10 +58,10 @@ fn file_of(
 ) -> Result<Option<ListVec<u8>>, AllocError>
     ensures { IfOk result (λ f. f ≡ file_of (Some member.now) file) }
 {
-    let Some(place) = file else {
+    let Some(index) = file else {
         return Ok(None);
     };
-    match member.files.as_slice().get(place as usize) {
+    match member.files.as_slice().get(index as usize) {
         Some(name) => Ok(Some(ListVec::copy_of(alloc, name.as_slice())?)),
         None => Ok(None),
     }

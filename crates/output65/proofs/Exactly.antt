@@ -152,12 +152,12 @@ module _ (o : Outcome) (old : Files) (new : Option Files) (status : Status) wher
 pub performs_exactly : PerformsLaw
 performs_exactly o old new io status a b held = (
   λ p.
-      let t = says_to io a b o.out o.err held p.said in
+      let t = says_to io a b o.out o.err held p.printed in
       let r : took_both io ≡ ((t.first == length o.out) && (t.second == length o.err)) = ap took_both t.now ∙ took_of a b o.out o.err t.first t.second in
       let s = settles_to o old new status _ (subst (FilesAfterRun o old new status) r p.settled) in
       (t.first, t.second, t.first_within, t.second_within, t.now, s.0, s.1),
   λ q. record {
-    said = subst (λ (x : Streams). SaysBoth x o.out o.err) (sym q.4) (says_from a b o.out o.err q.0 q.1 q.2 q.3);
+    printed = subst (λ (x : Streams). SaysBoth x o.out o.err) (sym q.4) (says_from a b o.out o.err q.0 q.1 q.2 q.3);
     settled = subst (FilesAfterRun o old new status) (sym (ap took_both q.4 ∙ took_of a b o.out o.err q.0 q.1)) (settles_from o old new status _ q.5 q.6);
   },
 )
@@ -173,8 +173,8 @@ record Following (io : Streams) (a b out err fault : List ℕ) : Type 0 where
 module _ (io : Streams) (a b out err fault : List ℕ) (held : HeldBefore io a b) where
   after_to : SaysAfter io out err fault → Following io a b out err fault
   after_to s =
-      let first : PrintsText (Some a) io.out_new out true = subst (λ (r : Bool). PrintsText (Some a) io.out_new out (not r)) s.taken (subst (λ (x : Option (List ℕ)). PrintsText x io.out_new out (not io.out_refused)) held.0 s.said.0) in
-      let next : SaysNext false (streams io.out_old io.out_new io.out_refused io.err_old s.err_mid false) err = subst (λ (r : Bool). SaysNext r (streams io.out_old io.out_new io.out_refused io.err_old s.err_mid false) err) s.taken s.said.1 in
+      let first : PrintsText (Some a) io.out_new out true = subst (λ (r : Bool). PrintsText (Some a) io.out_new out (not r)) s.taken (subst (λ (x : Option (List ℕ)). PrintsText x io.out_new out (not io.out_refused)) held.0 s.printed.0) in
+      let next : SaysNext false (streams io.out_old io.out_new io.out_refused io.err_old s.err_mid false) err = subst (λ (r : Bool). SaysNext r (streams io.out_old io.out_new io.out_refused io.err_old s.err_mid false) err) s.taken s.printed.1 in
       let second : PrintsText (Some b) s.err_mid err true = subst (λ (x : Option (List ℕ)). PrintsText x s.err_mid err true) held.1 next in
       let t = whole a out io.out_new first in
       let u = whole b err s.err_mid second in
@@ -188,7 +188,7 @@ module _ (io : Streams) (a b out err fault : List ℕ) (held : HeldBefore io a b
 after_from : (a b out err fault : List ℕ) (k : ℕ) → k ≤ length fault → SaysAfter (said_after a b out err fault k) out err fault
 after_from a b out err fault k le = record {
   err_mid = Some (b ++ err);
-  said = (refl, refl);
+  printed = (refl, refl);
   taken = refl;
   following = prints (b ++ err) fault k (not (not (k == length fault))) le (twice (k == length fault));
 }
@@ -201,43 +201,43 @@ says_after_exactly io a b out err fault held = (
 
 -- ---- An output that is written in part.
 
-record Stopped (outputs : List OutputFile) (place : ℕ) (old : Files) (new : Option Files) : Type 0 where
+record Stopped (outputs : List OutputFile) (index : ℕ) (old : Files) (new : Option Files) : Type 0 where
   output : OutputFile
-  there : slice_get outputs place ≡ Some output
+  there : slice_get outputs index ≡ Some output
   part : Option ℕ
   within : IsPart output part
-  now : new ≡ Some (written_to outputs place output part old)
+  now : new ≡ Some (written_to outputs index output part old)
 
-stopped : (outputs : List OutputFile) (place : ℕ) (old : Files) (new : Option Files) → RelatesFiles (StopsAt outputs place) (Some old) new → Stopped outputs place old new
-stopped outputs place old None left = absurd left
-stopped outputs place old (Some n) left = go left.2
+stopped : (outputs : List OutputFile) (index : ℕ) (old : Files) (new : Option Files) → RelatesFiles (StopsAt outputs index) (Some old) new → Stopped outputs index old new
+stopped outputs index old None left = absurd left
+stopped outputs index old (Some n) left = go left.2
   where
-    go : IsPartly (apply (take place outputs) old) left.0.name left.0.bytes n → Stopped outputs place old (Some n)
+    go : IsPartly (apply (take index outputs) old) left.0.name left.0.bytes n → Stopped outputs index old (Some n)
     go (inl same) = record { output = left.0; there = left.1; part = None; within = tt; now = ap Some same }
     go (inr some) = record {
       output = left.0;
       there = left.1;
       part = Some (min some.0 (length left.0.bytes));
       within = omega arith;
-      now = ap Some (some.1 ∙ ap (map.insert (apply (take place outputs) old) left.0.name) (sym (take_min some.0 left.0.bytes)));
+      now = ap Some (some.1 ∙ ap (map.insert (apply (take index outputs) old) left.0.name) (sym (take_min some.0 left.0.bytes)));
     }
 
-stops_at : (outputs : List OutputFile) (place : ℕ) (output : OutputFile) (part : Option ℕ) (old : Files) → slice_get outputs place ≡ Some output → StopsAt outputs place old (written_to outputs place output part old)
-stops_at outputs place output None old there = (output, there, inl refl)
-stops_at outputs place output (Some n) old there = (output, there, inr (n, refl))
+stops_at : (outputs : List OutputFile) (index : ℕ) (output : OutputFile) (part : Option ℕ) (old : Files) → slice_get outputs index ≡ Some output → StopsAt outputs index old (written_to outputs index output part old)
+stops_at outputs index output None old there = (output, there, inl refl)
+stops_at outputs index output (Some n) old there = (output, there, inr (n, refl))
 
-left_at : (outputs : List OutputFile) (place : ℕ) (output : OutputFile) (part : Option ℕ) (old : Files) (new : Option Files) → slice_get outputs place ≡ Some output → new ≡ Some (written_to outputs place output part old) → RelatesFiles (StopsAt outputs place) (Some old) new
-left_at outputs place output part old new there is = subst (λ (f : Option Files). RelatesFiles (StopsAt outputs place) (Some old) f) (sym is) (stops_at outputs place output part old there)
+left_at : (outputs : List OutputFile) (index : ℕ) (output : OutputFile) (part : Option ℕ) (old : Files) (new : Option Files) → slice_get outputs index ≡ Some output → new ≡ Some (written_to outputs index output part old) → RelatesFiles (StopsAt outputs index) (Some old) new
+left_at outputs index output part old new there is = subst (λ (f : Option Files). RelatesFiles (StopsAt outputs index) (Some old) f) (sym is) (stops_at outputs index output part old there)
 
 pub stops_short_exactly : StopsShortLaw
 stops_short_exactly o memory old new io status a b held = (
   λ s.
-      let t = stopped o.outputs s.place old new s.left in
-      let u = after_to io a b o.out o.err memory held s.said in
-      (s.place, t.output, t.part, u.count, t.there, t.within, t.now, u.within, u.now, s.failed),
+      let t = stopped o.outputs s.index old new s.left in
+      let u = after_to io a b o.out o.err memory held s.printed in
+      (s.index, t.output, t.part, u.count, t.there, t.within, t.now, u.within, u.now, s.failed),
   λ q. record {
-    said = subst (λ (x : Streams). SaysAfter x o.out o.err memory) (sym q.8) (after_from a b o.out o.err memory q.3 q.7);
-    place = q.0;
+    printed = subst (λ (x : Streams). SaysAfter x o.out o.err memory) (sym q.8) (after_from a b o.out o.err memory q.3 q.7);
+    index = q.0;
     left = left_at o.outputs q.0 q.1 q.2 old new q.4 q.6;
     failed = q.9;
   },
@@ -246,18 +246,18 @@ stops_short_exactly o memory old new io status a b held = (
 pub stops_writing_exactly : StopsWritingLaw
 stops_writing_exactly o old new last_failure io status a b held = (
   λ s.
-      let t = stopped o.outputs s.place old new s.left in
+      let t = stopped o.outputs s.index old new s.left in
       let same : s.output ≡ t.output = let both : Some s.output ≡ Some t.output = sym s.at ∙ t.there in cc in
       let line = file_error_line t.output.name in
-      let u = after_to io a b o.out o.err line held (subst (λ (x : OutputFile). SaysAfter io o.out o.err (file_error_line x.name)) same s.said) in
-      (s.place, t.output, t.part, u.count, t.there, t.within, t.now, subst (λ (x : OutputFile). FailedOn last_failure x.name) same s.asked, u.within, u.now, s.failed),
+      let u = after_to io a b o.out o.err line held (subst (λ (x : OutputFile). SaysAfter io o.out o.err (file_error_line x.name)) same s.printed) in
+      (s.index, t.output, t.part, u.count, t.there, t.within, t.now, subst (λ (x : OutputFile). FailedOn last_failure x.name) same s.asked, u.within, u.now, s.failed),
   λ q. record {
-    place = q.0;
+    index = q.0;
     left = left_at o.outputs q.0 q.1 q.2 old new q.4 q.6;
     output = q.1;
     at = q.4;
     asked = q.7;
-    said = subst (λ (x : Streams). SaysAfter x o.out o.err (file_error_line q.1.name)) (sym q.9) (after_from a b o.out o.err (file_error_line q.1.name) q.3 q.8);
+    printed = subst (λ (x : Streams). SaysAfter x o.out o.err (file_error_line q.1.name)) (sym q.9) (after_from a b o.out o.err (file_error_line q.1.name) q.3 q.8);
     failed = q.10;
   },
 )
@@ -298,4 +298,4 @@ writers_stop_exactly out_text err_text fault a b out err = (
 )
 
 pub one_naming : WriteNamingIsUnique
-one_naming o old new c io status s = subst (λ (n : List ℕ). SaysAfter io o.out o.err (file_error_line n)) (sym s.asked) s.said
+one_naming o old new c io status s = subst (λ (n : List ℕ). SaysAfter io o.out o.err (file_error_line n)) (sym s.asked) s.printed

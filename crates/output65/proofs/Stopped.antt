@@ -21,15 +21,15 @@ file_error u = go u.fault refl
     go FileNotFound e h = let no : is_unwritten_failure u ≡ false = rw e refl in cc
 
 -- where a file isn't written since a call failed
-pub stops_writing : (known new : Option Files) (fm fn : ℕ) (o : Outcome) (u : WriteError) (last_failure : LastFailure) (io : Streams) (status : Status) → status ≡ Failure → (fm < fn → is_unwritten_failure u ≡ true) → RelatesFiles (StopsAt o.outputs u.place) known new → ((file : OutputFile) → u.fault ≡ FileError → slice_get o.outputs u.place ≡ Some file → SaysAfter io o.out o.err (file_error_line file.name)) → ((file : OutputFile) → u.fault ≡ FileError → slice_get o.outputs u.place ≡ Some file → FailedOn last_failure file.name) → IfSome known (λ m. fm < fn → StopsWriting o m new last_failure io status)
-stops_writing None new fm fn o u last_failure io status failed told left said asked = tt
-stops_writing (Some m) None fm fn o u last_failure io status failed told left said asked = absurd left
-stops_writing (Some m) (Some n) fm fn o u last_failure io status failed told left said asked = λ rose. record {
-  place = u.place;
+pub stops_writing : (known new : Option Files) (fm fn : ℕ) (o : Outcome) (u : WriteError) (last_failure : LastFailure) (io : Streams) (status : Status) → status ≡ Failure → (fm < fn → is_unwritten_failure u ≡ true) → RelatesFiles (StopsAt o.outputs u.index) known new → ((file : OutputFile) → u.fault ≡ FileError → slice_get o.outputs u.index ≡ Some file → SaysAfter io o.out o.err (file_error_line file.name)) → ((file : OutputFile) → u.fault ≡ FileError → slice_get o.outputs u.index ≡ Some file → FailedOn last_failure file.name) → IfSome known (λ m. fm < fn → StopsWriting o m new last_failure io status)
+stops_writing None new fm fn o u last_failure io status failed told left printed asked = tt
+stops_writing (Some m) None fm fn o u last_failure io status failed told left printed asked = absurd left
+stops_writing (Some m) (Some n) fm fn o u last_failure io status failed told left printed asked = λ rose. record {
+  index = u.index;
   left = left;
   output = left.0;
   at = left.1;
   asked = asked left.0 (file_error u (told rose)) left.1;
-  said = said left.0 (file_error u (told rose)) left.1;
+  printed = printed left.0 (file_error u (told rose)) left.1;
   failed = failed;
 }

@@ -179,24 +179,24 @@ both_took true err h = absurd cc
 
 -- what is said behind the texts of both
 pub after_both : (io mid : Streams) (out err fault : List ℕ) → mid ≡ streams io.out_old io.out_new io.out_refused io.err_old mid.err_new mid.err_refused → took_both mid ≡ true → SaysBoth mid out err → PrintsText mid.err_new io.err_new fault (not io.err_refused) → SaysAfter io out err fault
-after_both io mid out err fault same took said more =
+after_both io mid out err fault same took printed more =
     let none = both_took mid.out_refused mid.err_refused took in
     let taken : io.out_refused ≡ false = sym (ap (λ (x : Streams). x.out_refused) same) ∙ none.0 in
     record {
       err_mid = mid.err_new;
-      said = subst (λ (b : Bool). SaysBoth (streams io.out_old io.out_new io.out_refused io.err_old mid.err_new b) out err) none.1 (subst (λ (x : Streams). SaysBoth x out err) same said);
+      printed = subst (λ (b : Bool). SaysBoth (streams io.out_old io.out_new io.out_refused io.err_old mid.err_new b) out err) none.1 (subst (λ (x : Streams). SaysBoth x out err) same printed);
       taken = taken;
       following = more;
     }
 
 -- outputs that aren't all written
-pub short : (known new : Option Files) (fo fm fn : ℕ) (o : Outcome) (memory : List ℕ) (u : WriteError) (io : Streams) (status : Status) (P : Files → Type 0) → status ≡ Failure → fo ≤ fm → fm ≡ fn → (is_failure u ≡ true → HasFailed fo fm) → IfSome known (λ m. u.fault ≡ FileNotFound → ⊥) → RelatesFiles (StopsAt o.outputs u.place) known new → (u.fault ≡ OutOfMemory → SaysAfter io o.out o.err memory) → IfSome known (λ m. NoneFailed fo fn → P m ⊎ StopsShort o memory m new io status)
-short None new fo fm fn o memory u io status P e later same cause there left said = tt
-short (Some m) new fo fm fn o memory u io status P e later same cause there left said = λ none.
+pub short : (known new : Option Files) (fo fm fn : ℕ) (o : Outcome) (memory : List ℕ) (u : WriteError) (io : Streams) (status : Status) (P : Files → Type 0) → status ≡ Failure → fo ≤ fm → fm ≡ fn → (is_failure u ≡ true → HasFailed fo fm) → IfSome known (λ m. u.fault ≡ FileNotFound → ⊥) → RelatesFiles (StopsAt o.outputs u.index) known new → (u.fault ≡ OutOfMemory → SaysAfter io o.out o.err memory) → IfSome known (λ m. NoneFailed fo fn → P m ⊎ StopsShort o memory m new io status)
+short None new fo fm fn o memory u io status P e later same cause there left printed = tt
+short (Some m) new fo fm fn o memory u io status P e later same cause there left printed = λ none.
     let want : u.fault ≡ OutOfMemory = by_cause u (not_failed (is_failure u) refl none) there in
     inr (record {
-      said = said want;
-      place = u.place;
+      printed = printed want;
+      index = u.index;
       left = left;
       failed = e;
     })

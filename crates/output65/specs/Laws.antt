@@ -53,16 +53,16 @@ abbrev pub StopsShortLaw : Type 0
 StopsShortLaw =
     (o : Outcome) (memory : List ℕ) (old : Files) (new : Option Files) (io : Streams) (status : Status) (a b : List ℕ) → HeldBefore io a b →
     StopsShort o memory old new io status
-    ↔ ((place : ℕ) × (output : OutputFile) × (part : Option ℕ) × (k : ℕ) × (slice_get o.outputs place ≡ Some output) × IsPart output part
-    × (new ≡ Some (written_to o.outputs place output part old)) × (k ≤ length memory)
+    ↔ ((index : ℕ) × (output : OutputFile) × (part : Option ℕ) × (k : ℕ) × (slice_get o.outputs index ≡ Some output) × IsPart output part
+    × (new ≡ Some (written_to o.outputs index output part old)) × (k ≤ length memory)
     × (io ≡ said_after a b o.out o.err memory k) × (status ≡ Failure))
 
 abbrev pub StopsWritingLaw : Type 0
 StopsWritingLaw =
     (o : Outcome) (old : Files) (new : Option Files) (last_failure : LastFailure) (io : Streams) (status : Status) (a b : List ℕ) → HeldBefore io a b →
     StopsWriting o old new last_failure io status
-    ↔ ((place : ℕ) × (output : OutputFile) × (part : Option ℕ) × (k : ℕ) × (slice_get o.outputs place ≡ Some output) × IsPart output part
-    × (new ≡ Some (written_to o.outputs place output part old)) × FailedOn last_failure output.name × (k ≤ length (file_error_line output.name))
+    ↔ ((index : ℕ) × (output : OutputFile) × (part : Option ℕ) × (k : ℕ) × (slice_get o.outputs index ≡ Some output) × IsPart output part
+    × (new ≡ Some (written_to o.outputs index output part old)) × FailedOn last_failure output.name × (k ≤ length (file_error_line output.name))
     × (io ≡ said_after a b o.out o.err (file_error_line output.name) k) × (status ≡ Failure))
 
 -- Of any two writers that tell what they hold: so it is of streams over them, if it is so of them by how many bytes each took.

@@ -31,5 +31,5 @@ status_after o i j = if (i == length o.out) && (j == length o.err) then o.status
 
 -- the outputs before one are written, and its first bytes, or its file is unchanged
 abbrev pub written_to : List OutputFile → ℕ → OutputFile → Option ℕ → Files → Files
-written_to outputs place output None old = apply (take place outputs) old
-written_to outputs place output (Some n) old = insert (apply (take place outputs) old) output.name (take n output.bytes)
+written_to outputs index output None old = apply (take index outputs) old
+written_to outputs index output (Some n) old = insert (apply (take index outputs) old) output.name (take n output.bytes)

@@ -77,7 +77,7 @@ SaysBoth io out err = PrintsText io.out_old io.out_new out (not io.out_refused) 
 pub record SaysAfter (io : Streams) (out err fault : List ℕ) : Type 0 where
   -- standard error after its own text
   pub err_mid : Option (List ℕ)
-  pub said : SaysBoth (streams io.out_old io.out_new io.out_refused io.err_old err_mid false) out err
+  pub printed : SaysBoth (streams io.out_old io.out_new io.out_refused io.err_old err_mid false) out err
   pub taken : io.out_refused ≡ false
   pub following : PrintsText err_mid io.err_new fault (not io.err_refused)
 
@@ -100,13 +100,13 @@ FilesAfterRun o old new status false = (new ≡ Some old) × (status ≡ Failure
 
 -- A run of an outcome: it says its texts, standard output's first, and then writes its files.
 pub record PerformsOutcome (o : Outcome) (old : Files) (new : Option Files) (io : Streams) (status : Status) : Type 0 where
-  pub said : SaysBoth io o.out o.err
+  pub printed : SaysBoth io o.out o.err
   pub settled : FilesAfterRun o old new status (took_both io)
 
 -- Memory ran out while an outcome's files were written: its texts were taken whole, and after them the
 -- message *out of memory*, or a first part of it.
 pub record StopsShort (o : Outcome) (memory : List ℕ) (old : Files) (new : Option Files) (io : Streams) (status : Status) : Type 0 where
-  pub said : SaysAfter io o.out o.err memory
-  pub place : ℕ
-  pub left : RelatesFiles (StopsAt o.outputs place) (Some old) new
+  pub printed : SaysAfter io o.out o.err memory
+  pub index : ℕ
+  pub left : RelatesFiles (StopsAt o.outputs index) (Some old) new
   pub failed : status ≡ Failure

@@ -16,10 +16,10 @@ file_error_line name = concat_texts (name ∷ codes ": Error: file error\n" ∷ 
 -- written, that one in part or not at all, and no later one; the failed call requested that file; and the
 -- message is printed after the texts, whole or in part.
 pub record StopsWriting (o : Outcome) (old : Files) (new : Option Files) (last_failure : LastFailure) (io : Streams) (status : Status) : Type 0 where
-  pub place : ℕ
-  pub left : RelatesFiles (StopsAt o.outputs place) (Some old) new
+  pub index : ℕ
+  pub left : RelatesFiles (StopsAt o.outputs index) (Some old) new
   pub output : OutputFile
-  pub at : slice_get o.outputs place ≡ Some output
+  pub at : slice_get o.outputs index ≡ Some output
   pub asked : FailedOn last_failure output.name
-  pub said : SaysAfter io o.out o.err (file_error_line output.name)
+  pub printed : SaysAfter io o.out o.err (file_error_line output.name)
   pub failed : status ≡ Failure

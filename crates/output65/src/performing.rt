@@ -25,7 +25,7 @@ fn say_both<W: Write, E: Write>(
     requires out { out.old.has_failed ≡ false }
     requires err { err.old.has_failed ≡ false }
     ensures same { AreSame out.old out.new err.old err.new }
-    ensures said { SaysBoth (between W.contents E.contents out.old out.new err.old err.new) text.now error_text.now }
+    ensures printed { SaysBoth (between W.contents E.contents out.old out.new err.old err.new) text.now error_text.now }
     ensures took { result ≡ took_both (between W.contents E.contents out.old out.new err.old err.new) }
 {
     if !print(out, text) {
@@ -38,7 +38,7 @@ fn say_both<W: Write, E: Write>(
 pub fn print_out_of_memory<E: Write>(err: &mut Stream<'_, E>, name: &str) -> bool
     requires { err.old.has_failed ≡ false }
     ensures same { err.new.writer.ghost_name ≡ err.old.writer.ghost_name }
-    ensures said { PrintsText (E.contents err.old.writer.now) (E.contents err.new.writer.now) (memory_line name.now) (not err.new.has_failed) }
+    ensures printed { PrintsText (E.contents err.old.writer.now) (E.contents err.new.writer.now) (memory_line name.now) (not err.new.has_failed) }
     ensures took { result ≡ not err.new.has_failed }
 {
     print_all(err, &[name.as_bytes(), b": Error: out of memory\n"])
@@ -56,16 +56,16 @@ fn print_write_error<E: Write>(
     ensures same { err.new.writer.ghost_name ≡ err.old.writer.ghost_name }
     ensures memory { unwritten.fault ≡ StoreFault.OutOfMemory →
         PrintsText (E.contents err.old.writer.now) (E.contents err.new.writer.now) (memory_line memory_name.now) (not err.new.has_failed) }
-    ensures failed { (file : OutputFile) → unwritten.fault ≡ StoreFault.FileError → slice_get outputs.now unwritten.place ≡ Some file →
+    ensures failed { (file : OutputFile) → unwritten.fault ≡ StoreFault.FileError → slice_get outputs.now unwritten.index ≡ Some file →
         PrintsText (E.contents err.old.writer.now) (E.contents err.new.writer.now) (file_error_line file.name) (not err.new.has_failed) }
 {
-    let words: &[u8] = match unwritten.fault {
+    let message: &[u8] = match unwritten.fault {
         StoreFault::OutOfMemory => return print_out_of_memory(err, memory_name),
         StoreFault::FileNotFound => b": Error: file not found\n",
         StoreFault::FileError => b": Error: file error\n",
     };
-    match outputs.get(unwritten.place) {
-        Some(output) => print_all(err, &[output.name.as_str().as_bytes(), words]),
+    match outputs.get(unwritten.index) {
+        Some(output) => print_all(err, &[output.name.as_str().as_bytes(), message]),
         None => false,
     }
 }

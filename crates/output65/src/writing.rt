@@ -26,10 +26,10 @@ pub fn write_file<S: Store>(store: &mut S, name: &str, bytes: &[u8]) -> Result<(
     Ok(())
 }
 
-/// An output that isn't written: its place among the outputs, and why.
+/// An output that isn't written: its index among the outputs, and why.
 #[derive(Clone, Copy)]
 pub struct WriteError {
-    pub place: usize,
+    pub index: usize,
     pub fault: StoreFault,
 }
 
@@ -37,17 +37,17 @@ pub struct WriteError {
 /// rest as they were.
 pub fn write_outputs<S: Store>(store: &mut S, outputs: &[OutputFile]) -> Result<(), WriteError>
     ensures ok { OnOk result (RelatesFiles (λ old new. new ≡ apply outputs.now old) (S.files store.old) (S.files store.new)) }
-    ensures err { IfErr result (λ e. RelatesFiles (StopsAt outputs.now e.place) (S.files store.old) (S.files store.new)) }
-    ensures place { IfErr result (λ e. e.place < length outputs.now) }
+    ensures err { IfErr result (λ e. RelatesFiles (StopsAt outputs.now e.index) (S.files store.old) (S.files store.new)) }
+    ensures index { IfErr result (λ e. e.index < length outputs.now) }
     ensures there { IfSome (S.files store.old) (λ m. IfErr result (λ e. e.fault ≢ StoreFault.FileNotFound)) }
     ensures count { PropagatesIoErrors is_failure (S.failures store.old) (S.failures store.new) result }
     ensures last_failure { (file : OutputFile) → IfErr result (λ e. e.fault ≡ StoreFault.FileError →
-        slice_get outputs.now e.place ≡ Some file → FailedOn (S.last_failure store.new) file.name) }
+        slice_get outputs.now e.index ≡ Some file → FailedOn (S.last_failure store.new) file.name) }
     ensures untouched { outputs.now ≡ [] → S.last_failure store.new ≡ S.last_failure store.old }
 {
-    for (place, output) in outputs.iter().enumerate() {
+    for (index, output) in outputs.iter().enumerate() {
         if let Err(fault) = write_file(store, output.name.as_str(), output.bytes.as_slice()) {
-            return Err(WriteError { place, fault });
+            return Err(WriteError { index, fault });
         }
     }
     Ok(())

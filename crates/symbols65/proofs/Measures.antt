@@ -73,8 +73,8 @@ items_lost cs scope items i item lt e = rw add-one (ap (λ is. lost_scopes cs sc
 
 -- ---- What a section has room for.
 
-pub same_test : (offset room len : ℕ) → offset + room ≡ section_limit → nat_lt section_limit (offset + len) ≡ nat_lt room len
-same_test offset room len e = grind (arith, common_steps)
+pub same_test : (offset remaining len : ℕ) → offset + remaining ≡ section_limit → nat_lt section_limit (offset + len) ≡ nat_lt remaining len
+same_test offset remaining len e = grind (arith, common_steps)
 
 -- ---- Segments and blocks.
 
@@ -102,8 +102,8 @@ numbers_len width (n ∷ ns) =
     g ∙ omega (arith, e, f)
 
 -- what is left behind so many bytes, if there is room for them
-pub what_is_left : (o : Option ℕ) (room len n : ℕ) → len ≡ n → SomeIff o (len ≤ room) (room - len) → MatchOption o (room < n) (λ left. left + n ≡ room)
-what_is_left x room len n e h = grind (arith, common_steps)
+pub what_is_left : (o : Option ℕ) (remaining len n : ℕ) → len ≡ n → SomeIff o (len ≤ remaining) (remaining - len) → MatchOption o (remaining < n) (λ left. left + n ≡ remaining)
+what_is_left x remaining len n e h = grind (arith, common_steps)
 
 -- and they have no names
 pub numbers_keep : (cs : List Scope) (scope : ℕ) (ns : List ℕ) → lost_scopes cs scope (item_trees (map literal_item ns)) ≡ None

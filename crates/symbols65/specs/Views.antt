@@ -20,10 +20,10 @@ table_of t = record (table_without_imports (words_of t) t.definitions.entries t.
   zero_page = map (λ k. k.items) t.zero_page.keys;
 }
 
--- the key of the definition at a place
+-- the key of the definition at an index
 abbrev pub key_at : Symbols → ℕ → l.Key
-key_at t place =
-    unwrap_or (option_map (λ e. key_in (words_of t) e.0) (slice_get t.definitions.entries place)) (unnamed_at 0)
+key_at t index =
+    unwrap_or (option_map (λ e. key_in (words_of t) e.0) (slice_get t.definitions.entries index)) (unnamed_at 0)
 
 -- ---- What a statement adds.
 

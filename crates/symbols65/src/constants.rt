@@ -88,7 +88,7 @@ fn size_of_meaning(symbols: &Symbols, meaning: Binding) -> AddressSize
     ensures { result ≡ size_of_meaning (table_of symbols.now) (Ok (meaning_in meaning)) }
 {
     match meaning {
-        Binding::Defined(place) => match symbols.definition(place) {
+        Binding::Defined(index) => match symbols.definition(index) {
             Some(definition) => definition.size,
             None => AddressSize::Absolute,
         },

@@ -156,13 +156,13 @@ impl Cursor {
           current = length self.old.segments;
         }) }
     {
-        let place = self.segments.len();
+        let index = self.segments.len();
         let segment = segment_of(alloc, name, size)?;
         // Both tables take it, or none does.
         self.segments.reserve(1)?;
         self.names.insert(Vec::from_slice(alloc, name)?)?;
         self.segments.push_reserved(segment);
-        self.current = place as u32;
+        self.current = index as u32;
         Ok(())
     }
 
@@ -184,8 +184,8 @@ impl Cursor {
     {
         match self.place_of(name) {
             None => self.begin(alloc, name, size),
-            Some(place) => {
-                self.current = place as u32;
+            Some(index) => {
+                self.current = index as u32;
                 Ok(())
             }
         }
@@ -209,8 +209,8 @@ impl Cursor {
           kept = rest_kept self.old.kept;
         } }
     {
-        if let Some(place) = self.kept.pop() {
-            self.current = place;
+        if let Some(index) = self.kept.pop() {
+            self.current = index;
         }
     }
 
@@ -223,7 +223,7 @@ impl Cursor {
         alignment: u32,
     ) -> Result<(), AllocError>
         requires few { length self.old.segments < 4294967295 }
-        requires room { (context_of self.old).offset + count ≤ section_limit }
+        requires capacity { (context_of self.old).offset + count ≤ section_limit }
         ensures { OnOk result (self.new ≡ record self.old {
           segments = segments_after self.old.segments self.old.current count alignment
               statement.now;
@@ -266,7 +266,7 @@ impl Cursor {
         statement: &Statement,
         measure: StatementLayout,
     ) -> Result<(), AllocError>
-        requires room { (context_of self.old).offset + measure.length ≤ section_limit }
+        requires capacity { (context_of self.old).offset + measure.length ≤ section_limit }
         requires numbers { HasNumbers (table_of symbols.now) self.old }
         ensures { OnOk result (self.new ≡ cursor_with_bytes (table_of symbols.now)
             self.old statement.now measure.length measure.alignment) }
@@ -310,12 +310,12 @@ impl Cursor {
 }
 
 /// Moves the end of a segment's section.
-fn grow(segments: &mut [Segment], place: usize, count: u32, alignment: u32)
-    requires place { place < length segments.old }
-    requires end { (segment_at segments.old place).end + count ≤ section_limit }
-    ensures { segments.new ≡ grown_at segments.old place count alignment }
+fn grow(segments: &mut [Segment], index: usize, count: u32, alignment: u32)
+    requires index { index < length segments.old }
+    requires end { (segment_at segments.old index).end + count ≤ section_limit }
+    ensures { segments.new ≡ grown_at segments.old index count alignment }
 {
-    let segment = &mut segments[place];
+    let segment = &mut segments[index];
     segment.end += count;
     segment.align = segment.align.max(alignment);
 }

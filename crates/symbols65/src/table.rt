@@ -139,7 +139,7 @@ impl Symbols {
     }
 
     pub fn place_opened(&self, opening: ScopeKey) -> Option<usize>
-        ensures place { result ≡ position (same_opening opening) (keys self.now.scopes) }
+        ensures index { result ≡ position (same_opening opening) (keys self.now.scopes) }
         ensures within { IfSome result (λ i. i < index_map_len self.now.scopes) }
     {
         self.scopes.get_index_of(&opening)
@@ -151,7 +151,7 @@ impl Symbols {
     {
         match self.word(name) {
             Some(word) => match self.place_opened(ScopeKey::Named { within, word }) {
-                Some(place) if place < self.scopes.len() => Some(place + 1),
+                Some(index) if index < self.scopes.len() => Some(index + 1),
                 _ => None,
             },
             None => None,
@@ -170,29 +170,29 @@ impl Symbols {
         ensures { result ≡ enclosing (table_of self.now).scopes scope }
     {
         match scope.checked_sub(1) {
-            Some(place) => self.within(place),
+            Some(index) => self.within(index),
             None => 0,
         }
     }
 
-    /// The scope in which the scope at a place was opened.
-    fn within(&self, place: usize) -> usize
-        ensures { result ≡ parent_scope (slice_get (table_of self.now).scopes place) }
+    /// The scope in which the scope at an index was opened.
+    fn within(&self, index: usize) -> usize
+        ensures { result ≡ parent_scope (slice_get (table_of self.now).scopes index) }
     {
-        match self.scopes.get_index(place) {
+        match self.scopes.get_index(index) {
             Some((ScopeKey::Named { within, word: _ }, _)) => *within,
             Some((ScopeKey::Nameless { within, number: _ }, _)) => *within,
             None => 0,
         }
     }
 
-    /// The definition at a place.
-    pub fn definition(&self, place: usize) -> Option<&Definition>
-        ensures definition { slice_get (table_of self.now).definitions place ≡ option_map (λ d. definition_seen (key_at self.now place) d.now) result }
-        ensures entry { option_map (λ d. d.now) result ≡ option_map (λ e. e.1) (slice_get self.now.definitions.entries place) }
-        ensures forms { IfSome result (λ d. KeepsFinal (table_of self.now) place (definition_seen (key_at self.now place) d.now) d.now) }
+    /// The definition at an index.
+    pub fn definition(&self, index: usize) -> Option<&Definition>
+        ensures definition { slice_get (table_of self.now).definitions index ≡ option_map (λ d. definition_seen (key_at self.now index) d.now) result }
+        ensures entry { option_map (λ d. d.now) result ≡ option_map (λ e. e.1) (slice_get self.now.definitions.entries index) }
+        ensures forms { IfSome result (λ d. KeepsFinal (table_of self.now) index (definition_seen (key_at self.now index) d.now) d.now) }
     {
-        match self.definitions.get_index(place) {
+        match self.definitions.get_index(index) {
             Some((_, definition)) => Some(definition),
             None => None,
         }

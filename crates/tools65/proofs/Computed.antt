@@ -239,8 +239,8 @@ module _ (a : Assembling) (out err : List ℕ) where
       by_memory true h = ([], memory_line a.source, inr (refl, refl), made_memory e o h is)
       by_memory false h =
           let text : List ℕ = err ++ asm_message a.source (placed_of e) in
-          let said : refused_with a.source out err (placed_of e) ≡ refusing out text = rw h refl in
-          (out, text, inl (placed_of e, err, failed, stops, refl), is ∙ said)
+          let printed : refused_with a.source out err (placed_of e) ≡ refusing out text = rw h refl in
+          (out, text, inl (placed_of e, err, failed, stops, refl), is ∙ printed)
 
   made_fails : (e : Diagnostic) (o : Outcome) → Made (Err e) o → o.status ≡ Failure
   made_fails e o is = ap (λ (x : Outcome). x.status) is ∙ refused_status (placed_of e) (is_asm_memory e.fault) refl

@@ -34,10 +34,10 @@ line_fits (Some m) mid new fo fm fn line last_failure o io status same early lat
   where
     by : IsFittingOutcome line m o ⊎ (o ≡ failing (line_memory line)) → PerformsOutcome o m new io status ⊎ StopsShort o (line_memory line) m new io status → LineObjectFits line m ⊎ PerformsOutcome (failing (line_memory line)) m new io status
     by (inl (does, fits)) carried = inl fits
-    by (inr memory) (inl said) = inr (subst (λ (x : Outcome). PerformsOutcome x m new io status) memory said)
+    by (inr memory) (inl printed) = inr (subst (λ (x : Outcome). PerformsOutcome x m new io status) memory printed)
     by (inr memory) (inr short) =
         let none : o.outputs ≡ [] = ap (λ (x : Outcome). x.outputs) memory in
-        absurd (stops_nowhere short.place m new (subst (λ (os : List OutputFile). RelatesFiles (StopsAt os short.place) (Some m) new) none short.left))
+        absurd (stops_nowhere short.index m new (subst (λ (os : List OutputFile). RelatesFiles (StopsAt os short.index) (Some m) new) none short.left))
 
 -- memory ran out before there was an outcome
 pub only_memory_fits : (known new : Option Files) (line : CommandView) (out err_old err_new : Option (List ℕ)) (out_refused err_refused : Bool) (status : Status) (Q : Type 0) → new ≡ known → status ≡ Failure → out_refused ≡ false → PrintsText err_old err_new (line_memory line) (not err_refused) → IfSome known (λ m. Q → RunObjectFits line m new (streams out out out_refused err_old err_new err_refused) status)
@@ -47,17 +47,17 @@ only_memory_fits (Some m) new line out err_old err_new out_refused err_refused s
     λ _. inr (says m new out err_old err_new (line_memory line) out_refused err_refused status same e quiet p)
 
 -- a line that was run
-pub words_fit : (known new : Option Files) (fo fn : ℕ) (words : List (List ℕ)) (line : CommandView) (io : Streams) (status : Status) → line_of words ≡ Ok line → IfSome known (λ m. NoneFailed fo fn → RunObjectFits line m new io status) → IfSome known (λ m. NoneFailed fo fn → WordsObjectFits words m new io status)
+pub words_fit : (known new : Option Files) (fo fn : ℕ) (args : List (List ℕ)) (line : CommandView) (io : Streams) (status : Status) → line_of args ≡ Ok line → IfSome known (λ m. NoneFailed fo fn → RunObjectFits line m new io status) → IfSome known (λ m. NoneFailed fo fn → WordsObjectFits args m new io status)
 unfolding WordsObjectFits
-words_fit None new fo fn words line io status e h = tt
-words_fit (Some m) new fo fn words line io status e h = λ none. rw e (inl (h none))
+words_fit None new fo fn args line io status e h = tt
+words_fit (Some m) new fo fn args line io status e h = λ none. rw e (inl (h none))
 
 -- words that are no line, or for which memory ran out
-pub refused_fit : (known new : Option Files) (words : List (List ℕ)) (e : LineFault) (out err_old err_new : Option (List ℕ)) (out_refused err_refused : Bool) (status : Status) (Q : Type 0) → new ≡ known → status ≡ Failure → RefinesErr is_line_system_error e (line_of words) → out_refused ≡ false → PrintsText err_old err_new (line_message_of e) (not err_refused) → IfSome known (λ m. Q → WordsObjectFits words m new (streams out out out_refused err_old err_new err_refused) status)
+pub refused_fit : (known new : Option Files) (args : List (List ℕ)) (e : LineFault) (out err_old err_new : Option (List ℕ)) (out_refused err_refused : Bool) (status : Status) (Q : Type 0) → new ≡ known → status ≡ Failure → RefinesErr is_line_system_error e (line_of args) → out_refused ≡ false → PrintsText err_old err_new (line_message_of e) (not err_refused) → IfSome known (λ m. Q → WordsObjectFits args m new (streams out out out_refused err_old err_new err_refused) status)
 unfolding WordsObjectFits
-refused_fit None new words e out err_old err_new out_refused err_refused status Q same f h quiet p = tt
-refused_fit (Some m) new words BadArguments out err_old err_new out_refused err_refused status Q same f h quiet p = λ _. rw h tt
-refused_fit (Some m) new words OutOfMemory out err_old err_new out_refused err_refused status Q same f h quiet p = λ _. either (line_of words)
+refused_fit None new args e out err_old err_new out_refused err_refused status Q same f h quiet p = tt
+refused_fit (Some m) new args BadArguments out err_old err_new out_refused err_refused status Q same f h quiet p = λ _. rw h tt
+refused_fit (Some m) new args OutOfMemory out err_old err_new out_refused err_refused status Q same f h quiet p = λ _. either (line_of args)
   where
     either : (r : Result CommandView LineFault) → ArgsObjectFits r m new (streams out out out_refused err_old err_new err_refused) status
     either (Ok line) = inr (says m new out err_old err_new line_memory_message out_refused err_refused status same f quiet p)

@@ -154,14 +154,14 @@ append_all : {X : Type 0} (P : X → Type 0) (xs ys : List X) → AllByRecursion
 append_all P [] ys f g = g
 append_all P (x ∷ xs) ys f g = (f.0, append_all P xs ys f.1 g)
 
-one_chosen : (P : Entry → Type 0) (es : List Entry) (place : ℕ) → AllByRecursion P es → AllByRecursion P (chosen_at es place)
-one_chosen P [] place all = tt
+one_chosen : (P : Entry → Type 0) (es : List Entry) (index : ℕ) → AllByRecursion P es → AllByRecursion P (chosen_at es index)
+one_chosen P [] index all = tt
 one_chosen P (e ∷ es) zero all = (all.0, tt)
-one_chosen P (e ∷ es) (suc place) all = one_chosen P es place all.1
+one_chosen P (e ∷ es) (suc index) all = one_chosen P es index all.1
 
-all_chosen : (P : Entry → Type 0) (es : List Entry) (places : List ℕ) → AllByRecursion P es → AllByRecursion P (selected_entries es places)
+all_chosen : (P : Entry → Type 0) (es : List Entry) (indices : List ℕ) → AllByRecursion P es → AllByRecursion P (selected_entries es indices)
 all_chosen P es [] all = tt
-all_chosen P es (place ∷ places) all = append_all P (chosen_at es place) (selected_entries es places) (one_chosen P es place all) (all_chosen P es places all)
+all_chosen P es (index ∷ indices) all = append_all P (chosen_at es index) (selected_entries es indices) (one_chosen P es index all) (all_chosen P es indices all)
 
 objects_append : (xs ys : List Source) (ms ns : List Module) → AreObjectsOf xs ms → AreObjectsOf ys ns → AreObjectsOf (xs ++ ys) (ms ++ ns)
 objects_append [] ys [] ns f g = g

@@ -29,7 +29,7 @@ module _ (s : Script) (m : Files) where
   needed_once : (before : List Module) (library : List ℕ) (es : List Entry) (r t : Result (List Module) LinkCommandFault) → AreNeeded s m library before es r → AreNeeded s m library before es t → r ≡ t
   needed_once before library es r t h k =
       let same : h.0 ≡ k.0 = one_selection es (open_names s (program_of before)) (given_names s (program_of before)) h.0 k.0 h.1 k.1 in
-      h.2 ∙ ap (λ (places : List ℕ). with_members s m library before (selected_entries es places)) same ∙ sym k.2
+      h.2 ∙ ap (λ (indices : List ℕ). with_members s m library before (selected_entries es indices)) same ∙ sym k.2
 
   library_once : (k : ℕ) (before : List Module) (library : List ℕ) (r t : Result (List Module) LinkCommandFault) → IsLibraryInput s m k before library r → IsLibraryInput s m k before library t → r ≡ t
   library_once k before library r t = first_once (as_library k (index_in m library)) (AreNeeded s m library before) r t (λ es. needed_once before library es r t)

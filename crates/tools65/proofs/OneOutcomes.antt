@@ -41,8 +41,8 @@ then_one P answer Next same one a b (q, p, h) (r, s, k) = first_once (answer r) 
 
 module _ (s : Script) (m : Files) where
   needed_one : (library : List ℕ) (before : List Module) (es : List Entry) (a b : Result (List Module) LinkCommandFault) → AreNeeded s m library before es a → AreNeeded s m library before es b → a ≡ b
-  needed_one library before es a b (places, is, e) (others, was, f) =
-      e ∙ ap (λ ps. with_members s m library before (selected_entries es ps)) (one_selection es (open_names s (program_of before)) (given_names s (program_of before)) places others is was) ∙ sym f
+  needed_one library before es a b (indices, is, e) (others, was, f) =
+      e ∙ ap (λ ps. with_members s m library before (selected_entries es ps)) (one_selection es (open_names s (program_of before)) (given_names s (program_of before)) indices others is was) ∙ sym f
 
   kind_one : (library : Bool) (k : ℕ) (before : List Module) (name : List ℕ) (a b : Result (List Module) LinkCommandFault) → ByKind library (IsLibraryInput s m k before name a) (a ≡ with_file s m k before name) → ByKind library (IsLibraryInput s m k before name b) (b ≡ with_file s m k before name) → a ≡ b
   kind_one true k before name a b h g = first_once (as_library k (index_in m name)) (AreNeeded s m name before) a b (λ es. needed_one name before es a b) h g

@@ -33,7 +33,7 @@ nothing_written text m new status false e f = (e, f)
 -- a command that only says why
 pub says : (m : Files) (new : Option Files) (out err_old err_new : Option (List ℕ)) (text : List ℕ) (out_refused err_refused : Bool) (status : Status) → new ≡ Some m → status ≡ Failure → out_refused ≡ false → PrintsText err_old err_new text (not err_refused) → PerformsOutcome (failing text) m new (streams out out out_refused err_old err_new err_refused) status
 says m new out err_old err_new text out_refused err_refused status same e quiet p =
-    record { said = only_errors out err_old err_new text out_refused err_refused quiet p; settled = nothing_written text m new status (not (out_refused || err_refused)) same e }
+    record { printed = only_errors out err_old err_new text out_refused err_refused quiet p; settled = nothing_written text m new status (not (out_refused || err_refused)) same e }
 
 -- where memory ran out before there was an outcome
 pub only_memory : (known new : Option Files) (does : Files → Outcome → Type 0) (out err_old err_new : Option (List ℕ)) (memory : List ℕ) (out_refused err_refused : Bool) (status : Status) (Q : Type 0) → new ≡ known → status ≡ Failure → out_refused ≡ false → PrintsText err_old err_new memory (not err_refused) → IfSome known (λ m. Q → RunSatisfies does memory m new (streams out out out_refused err_old err_new err_refused) status)
@@ -62,23 +62,23 @@ line_done (Some m) mid new fo fm fn line last_failure o io status same early lat
     by (inr memory) = inr memory
 
 -- a line that was run
-pub line_run : (known new : Option Files) (fo fn : ℕ) (words : List (List ℕ)) (line : CommandView) (io : Streams) (status : Status) → line_of words ≡ Ok line → IfSome known (λ m. NoneFailed fo fn → RunSatisfies (IsOutcomeOfCommand line) (line_memory line) m new io status) → IfSome known (λ m. NoneFailed fo fn → RunsCommand words m new io status)
-line_run None new fo fn words line io status e h = tt
-line_run (Some m) new fo fn words line io status e h = λ none. rw e (inl (h none))
+pub line_run : (known new : Option Files) (fo fn : ℕ) (args : List (List ℕ)) (line : CommandView) (io : Streams) (status : Status) → line_of args ≡ Ok line → IfSome known (λ m. NoneFailed fo fn → RunSatisfies (IsOutcomeOfCommand line) (line_memory line) m new io status) → IfSome known (λ m. NoneFailed fo fn → RunsCommand args m new io status)
+line_run None new fo fn args line io status e h = tt
+line_run (Some m) new fo fn args line io status e h = λ none. rw e (inl (h none))
 
 -- words that are no line, or for which memory ran out
-pub refused_words : (known new : Option Files) (words : List (List ℕ)) (e : LineFault) (out err_old err_new : Option (List ℕ)) (out_refused err_refused : Bool) (status : Status) (Q : Type 0) → new ≡ known → status ≡ Failure → RefinesErr is_line_system_error e (line_of words) → out_refused ≡ false → PrintsText err_old err_new (line_message_of e) (not err_refused) → IfSome known (λ m. Q → RunsCommand words m new (streams out out out_refused err_old err_new err_refused) status)
-refused_words None new words e out err_old err_new out_refused err_refused status Q same f h quiet p = tt
-refused_words (Some m) new words BadArguments out err_old err_new out_refused err_refused status Q same f h quiet p =
+pub refused_words : (known new : Option Files) (args : List (List ℕ)) (e : LineFault) (out err_old err_new : Option (List ℕ)) (out_refused err_refused : Bool) (status : Status) (Q : Type 0) → new ≡ known → status ≡ Failure → RefinesErr is_line_system_error e (line_of args) → out_refused ≡ false → PrintsText err_old err_new (line_message_of e) (not err_refused) → IfSome known (λ m. Q → RunsCommand args m new (streams out out out_refused err_old err_new err_refused) status)
+refused_words None new args e out err_old err_new out_refused err_refused status Q same f h quiet p = tt
+refused_words (Some m) new args BadArguments out err_old err_new out_refused err_refused status Q same f h quiet p =
     λ _. rw h (failing (line_message_of BadArguments), inl refl, inl (says m new out err_old err_new (line_message_of BadArguments) out_refused err_refused status same f quiet p))
-refused_words (Some m) new words OutOfMemory out err_old err_new out_refused err_refused status Q same f h quiet p = λ _. either (line_of words)
+refused_words (Some m) new args OutOfMemory out err_old err_new out_refused err_refused status Q same f h quiet p = λ _. either (line_of args)
   where
-    said : PerformsOutcome (failing line_memory_message) m new (streams out out out_refused err_old err_new err_refused) status
-    said = says m new out err_old err_new line_memory_message out_refused err_refused status same f quiet p
+    printed : PerformsOutcome (failing line_memory_message) m new (streams out out out_refused err_old err_new err_refused) status
+    printed = says m new out err_old err_new line_memory_message out_refused err_refused status same f quiet p
 
     either : (r : Result CommandView LineFault) → ArgsRunSatisfies r m new (streams out out out_refused err_old err_new err_refused) status
-    either (Ok line) = inr said
-    either (Err e) = (failing line_memory_message, inr refl, inl said)
+    either (Ok line) = inr printed
+    either (Err e) = (failing line_memory_message, inr refl, inl printed)
 
 -- what is so of two streams over writers
 pub over_writers : (known : Option Files) (Q : Type 0) (out_old out_new err_old err_new : Option (List ℕ)) (out_refused err_refused : Bool) (IsSo : Files → Streams → Type 0) → IfSome known (λ m. Q → IsSo m (streams out_old out_new out_refused err_old err_new err_refused)) → IfSome known (λ m. Q → OverWriters out_old out_new err_old err_new (IsSo m))

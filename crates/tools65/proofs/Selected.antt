@@ -151,8 +151,8 @@ module _ (s : Script) (m : Files) where
       (module_of name o ∷ [], (module_of name o, added_module before (file_input name) o added, refl), same)
 
   kind_added : (b : Bool) (k : ℕ) (before ms : List Module) (name : List ℕ) → ByKind b (AreModulesOfLibrary s m before name ms) ((x : Module) × IsModuleOf m (file_input name) x × (ms ≡ x ∷ [])) → names_once s (program_of (before ++ ms)) ≡ Ok tt → ByKind b (IsLibraryInput s m k before name (Ok (before ++ ms))) (◌≡◌ {A = Result (List Module) LinkCommandFault} (Ok (before ++ ms)) (with_file s m k before name))
-  kind_added true k before ms name (es, places, index, selection, members) once =
-      let needed : AreNeeded s m name before es (Ok (before ++ ms)) = (places, selection, sym (members_added name before (selected_entries es places) ms members once)) in
+  kind_added true k before ms name (es, indices, index, selection, members) once =
+      let needed : AreNeeded s m name before es (Ok (before ++ ms)) = (indices, selection, sym (members_added name before (selected_entries es indices) ms members once)) in
       subst (λ q. AndThen (as_library k q) (AreNeeded s m name before) (Ok (before ++ ms))) (sym index) needed
   kind_added false k before ms name (x, of, same) once =
       let there : names_once s (program_of (before ++ x ∷ [])) ≡ Ok tt = subst (λ z. names_once s (program_of (before ++ z)) ≡ Ok tt) same once in
@@ -194,12 +194,12 @@ module _ (s : Script) (m : Files) where
       ap (λ z. z ∷ xs) (module_once (member_input library e) x y h.0 k.0) ∙ ap (λ z. y ∷ z) (members_once library es xs ys h.1 k.1)
 
   taken_once : (before : List Module) (library : List ℕ) (xs ys : List Module) → AreModulesOfLibrary s m before library xs → AreModulesOfLibrary s m before library ys → xs ≡ ys
-  taken_once before library xs ys (es, places, index, selection, members) (fs, others, there, other, further) =
+  taken_once before library xs ys (es, indices, index, selection, members) (fs, others, there, other, further) =
       let same : fs ≡ es = ok_same fs es (sym there ∙ index) in
       let selected : IsSelection es (open_names s (program_of before)) (given_names s (program_of before)) others = subst (λ z. IsSelection z (open_names s (program_of before)) (given_names s (program_of before)) others) same other in
-      let equal : others ≡ places = one_selection es (open_names s (program_of before)) (given_names s (program_of before)) others places selected selection in
-      let moved : AreModulesOfEntries m library (selected_entries es places) ys = subst (λ z. AreModulesOfEntries m library (selected_entries es z) ys) equal (subst (λ z. AreModulesOfEntries m library (selected_entries z others) ys) same further) in
-      members_once library (selected_entries es places) xs ys members moved
+      let equal : others ≡ indices = one_selection es (open_names s (program_of before)) (given_names s (program_of before)) others indices selected selection in
+      let moved : AreModulesOfEntries m library (selected_entries es indices) ys = subst (λ z. AreModulesOfEntries m library (selected_entries es z) ys) equal (subst (λ z. AreModulesOfEntries m library (selected_entries z others) ys) same further) in
+      members_once library (selected_entries es indices) xs ys members moved
 
   input_of_once : (b : Bool) (before : List Module) (name : List ℕ) (xs ys : List Module) → ByKind b (AreModulesOfLibrary s m before name xs) ((x : Module) × IsModuleOf m (file_input name) x × (xs ≡ x ∷ [])) → ByKind b (AreModulesOfLibrary s m before name ys) ((x : Module) × IsModuleOf m (file_input name) x × (ys ≡ x ∷ [])) → xs ≡ ys
   input_of_once true before name xs ys h k = taken_once before name xs ys h k

@@ -147,14 +147,14 @@ line_there (assemble a) m = assembles_there a m
 line_there (link l) m = let r = some_link m l in (link_outcome l r.0, (r.0, r.1, refl))
 line_there (archive a) m = (archive_outcome a (archived_of m a), refl)
 
-words_there : (words : Result CommandView LineFault) (m : Files) → (o : Outcome) × IsOutcomeOfArgs words m o
+words_there : (parsed : Result CommandView LineFault) (m : Files) → (o : Outcome) × IsOutcomeOfArgs parsed m o
 words_there (Ok line) m = line_there line m
 words_there (Err e) m = (failing (line_message_of e), refl)
 
 pub an_outcome_exists : OutcomeExists
-an_outcome_exists words m =
-    let there = words_there (line_of words) m in
-    (there.0, there.1, λ other does. one_outcome (line_of words) m other there.0 does there.1)
+an_outcome_exists args m =
+    let there = words_there (line_of args) m in
+    (there.0, there.1, λ other does. one_outcome (line_of args) m other there.0 does there.1)
 
 -- ---- Images.
 

@@ -61,17 +61,17 @@ settled_alone : (o : Outcome) (m : Files) (new : Option Files) (status : Status)
 settled_alone o m new status true none fails h = (h.0 ∙ ap (λ (files : List OutputFile). Some (apply files m)) none, h.1 ∙ fails)
 settled_alone o m new status false none fails h = h
 
-none_there : (place : ℕ) (o : OutputFile) → ◌≡◌ {A = Option OutputFile} (slice_get [] place) (Some o) → ⊥
-none_there place o e = cc
+none_there : (index : ℕ) (o : OutputFile) → ◌≡◌ {A = Option OutputFile} (slice_get [] index) (Some o) → ⊥
+none_there index o e = cc
 
-no_place : (outputs : List OutputFile) (place : ℕ) (m : Files) (new : Option Files) → outputs ≡ [] → RelatesFiles (StopsAt outputs place) (Some m) new → ⊥
-no_place outputs place m None none left = left
-no_place outputs place m (Some z) none left = none_there place left.0 (sym (ap (λ (files : List OutputFile). slice_get files place) none) ∙ left.1)
+no_place : (outputs : List OutputFile) (index : ℕ) (m : Files) (new : Option Files) → outputs ≡ [] → RelatesFiles (StopsAt outputs index) (Some m) new → ⊥
+no_place outputs index m None none left = left
+no_place outputs index m (Some z) none left = none_there index left.0 (sym (ap (λ (files : List OutputFile). slice_get files index) none) ∙ left.1)
 
 -- an outcome without files leaves the files as they were
 left_alone : (o : Outcome) (memory : List ℕ) (m : Files) (new : Option Files) (io : Streams) (status : Status) → o.outputs ≡ [] → o.status ≡ Failure → PerformsOutcome o m new io status ⊎ StopsShort o memory m new io status → (new ≡ Some m) × (status ≡ Failure)
 left_alone o memory m new io status none fails (inl p) = settled_alone o m new status (took_both io) none fails p.settled
-left_alone o memory m new io status none fails (inr p) = absurd (no_place o.outputs p.place m new none p.left)
+left_alone o memory m new io status none fails (inr p) = absurd (no_place o.outputs p.index m new none p.left)
 
 module _ (l : Linking) (m : Files) (s : Script) (xs : List Source) (k : SelectsSources l m s xs) where
   -- a link that succeeds is that of the modules that the line selects
@@ -163,12 +163,12 @@ module _ (m : Files) (new : Option Files) (io : Streams) (status : Status) where
   either l (inl ran) = inl (links_whole (link l) l ran refl)
   either l (inr p) = inr p
 
-  words_link : (words : Result CommandView LineFault) → ArgsRunSatisfies words m new io status → WordsLinkWhole words m new io status
+  words_link : (parsed : Result CommandView LineFault) → ArgsRunSatisfies parsed m new io status → WordsLinkWhole parsed m new io status
   unfolding WordsLinkWhole
-  words_link words ran l same = either l (subst (λ (z : Result CommandView LineFault). ArgsRunSatisfies z m new io status) same ran)
+  words_link parsed ran l same = either l (subst (λ (z : Result CommandView LineFault). ArgsRunSatisfies z m new io status) same ran)
 
 pub words_law : RunsLaw
-words_law words m new io status ran = words_link m new io status (line_of words) ran
+words_law args m new io status ran = words_link m new io status (line_of args) ran
 
 pub lines_law : LineRunsLaw
 lines_law line m new io status ran = line_links m new io status line ran
@@ -179,6 +179,6 @@ line_whole None new fo fn line io status h = tt
 line_whole (Some m) new fo fn line io status h = λ none. line_links m new io status line (h none)
 
 -- words that were run
-pub words_whole : (known new : Option Files) (fo fn : ℕ) (words : List (List ℕ)) (io : Streams) (status : Status) → IfSome known (λ m. NoneFailed fo fn → RunsCommand words m new io status) → IfSome known (λ m. NoneFailed fo fn → WordsLinkWhole (line_of words) m new io status)
-words_whole None new fo fn words io status h = tt
-words_whole (Some m) new fo fn words io status h = λ none. words_link m new io status (line_of words) (h none)
+pub words_whole : (known new : Option Files) (fo fn : ℕ) (args : List (List ℕ)) (io : Streams) (status : Status) → IfSome known (λ m. NoneFailed fo fn → RunsCommand args m new io status) → IfSome known (λ m. NoneFailed fo fn → WordsLinkWhole (line_of args) m new io status)
+words_whole None new fo fn args io status h = tt
+words_whole (Some m) new fo fn args io status h = λ none. words_link m new io status (line_of args) (h none)

@@ -83,4 +83,4 @@ ArgsRunSatisfies (Err e) m new io status =
     RunSatisfies (IsOutcomeOfArgs (Err e)) line_memory_message m new io status
 
 abbrev pub RunsCommand : List (List ℕ) → Files → Option Files → Streams → Status → Type 0
-RunsCommand words = ArgsRunSatisfies (line_of words)
+RunsCommand args = ArgsRunSatisfies (line_of args)

@@ -32,7 +32,7 @@ pub record StopsReading (Why : List ℕ → List ℕ → Type 0) (old : Files) (
   pub out : List ℕ
   pub err : List ℕ
   pub why : Why out err
-  pub said : PerformsOutcome (refusing out err) old new io status
+  pub printed : PerformsOutcome (refusing out err) old new io status
 
 -- A run in which a call failed: while it read files, or while it wrote those of the outcome that they give. The last failed
 -- call asked for a name, where the store tells which.
@@ -71,4 +71,4 @@ FailsAs count (Err e) m new last_failure io status =
     ArgsRunSatisfies (Err e) m new io status
 
 unfoldable pub FailsWords : ℕ → List (List ℕ) → Files → Option Files → LastFailure → Streams → Status → Type 0
-FailsWords count words = FailsAs count (line_of words)
+FailsWords count args = FailsAs count (line_of args)

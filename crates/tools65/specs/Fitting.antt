@@ -42,4 +42,4 @@ ArgsObjectFits (Ok line) m new io status =
 ArgsObjectFits (Err e) m new io status = ⊤
 
 unfoldable pub WordsObjectFits : List (List ℕ) → Files → Option Files → Streams → Status → Type 0
-WordsObjectFits words = ArgsObjectFits (line_of words)
+WordsObjectFits args = ArgsObjectFits (line_of args)

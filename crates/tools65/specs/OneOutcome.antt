@@ -10,14 +10,14 @@ use Rattle.tools65.specs.Failing.{SaysFailure}
 
 -- words, and a parsed command line, have at most one outcome: texts, files and status
 abbrev pub OutcomeIsUnique : Type 0
-OutcomeIsUnique = (words : Result CommandView LineFault) (m : Files) (a b : Outcome) → IsOutcomeOfArgs words m a → IsOutcomeOfArgs words m b → a ≡ b
+OutcomeIsUnique = (parsed : Result CommandView LineFault) (m : Files) (a b : Outcome) → IsOutcomeOfArgs parsed m a → IsOutcomeOfArgs parsed m b → a ≡ b
 
 -- Whatever words and files are, there is one thing that the words do as a command, and no other.
 abbrev pub OutcomeExists : Type 0
 OutcomeExists =
-    (words : List (List ℕ)) (m : Files) →
-    (o : Outcome) × IsOutcomeOfArgs (line_of words) m o
-    × ((other : Outcome) → IsOutcomeOfArgs (line_of words) m other → other ≡ o)
+    (args : List (List ℕ)) (m : Files) →
+    (o : Outcome) × IsOutcomeOfArgs (line_of args) m o
+    × ((other : Outcome) → IsOutcomeOfArgs (line_of args) m other → other ≡ o)
 
 -- A call of ld65 or ar65 that failed while files were read has one message; for ld65 if its offset determines
 -- which part of a library it requested.

@@ -94,8 +94,8 @@ AreModulesOfEntries m library (e ∷ es) [] = ⊥
 -- the modules of those members of a library that the modules before it need, in file order
 abbrev pub AreModulesOfLibrary : Script → Files → List Module → List ℕ → List Module → Type 0
 AreModulesOfLibrary s m before library ms =
-    (es : List Entry) × (places : List ℕ) × (index_in m library ≡ Ok es)
-    × IsSelection es (open_names s (program_of before)) (given_names s (program_of before)) places × AreModulesOfEntries m library (selected_entries es places) ms
+    (es : List Entry) × (indices : List ℕ) × (index_in m library ≡ Ok es)
+    × IsSelection es (open_names s (program_of before)) (given_names s (program_of before)) indices × AreModulesOfEntries m library (selected_entries es indices) ms
 
 -- the modules of an input, given the modules before it: of a library the members that are needed, of an object file its module
 abbrev pub AreModulesOfInput : Script → Files → List Module → List ℕ → List Module → Type 0
@@ -171,15 +171,15 @@ LineLinksWhole line m new io status =
 
 -- The same for arguments that parse to a link, unless memory ran out while they were parsed.
 unfoldable pub WordsLinkWhole : Result CommandView LineFault → Files → Option Files → Streams → Status → Type 0
-WordsLinkWhole words m new io status =
-    (l : Linking) → words ≡ Ok (link l)
+WordsLinkWhole parsed m new io status =
+    (l : Linking) → parsed ≡ Ok (link l)
     → LinksWhole l m new io status ⊎ PerformsOutcome (failing line_memory_message) m new io status
 
 -- Clause `done` implies clause `one_program`: for words, and for a parsed command line.
 abbrev pub RunsLaw : Type 0
 RunsLaw =
-    (words : List (List ℕ)) (m : Files) (new : Option Files) (io : Streams) (status : Status) →
-    RunsCommand words m new io status → WordsLinkWhole (line_of words) m new io status
+    (args : List (List ℕ)) (m : Files) (new : Option Files) (io : Streams) (status : Status) →
+    RunsCommand args m new io status → WordsLinkWhole (line_of args) m new io status
 
 abbrev pub LineRunsLaw : Type 0
 LineRunsLaw =

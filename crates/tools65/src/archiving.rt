@@ -11,7 +11,7 @@ use cli65::ArchiveArgs;
 use output65::{Outcome, Status};
 use std::alloc::{AllocError, Global};
 
-/// The library's file.
+/// Returns the library's file.
 fn library_file(
     alloc: Global,
     name: &str,
@@ -25,7 +25,7 @@ fn library_file(
     Ok(outputs)
 }
 
-/// The files of members.
+/// Returns the files of members.
 fn member_outputs(
     alloc: Global,
     files: ListVec<MemberFile>,
@@ -83,7 +83,7 @@ fn archive_outcome(
     }
 }
 
-/// Does with a library what a line says, and computes what that does.
+/// Runs a command line on a library, and returns its outcome.
 pub fn compute_archive<S: Store>(
     alloc: Global,
     line: &ArchiveArgs<'_>,

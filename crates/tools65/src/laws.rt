@@ -10,8 +10,7 @@ pub fn outcome_is_unique()
     ensures { OutcomeIsUnique }
 {}
 
-/// Whatever words and files are, there is exactly one thing that the words do as a command: these texts, these files, this
-/// status.
+/// For all arguments and files, a command has exactly one outcome: texts, files and status.
 pub fn outcome_exists()
     ensures { OutcomeExists }
 {}
@@ -33,14 +32,14 @@ pub fn image_or_none()
     ensures { ImageOrNoneLaw }
 {}
 
-/// The effect of `run` on words that link objects of sources. It carries out the image that the
+/// The effect of `run` on arguments that link objects of sources. It writes the image that the
 /// sources have as one program, unless memory runs out or a stream refuses its text. With status 0
 /// it wrote that image. If they have none, it writes nothing and fails.
 pub fn runs_of_one_program()
     ensures { RunsLaw }
 {}
 
-/// The same of `run_line` and a line.
+/// The same for `run_line` and a command line.
 pub fn lines_of_one_program()
     ensures { LineRunsLaw }
 {}
@@ -50,18 +49,18 @@ pub fn written_is_an_object()
     ensures { WrittenObjectLaw }
 {}
 
-/// A file that ca65 wrote of a source gives one module: an object of the source.
+/// A file that ca65 wrote from a source is one module: an object of the source.
 pub fn written_is_an_input()
     ensures { WrittenInputLaw }
 {}
 
-/// A library's member that ca65 wrote of a source gives an object of the source.
+/// A library's member that ca65 wrote from a source is an object of the source.
 pub fn written_member_is_an_input()
     ensures { WrittenMemberLaw }
 {}
 
-/// Where a line's script is one, and ca65 wrote each input, or each member of it, of one of some sources, the line
-/// selects sources among these, as the clause `one_program` supposes.
+/// If the script of a command line is valid, and ca65 wrote each input, or each of its members, from one of some sources, the
+/// line selects sources among these, as the clause `one_program` supposes.
 pub fn written_inputs_select_sources()
     ensures { SourcesSelectedLaw }
 {}
@@ -72,7 +71,7 @@ pub fn assembled_file_is_of_its_source()
     ensures { AssembledFileLaw }
 {}
 
-/// `r` makes of object files that ca65 wrote, and of a library of such members or of none, a library of such members.
+/// `r` builds from object files that ca65 wrote, and from a library of such members or a new one, a library of such members.
 pub fn archived_library_is_of_sources()
     ensures { ArchivedSourcesLaw }
 {}

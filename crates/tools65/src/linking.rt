@@ -35,7 +35,7 @@ fn link_outcome(
     }
 }
 
-/// Links, and computes what a line does.
+/// Links, and returns the outcome of a command line.
 pub fn compute_link<S: Store>(
     alloc: Global,
     line: &LinkArgs<'_>,

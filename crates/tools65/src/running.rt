@@ -1,4 +1,4 @@
-//! One command.
+//! Runs a command.
 
 ghost use Rattle.std.specs.Prelude.{◌≡◌, ◌≤◌, IfOk, IfSome, false, map};
 ghost use Rattle.base65.specs.Store.{HasFailed, NoneFailed};
@@ -32,7 +32,7 @@ fn memory_name<'a>(line: &'a Line<'_>) -> &'a str
     }
 }
 
-/// Reads what a line names, and computes its outcome; nothing is said or written.
+/// Reads the files that a line names, and computes its outcome. Prints and writes nothing.
 fn compute<S: Store>(alloc: Global, line: &Line<'_>, store: &mut S) -> Result<Outcome, AllocError>
     ensures computed { IfSome (S.files store.old) (λ m. IfOk result (ComputesOutcome (view line.now) m
         (S.last_failure store.new) (S.failures store.old) (S.failures store.new))) }
@@ -81,7 +81,7 @@ pub fn run_line_with_streams<S: Store, W: Write, E: Write>(
     }
 }
 
-/// Runs a command line over streams over these writers, and returns the status.
+/// Runs a command line over two writers, and returns the status.
 pub fn run_line<S: Store, W: Write, E: Write>(
     alloc: Global,
     line: &Line<'_>,
@@ -116,7 +116,7 @@ pub fn run_line<S: Store, W: Write, E: Write>(
 /// Runs arguments over two streams, the first being the program's name, and returns the status.
 pub fn run_with_streams<A: AsStr, S: Store, W: Write, E: Write>(
     alloc: Global,
-    words: &[A],
+    args: &[A],
     store: &mut S,
     out: &mut Stream<'_, W>,
     err: &mut Stream<'_, E>,
@@ -125,21 +125,21 @@ pub fn run_with_streams<A: AsStr, S: Store, W: Write, E: Write>(
     requires err { err.old.has_failed ≡ false }
     ensures same { AreSame out.old out.new err.old err.new }
     ensures done { IfSome (S.files store.old) (λ m. NoneFailed (S.failures store.old) (S.failures store.new) →
-        RunsCommand (map A.text words.now) m (S.files store.new)
+        RunsCommand (map A.text args.now) m (S.files store.new)
         (between W.contents E.contents out.old out.new err.old err.new) result) }
     ensures fits { IfSome (S.files store.old) (λ m. NoneFailed (S.failures store.old) (S.failures store.new) →
-        WordsObjectFits (map A.text words.now) m (S.files store.new)
+        WordsObjectFits (map A.text args.now) m (S.files store.new)
         (between W.contents E.contents out.old out.new err.old err.new) result) }
     ensures failed { IfSome (S.files store.old) (λ m. HasFailed (S.failures store.old) (S.failures store.new) →
-        FailsWords (S.failures store.old) (map A.text words.now) m (S.files store.new) (S.last_failure store.new)
+        FailsWords (S.failures store.old) (map A.text args.now) m (S.files store.new) (S.last_failure store.new)
         (between W.contents E.contents out.old out.new err.old err.new) result) }
     ensures one_program { IfSome (S.files store.old) (λ m. NoneFailed (S.failures store.old) (S.failures store.new) →
-        WordsLinkWhole (line_of (map A.text words.now)) m (S.files store.new)
+        WordsLinkWhole (line_of (map A.text args.now)) m (S.files store.new)
         (between W.contents E.contents out.old out.new err.old err.new) result) }
     ensures later { S.failures store.old ≤ S.failures store.new }
     ensures rose { HasFailed (S.failures store.old) (S.failures store.new) → result ≡ Status.Failure }
 {
-    match read_line(alloc, words) {
+    match read_line(alloc, args) {
         Ok(line) => run_line_with_streams(alloc, &line, store, out, err),
         Err(fault) => {
             print(err, fault_message(fault));
@@ -148,32 +148,32 @@ pub fn run_with_streams<A: AsStr, S: Store, W: Write, E: Write>(
     }
 }
 
-/// Runs arguments over streams over these writers, the first being the program's name, and returns the status.
+/// Runs arguments over two writers, the first being the program's name, and returns the status.
 pub fn run<A: AsStr, S: Store, W: Write, E: Write>(
     alloc: Global,
-    words: &[A],
+    args: &[A],
     store: &mut S,
     out: &mut W,
     err: &mut E,
 ) -> Status
     ensures done { IfSome (S.files store.old) (λ m. NoneFailed (S.failures store.old) (S.failures store.new) →
         OverWriters (W.contents out.old) (W.contents out.new) (E.contents err.old) (E.contents err.new)
-        (λ io. RunsCommand (map A.text words.now) m (S.files store.new) io result)) }
+        (λ io. RunsCommand (map A.text args.now) m (S.files store.new) io result)) }
     ensures fits { IfSome (S.files store.old) (λ m. NoneFailed (S.failures store.old) (S.failures store.new) →
         OverWriters (W.contents out.old) (W.contents out.new) (E.contents err.old) (E.contents err.new)
-        (λ io. WordsObjectFits (map A.text words.now) m (S.files store.new) io result)) }
+        (λ io. WordsObjectFits (map A.text args.now) m (S.files store.new) io result)) }
     ensures failed { IfSome (S.files store.old) (λ m. HasFailed (S.failures store.old) (S.failures store.new) →
         OverWriters (W.contents out.old) (W.contents out.new) (E.contents err.old) (E.contents err.new)
-        (λ io. FailsWords (S.failures store.old) (map A.text words.now) m (S.files store.new) (S.last_failure store.new) io result)) }
+        (λ io. FailsWords (S.failures store.old) (map A.text args.now) m (S.files store.new) (S.last_failure store.new) io result)) }
     ensures one_program { IfSome (S.files store.old) (λ m. NoneFailed (S.failures store.old) (S.failures store.new) →
         OverWriters (W.contents out.old) (W.contents out.new) (E.contents err.old) (E.contents err.new)
-        (λ io. WordsLinkWhole (line_of (map A.text words.now)) m (S.files store.new) io result)) }
+        (λ io. WordsLinkWhole (line_of (map A.text args.now)) m (S.files store.new) io result)) }
     ensures later { S.failures store.old ≤ S.failures store.new }
     ensures rose { HasFailed (S.failures store.old) (S.failures store.new) → result ≡ Status.Failure }
 {
     run_with_streams(
         alloc,
-        words,
+        args,
         store,
         &mut Stream::over(out),
         &mut Stream::over(err),

@@ -161,7 +161,7 @@ pub fn put_value(
     value_use: ValueUse,
 ) -> Result<bool, AllocError>
     ensures put { (e : Tree) (action : Action) (text : List ℕ) →
-        HasFinal (table_of assembler.old.symbols) site.context (Some e) form →
+        HasFinal (table_of assembler.old.symbols) site.entry.context (Some e) form →
         IfOk result (EmitsIfResolved (place_at site.entry.at) site.entry.context
         (valued (purpose_of value_use action text) e) assembler.old assembler.new) }
     ensures tables { KeepsTables assembler.old assembler.new }

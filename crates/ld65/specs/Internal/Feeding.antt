@@ -71,8 +71,8 @@ FeedsMembers known library es old new r = FeedsBy known (λ m before q. with_mem
 
 -- the indices of the members of an index that are needed
 abbrev pub AreChosen : List Entry → List ℕ → LinkerView → Type 0
-AreChosen es places f =
-    (before : List Module) → IsFed f before → IsSelection es (open_names f.script (program_of before)) (given_names f.script (program_of before)) places
+AreChosen es entry_indices f =
+    (before : List Module) → IsFed f before → IsSelection es (open_names f.script (program_of before)) (given_names f.script (program_of before)) entry_indices
 
 -- the needed members of a library were fed
 abbrev pub FeedsLibrary : Option Files → ℕ → List ℕ → LinkerView → LinkerView → Result (Unit {0}) LinkCommandFault → Type 0

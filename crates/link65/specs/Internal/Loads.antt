@@ -31,7 +31,7 @@ abbrev pub PlacedBytes : Type 0
 PlacedBytes = PlacedRow × List ℕ
 
 abbrev pub placed_in : RowImage → PlacedRow
-placed_in l = record { row = l.row.now; place = l.place }
+placed_in l = record { row = l.row.now; placement = l.placement }
 
 abbrev pub view : RowImage → PlacedBytes
 view l = (placed_in l, l.bytes)
@@ -41,7 +41,7 @@ held_by bytes p = (p, bytes p.row)
 
 -- there are rows, and they are those of the area at a place of the script, with their bytes
 abbrev pub HoldsLoads : RowBytes → ℕ → List SegmentRow → List RowPlacement → Option (List RowImage) → Type 0
-HoldsLoads bytes k rows places o = (m : List RowImage) × (o ≡ Some m) × (map view m ≡ map (held_by bytes) (loaded_in k rows places))
+HoldsLoads bytes k rows placements o = (m : List RowImage) × (o ≡ Some m) × (map view m ≡ map (held_by bytes) (loaded_in k rows placements))
 
 -- a row's piece of the file of an area that begins here
 abbrev pub piece_at : ℕ → PlacedBytes → RowPiece
@@ -52,7 +52,7 @@ has_bytes l = not (length l.bytes == 0)
 
 -- the file of an area that is placed so, by these rows
 abbrev pub IsFileOf : MemoryArea → AreaPlacement → List PlacedBytes → List ℕ → Type 0
-IsFileOf a place hs image = IsImage (file_len a place (map (λ h. h.0) hs)) a.fill_value (map (piece_at place.start) hs) image
+IsFileOf a placement hs image = IsImage (file_len a placement (map (λ h. h.0) hs)) a.fill_value (map (piece_at placement.start) hs) image
 
 -- the names are those of the files, in order
 abbrev pub AreFileNames : OutputFiles → Type 0

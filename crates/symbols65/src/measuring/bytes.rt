@@ -62,7 +62,7 @@ pub fn check_unread(
 
 /// Returns a value as an index up to `count`.
 fn place_in(count: usize, value: i64) -> Result<usize, AsmFault>
-    ensures place { Refines is_memory (λ n. n) result
+    ensures index { Refines is_memory (λ n. n) result
         (unless_fault (when (not (is_within count value)) BadPart) (byte_count (Some value))) }
     ensures within { IfOk result (λ n. n ≤ count) }
 {
@@ -168,11 +168,11 @@ fn item_len(width: Width, item: &Item) -> usize
 }
 
 /// Returns the bytes left after a list of any elements, if there are enough.
-fn room_after_mixed(width: Width, items: &[Item], room: usize) -> Option<usize>
-    ensures { MatchOption result (room < sum_by (item_len width) items.now)
-        (λ left. left + sum_by (item_len width) items.now ≡ room) }
+fn room_after_mixed(width: Width, items: &[Item], remaining: usize) -> Option<usize>
+    ensures { MatchOption result (remaining < sum_by (item_len width) items.now)
+        (λ left. left + sum_by (item_len width) items.now ≡ remaining) }
 {
-    let mut left = room;
+    let mut left = remaining;
     for item in items {
         left = left.checked_sub(item_len(width, item))?;
     }
@@ -180,16 +180,16 @@ fn room_after_mixed(width: Width, items: &[Item], room: usize) -> Option<usize>
 }
 
 /// Returns the bytes left after a list, if there are enough.
-fn room_after(width: Width, items: &Items, room: usize) -> Option<usize>
-    ensures { MatchOption result (room < sum_by (item_len width) items.now)
-        (λ left. left + sum_by (item_len width) items.now ≡ room) }
+fn room_after(width: Width, items: &Items, remaining: usize) -> Option<usize>
+    ensures { MatchOption result (remaining < sum_by (item_len width) items.now)
+        (λ left. left + sum_by (item_len width) items.now ≡ remaining) }
 {
     match items.kind() {
         ItemsKind::Numbers(numbers) => {
             let length = numbers.as_slice().len().checked_mul(width_len(width))?;
-            room.checked_sub(length)
+            remaining.checked_sub(length)
         }
-        ItemsKind::Mixed(items) => room_after_mixed(width, items.as_slice(), room),
+        ItemsKind::Mixed(items) => room_after_mixed(width, items.as_slice(), remaining),
     }
 }
 
@@ -200,12 +200,12 @@ pub fn values(cursor: &Cursor, width: Width, items: &Items) -> Result<StatementL
     ensures { (y : Table) → Refines is_memory (λ m. m) result (layout_or_error y
         cursor.now (Values width items.now)) }
 {
-    let room = cursor.remaining_bytes();
-    let Some(left) = room_after(width, items, room as usize) else {
+    let remaining = cursor.remaining_bytes();
+    let Some(left) = room_after(width, items, remaining as usize) else {
         return Err(AsmFault::SectionTooLarge);
     };
     Ok(StatementLayout {
-        length: room - left as u32,
+        length: remaining - left as u32,
         ..nothing(cursor)
     })
 }

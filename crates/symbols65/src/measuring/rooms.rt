@@ -24,11 +24,11 @@ use ast65::AsmFault;
 use semantics65::{EncodingChoice, Segment};
 use syntax65::AddressSize;
 
-/// Returns whether the scope at a place was opened by `.scope`.
-fn is_scope_at(symbols: &Symbols, place: usize) -> bool
-    ensures { result ≡ is_scope (slice_get (table_of symbols.now).scopes place) }
+/// Returns whether the scope at an index was opened by `.scope`.
+fn is_scope_at(symbols: &Symbols, index: usize) -> bool
+    ensures { result ≡ is_scope (slice_get (table_of symbols.now).scopes index) }
 {
-    match symbols.scopes.get_index(place) {
+    match symbols.scopes.get_index(index) {
         Some((_, is_proc)) => !*is_proc,
         None => false,
     }
@@ -40,7 +40,7 @@ pub fn is_scope(symbols: &Symbols, scope: usize) -> bool
 {
     match scope.checked_sub(1) {
         None => false,
-        Some(place) => is_scope_at(symbols, place),
+        Some(index) => is_scope_at(symbols, index),
     }
 }
 
@@ -54,10 +54,10 @@ fn same_size(one: AddressSize, other: AddressSize) -> bool
     }
 }
 
-fn size_at(segments: &[Segment], place: usize) -> AddressSize
-    ensures { result ≡ (segment_at segments.now place).size }
+fn size_at(segments: &[Segment], index: usize) -> AddressSize
+    ensures { result ≡ (segment_at segments.now index).size }
 {
-    match segments.get(place) {
+    match segments.get(index) {
         Some(segment) => segment.size,
         None => AddressSize::Absolute,
     }
@@ -75,10 +75,10 @@ pub fn check_segment(
     let Some(size) = size else {
         return Ok(());
     };
-    let Some(place) = cursor.place_of(name) else {
+    let Some(index) = cursor.place_of(name) else {
         return Ok(());
     };
-    if same_size(size, size_at(cursor.segments(), place)) {
+    if same_size(size, size_at(cursor.segments(), index)) {
         Ok(())
     } else {
         Err(AsmFault::SizeChanged)

@@ -83,7 +83,7 @@ pub fn definition_of(symbols: &Symbols, context: Context, name: &Name) -> Option
 /// What a name means.
 #[derive(Clone, Copy)]
 pub enum Binding {
-    /// The definition at this place.
+    /// The definition at this index.
     Defined(usize),
     /// An import, by its place among the imports in the order in which they were first named.
     Imported(usize),
@@ -93,8 +93,8 @@ pub enum Binding {
 fn defined_or_imported(symbols: &Symbols, defined: Option<usize>, name: &[u8]) -> Option<Binding>
     ensures { (fault : AsmFault) → or_fault fault defined (import_index (table_of symbols.now) name.now) ≡ ok_or (option_map meaning_in result) fault }
 {
-    if let Some(place) = defined {
-        return Some(Binding::Defined(place));
+    if let Some(index) = defined {
+        return Some(Binding::Defined(index));
     }
     let key = symbols.imported(name)?;
     Some(Binding::Imported(key))
@@ -109,7 +109,7 @@ fn member(symbols: &Symbols, scope: usize, name: &[u8]) -> Option<Binding>
         return defined_or_imported(symbols, defined, name);
     }
     match defined {
-        Some(place) => Some(Binding::Defined(place)),
+        Some(index) => Some(Binding::Defined(index)),
         None => None,
     }
 }
@@ -168,8 +168,8 @@ pub fn plain_part(name: &Name) -> Option<&[u8]>
 fn unnamed_label(symbols: &Symbols, count: usize) -> Option<Binding>
     ensures { unnamed_meaning (table_of symbols.now) count ≡ ok_or (option_map meaning_in result) NoSuchLabel }
 {
-    let place = symbols.defined(Key::Unnamed(count))?;
-    Some(Binding::Defined(place))
+    let index = symbols.defined(Key::Unnamed(count))?;
+    Some(Binding::Defined(index))
 }
 
 /// Returns an unnamed label after a use, given the number of labels before the use.
@@ -206,7 +206,7 @@ pub fn meaning_at(symbols: &Symbols, context: Context, operand: &Expr) -> Option
             let region = context.region as usize;
             let name = name.as_slice();
             match symbols.defined(Key::Cheap { region, name }) {
-                Some(place) => Some(Binding::Defined(place)),
+                Some(index) => Some(Binding::Defined(index)),
                 None => None,
             }
         }

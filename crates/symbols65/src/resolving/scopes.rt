@@ -69,8 +69,8 @@ pub fn defined_outward(symbols: &Symbols, scope: usize, name: &[u8]) -> Option<u
     // number.
     let mut left = scope;
     loop {
-        if let Some(place) = defined_in(symbols, scope, word, is_inner) {
-            return Some(place);
+        if let Some(index) = defined_in(symbols, scope, word, is_inner) {
+            return Some(index);
         }
         if scope == GLOBAL || left == 0 {
             return None;

@@ -1,4 +1,4 @@
-//! Why a source has no object, as ca65 says it.
+//! The message for a source that has no object.
 
 ghost use Rattle.std.specs.Prelude.{◌≡◌, IfOk};
 ghost use Rattle.asm65.specs.Assembly.{placed_of};
@@ -9,7 +9,7 @@ use base65::ListVec;
 use cli65::{file_message, line_message};
 use std::alloc::{AllocError, Global};
 
-/// The message of a refusal.
+/// Returns the message of a diagnostic.
 pub fn asm_message(
     alloc: Global,
     source: &str,
@@ -17,16 +17,16 @@ pub fn asm_message(
 ) -> Result<ListVec<u8>, AllocError>
     ensures { IfOk result (λ text. text ≡ asm_message source.now (placed_of refusal.now)) }
 {
-    let mut words = ListVec::new(alloc);
-    words.extend_from_slice(refusal.fault.words().as_bytes())?;
-    words.extend_from_slice(refusal.fault.name())?;
+    let mut message = ListVec::new(alloc);
+    message.extend_from_slice(refusal.fault.words().as_bytes())?;
+    message.extend_from_slice(refusal.fault.name())?;
     if refusal.line == 0 {
-        return file_message(alloc, source.as_bytes(), words.as_slice());
+        return file_message(alloc, source.as_bytes(), message.as_slice());
     }
     line_message(
         alloc,
         refusal.file_name().as_bytes(),
         refusal.line as usize,
-        words.as_slice(),
+        message.as_slice(),
     )
 }

@@ -10,7 +10,7 @@ use base65::PathString;
 use cli65::Define as Given;
 use std::alloc::{AllocError, Global};
 
-/// The folders of a line.
+/// Returns the folders of a line.
 pub fn folders_of(alloc: Global, include: &[&str]) -> Result<Vec<PathString>, AllocError>
     ensures { IfOk result (λ folders. folders.items ≡ map (λ s. s.now) include.now) }
 {
@@ -21,7 +21,7 @@ pub fn folders_of(alloc: Global, include: &[&str]) -> Result<Vec<PathString>, Al
     Ok(folders)
 }
 
-/// The constants of a line.
+/// Returns the constants of a line.
 pub fn defines_of<'a>(alloc: Global, defines: &[Given<'a>]) -> Result<Vec<Define<'a>>, AllocError>
     ensures { IfOk result (λ ds. map define_of ds.items ≡ map define_in (map defining defines.now)) }
 {

@@ -1,11 +1,11 @@
-//! The object's name where the line gives none.
+//! The object's default name.
 
 ghost use Rattle.std.specs.Prelude.{IfOk, MatchOption, string_bytes};
 ghost use Rattle.tools65.specs.Naming.{IsExtension, HasNoExtension, IsObjectName};
 
 use std::alloc::{AllocError, Global};
 
-/// The place of a name's extension: of the last `.` of its last part, unless that `.` begins the part.
+/// Returns the offset of a name's extension: of the last `.` of its last part, unless that `.` begins the part.
 fn extension_at(name: &[u8]) -> Option<usize>
     ensures { MatchOption result (HasNoExtension name.now) (IsExtension name.now) }
 {

@@ -19,7 +19,7 @@ use object65::{Object, write_object};
 use output65::{Outcome, Status, outputs_of};
 use std::alloc::{AllocError, Global};
 
-/// The name of the object's file.
+/// Returns the name of the object's file.
 fn output_name(alloc: Global, line: &AssembleArgs<'_>) -> Result<PathString, AllocError>
     ensures { IfOk result (λ name. IsOutputName (assembling line.now).output line.now.source.now name) }
 {
@@ -29,7 +29,7 @@ fn output_name(alloc: Global, line: &AssembleArgs<'_>) -> Result<PathString, All
     }
 }
 
-/// The bytes of an object.
+/// Returns the bytes of an object.
 fn object_bytes(alloc: Global, object: &Object) -> Result<ListVec<u8>, AllocError>
     requires { is_well_formed_object object.now ≡ true }
     ensures { IfOk result (λ bytes. bytes ≡ object_bytes object.now) }
@@ -93,7 +93,7 @@ fn asm_outcome(
     }
 }
 
-/// Assembles, and computes what a line does.
+/// Assembles, and returns the outcome of a command line.
 pub fn compute_assembly<S: Store>(
     alloc: Global,
     line: &AssembleArgs<'_>,

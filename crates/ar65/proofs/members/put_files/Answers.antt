@@ -6,19 +6,19 @@ use Rattle.ar65.proofs.members.put_files.Goals as goal
 
 pub returns-in-Err-clause-put : goal.returns-in-Err-clause-put
 returns-in-Err-clause-put g c =
-    file_none _ _ c.args.library.now c.loop-place.library (map (λ s. s.now) c.args.files.now) c.loop-place.place _ c.in-Err.fault c.loop-place.invariant.files (name_next (λ s. s.now) c.args.files.now c.loop-place.place _ c.loop-place-test.true) c.loop-place.invariant.left c.in-Err.ensures.put
+    file_none _ _ c.args.library.now c.loop-index.library (map (λ s. s.now) c.args.files.now) c.loop-index.index _ c.in-Err.fault c.loop-index.invariant.files (name_next (λ s. s.now) c.args.files.now c.loop-index.index _ c.loop-index-test.true) c.loop-index.invariant.left c.in-Err.ensures.put
 
 pub returns-in-Err-clause-count : goal.returns-in-Err-clause-count
-returns-in-Err-clause-count g c = refused_count _ _ _ c.loop-place.place c.in-Err.fault c.loop-place.invariant.count c.in-Err.ensures.frame.count
+returns-in-Err-clause-count g c = refused_count _ _ _ c.loop-index.index c.in-Err.fault c.loop-index.invariant.count c.in-Err.ensures.frame.count
 
-pub loop-place-preserved : goal.loop-place-preserved
-loop-place-preserved g c = record {
-  files = c.in-Ok.ensures.frame.files ∙ c.loop-place.invariant.files;
-  left = file_more _ _ c.args.library.now c.loop-place.library c.put_file.new.library (map (λ s. s.now) c.args.files.now) c.loop-place.place _ c.loop-place.invariant.files (name_next (λ s. s.now) c.args.files.now c.loop-place.place _ c.loop-place-test.true) c.loop-place.invariant.left c.in-Ok.ensures.put;
-  bytes = left_more _ _ (map (λ s. s.now) c.args.files.now) c.loop-place.place _ c.loop-place.invariant.files (name_next (λ s. s.now) c.args.files.now c.loop-place.place _ c.loop-place-test.true) c.loop-place.invariant.bytes c.in-Ok.ensures.bytes;
-  count = same_count _ _ _ _ c.loop-place.invariant.count c.in-Ok.ensures.frame.count;
+pub loop-index-preserved : goal.loop-index-preserved
+loop-index-preserved g c = record {
+  files = c.in-Ok.ensures.frame.files ∙ c.loop-index.invariant.files;
+  left = file_more _ _ c.args.library.now c.loop-index.library c.put_file.new.library (map (λ s. s.now) c.args.files.now) c.loop-index.index _ c.loop-index.invariant.files (name_next (λ s. s.now) c.args.files.now c.loop-index.index _ c.loop-index-test.true) c.loop-index.invariant.left c.in-Ok.ensures.put;
+  bytes = left_more _ _ (map (λ s. s.now) c.args.files.now) c.loop-index.index _ c.loop-index.invariant.files (name_next (λ s. s.now) c.args.files.now c.loop-index.index _ c.loop-index-test.true) c.loop-index.invariant.bytes c.in-Ok.ensures.bytes;
+  count = same_count _ _ _ _ c.loop-index.invariant.count c.in-Ok.ensures.frame.count;
 }
 
 pub returns-in-Err-clause-named : goal.returns-in-Err-clause-named
 returns-in-Err-clause-named g c =
-    of_file _ (map (λ s. s.now) c.args.files.now) c.loop-place.place _ c.in-Err.fault (name_there c.args.files.now c.loop-place.place _ c.loop-place-test.true) (λ h. c.in-Err.ensures.frame.last_failure (ap (λ f. Err f) h))
+    of_file _ (map (λ s. s.now) c.args.files.now) c.loop-index.index _ c.in-Err.fault (name_there c.args.files.now c.loop-index.index _ c.loop-index-test.true) (λ h. c.in-Err.ensures.frame.last_failure (ap (λ f. Err f) h))

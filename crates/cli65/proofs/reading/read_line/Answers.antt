@@ -8,11 +8,11 @@ pub returns-in_err-found : goal.returns-in_err-found
 unfolding line_of
 returns-in_err-found g c =
     let p = err_from_is_err_and c.from_residual-in_err-found.result c.from_residual-in_err-found.ensures.1 in
-    let refused = refuses_words _ c.in_ok-command.ensures.app (map g.A.AsStr.text c.args.words.now) c.in_err-found.field-0.0 c.in_err-found.ensures.kinds in
+    let refused = refuses_words _ c.in_ok-command.ensures.app (map g.A.AsStr.text c.args.args.now) c.in_err-found.field-0.0 c.in_err-found.ensures.kinds in
     rw (p.1, p.2) (refused_line _ _ refused)
 
 pub returns : goal.returns
 unfolding line_of
 returns g c =
-    let taken = takes_words _ c.in_ok-command.ensures.app (map g.A.AsStr.text c.args.words.now) _ c.in_ok-found.ensures.kinds c.in_ok-found.ensures.matches in
+    let taken = takes_words _ c.in_ok-command.ensures.app (map g.A.AsStr.text c.args.args.now) _ c.in_ok-found.ensures.kinds c.in_ok-found.ensures.matches in
     search rules

@@ -61,12 +61,12 @@ returns-clause-frame g c modules stands =
     (end_free c.in_ok-head.head c.in_ok-end.end _ (input_of c.args.object.now) c.args.linker.now c.begin_module.new.self c.feed_records.new.linker c.end_module.new.self c.end_module.result begun c.in_ok-end.ensures.fed c.end_module.ensures.ended modules stands)
 
 pub returns-in_err-head-clause-within : goal.returns-in_err-head-clause-within
-returns-in_err-head-clause-within g c modules stands failed room =
+returns-in_err-head-clause-within g c modules stands failed fits =
     let p = err_from_is_err_and c.from_residual.result c.from_residual.ensures.1 in
-    read_within _ _ _ _ _ c.in_err-head.field-0.0 (omega arith) room c.in_err-head.ensures.within (rw (p.1, p.2) at failed)
+    read_within _ _ _ _ _ c.in_err-head.field-0.0 (omega arith) fits c.in_err-head.ensures.within (rw (p.1, p.2) at failed)
 
 pub returns-in_err-end-clause-within : goal.returns-in_err-end-clause-within
-returns-in_err-end-clause-within g c modules stands failed room =
+returns-in_err-end-clause-within g c modules stands failed fits =
     let p = err_from_is_err_and c.from_residual-in_err-end.result c.from_residual-in_err-end.ensures.1 in
     let bound = c.in_ok-head.ensures.bound in
     let begun = c.in_ok-begin_module.ensures.begun modules stands in
@@ -74,12 +74,12 @@ returns-in_err-end-clause-within g c modules stands failed room =
     later_in _ _ _ _ _ (omega (arith, bound.0)) (c.in_err-end.ensures.within modules c.args.object.now.name.now _ begun (ap Err fault) bound.1)
 
 pub returns-in_err-check_end-clause-within : goal.returns-in_err-check_end-clause-within
-returns-in_err-check_end-clause-within g c modules stands failed room =
+returns-in_err-check_end-clause-within g c modules stands failed fits =
     let p = err_from_is_err_and c.from_residual-in_err-check_end.result c.from_residual-in_err-check_end.ensures.1 in
     let bound = c.in_ok-head.ensures.bound in
     read_within _ _ _ _ _ c.in_err-check_end.field-0.0 (omega (arith, bound.0, c.in_ok-end.ensures.bound.0)) c.in_ok-end.ensures.bound.1 c.in_err-check_end.ensures.within (rw (p.1, p.2) at failed)
 
 pub returns-clause-within : goal.returns-clause-within
-returns-clause-within g c modules stands failed room =
+returns-clause-within g c modules stands failed fits =
     let begun = c.in_ok-begin_module.ensures.begun in
     absurd (end_free c.in_ok-head.head c.in_ok-end.end _ (input_of c.args.object.now) c.args.linker.now c.begin_module.new.self c.feed_records.new.linker c.end_module.new.self c.end_module.result begun c.in_ok-end.ensures.fed c.end_module.ensures.ended modules stands failed)

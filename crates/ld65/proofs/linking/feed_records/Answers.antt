@@ -19,7 +19,7 @@ records-init g c = record {
   keeps = record { script = refl; output = refl };
   stands = is_at_first (g.S.Store.files c.args.store.now) (input_of c.args.object.now) c.args.head c.args.linker.now;
   later = omega arith;
-  room = λ h. h;
+  fits = λ h. h;
 }
 
 pub returns-in_err-next-clause-fed : goal.returns-in_err-next-clause-fed
@@ -56,7 +56,7 @@ records-preserved g c =
       keeps = keeps_on _ _ _ c.records.invariant.keeps c.in_ok-record.ensures.keeps;
       stands = goes_further _ (input_of c.args.object.now) c.args.head c.records.next _ c.args.linker.now c.records.linker c.record.new.self (entry_of c.record-record.result.now, c.in_ok-next.next) c.records.invariant.files c.records.invariant.stands read (omega (arith, c.in_ok-next.ensures.bound.0)) c.in_ok-record.ensures.taken c.if-record-eq-END.false;
       later = omega (arith, c.in_ok-next.ensures.bound.0, c.records.invariant.later);
-      room = λ h. c.in_ok-next.ensures.bound.1;
+      fits = λ h. c.in_ok-next.ensures.bound.1;
     }
 
 pub returns-in_err-next-clause-frame : goal.returns-in_err-next-clause-frame
@@ -68,12 +68,12 @@ pub returns-then-record-eq-END-clause-bound : goal.returns-then-record-eq-END-cl
 returns-then-record-eq-END-clause-bound g c = (omega (arith, c.in_ok-next.ensures.bound.0, c.records.invariant.later), c.in_ok-next.ensures.bound.1)
 
 pub returns-in_err-next-clause-within : goal.returns-in_err-next-clause-within
-returns-in_err-next-clause-within g c modules called entry stands failed room =
+returns-in_err-next-clause-within g c modules called entry stands failed fits =
     let p = err_from_is_err_and c.from_residual.result c.from_residual.ensures.1 in
-    read_within _ _ _ _ _ c.in_err-next.field-0.0 c.records.invariant.later (c.records.invariant.room room) c.in_err-next.ensures.within (rw (p.1, p.2) at failed)
+    read_within _ _ _ _ _ c.in_err-next.field-0.0 c.records.invariant.later (c.records.invariant.fits fits) c.in_err-next.ensures.within (rw (p.1, p.2) at failed)
 
 pub returns-in_err-record-clause-within : goal.returns-in_err-record-clause-within
-returns-in_err-record-clause-within g c modules called entry stands failed room =
+returns-in_err-record-clause-within g c modules called entry stands failed fits =
     let p = err_from_is_err_and c.from_residual-in_err-record.result c.from_residual-in_err-record.ensures.1 in
     let free = refused_free _ (input_of c.args.object.now) c.args.head c.records.next c.args.linker.now c.records.linker c.record.new.self (entry_of c.record-record.result.now) c.in_err-record.field-0.0 c.records.invariant.stands c.in_err-record.ensures.taken modules called entry stands in
     absurd (free (err_is _ _ (rw (p.1, p.2) at failed)))

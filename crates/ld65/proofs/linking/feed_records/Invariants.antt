@@ -14,7 +14,7 @@ invariant-records g l = record {
   keeps : ConfigFrame l.fn.linker l.linker;
   stands : IsAt (g.S.Store.files l.fn.store) (input_of l.object) l.fn.head l.next l.fn.linker l.linker;
   later : l.fn.head.1 ≤ l.next;
-  room : l.fn.head.1 ≤ l.object.end → l.next ≤ l.object.end;
+  fits : l.fn.head.1 ≤ l.object.end → l.next ≤ l.object.end;
 }
 
 abbrev pub decreases-records : goal.decreases-records

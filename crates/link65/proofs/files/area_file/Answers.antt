@@ -14,14 +14,14 @@ returns-then-is_whole c =
     let items = c.retain.new.self.items in
     let dropped = filter_same _ has_bytes _ (λ x b f' k. search rules) _ _ c.retain.ensures.filtered in
     let are = dropped ∙ ap (filter has_bytes) c.into_vec-loads.ensures in
-    let w : IsWhole c.in-Ok.len (pieces_in f.place.start items) = subst (λ (ls : List RowImage). IsWhole c.in-Ok.len (pieces_in f.place.start ls)) c.as_slice.ensures.value (c.is_whole.ensures c.if-is_whole.true) in
-    file_of f.area.now f.place f.loads items c.in-Ok.len c.replace.result are (c.in-Ok.ensures.1 ∙ c.file_len.ensures)
-    (whole_image c.in-Ok.len f.area.now.fill_value (pieces_in f.place.start items) c.replace.result w (c.replace.ensures.value ∙ first_bytes c.in-Ok.len f.place.start items c.index_mut.result.now w c.index_mut.ensures.value))
+    let w : IsWhole c.in-Ok.len (pieces_in f.placement.start items) = subst (λ (ls : List RowImage). IsWhole c.in-Ok.len (pieces_in f.placement.start ls)) c.as_slice.ensures.value (c.is_whole.ensures c.if-is_whole.true) in
+    file_of f.area.now f.placement f.loads items c.in-Ok.len c.replace.result are (c.in-Ok.ensures.1 ∙ c.file_len.ensures)
+    (whole_image c.in-Ok.len f.area.now.fill_value (pieces_in f.placement.start items) c.replace.result w (c.replace.ensures.value ∙ first_bytes c.in-Ok.len f.placement.start items c.index_mut.result.now w c.index_mut.ensures.value))
 
 pub returns : goal.returns
 returns c =
     let f = c.args.filled in
     let dropped = filter_same _ has_bytes _ (λ x b f' k. search rules) _ _ c.retain.ensures.filtered in
     let are = c.as_slice-2.ensures.value ∙ dropped ∙ ap (filter has_bytes) c.into_vec-loads.ensures in
-    file_of f.area.now f.place f.loads c.as_slice-2.result.now c.in-Ok.len c.from_vec.result are (c.in-Ok.ensures.1 ∙ c.file_len.ensures)
-    (subst (λ (xs : List ℕ). IsImage c.in-Ok.len f.area.now.fill_value (pieces_in f.place.start c.as_slice-2.result.now) xs) (sym c.from_vec.ensures) (grind (arith, common_steps)))
+    file_of f.area.now f.placement f.loads c.as_slice-2.result.now c.in-Ok.len c.from_vec.result are (c.in-Ok.ensures.1 ∙ c.file_len.ensures)
+    (subst (λ (xs : List ℕ). IsImage c.in-Ok.len f.area.now.fill_value (pieces_in f.placement.start c.as_slice-2.result.now) xs) (sym c.from_vec.ensures) (grind (arith, common_steps)))

@@ -10,8 +10,8 @@ use Rattle.link65.proofs.files.files_of.Goals as goal
 
 pub loop-k-init : goal.loop-k-init
 loop-k-init c =
-    let Holds : List SegmentRow → List RowPlacement → Type 0 = λ rows places.
-    (bytes : RowBytes) → c.args.contents.items ≡ map (written_row_bytes bytes) rows → (k : ℕ) → k < length c.as_slice-areas.result.now → HoldsLoads bytes k rows places (slice_get c.in_ok-loads.loads.items k) in
+    let Holds : List SegmentRow → List RowPlacement → Type 0 = λ rows placements.
+    (bytes : RowBytes) → c.args.contents.items ≡ map (written_row_bytes bytes) rows → (k : ℕ) → k < length c.as_slice-areas.result.now → HoldsLoads bytes k rows placements (slice_get c.in_ok-loads.loads.items k) in
     let rows = subst (λ (rs : List SegmentRow). Holds rs c.as_slice.result.now) c.as_slice-rows.ensures c.in_ok-loads.ensures in
     let all = subst (λ (ps : List RowPlacement). Holds c.args.script.now.rows ps) c.as_slice.ensures rows in
     record {

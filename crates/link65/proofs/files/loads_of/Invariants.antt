@@ -6,5 +6,5 @@ use Rattle.link65.proofs.files.loads_of.Given as goal
 abbrev pub invariant-loop-i : goal.invariant-loop-i
 invariant-loop-i l = record {
   rest : (j : ℕ) → l.i ≤ j → slice_get l.contents.items j ≡ slice_get l.fn.contents.items j;
-  each : (bytes : RowBytes) → l.fn.contents.items ≡ map (written_row_bytes bytes) l.rows → (k : ℕ) → k < l.areas → Collects bytes k l.rows l.places l.i (slice_get l.loads.items k);
+  each : (bytes : RowBytes) → l.fn.contents.items ≡ map (written_row_bytes bytes) l.rows → (k : ℕ) → k < l.areas → Collects bytes k l.rows l.placements l.i (slice_get l.loads.items k);
 }

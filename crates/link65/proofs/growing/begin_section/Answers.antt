@@ -9,13 +9,13 @@ pub returns : goal.returns
 returns c =
     let mid = c.segment_at.new.growing in
     let at = c.in_ok-at.ensures in
-    let begun = bare_begun (growth_in c.args.growing.now) mid c.in_ok-at.at _ c.in_ok-begin.begin c.index_mut.result.now c.open_section.new.content c.args.name c.args.align (rw c.as_slice.ensures at at.added.growth) at.added.named.names (rw c.as_slice.ensures at at.place) at.within c.index_mut.ensures.value (search rules) c.in_ok-begin.ensures.grown (ap Ok (sym c.in_ok-begin.ensures.begin)) in
+    let begun = bare_begun (growth_in c.args.growing.now) mid c.in_ok-at.at _ c.in_ok-begin.begin c.index_mut.result.now c.open_section.new.content c.args.name c.args.align (rw c.as_slice.ensures at at.added.growth) at.added.named.names (rw c.as_slice.ensures at at.index) at.within c.index_mut.ensures.value (search rules) c.in_ok-begin.ensures.grown (ap Ok (sym c.in_ok-begin.ensures.begin)) in
     let same = c.in_ok-begin.ensures.name ∙ ap (λ (x : SegmentContent). x.name) c.index_mut.ensures.value in
-    let here = ap (λ (n : List ℕ). place_in n (names_in mid)) (sym c.as_slice.ensures) ∙ at.place in
+    let here = ap (λ (n : List ℕ). place_in n (names_in mid)) (sym c.as_slice.ensures) ∙ at.index in
     record {
       growth = rw c.in_ok-push.ensures.items begun;
       named = record {
         names = at.added.named.names ∙ sym (map-set_same (λ x. x.name) mid.contents.items c.in_ok-at.at c.open_section.new.content c.index_mut.result.now same);
-        sections = rw (c.in_ok-push.ensures.items, c.in_ok-push-2.ensures.items) (section_more (names_in mid) mid.sections.items mid.places.items (record { segment = c.args.name; offset = c.in_ok-begin.begin; size = 0 }) c.in_ok-at.at at.added.named.sections here);
+        sections = rw (c.in_ok-push.ensures.items, c.in_ok-push-2.ensures.items) (section_more (names_in mid) mid.sections.items mid.segment_indices.items (record { segment = c.args.name; offset = c.in_ok-begin.begin; size = 0 }) c.in_ok-at.at at.added.named.sections here);
       };
     }

@@ -14,7 +14,7 @@ returns-in-Some-clause-added c =
     let n = c.args.name.now in
     let names = segment_names old.contents.items ∙ sym c.requires.names in
     record {
-      growth = ap (having (growth_in old)) (sym (with_name_there n (segments_from old.contents.items) c.in-Some.place (ap (place_in n) names ∙ sym c.in-Some.ensures.place)));
+      growth = ap (having (growth_in old)) (sym (with_name_there n (segments_from old.contents.items) c.in-Some.index (ap (place_in n) names ∙ sym c.in-Some.ensures.index)));
       named = c.requires;
     }
 
@@ -23,7 +23,7 @@ is_none None never = refl
 is_none (Some i) never = absurd (never i refl)
 
 none_there : (c : goal.In_ok-insert) → place_in c.args.name.now (names_in c.args.growing.now) ≡ None
-none_there c = sym c.place_of.ensures.place ∙ is_none c.place_of.result c.in_default.not-Some
+none_there c = sym c.place_of.ensures.index ∙ is_none c.place_of.result c.in_default.not-Some
 
 names_then : (c : goal.In_ok-insert) → map (λ n. n.items) c.insert.new.self.keys ≡ names_in c.args.growing.now ++ c.args.name.now ∷ []
 names_then c =
@@ -42,15 +42,15 @@ returns-clause-added c =
       growth = ap (having (growth_in old)) (rw (c.in_ok-push.ensures.items, map-append, c.in_ok-copy_of.ensures, c.new.ensures) (sym (with_name_new n (segments_from cs) (ap (place_in n) same ∙ none_there c))));
       named = record {
         names = names_then c ∙ ap (λ ns. ns ++ n ∷ []) c.requires.names ∙ rw (c.in_ok-push.ensures.items, map-append, c.in_ok-copy_of.ensures) refl;
-        sections = ap (λ ns. places_of ns old.sections.items) (names_then c) ∙ places_stay (names_in old) (n ∷ []) old.sections.items old.places.items c.requires.sections;
+        sections = ap (λ ns. places_of ns old.sections.items) (names_then c) ∙ places_stay (names_in old) (n ∷ []) old.sections.items old.segment_indices.items c.requires.sections;
       };
     }
 
-pub returns-clause-place : goal.returns-clause-place
-returns-clause-place c =
+pub returns-clause-index : goal.returns-clause-index
+returns-clause-index c =
     let old = c.args.growing.now in
     let n = c.args.name.now in
-    let count : length (names_in old) ≡ c.len-place.result = ap length c.requires.names ∙ length-map old.contents.items (λ x. x.name) ∙ sym old.contents.ok.0 ∙ sym c.len-place.ensures in
+    let count : length (names_in old) ≡ c.len-index.result = ap length c.requires.names ∙ length-map old.contents.items (λ x. x.name) ∙ sym old.contents.ok.0 ∙ sym c.len-index.ensures in
     ap (place_in n) (names_then c) ∙ place_last (bytes_eq n) (names_in old) n (none_there c) ((nat_list_eq_equiv).refl n) ∙ ap Some count
 
 pub returns-in-Some-clause-within : goal.returns-in-Some-clause-within

@@ -11,13 +11,13 @@ pub returns-in-Some : goal.returns-in-Some
 returns-in-Some c =
     let name = c.args.name.now in
     let contents = c.args.program.now.contents.now in
-    let at = ap (place_in name) (sym c.requires) ∙ sym c.in-Some.ensures.place in
-    let there : option_copied c.get.result ≡ slice_get contents c.in-Some.place = grind (arith, common_steps, gets) in
+    let at = ap (place_in name) (sym c.requires) ∙ sym c.in-Some.ensures.index in
+    let there : option_copied c.get.result ≡ slice_get contents c.in-Some.index = grind (arith, common_steps, gets) in
     ap (option_map segment_from) there ∙ sym (found_at name contents ∙ ap (at_most contents) at)
 
 pub returns-in-None : goal.returns-in-None
 returns-in-None c =
     let name = c.args.name.now in
     let contents = c.args.program.now.contents.now in
-    let at = ap (place_in name) (sym c.requires) ∙ sym c.in-None.ensures.place in
+    let at = ap (place_in name) (sym c.requires) ∙ sym c.in-None.ensures.index in
     sym (found_at name contents ∙ ap (at_most contents) at)

@@ -8,14 +8,14 @@ use Rattle.output65.proofs.performing.commit_outcome.Goals as goal
 pub returns-in-Err-clause-done : goal.returns-in-Err-clause-done
 returns-in-Err-clause-done g c =
     let mid = between g.W.Write.contents g.E.Write.contents c.args.out.now c.say_both.new.out c.args.err.now c.say_both.new.err in
-    let said = rw (c.as_slice.ensures, c.as_slice-2.ensures) at c.say_both.ensures.said in
+    let printed = rw (c.as_slice.ensures, c.as_slice-2.ensures) at c.say_both.ensures.printed in
     short _ _ _ _ _ c.args.outcome.now (memory_line c.args.memory_name.now) c.in-Err.unwritten _ _ _ refl c.in-Err.ensures.count.later refl c.in-Err.ensures.count.cause c.in-Err.ensures.there
-    (rw c.as_slice-3.ensures at c.in-Err.ensures.err) (λ h. after_both _ mid _ _ _ refl (sym c.say_both.ensures.took ∙ c.if-not-say_both.false) said (c.print_write_error.ensures.memory h))
+    (rw c.as_slice-3.ensures at c.in-Err.ensures.err) (λ h. after_both _ mid _ _ _ refl (sym c.say_both.ensures.took ∙ c.if-not-say_both.false) printed (c.print_write_error.ensures.memory h))
 
 pub returns-in-Err-clause-failed : goal.returns-in-Err-clause-failed
 returns-in-Err-clause-failed g c =
     let mid = between g.W.Write.contents g.E.Write.contents c.args.out.now c.say_both.new.out c.args.err.now c.say_both.new.err in
-    let said = rw (c.as_slice.ensures, c.as_slice-2.ensures) at c.say_both.ensures.said in
+    let printed = rw (c.as_slice.ensures, c.as_slice-2.ensures) at c.say_both.ensures.printed in
     stops_writing _ _ _ _ c.args.outcome.now c.in-Err.unwritten _ _ _ refl c.in-Err.ensures.count.told
-    (rw c.as_slice-3.ensures at c.in-Err.ensures.err) (λ file h at. after_both _ mid _ _ _ refl (sym c.say_both.ensures.took ∙ c.if-not-say_both.false) said ((rw c.as_slice-in-Err.ensures at c.print_write_error.ensures.failed) file h at))
+    (rw c.as_slice-3.ensures at c.in-Err.ensures.err) (λ file h at. after_both _ mid _ _ _ refl (sym c.say_both.ensures.took ∙ c.if-not-say_both.false) printed ((rw c.as_slice-in-Err.ensures at c.print_write_error.ensures.failed) file h at))
     (rw c.as_slice-3.ensures at c.in-Err.ensures.last_failure)

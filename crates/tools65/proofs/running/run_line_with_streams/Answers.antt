@@ -13,7 +13,7 @@ returns-in-Ok-clause-done g c =
 
 pub returns-in-Err-clause-done : goal.returns-in-Err-clause-done
 returns-in-Err-clause-done g c =
-    only_memory _ _ (IsOutcomeOfCommand (view c.args.line.now)) _ _ _ (line_memory (view c.args.line.now)) _ _ _ _ c.compute.ensures.frame.files refl c.requires.out (rw c.memory_name-in-Err.ensures at c.print_out_of_memory.ensures.said)
+    only_memory _ _ (IsOutcomeOfCommand (view c.args.line.now)) _ _ _ (line_memory (view c.args.line.now)) _ _ _ _ c.compute.ensures.frame.files refl c.requires.out (rw c.memory_name-in-Err.ensures at c.print_out_of_memory.ensures.printed)
 
 pub returns-in-Ok-clause-fits : goal.returns-in-Ok-clause-fits
 returns-in-Ok-clause-fits g c =
@@ -21,7 +21,7 @@ returns-in-Ok-clause-fits g c =
 
 pub returns-in-Err-clause-fits : goal.returns-in-Err-clause-fits
 returns-in-Err-clause-fits g c =
-    only_memory_fits _ _ (view c.args.line.now) _ _ _ _ _ _ _ c.compute.ensures.frame.files refl c.requires.out (rw c.memory_name-in-Err.ensures at c.print_out_of_memory.ensures.said)
+    only_memory_fits _ _ (view c.args.line.now) _ _ _ _ _ _ _ c.compute.ensures.frame.files refl c.requires.out (rw c.memory_name-in-Err.ensures at c.print_out_of_memory.ensures.printed)
 
 pub returns-in-Ok-clause-failed : goal.returns-in-Ok-clause-failed
 returns-in-Ok-clause-failed g c =
@@ -29,7 +29,7 @@ returns-in-Ok-clause-failed g c =
 
 pub returns-in-Err-clause-failed : goal.returns-in-Err-clause-failed
 returns-in-Err-clause-failed g c =
-    only_memory_fails _ _ (view c.args.line.now) _ _ _ _ _ _ _ _ c.compute.ensures.frame.files refl c.requires.out (rw c.memory_name-in-Err.ensures at c.print_out_of_memory.ensures.said)
+    only_memory_fails _ _ (view c.args.line.now) _ _ _ _ _ _ _ _ c.compute.ensures.frame.files refl c.requires.out (rw c.memory_name-in-Err.ensures at c.print_out_of_memory.ensures.printed)
 
 pub returns-in-Ok-clause-one_program : goal.returns-in-Ok-clause-one_program
 returns-in-Ok-clause-one_program g c =
@@ -39,7 +39,7 @@ returns-in-Ok-clause-one_program g c =
 pub returns-in-Err-clause-one_program : goal.returns-in-Err-clause-one_program
 returns-in-Err-clause-one_program g c =
     line_whole _ _ _ _ (view c.args.line.now) _ _
-    (only_memory _ _ (IsOutcomeOfCommand (view c.args.line.now)) _ _ _ (line_memory (view c.args.line.now)) _ _ _ _ c.compute.ensures.frame.files refl c.requires.out (rw c.memory_name-in-Err.ensures at c.print_out_of_memory.ensures.said))
+    (only_memory _ _ (IsOutcomeOfCommand (view c.args.line.now)) _ _ _ (line_memory (view c.args.line.now)) _ _ _ _ c.compute.ensures.frame.files refl c.requires.out (rw c.memory_name-in-Err.ensures at c.print_out_of_memory.ensures.printed))
 
 pub returns-in-Ok-clause-rose : goal.returns-in-Ok-clause-rose
 returns-in-Ok-clause-rose g c =

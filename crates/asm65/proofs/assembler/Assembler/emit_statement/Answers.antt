@@ -1,7 +1,12 @@
-use Rattle.std.proofs.Common.{sym}
+use Rattle.std.proofs.Common.{Ok, subst, sym}
 use Rattle.ast65.specs.declared.language.Statement.{Statement}
 use Rattle.ast65.specs.declared.language.Statement.TheVariants as statement
 use Rattle.semantics65.specs.Views.{place_in}
+use Rattle.semantics65.specs.Module.{asserted, valued}
+use Rattle.symbols65.specs.Evaluations.{HasFinal, first_tree}
+use Rattle.symbols65.specs.Views.{table_of}
+use Rattle.symbols65.proofs.Measures.{ok_then}
+use Rattle.asm65.proofs.Enterings.{emitted_at_once, tried_waits}
 use Rattle.asm65.proofs.Namings.{adds_pieces, nothing_follows, puts_nothing, taken_as}
 use Rattle.asm65.proofs.assembler.Assembler.emit_statement.Goals as goal
 
@@ -55,15 +60,32 @@ returns-in-Incbin c =
     let x : Statement = statement.Incbin c.in-Incbin.bytes c.in-Incbin.start c.in-Incbin.len in
     taken_as location s m old new c.emit_incbin.result x c.args.statement (sym c.in-Incbin.is) (λ h. adds_pieces location s m old new x (λ y. nothing_follows y) (h location)) c.emit_incbin.ensures
 
-pub returns-in-Assert : goal.returns-in-Assert
-returns-in-Assert c =
+pub returns-then-branch : goal.returns-then-branch
+returns-then-branch c =
     let location = place_in c.args.site.at.file.now c.args.site.at.line in
     let s = c.args.site.context in
     let m = c.args.analysis.measured in
     let old = c.args.self.now in
-    let new = c.enter_value.new.assembler in
+    let new = c.put_value.new.assembler in
     let x : Statement = statement.Assert c.in-Assert.value c.in-Assert.action c.in-Assert.text in
-    taken_as location s m old new c.enter_value.result x c.args.statement (sym c.in-Assert.is) (λ h. adds_pieces location s m old new x (λ y. nothing_follows y) h) c.enter_value.ensures.entered
+    let final = subst (λ (z : Statement). HasFinal (table_of old.symbols) s (first_tree z) c.args.analysis.form) c.in-Assert.is c.requires.form in
+    let put = c.in_ok-put_value-in-Assert.ensures.put c.in-Assert.value c.in-Assert.action c.in-Assert.text final in
+    let holds = emitted_at_once old new location s (valued (asserted c.in-Assert.action c.in-Assert.text) c.in-Assert.value) _ put c.if-branch.true in
+    taken_as location s m old new (Ok tt) x c.args.statement (sym c.in-Assert.is) (λ h. adds_pieces location s m old new x (λ y. nothing_follows y) h) holds
+
+pub returns-else-branch : goal.returns-else-branch
+returns-else-branch c =
+    let location = place_in c.args.site.at.file.now c.args.site.at.line in
+    let s = c.args.site.context in
+    let m = c.args.analysis.measured in
+    let old = c.args.self.now in
+    let mid = c.put_value.new.assembler in
+    let new = c.defer.new.assembler in
+    let x : Statement = statement.Assert c.in-Assert.value c.in-Assert.action c.in-Assert.text in
+    let final = subst (λ (z : Statement). HasFinal (table_of old.symbols) s (first_tree z) c.args.analysis.form) c.in-Assert.is c.requires.form in
+    let put = c.in_ok-put_value-in-Assert.ensures.put c.in-Assert.value c.in-Assert.action c.in-Assert.text final in
+    let entered = ok_then c.defer.result (λ waits. tried_waits old mid new location s (valued (asserted c.in-Assert.action c.in-Assert.text) c.in-Assert.value) _ put c.if-branch.false waits) c.defer.ensures.waits in
+    taken_as location s m old new c.defer.result x c.args.statement (sym c.in-Assert.is) (λ h. adds_pieces location s m old new x (λ y. nothing_follows y) h) entered
 
 pub enter_names-requires-clause-named : goal.enter_names-requires-clause-named
 enter_names-requires-clause-named c =

@@ -1,13 +1,18 @@
 use Rattle.std.proofs.Common.{[]}
-use Rattle.base65.specs.declared.action.Action.TheVariants.{Error}
+use Rattle.base65.specs.declared.action.Action.TheVariants as action
 use Rattle.semantics65.specs.Views.{place_in}
-use Rattle.semantics65.specs.Module.{Piece, datum, valued}
-use Rattle.asm65.proofs.Enterings.{tried_waits}
+use Rattle.semantics65.specs.Module.{datum, valued}
+use Rattle.asm65.proofs.Enterings.{emitted_at_once, tried_waits}
 use Rattle.symbols65.proofs.Measures.{ok_then}
 use Rattle.asm65.proofs.emission.statements.enter_element.Goals as goal
 
-pub returns-if-branch-clause-entered : goal.returns-if-branch-clause-entered
-returns-if-branch-clause-entered c = ?
+pub returns-then-branch-clause-entered : goal.returns-then-branch-clause-entered
+returns-then-branch-clause-entered c =
+    emitted_at_once c.args.assembler.now c.put_value.new.assembler (place_in c.args.site.at.file.now c.args.site.at.line) c.args.site.context (valued (datum c.args.width) c.args.value) _
+    (c.in_ok-put_value.ensures.put c.args.value action.Error [] c.requires) c.if-branch.true
 
-pub returns-else-branch-clause-entered : goal.returns-else-branch-clause-entered
-returns-else-branch-clause-entered c = ?
+pub returns-clause-entered : goal.returns-clause-entered
+returns-clause-entered c =
+    let location = place_in c.args.site.at.file.now c.args.site.at.line in
+    ok_then c.defer.result (λ waits. tried_waits c.args.assembler.now c.put_value.new.assembler c.defer.new.assembler location c.args.site.context (valued (datum c.args.width) c.args.value) _
+    (c.in_ok-put_value.ensures.put c.args.value action.Error [] c.requires) c.if-branch.false waits) c.defer.ensures.waits

@@ -117,9 +117,9 @@ loop-item-preserved-in-Continue-1 c =
     let s = c.args.site.context in
     let width = c.args.width in
     let a = c.loop-item.assembler in
-    let mid = c.enter_value.new.assembler in
+    let mid = c.enter_element.new.assembler in
     let rest = into_iter_items c.next.new.self in
-    let one : EmitsPieces location s (item_piece width c.in-Some.item ∷ []) a mid = rw c.in-Value.is c.in_ok-enter_value-in-Value.ensures.entered in
+    let one : EmitsPieces location s (item_piece width c.in-Some.item ∷ []) a mid = rw c.in-Value.is c.in_ok-enter_element-in-Value.ensures.entered in
     record {
       entered = λ b h.
           c.loop-item.invariant.entered b
@@ -128,11 +128,11 @@ loop-item-preserved-in-Continue-1 c =
       finals =
           let later = (next_finals (table_of a.symbols) s c.in-Some.item rest (into_iter_items c.loop-item.forms) c.next_form-form.result (into_iter_items c.next_form-form.new.forms)
           (subst (λ (items : List Item). HaveFinals (table_of a.symbols) s items (into_iter_items c.loop-item.forms)) c.in-Some.ensures.steps.0 c.loop-item.invariant.finals) c.next_form-form.ensures).1 in
-          rw c.in_ok-enter_value-in-Value.ensures.tables.symbols later;
+          rw c.in_ok-enter_element-in-Value.ensures.tables.symbols later;
     }
 
-pub enter_value-requires : goal.enter_value-requires
-enter_value-requires c =
+pub enter_element-requires : goal.enter_element-requires
+enter_element-requires c =
     let s = c.args.site.context in
     let a = c.loop-item.assembler in
     let rest = into_iter_items c.next.new.self in

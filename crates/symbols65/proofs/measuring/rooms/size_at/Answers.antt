@@ -6,10 +6,10 @@ use Rattle.symbols65.proofs.measuring.rooms.size_at.Goals as goal
 
 pub returns-in-Some : goal.returns-in-Some
 returns-in-Some c =
-    let less : c.args.place < length c.args.segments.now = (let is = c.in-Some.ensures.lookup.0 in grind (arith, nat_tests)) in
-    ap (λ g. g.size) (segment_is c.args.segments.now c.args.place c.in-Some.segment.now less c.in-Some.ensures.lookup.1)
+    let less : c.args.index < length c.args.segments.now = (let is = c.in-Some.ensures.lookup.0 in grind (arith, nat_tests)) in
+    ap (λ g. g.size) (segment_is c.args.segments.now c.args.index c.in-Some.segment.now less c.in-Some.ensures.lookup.1)
 
 pub returns-in-None : goal.returns-in-None
 returns-in-None c =
-    let past : length c.args.segments.now ≤ c.args.place = (let is = c.in-None.ensures.lookup.0 in grind (arith, nat_tests)) in
-    sym (no_segment c.args.segments.now c.args.place past)
+    let past : length c.args.segments.now ≤ c.args.index = (let is = c.in-None.ensures.lookup.0 in grind (arith, nat_tests)) in
+    sym (no_segment c.args.segments.now c.args.index past)

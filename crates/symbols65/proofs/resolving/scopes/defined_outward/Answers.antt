@@ -21,23 +21,23 @@ pub returns-in-Some : goal.returns-in-Some
 returns-in-Some c =
     let y = table_of c.args.symbols.now in
     let n = c.args.name.now in
-    outward_first y.scopes (λ s. definition_index y (named s n)) c.loop-place.left c.loop-place.scope c.in-Some.place (c.in-Some.ensures n (sym c.in_ok-word.ensures)) ∙ c.loop-place.invariant
+    outward_first y.scopes (λ s. definition_index y (named s n)) c.loop-index.left c.loop-index.scope c.in-Some.index (c.in-Some.ensures n (sym c.in_ok-word.ensures)) ∙ c.loop-index.invariant
 
 pub returns-then-scope-eq-GLOBAL : goal.returns-then-scope-eq-GLOBAL
 returns-then-scope-eq-GLOBAL c =
     let y = table_of c.args.symbols.now in
     let n = c.args.name.now in
-    let none : None ≡ definition_index y (named c.loop-place.scope n) = c.in_default.ensures n (sym c.in_ok-word.ensures) in
+    let none : None ≡ definition_index y (named c.loop-index.scope n) = c.in_default.ensures n (sym c.in_ok-word.ensures) in
     elim c.then-scope-eq-GLOBAL.branch [
-      | then-scope-eq-GLOBAL-via-then-scope-eq-GLOBAL w ↦ outward_last y.scopes (λ s. definition_index y (named s n)) c.loop-place.left c.loop-place.scope none (inl (let yes = w.if-scope-eq-GLOBAL.true in grind (arith, nat_tests))) ∙ c.loop-place.invariant
-      | then-scope-eq-GLOBAL-via-else-scope-eq-GLOBAL+then-left-eq0 w ↦ outward_last y.scopes (λ s. definition_index y (named s n)) c.loop-place.left c.loop-place.scope none (inr (let yes = w.if-left-eq0.true in grind (arith, nat_tests))) ∙ c.loop-place.invariant
+      | then-scope-eq-GLOBAL-via-then-scope-eq-GLOBAL w ↦ outward_last y.scopes (λ s. definition_index y (named s n)) c.loop-index.left c.loop-index.scope none (inl (let yes = w.if-scope-eq-GLOBAL.true in grind (arith, nat_tests))) ∙ c.loop-index.invariant
+      | then-scope-eq-GLOBAL-via-else-scope-eq-GLOBAL+then-left-eq0 w ↦ outward_last y.scopes (λ s. definition_index y (named s n)) c.loop-index.left c.loop-index.scope none (inr (let yes = w.if-left-eq0.true in grind (arith, nat_tests))) ∙ c.loop-index.invariant
     ]
 
-pub loop-place-preserved : goal.loop-place-preserved
-loop-place-preserved c =
+pub loop-index-preserved : goal.loop-index-preserved
+loop-index-preserved c =
     let y = table_of c.args.symbols.now in
     let n = c.args.name.now in
-    let none : None ≡ definition_index y (named c.loop-place.scope n) = c.in_default.ensures n (sym c.in_ok-word.ensures) in
-    ap (λ q. first_found (λ s. definition_index y (named s n)) (outward_from y.scopes (c.loop-place.left - 1) q)) c.enclosing-scope.ensures
-    ∙ outward_next y.scopes (λ s. definition_index y (named s n)) c.loop-place.left c.loop-place.scope none (let other = c.if-scope-eq-GLOBAL.false in let isnt : c.loop-place.scope ≢ 0 = grind (arith, nat_tests) in isnt) (let other = c.if-left-eq0.false in let isnt : c.loop-place.left ≢ 0 = grind (arith, nat_tests) in isnt)
-    ∙ c.loop-place.invariant
+    let none : None ≡ definition_index y (named c.loop-index.scope n) = c.in_default.ensures n (sym c.in_ok-word.ensures) in
+    ap (λ q. first_found (λ s. definition_index y (named s n)) (outward_from y.scopes (c.loop-index.left - 1) q)) c.enclosing-scope.ensures
+    ∙ outward_next y.scopes (λ s. definition_index y (named s n)) c.loop-index.left c.loop-index.scope none (let other = c.if-scope-eq-GLOBAL.false in let isnt : c.loop-index.scope ≢ 0 = grind (arith, nat_tests) in isnt) (let other = c.if-left-eq0.false in let isnt : c.loop-index.left ≢ 0 = grind (arith, nat_tests) in isnt)
+    ∙ c.loop-index.invariant

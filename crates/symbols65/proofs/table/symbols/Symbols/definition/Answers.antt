@@ -7,8 +7,8 @@ use Rattle.symbols65.proofs.table.symbols.Symbols.definition.Goals as goal
 pub returns-in-Some-clause-forms : goal.returns-in-Some-clause-forms
 returns-in-Some-clause-forms c =
     let t = c.args.self.now in
-    let kept = t.forms_final c.args.place (c.in-Some.field-0-0.now, c.in-Some.definition.now) (sym c.in-Some.ensures.entry) in
+    let kept = t.forms_final c.args.index (c.in-Some.field-0-0.now, c.in-Some.definition.now) (sym c.in-Some.ensures.entry) in
     ((λ f is z more. kept.0 f is z (without_imports t z more)), (λ r is z more none. kept.1 r is z (without_imports t z more) none))
 
 pub returns-in-None-clause-definition : goal.returns-in-None-clause-definition
-returns-in-None-clause-definition c = get_mapped_none (definition_in (words_of c.args.self.now)) c.args.self.now.definitions.entries c.args.place (sym c.in-None.ensures.entry)
+returns-in-None-clause-definition c = get_mapped_none (definition_in (words_of c.args.self.now)) c.args.self.now.definitions.entries c.args.index (sym c.in-None.ensures.entry)

@@ -8,16 +8,16 @@ use Rattle.symbols65.proofs.table.symbols.Symbols.scope_in.Goals as goal
 pub returns-in-Some-place_opened : goal.returns-in-Some-place_opened
 returns-in-Some-place_opened c =
     let t = c.args.self.now in
-    let place = c.in-Some-place_opened.place in
-    ap Some (let more : place + 1 ≡ suc place = omega arith in more)
-    ∙ ap one_based (sym c.in-Some-place_opened.is ∙ c.place_opened.ensures.place
+    let index = c.in-Some-place_opened.index in
+    ap Some (let more : index + 1 ≡ suc index = omega arith in more)
+    ∙ ap one_based (sym c.in-Some-place_opened.is ∙ c.place_opened.ensures.index
     ∙ ap (λ o. place_of_opening t.scopes.entries (option_map (opening.Named c.args.within) o)) (sym c.in-Some.is ∙ c.word.ensures)
     ∙ finds_opened (words_of t) t.scopes.entries c.args.within c.args.name.now t.openings_numbered)
 
 pub returns-in_default-2 : goal.returns-in_default-2
 returns-in_default-2 c =
     let t = c.args.self.now in
-    ap one_based (sym c.in_default.is ∙ c.place_opened.ensures.place
+    ap one_based (sym c.in_default.is ∙ c.place_opened.ensures.index
     ∙ ap (λ o. place_of_opening t.scopes.entries (option_map (opening.Named c.args.within) o)) (sym c.in-Some.is ∙ c.word.ensures)
     ∙ finds_opened (words_of t) t.scopes.entries c.args.within c.args.name.now t.openings_numbered)
 

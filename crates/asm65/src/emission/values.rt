@@ -63,6 +63,7 @@ pub fn items_of(alloc: Global, numbers: &[u32]) -> Result<ListVec<Item>, AllocEr
 
 /// Emits the stored value of a form into the section of a segment, if it has no error. Returns
 /// whether it did.
+#[inline(always)]
 pub fn put_form(
     sections: &mut Sections,
     segment: u32,
@@ -87,6 +88,7 @@ pub fn put_form(
 }
 
 /// Emits the stored form of an operand, if it has no error. Returns whether it did.
+#[inline(always)]
 fn put_operand(
     alloc: Global,
     sections: &mut Sections,

@@ -63,7 +63,6 @@ pub fn items_of(alloc: Global, numbers: &[u32]) -> Result<ListVec<Item>, AllocEr
 
 /// Emits the stored value of a form into the section of a segment, if it has no error. Returns
 /// whether it did.
-#[inline(always)]
 pub fn put_form(
     sections: &mut Sections,
     segment: u32,
@@ -88,7 +87,6 @@ pub fn put_form(
 }
 
 /// Emits the stored form of an operand, if it has no error. Returns whether it did.
-#[inline(always)]
 fn put_operand(
     alloc: Global,
     sections: &mut Sections,
@@ -154,7 +152,7 @@ pub enum ValueUse {
 }
 
 /// Emits a value if its form is final and has no error. Returns whether it did.
-#[inline(never)]
+#[inline(always)]
 pub fn put_value(
     alloc: Global,
     assembler: &mut Assembler,

@@ -140,7 +140,7 @@ def checks():
 
 
 class Usage:
-    """The time of processors by crate and kind of check, as sampled: what a process used since the last sample is lost when it ends."""
+    """The time of processors that checks on this machine use, by crate and kind. It is sampled, so what a process uses after the last sample is lost."""
 
     def __init__(self):
         self.seconds = {}
@@ -177,7 +177,8 @@ def main():
     beside, reader, starts, passed, failed = Beside(rt, crates), Reader(), {}, 0, 1
     kit.say("mutants during the proofs: {} of every gate, {} of changed functions, {} in rotation".format(*beside.kinds))
     usage = Usage()
-    threading.Thread(target=tell, args=(begun, ended, usage), daemon=True).start()
+    telling = threading.Thread(target=tell, args=(begun, ended, usage), daemon=True)
+    telling.start()
     words = [sys.executable, f"{kit.ROOT}/gate/rt_ci.py"]
     with subprocess.Popen(words, cwd=kit.ROOT, stdout=subprocess.PIPE, stderr=subprocess.STDOUT, errors="replace") as ran:
         for line in map(str.rstrip, ran.stdout):
@@ -199,6 +200,7 @@ def main():
         beside.is_proved(name)
     refused, why = beside.end()
     ended.set()
+    telling.join()
     kit.table("Minutes after which each crate was proved:", starts.items())
     kit.table("Mutants:", beside.took.items())
     parts = usage.by_part()

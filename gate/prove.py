@@ -106,9 +106,9 @@ class Proofs:
         """Proves the crates, each once those below it are proved, and returns whether all are."""
         tasks = {}
         for it in self.crates:
-            size = sum(os.path.getsize(file) for file in self.rt.rtlib.files_of(it.folder) if file.endswith(".rt"))
-            tasks[it] = lanes.Task(tuple(that for that in it.below() if that in tasks), size, lambda given, jobs, it=it: self.prove(it, jobs))
-        lanes.run(tasks, self.processors, lambda: self.rt.free() > lanes.MEMORY)
+            sources = [] if it in self.proved else [file for file in self.rt.rtlib.files_of(it.folder) if file.endswith(".rt")]
+            tasks[it] = lanes.Task(tuple(it.below()), sum(map(os.path.getsize, sources)), lambda given, jobs, it=it: self.prove(it, jobs))
+        lanes.run(tasks, self.processors, self.rt.free)
         return not self.why
 
     def tell(self):

@@ -25,6 +25,7 @@ import ci  # noqa: E402
 import kit  # noqa: E402
 import lanes  # noqa: E402
 import mutants  # noqa: E402
+import prove  # noqa: E402
 import reasons  # noqa: E402
 import results  # noqa: E402
 import try_mutants  # noqa: E402
@@ -325,10 +326,43 @@ def beside():
     }
 
 
+def unproved():
+    """Returns which crates a build tries to prove if the lowest isn't proved, and why it ended."""
+    tried, was = [], prove.prove
+
+    class Machine:
+        """The module `rt`, on a machine with two processors, over crates without files."""
+
+        class rtlib:
+            @staticmethod
+            def files_of(folder):
+                return []
+
+        @staticmethod
+        def processors():
+            return 2
+
+        @staticmethod
+        def free():
+            return 1 << 40
+
+    low = Proved("low")
+    crates = [low, Proved("high", low)]
+    for it in crates:
+        it.is_built = lambda: False
+    prove.prove = lambda rt, crate, jobs: tried.append(crate.name) or "no"
+    try:
+        proofs = prove.Proofs(Machine, crates, set())
+        is_proved = proofs.run()
+    finally:
+        prove.prove = was
+    return ([] if is_proved else tried), proofs.why
+
+
 def plan():
     """Checks in which order tasks run, with how many processes and with which priority."""
 
-    def begun(processors, has_memory):
+    def begun(processors, free):
         """Returns what ran, in order: a task, its processes, its niceness, and what had ended."""
         found, lock = [], threading.Lock()
 
@@ -339,21 +373,36 @@ def plan():
                 # (so that what can run beside it begins)
                 time.sleep(0.2)
                 return key.upper()
+
             return lanes.Task(waits, size, call)
 
         tasks = {"low": task("low", 10), "tests of low": task("tests of low", 0), "side": task("side", 1, "low"),
                  "middle": task("middle", 10, "low"), "high": task("high", 10, "middle", "side")}
-        results_of = lanes.run(tasks, processors, lambda: has_memory)
+        results_of = lanes.run(tasks, processors, lambda: free)
         return [it for it in found if it[0] != "tests of low"], results_of == {it: it.upper() for it in tasks}
 
-    two, is_whole = begun(8, True)
-    one, _ = begun(8, False)
+    def failed():
+        """Returns the exception of a task that another one waits for, and whether that one began."""
+        began = []
+
+        def fail(given, jobs):
+            raise ValueError("no")
+        try:
+            lanes.run({"low": lanes.Task((), 1, fail), "high": lanes.Task(("low",), 1, lambda given, jobs: began.append(1))}, 2, lambda: 1 << 40)
+        except ValueError as error:
+            return str(error), bool(began)
+        return None, bool(began)
+
+    two, is_whole = begun(8, 1 << 40)
+    one, _ = begun(8, 0)
     by_name = {it[0]: it for it in two}
     return {
         "each task waits for what it needs": [it[3] for it in two] == [[], ["low"], ["low"], ["low", "middle", "side"]] and is_whole,
         "a task that runs alone has four processes": [by_name[it][1] for it in ("low", "middle", "side", "high")] == [4, 2, 2, 4],
         "the longest chain comes first": [it[0] for it in one] == ["low", "middle", "side", "high"] and by_name["side"][2] > by_name["middle"][2],
         "without memory one task runs at a time": [len(it[3]) for it in one] == [0, 1, 2, 3],
+        "a task that raises an exception": failed() == ("no", False),
+        "a crate below that isn't proved": unproved() == (["low"], {"low": "no"}),
     }
 
 

@@ -114,8 +114,8 @@ module _ (files : List (List ℕ)) (s i : List ℕ) where
   abbrev has_good : Fragment → Bool
   has_good f = has_good_origin 2 (length files) f
 
-  pub origin_good : (place : SourceLocation) → IsAmong files place.file → is_good (at place) ≡ true
-  origin_good place h = grind (arith, common_steps, any_below, nat_tests, position_at)
+  pub origin_good : (location : SourceLocation) → IsAmong files location.file → is_good (at location) ≡ true
+  origin_good location h = grind (arith, common_steps, any_below, nat_tests, position_at)
 
   parts_origins : (ps : List Part) → AreAmong files (flat_map part_files ps) → list_all has_good (fragments_of at s i ps) ≡ true
   parts_origins [] h = refl
@@ -123,7 +123,7 @@ module _ (files : List (List ℕ)) (s i : List ℕ) where
   parts_origins (Known (b ∷ bytes) ∷ ps) h = parts_origins ps h
   parts_origins (Filled zero ∷ ps) h = parts_origins ps h
   parts_origins (Filled (suc n) ∷ ps) h = parts_origins ps h
-  parts_origins (Waiting width place f ∷ ps) h = and (is_good (at place)) (list_all has_good (fragments_of at s i ps)) (origin_good place h.0) (parts_origins ps h.1)
+  parts_origins (Waiting width location f ∷ ps) h = and (is_good (at location)) (list_all has_good (fragments_of at s i ps)) (origin_good location h.0) (parts_origins ps h.1)
 
   joined_origins : (f : Fragment) (fs : List Fragment) → has_good f ≡ true → list_all has_good fs ≡ true → list_all has_good (merged_fragments f fs) ≡ true
   joined_origins x [] h all = and (has_good x) true h refl
@@ -145,15 +145,15 @@ module _ (files : List (List ℕ)) (s i : List ℕ) where
 
   exports_origins : (ss : List Declaration) → AreAmong files (flat_map export_files ss) → list_all (λ (e : Export). is_good e.origin) (filter_map (export_of at s i) ss) ≡ true
   exports_origins [] h = refl
-  exports_origins (Exported n place f ∷ ss) h = and (is_good (at place)) (list_all (λ (e : Export). is_good e.origin) (filter_map (export_of at s i) ss)) (origin_good place h.0) (exports_origins ss h.1)
+  exports_origins (Exported n location f ∷ ss) h = and (is_good (at location)) (list_all (λ (e : Export). is_good e.origin) (filter_map (export_of at s i) ss)) (origin_good location h.0) (exports_origins ss h.1)
   exports_origins (ForcedImport n ∷ ss) h = exports_origins ss h
-  exports_origins (Asserted act place words f ∷ ss) h = exports_origins ss h
+  exports_origins (Asserted act location message f ∷ ss) h = exports_origins ss h
 
   asserts_origins : (ss : List Declaration) → AreAmong files (flat_map assert_files ss) → list_all (λ (a : Assert). is_good a.origin) (filter_map (assert_of at s i) ss) ≡ true
   asserts_origins [] h = refl
-  asserts_origins (Exported n place f ∷ ss) h = asserts_origins ss h
+  asserts_origins (Exported n location f ∷ ss) h = asserts_origins ss h
   asserts_origins (ForcedImport n ∷ ss) h = asserts_origins ss h
-  asserts_origins (Asserted act place words f ∷ ss) h = and (is_good (at place)) (list_all (λ (a : Assert). is_good a.origin) (filter_map (assert_of at s i) ss)) (origin_good place h.0) (asserts_origins ss h.1)
+  asserts_origins (Asserted act location message f ∷ ss) h = and (is_good (at location)) (list_all (λ (a : Assert). is_good a.origin) (filter_map (assert_of at s i) ss)) (origin_good location h.0) (asserts_origins ss h.1)
 
 pub origins_good : (segments : List Segment) (names : List (List ℕ)) (cs : List Content) → has_good_origins (object_with segments names cs) ≡ true
 origins_good segments names cs =

@@ -84,7 +84,7 @@ module _ (at : SourceLocation → Origin) (s i : List ℕ) (names : List (List �
   exports_good : (count : ℕ) (ss : List Declaration) → AllByRecursion (IsSoundDeclaration s count) ss → HasAll i (flat_map (said_imports names) ss) → list_all is_good_export (filter_map (export_of at s i) ss) ≡ true
   exports_good count [] sound g = refl
   exports_good count (ForcedImport n ∷ ss) sound g = exports_good count ss sound.1 (second_has i (optional_key (key_of names n)) (flat_map (said_imports names) ss) g)
-  exports_good count (Asserted act line words f ∷ ss) sound g = exports_good count ss sound.1 (second_has i (imports_in f) (flat_map (said_imports names) ss) g)
+  exports_good count (Asserted act line message f ∷ ss) sound g = exports_good count ss sound.1 (second_has i (imports_in f) (flat_map (said_imports names) ss) g)
   exports_good count (Exported n line f ∷ ss) sound g =
       and (is_well_formed_form (length s) (length i) (renumbered_form s i f)) (list_all is_good_export (filter_map (export_of at s i) ss))
       (good_form s i count f sound.0.1.form (first_has i (imports_in f) (flat_map (said_imports names) ss) g))
@@ -94,15 +94,15 @@ module _ (at : SourceLocation → Origin) (s i : List ℕ) (names : List (List �
   asserts_good count [] sound g = refl
   asserts_good count (Exported n line f ∷ ss) sound g = asserts_good count ss sound.1 (second_has i (imports_in f) (flat_map (said_imports names) ss) g)
   asserts_good count (ForcedImport n ∷ ss) sound g = asserts_good count ss sound.1 (second_has i (optional_key (key_of names n)) (flat_map (said_imports names) ss) g)
-  asserts_good count (Asserted act line words f ∷ ss) sound g =
-      and (nat_lt (length words) 256 && is_well_formed_form (length s) (length i) (renumbered_form s i f) && not (is_literal (renumbered_form s i f))) (list_all (is_well_formed_assert (length s) (length i)) (filter_map (assert_of at s i) ss))
-      (and (nat_lt (length words) 256 && is_well_formed_form (length s) (length i) (renumbered_form s i f)) (not (is_literal (renumbered_form s i f)))
-      (and (nat_lt (length words) 256) (is_well_formed_form (length s) (length i) (renumbered_form s i f)) short good)
+  asserts_good count (Asserted act line message f ∷ ss) sound g =
+      and (nat_lt (length message) 256 && is_well_formed_form (length s) (length i) (renumbered_form s i f) && not (is_literal (renumbered_form s i f))) (list_all (is_well_formed_assert (length s) (length i)) (filter_map (assert_of at s i) ss))
+      (and (nat_lt (length message) 256 && is_well_formed_form (length s) (length i) (renumbered_form s i f)) (not (is_literal (renumbered_form s i f)))
+      (and (nat_lt (length message) 256) (is_well_formed_form (length s) (length i) (renumbered_form s i f)) short good)
       (ap not (same_literal s i f ∙ sound.0.2)))
       (asserts_good count ss sound.1 (second_has i (imports_in f) (flat_map (said_imports names) ss) g))
     where
-      short : nat_lt (length words) 256 ≡ true
-      short = (let few : length words < 256 = sound.0.0 in grind (arith, nat_tests))
+      short : nat_lt (length message) 256 ≡ true
+      short = (let few : length message < 256 = sound.0.0 in grind (arith, nat_tests))
 
       good : is_well_formed_form (length s) (length i) (renumbered_form s i f) ≡ true
       good = good_form s i count f sound.0.1.form (first_has i (imports_in f) (flat_map (said_imports names) ss) g)
@@ -134,7 +134,7 @@ parts_are_good segments names cs sound =
     subst (λ n. AllByRecursion (λ k. k < n) s) (sym (map_length (λ (g : Segment). g.name) segments)) (once_all (λ k. k < length segments) [] (segments_asked cs) tt (asked_below (length segments) cs sound.standing)) in
     let section_names : are_names (map (λ (x : Section). x.name) (map (section_of at segments s i cs) s)) ≡ true =
     ap are_names (sections_named at segments s i cs s) ∙ names_at (map (λ g. g.name) segments) s sound.named (once_distinct [] (segments_asked cs) none_twice) standing in
-    let said = said_sound at s i names count cs sound.contents in
+    let declarations = said_sound at s i names count cs sound.contents in
     let said_imports_had = said_has at s i names cs has_imports in
     let es : List Export = filter_map (export_of at s i) (all_said cs) in
     let ts : List Assert = filter_map (assert_of at s i) (all_said cs) in
@@ -149,8 +149,8 @@ parts_are_good segments names cs sound =
     let m = length s in
     let n = length i in
     let all_sections : d m n ≡ true = sections_good at segments s i cs s (λ g. section_good at s i segments cs g (sound.room g) (parts_in_good at s i names count g cs sound.contents has_imports)) in
-    let all_exports : e m n ≡ true = exports_good at s i names count (all_said cs) said said_imports_had in
-    let all_asserts : f m n ≡ true = asserts_good at s i names count (all_said cs) said said_imports_had in
+    let all_exports : e m n ≡ true = exports_good at s i names count (all_said cs) declarations said_imports_had in
+    let all_asserts : f m n ≡ true = asserts_good at s i names count (all_said cs) declarations said_imports_had in
     (λ j. whole (map_length (section_of at segments s i cs) s j) (map_length (name_of names) i j))
     ∙ and (a && b && c && d m n && e m n) (f m n) (and (a && b && c && d m n) (e m n) (and (a && b && c) (d m n) (and (a && b) c (and a b imports section_names) export_names) all_sections) all_exports) all_asserts
 

@@ -129,4 +129,4 @@ module _ (at : SourceLocation → Origin) (s i : List ℕ) where
   power_small x = grind (arith, common_steps)
 
   pub section_good : (segments : List Segment) (cs : List Content) (g : ℕ) → sum_by part_len (parts_in cs g) ≤ section_limit → list_all is_good_part (parts_in cs g) ≡ true → is_well_formed_section (length s) (length i) (section_of at segments s i cs g) ≡ true
-  section_good segments cs g room good = grind (arith, common_steps, power_small, nat_tests, all_joined_len, fragments_len, and, all_joined_good, fragments_good, all_joined_apart)
+  section_good segments cs g capacity good = grind (arith, common_steps, power_small, nat_tests, all_joined_len, fragments_len, and, all_joined_good, fragments_good, all_joined_apart)

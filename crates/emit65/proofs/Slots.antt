@@ -20,18 +20,18 @@ use Rattle.emit65.proofs.Keys.{once_append}
 
 -- contents that were found, and then what those behind them come to
 abbrev and_then : Result (List Content) LocatedFault → List ℕ → (List Content → Resolution) → Resolution
-and_then (Ok cs) said rest = after (found_all cs said) (rest cs)
-and_then (Err e) said rest = record { found = Err e; warned = said }
+and_then (Ok cs) printed rest = after (found_all cs printed) (rest cs)
+and_then (Err e) printed rest = record { found = Err e; warned = printed }
 
 abbrev following : Resolution → (List Content → Resolution) → Resolution
 following a rest = and_then a.found a.warned rest
 
-found_after : (m : PieceResult) (cs : List Content) (said : List ℕ) (r : Resolution) → result_then (Ok m) (λ k. after (found_all cs said) r) ≡ after (found_all (m.content ∷ cs) (m.warning ++ said)) r
-found_after m cs said r = by r.found
+found_after : (m : PieceResult) (cs : List Content) (printed : List ℕ) (r : Resolution) → result_then (Ok m) (λ k. after (found_all cs printed) r) ≡ after (found_all (m.content ∷ cs) (m.warning ++ printed)) r
+found_after m cs printed r = by r.found
   where
-    by : (f : Result (List Content) LocatedFault) → result_then (Ok m) (λ k. after (found_all cs said) (record { found = f; warned = r.warned })) ≡ after (found_all (m.content ∷ cs) (m.warning ++ said)) (record { found = f; warned = r.warned })
-    by (Ok ds) = ap (λ (w : List ℕ). found_all (m.content ∷ (cs ++ ds)) w) (sym (append_assoc m.warning said r.warned))
-    by (Err e) = ap (λ (w : List ℕ). record { found = Err e; warned = w }) (sym (append_assoc m.warning said r.warned))
+    by : (f : Result (List Content) LocatedFault) → result_then (Ok m) (λ k. after (found_all cs printed) (record { found = f; warned = r.warned })) ≡ after (found_all (m.content ∷ cs) (m.warning ++ printed)) (record { found = f; warned = r.warned })
+    by (Ok ds) = ap (λ (w : List ℕ). found_all (m.content ∷ (cs ++ ds)) w) (sym (append_assoc m.warning printed r.warned))
+    by (Err e) = ap (λ (w : List ℕ). record { found = Err e; warned = w }) (sym (append_assoc m.warning printed r.warned))
 
 -- slots with others behind them, which stand behind the exports that the first come to
 resolved_append : (y : Symbols) (names : List (List ℕ)) (xs zs : List Slot) → resolution_of y names (xs ++ zs) ≡ following (resolution_of y names xs) (λ cs. resolution_of y (names ++ exported_names (all_said cs)) zs)
@@ -44,11 +44,11 @@ resolved_append y names (x ∷ xs) zs = by (slot_result y names x) (λ m. resolv
     more : PieceResult → List (List ℕ)
     more m = names ++ exported_names m.content.said
 
-    joined : (m : PieceResult) (f : Result (List Content) LocatedFault) (said : List ℕ) → result_then (Ok m) (λ k. and_then f said (λ cs. resolution_of y (more m ++ exported_names (all_said cs)) zs)) ≡ following (result_then (Ok m) (λ k. record { found = f; warned = said })) rest
-    joined m (Err e) said = refl
-    joined m (Ok cs) said =
-        found_after m cs said (resolution_of y (more m ++ exported_names (all_said cs)) zs)
-        ∙ ap (λ ns. after (found_all (m.content ∷ cs) (m.warning ++ said)) (resolution_of y ns zs))
+    joined : (m : PieceResult) (f : Result (List Content) LocatedFault) (printed : List ℕ) → result_then (Ok m) (λ k. and_then f printed (λ cs. resolution_of y (more m ++ exported_names (all_said cs)) zs)) ≡ following (result_then (Ok m) (λ k. record { found = f; warned = printed })) rest
+    joined m (Err e) printed = refl
+    joined m (Ok cs) printed =
+        found_after m cs printed (resolution_of y (more m ++ exported_names (all_said cs)) zs)
+        ∙ ap (λ ns. after (found_all (m.content ∷ cs) (m.warning ++ printed)) (resolution_of y ns zs))
         (append_assoc names (exported_names m.content.said) (exported_names (all_said cs)) ∙ ap (λ ns. names ++ ns) (sym (names_append m.content.said (all_said cs))))
 
     by : (r : Result PieceResult LocatedFault) → ((m : PieceResult) → resolution_of y (more m) (xs ++ zs) ≡ following (resolution_of y (more m) xs) (λ cs. resolution_of y (more m ++ exported_names (all_said cs)) zs)) → result_then r (λ m. resolution_of y (more m) (xs ++ zs)) ≡ following (result_then r (λ m. resolution_of y (more m) xs)) rest
@@ -136,7 +136,7 @@ slots_front xs ys zs h = record {
       let rest : List Content → Resolution = λ cs. resolution_of y (names ++ exported_names (all_said cs)) zs in
       subst (λ (a : Resolution). ComeAlike a (resolution_of y names (ys ++ zs))) (sym (resolved_append y names xs zs))
       (subst (λ (b : Resolution). ComeAlike (following (resolution_of y names xs) rest) b) (sym (resolved_append y names ys zs))
-      (come_front (resolution_of y names xs) (resolution_of y names ys) rest (λ cs ds said. ap (λ ss. resolution_of y (names ++ exported_names ss) zs) said) (h.come y names)));
+      (come_front (resolution_of y names xs) (resolution_of y names ys) rest (λ cs ds declarations. ap (λ ss. resolution_of y (names ++ exported_names ss) zs) declarations) (h.come y names)));
 }
 
 pub slots_back : (zs xs ys : List Slot) → AreSlotsAlike xs ys → AreSlotsAlike (zs ++ xs) (zs ++ ys)
@@ -193,9 +193,9 @@ one_asks c cs ds same = grind (arith, common_steps)
 unasked : (c : Content) (cs : List Content) → c.asks ≡ false → segments_asked (c ∷ cs) ≡ segments_asked cs
 unasked c cs quiet = ap (λ b. map (λ (d : Content). d.segment) (if b then c ∷ filter (λ (d : Content). d.asks) cs else filter (λ (d : Content). d.asks) cs)) quiet
 
-quiet_at : (place : SourceLocation) (r : Result PieceResult AsmFault) (m : PieceResult) → IfOk r asks_none → at_place place r ≡ Ok m → m.content.asks ≡ false
-quiet_at place (Ok k) m h e = let same : k ≡ m = cc in subst asks_none same h
-quiet_at place (Err f) m h e = absurd cc
+quiet_at : (location : SourceLocation) (r : Result PieceResult AsmFault) (m : PieceResult) → IfOk r asks_none → at_place location r ≡ Ok m → m.content.asks ≡ false
+quiet_at location (Ok k) m h e = let same : k ≡ m = cc in subst asks_none same h
+quiet_at location (Err f) m h e = absurd cc
 
 -- what waits asks for none
 waits_quiet : (y : Symbols) (names : List (List ℕ)) (w : Fixup) (m : PieceResult) → slot_result y names (deferred w) ≡ Ok m → m.content.asks ≡ false
@@ -223,28 +223,28 @@ keys_found y names xs cs h = ap (distinct_keys []) (asked_found y names xs cs (f
 -- ---- What slots come to, by what alike ones come to.
 
 -- contents like these, and the same is said
-pub record ComesAlike (y : Symbols) (names : List (List ℕ)) (xs : List Slot) (ds : List Content) (said : List ℕ) : Type 0 where
+pub record ComesAlike (y : Symbols) (names : List (List ℕ)) (xs : List Slot) (ds : List Content) (printed : List ℕ) : Type 0 where
   pub contents : List Content
-  pub is : resolution_of y names xs ≡ found_all contents said
+  pub is : resolution_of y names xs ≡ found_all contents printed
   pub alike : AreAlike contents ds
 
-pub comes_alike : (y : Symbols) (names : List (List ℕ)) (xs ys : List Slot) (ds : List Content) (said : List ℕ) → AreSlotsAlike xs ys → resolution_of y names ys ≡ found_all ds said → ComesAlike y names xs ds said
-comes_alike y names xs ys ds said alike is =
-    let come : ComeAlike (resolution_of y names xs) (found_all ds said) = subst (λ (b : Resolution). ComeAlike (resolution_of y names xs) b) is (alike.come y names) in
+pub comes_alike : (y : Symbols) (names : List (List ℕ)) (xs ys : List Slot) (ds : List Content) (printed : List ℕ) → AreSlotsAlike xs ys → resolution_of y names ys ≡ found_all ds printed → ComesAlike y names xs ds printed
+comes_alike y names xs ys ds printed alike is =
+    let come : ComeAlike (resolution_of y names xs) (found_all ds printed) = subst (λ (b : Resolution). ComeAlike (resolution_of y names xs) b) is (alike.come y names) in
     by (resolution_of y names xs).found refl come.found come.warned
   where
-    by : (f : Result (List Content) LocatedFault) → (resolution_of y names xs).found ≡ f → AreFoundAlike f (Ok ds) → (resolution_of y names xs).warned ≡ said → ComesAlike y names xs ds said
+    by : (f : Result (List Content) LocatedFault) → (resolution_of y names xs).found ≡ f → AreFoundAlike f (Ok ds) → (resolution_of y names xs).warned ≡ printed → ComesAlike y names xs ds printed
     by (Ok cs) found h warned = record { contents = cs; is = λ n. record { found = found n; warned = warned n }; alike = h }
     by (Err e) found h warned = absurd h
 
 -- the same fault
-pub faulty_alike : (y : Symbols) (names : List (List ℕ)) (xs ys : List Slot) (f : LocatedFault) (said : List ℕ) → AreSlotsAlike xs ys → resolution_of y names ys ≡ record { found = Err f; warned = said } → resolution_of y names xs ≡ record { found = Err f; warned = said }
-faulty_alike y names xs ys f said alike is =
-    let come : ComeAlike (resolution_of y names xs) (record { found = Err f; warned = said }) = subst (λ (b : Resolution). ComeAlike (resolution_of y names xs) b) is (alike.come y names) in
+pub faulty_alike : (y : Symbols) (names : List (List ℕ)) (xs ys : List Slot) (f : LocatedFault) (printed : List ℕ) → AreSlotsAlike xs ys → resolution_of y names ys ≡ record { found = Err f; warned = printed } → resolution_of y names xs ≡ record { found = Err f; warned = printed }
+faulty_alike y names xs ys f printed alike is =
+    let come : ComeAlike (resolution_of y names xs) (record { found = Err f; warned = printed }) = subst (λ (b : Resolution). ComeAlike (resolution_of y names xs) b) is (alike.come y names) in
     by (resolution_of y names xs).found refl come.found come.warned
   where
-    by : (r : Result (List Content) LocatedFault) → (resolution_of y names xs).found ≡ r → AreFoundAlike r (Err f) → (resolution_of y names xs).warned ≡ said → resolution_of y names xs ≡ record { found = Err f; warned = said }
+    by : (r : Result (List Content) LocatedFault) → (resolution_of y names xs).found ≡ r → AreFoundAlike r (Err f) → (resolution_of y names xs).warned ≡ printed → resolution_of y names xs ≡ record { found = Err f; warned = printed }
     by (Ok cs) found h warned = absurd h
     by (Err e) found h warned =
         let lost : LocatedFault → List ℕ → Resolution = λ g w. record { found = Err g; warned = w } in
-        (λ n. record { found = found n; warned = warned n }) ∙ ap (λ g. lost g said) h
+        (λ n. record { found = found n; warned = warned n }) ∙ ap (λ g. lost g printed) h

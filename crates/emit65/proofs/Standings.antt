@@ -21,19 +21,19 @@ use Rattle.emit65.proofs.Slots.{asked_more, asked_same, held_alike, slots_back, 
 -- ---- What may grow.
 
 abbrev growth : ℕ → List ℕ → ℕ → List Content
-growth g bytes room = section_part g (Known bytes) ∷ section_part g (Filled room) ∷ []
+growth g bytes reserve = section_part g (Known bytes) ∷ section_part g (Filled reserve) ∷ []
 
 nothing_grows : (g h : ℕ) → AreAlike (section_part g (Known []) ∷ section_part h (Filled 0) ∷ []) []
 nothing_grows g h = alike_trans (section_part g (Known []) ∷ section_part h (Filled 0) ∷ []) (section_part h (Filled 0) ∷ []) [] (alike_front (section_part g (Known []) ∷ []) [] (section_part h (Filled 0) ∷ []) (no_bytes_alike g)) (no_room_alike h)
 
 -- what grows where nothing does
-nothing_growing : (t : Entries) → t.bytes ≡ [] → t.room ≡ 0 → AreAlike (growing t) []
+nothing_growing : (t : Entries) → t.bytes ≡ [] → t.reserve ≡ 0 → AreAlike (growing t) []
 nothing_growing t none empty =
     let forth : growing t ≡ growth t.segment [] 0 = λ n. growth t.segment (none n) (empty n) in
     subst (λ (cs : List Content). AreAlike cs []) (sym forth) (nothing_grows t.segment t.segment)
 
 -- where nothing grows there are the entries alone
-pub closed_alike : (files : List (List ℕ)) (t : Entries) → t.bytes ≡ [] → t.room ≡ 0 → AreSlotsAlike (slots_in files t) (map (slot_of files) t.done.items)
+pub closed_alike : (files : List (List ℕ)) (t : Entries) → t.bytes ≡ [] → t.reserve ≡ 0 → AreSlotsAlike (slots_in files t) (map (slot_of files) t.done.items)
 closed_alike files t none empty = slots_nothing (map (slot_of files) t.done.items) (map resolved (growing t)) (held_alike (growing t) [] (nothing_growing t none empty))
 
 -- ---- Entries that take more.
@@ -77,31 +77,31 @@ takes_closed files t u e c held standing done same = record {
         ∙ ap (λ x. map (slot_of files) t.done.items ++ x ∷ map resolved (growing u)) held
 
 -- bytes that grew are an entry
-pub bytes_closed : (files : List (List ℕ)) (t held u : Entries) (e : SectionEntry) (bytes : List ℕ) → e ≡ Bytes t.segment bytes → bytes ≡ t.bytes → held.bytes ≡ [] → held.done.items ≡ t.done.items → held.segment ≡ t.segment → held.room ≡ t.room → IsAdded held u e → TakesIn files t u []
-bytes_closed files t held u e bytes is same none done segment room h =
+pub bytes_closed : (files : List (List ℕ)) (t held u : Entries) (e : SectionEntry) (bytes : List ℕ) → e ≡ Bytes t.segment bytes → bytes ≡ t.bytes → held.bytes ≡ [] → held.done.items ≡ t.done.items → held.segment ≡ t.segment → held.reserve ≡ t.reserve → IsAdded held u e → TakesIn files t u []
+bytes_closed files t held u e bytes is same none done segment reserve h =
     takes_closed files t u (Bytes t.segment bytes) (section_part t.segment (Known bytes)) refl refl (h.done ∙ ap (λ es. es ++ e ∷ []) done ∙ ap (λ x. t.done.items ++ x ∷ []) is)
     (subst (λ (cs : List Content). AreAlike (growing t) (section_part t.segment (Known bytes) ∷ cs)) (sym (h.growing ∙ left)) ended)
   where
     g : ℕ
     g = t.segment
 
-    left : growing held ≡ growth g [] t.room
-    left = λ n. growth (segment n) (none n) (room n)
+    left : growing held ≡ growth g [] t.reserve
+    left = λ n. growth (segment n) (none n) (reserve n)
 
     -- no bytes behind them
-    following : AreAlike (section_part g (Filled t.room) ∷ []) (growth g [] t.room)
-    following = alike_sym (growth g [] t.room) (section_part g (Filled t.room) ∷ []) (alike_front (section_part g (Known []) ∷ []) [] (section_part g (Filled t.room) ∷ []) (no_bytes_alike g))
+    following : AreAlike (section_part g (Filled t.reserve) ∷ []) (growth g [] t.reserve)
+    following = alike_sym (growth g [] t.reserve) (section_part g (Filled t.reserve) ∷ []) (alike_front (section_part g (Known []) ∷ []) [] (section_part g (Filled t.reserve) ∷ []) (no_bytes_alike g))
 
-    ended : AreAlike (growing t) (section_part g (Known bytes) ∷ growth g [] t.room)
+    ended : AreAlike (growing t) (section_part g (Known bytes) ∷ growth g [] t.reserve)
     ended =
-        subst (λ (held : List ℕ). AreAlike (growing t) (section_part g (Known held) ∷ growth g [] t.room)) (sym same)
-        (alike_back (section_part g (Known t.bytes) ∷ []) (section_part g (Filled t.room) ∷ []) (growth g [] t.room) following)
+        subst (λ (held : List ℕ). AreAlike (growing t) (section_part g (Known held) ∷ growth g [] t.reserve)) (sym same)
+        (alike_back (section_part g (Known t.bytes) ∷ []) (section_part g (Filled t.reserve) ∷ []) (growth g [] t.reserve) following)
 
 -- room that grew is an entry
-pub room_closed : (files : List (List ℕ)) (t held u : Entries) (e : SectionEntry) → t.bytes ≡ [] → e ≡ Reserve t.segment t.room → held.bytes ≡ t.bytes → held.done.items ≡ t.done.items → held.segment ≡ t.segment → held.room ≡ 0 → IsAdded held u e → TakesIn files t u []
+pub room_closed : (files : List (List ℕ)) (t held u : Entries) (e : SectionEntry) → t.bytes ≡ [] → e ≡ Reserve t.segment t.reserve → held.bytes ≡ t.bytes → held.done.items ≡ t.done.items → held.segment ≡ t.segment → held.reserve ≡ 0 → IsAdded held u e → TakesIn files t u []
 room_closed files t held u e none is same done segment no_room h =
-    takes_closed files t u (Reserve t.segment t.room) (section_part t.segment (Filled t.room)) refl refl (h.done ∙ ap (λ es. es ++ e ∷ []) done ∙ ap (λ x. t.done.items ++ x ∷ []) is)
-    (subst (λ (cs : List Content). AreAlike (growing t) (section_part t.segment (Filled t.room) ∷ cs)) (sym (h.growing ∙ left)) ended)
+    takes_closed files t u (Reserve t.segment t.reserve) (section_part t.segment (Filled t.reserve)) refl refl (h.done ∙ ap (λ es. es ++ e ∷ []) done ∙ ap (λ x. t.done.items ++ x ∷ []) is)
+    (subst (λ (cs : List Content). AreAlike (growing t) (section_part t.segment (Filled t.reserve) ∷ cs)) (sym (h.growing ∙ left)) ended)
   where
     g : ℕ
     g = t.segment
@@ -109,21 +109,21 @@ room_closed files t held u e none is same done segment no_room h =
     left : growing held ≡ growth g [] 0
     left = λ n. growth (segment n) ((same ∙ none) n) (no_room n)
 
-    room : Content
-    room = section_part g (Filled t.room)
+    reserve : Content
+    reserve = section_part g (Filled t.reserve)
 
-    front : AreAlike (growth g [] t.room) (room ∷ [])
-    front = alike_front (section_part g (Known []) ∷ []) [] (room ∷ []) (no_bytes_alike g)
+    front : AreAlike (growth g [] t.reserve) (reserve ∷ [])
+    front = alike_front (section_part g (Known []) ∷ []) [] (reserve ∷ []) (no_bytes_alike g)
 
-    ended : AreAlike (growing t) (room ∷ growth g [] 0)
+    ended : AreAlike (growing t) (reserve ∷ growth g [] 0)
     ended =
-        subst (λ (bytes : List ℕ). AreAlike (growth g bytes t.room) (room ∷ growth g [] 0)) (sym none)
-        (alike_trans (growth g [] t.room) (room ∷ []) (room ∷ growth g [] 0) front
-        (alike_sym (room ∷ growth g [] 0) (room ∷ []) (alike_nothing (room ∷ []) (growth g [] 0) (nothing_grows g g))))
+        subst (λ (bytes : List ℕ). AreAlike (growth g bytes t.reserve) (reserve ∷ growth g [] 0)) (sym none)
+        (alike_trans (growth g [] t.reserve) (reserve ∷ []) (reserve ∷ growth g [] 0) front
+        (alike_sym (reserve ∷ growth g [] 0) (reserve ∷ []) (alike_nothing (reserve ∷ []) (growth g [] 0) (nothing_grows g g))))
 
 -- bytes were added to those that grow
-takes_bytes : (files : List (List ℕ)) (t u : Entries) (bytes : List ℕ) → t.room ≡ 0 → u.done.items ≡ t.done.items → u.segment ≡ t.segment → u.bytes ≡ t.bytes ++ bytes → u.room ≡ t.room → TakesIn files t u (resolved (section_part t.segment (Known bytes)) ∷ [])
-takes_bytes files t u bytes no_room done segment more room = record {
+takes_bytes : (files : List (List ℕ)) (t u : Entries) (bytes : List ℕ) → t.reserve ≡ 0 → u.done.items ≡ t.done.items → u.segment ≡ t.segment → u.bytes ≡ t.bytes ++ bytes → u.reserve ≡ t.reserve → TakesIn files t u (resolved (section_part t.segment (Known bytes)) ∷ [])
+takes_bytes files t u bytes no_room done segment more reserve = record {
   alike =
       subst (λ (xs : List Slot). AreSlotsAlike xs (slots_in files u)) (sym (append_assoc (map (slot_of files) t.done.items) (map resolved (growing t)) (resolved added ∷ [])))
       (subst (λ (es : List SectionEntry). AreSlotsAlike (map (slot_of files) t.done.items ++ (map resolved (growing t ++ added ∷ []))) (map (slot_of files) es ++ map resolved (growing u))) (sym done)
@@ -149,13 +149,13 @@ takes_bytes files t u bytes no_room done segment more room = record {
     left_is = ap (growth g t.bytes) (sym no_room)
 
     right_is : growth g (t.bytes ++ bytes) 0 ≡ growing u
-    right_is = let forth : growing u ≡ growth g (t.bytes ++ bytes) 0 = λ n. growth (segment n) (more n) ((room ∙ no_room) n) in sym forth
+    right_is = let forth : growing u ≡ growth g (t.bytes ++ bytes) 0 = λ n. growth (segment n) (more n) ((reserve ∙ no_room) n) in sym forth
 
     grown : AreAlike (growing t ++ added ∷ []) (growing u)
     grown = subst (λ (cs : List Content). AreAlike (cs ++ added ∷ []) (growing u)) left_is (subst (λ (cs : List Content). AreAlike (growth g t.bytes 0 ++ added ∷ []) cs) right_is joined)
 
 -- room was added to what grows
-takes_room : (files : List (List ℕ)) (t u : Entries) (count : ℕ) → u.done.items ≡ t.done.items → u.segment ≡ t.segment → u.bytes ≡ t.bytes → u.room ≡ t.room + count → TakesIn files t u (resolved (section_part t.segment (Filled count)) ∷ [])
+takes_room : (files : List (List ℕ)) (t u : Entries) (count : ℕ) → u.done.items ≡ t.done.items → u.segment ≡ t.segment → u.bytes ≡ t.bytes → u.reserve ≡ t.reserve + count → TakesIn files t u (resolved (section_part t.segment (Filled count)) ∷ [])
 takes_room files t u count done segment bytes more = record {
   alike =
       subst (λ (xs : List Slot). AreSlotsAlike xs (slots_in files u)) (sym (append_assoc (map (slot_of files) t.done.items) (map resolved (growing t)) (resolved added ∷ [])))
@@ -170,45 +170,45 @@ takes_room files t u count done segment bytes more = record {
     added : Content
     added = section_part t.segment (Filled count)
 
-    joined : AreAlike (growing t ++ added ∷ []) (growth g t.bytes (t.room + count))
-    joined = alike_back (section_part g (Known t.bytes) ∷ []) (section_part g (Filled t.room) ∷ added ∷ []) (section_part g (Filled (t.room + count)) ∷ []) (room_alike g t.room count)
+    joined : AreAlike (growing t ++ added ∷ []) (growth g t.bytes (t.reserve + count))
+    joined = alike_back (section_part g (Known t.bytes) ∷ []) (section_part g (Filled t.reserve) ∷ added ∷ []) (section_part g (Filled (t.reserve + count)) ∷ []) (room_alike g t.reserve count)
 
-    right_is : growth g t.bytes (t.room + count) ≡ growing u
-    right_is = let forth : growing u ≡ growth g t.bytes (t.room + count) = λ n. growth (segment n) (bytes n) (more n) in sym forth
+    right_is : growth g t.bytes (t.reserve + count) ≡ growing u
+    right_is = let forth : growing u ≡ growth g t.bytes (t.reserve + count) = λ n. growth (segment n) (bytes n) (more n) in sym forth
 
     grown : AreAlike (growing t ++ added ∷ []) (growing u)
     grown = subst (λ (cs : List Content). AreAlike (growing t ++ added ∷ []) cs) right_is joined
 
 -- the same behind what made room for it
-pub added_bytes : (files : List (List ℕ)) (t u v : Entries) (g : ℕ) (bytes : List ℕ) → TakesIn files t u [] → u.segment ≡ g → u.room ≡ 0 → v.done.items ≡ u.done.items → v.segment ≡ u.segment → v.bytes ≡ u.bytes ++ bytes → v.room ≡ u.room → TakesIn files t v (resolved (section_part g (Known bytes)) ∷ [])
-added_bytes files t u v g bytes h is no_room done segment more room =
+pub added_bytes : (files : List (List ℕ)) (t u v : Entries) (g : ℕ) (bytes : List ℕ) → TakesIn files t u [] → u.segment ≡ g → u.reserve ≡ 0 → v.done.items ≡ u.done.items → v.segment ≡ u.segment → v.bytes ≡ u.bytes ++ bytes → v.reserve ≡ u.reserve → TakesIn files t v (resolved (section_part g (Known bytes)) ∷ [])
+added_bytes files t u v g bytes h is no_room done segment more reserve =
     takes_both files t u v [] (resolved (section_part g (Known bytes)) ∷ []) h
-    (subst (λ (k : ℕ). TakesIn files u v (resolved (section_part k (Known bytes)) ∷ [])) is (takes_bytes files u v bytes no_room done segment more room))
+    (subst (λ (k : ℕ). TakesIn files u v (resolved (section_part k (Known bytes)) ∷ [])) is (takes_bytes files u v bytes no_room done segment more reserve))
 
-pub added_room : (files : List (List ℕ)) (t u v : Entries) (g count : ℕ) → TakesIn files t u [] → u.segment ≡ g → v.done.items ≡ u.done.items → v.segment ≡ u.segment → v.bytes ≡ u.bytes → v.room ≡ u.room + count → TakesIn files t v (resolved (section_part g (Filled count)) ∷ [])
+pub added_room : (files : List (List ℕ)) (t u v : Entries) (g count : ℕ) → TakesIn files t u [] → u.segment ≡ g → v.done.items ≡ u.done.items → v.segment ≡ u.segment → v.bytes ≡ u.bytes → v.reserve ≡ u.reserve + count → TakesIn files t v (resolved (section_part g (Filled count)) ∷ [])
 added_room files t u v g count h is done segment bytes more =
     takes_both files t u v [] (resolved (section_part g (Filled count)) ∷ []) h
     (subst (λ (k : ℕ). TakesIn files u v (resolved (section_part k (Filled count)) ∷ [])) is (takes_room files u v count done segment bytes more))
 
 -- what grows next is of another segment
-pub takes_moved : (files : List (List ℕ)) (t u v : Entries) → TakesIn files t u [] → u.bytes ≡ [] → u.room ≡ 0 → v.bytes ≡ u.bytes → v.room ≡ u.room → v.done.items ≡ u.done.items → TakesIn files t v []
-takes_moved files t u v h no_bytes no_room bytes room done =
-    takes_both files t u v [] [] h (takes_same files u v done (alike_trans (growing u) [] (growing v) (nothing_growing u no_bytes no_room) (alike_sym (growing v) [] (nothing_growing v (bytes ∙ no_bytes) (room ∙ no_room)))))
+pub takes_moved : (files : List (List ℕ)) (t u v : Entries) → TakesIn files t u [] → u.bytes ≡ [] → u.reserve ≡ 0 → v.bytes ≡ u.bytes → v.reserve ≡ u.reserve → v.done.items ≡ u.done.items → TakesIn files t v []
+takes_moved files t u v h no_bytes no_room bytes reserve done =
+    takes_both files t u v [] [] h (takes_same files u v done (alike_trans (growing u) [] (growing v) (nothing_growing u no_bytes no_room) (alike_sym (growing v) [] (nothing_growing v (bytes ∙ no_bytes) (reserve ∙ no_room)))))
 
 -- an entry behind those that no longer grow
-pub takes_pushed : (files : List (List ℕ)) (t u : Entries) (e : SectionEntry) → stands_in (length files) e ≡ true → t.bytes ≡ [] → t.room ≡ 0 → IsAdded t u e → TakesIn files t u (slot_of files e ∷ [])
+pub takes_pushed : (files : List (List ℕ)) (t u : Entries) (e : SectionEntry) → stands_in (length files) e ≡ true → t.bytes ≡ [] → t.reserve ≡ 0 → IsAdded t u e → TakesIn files t u (slot_of files e ∷ [])
 takes_pushed files t u e standing no_bytes no_room h = record {
   alike =
       slots_trans (slots_in files t ++ slot_of files e ∷ []) (map (slot_of files) t.done.items ++ slot_of files e ∷ []) (slots_in files u)
       (slots_front (slots_in files t) (map (slot_of files) t.done.items) (slot_of files e ∷ []) (closed_alike files t no_bytes no_room))
       (slots_sym (slots_in files u) (map (slot_of files) t.done.items ++ slot_of files e ∷ [])
       (subst (λ (xs : List Slot). AreSlotsAlike (slots_in files u) xs) (ap (map (slot_of files)) h.done ∙ map-append (slot_of files) t.done.items (e ∷ []))
-      (closed_alike files u (h.bytes ∙ no_bytes) (h.room ∙ no_room))));
+      (closed_alike files u (h.bytes ∙ no_bytes) (h.reserve ∙ no_room))));
   standing = λ s. subst (StandIn (length files)) (sym h.done) (standing_more (length files) t.done.items e standing s);
 }
 
 -- where all is closed there are the entries alone
-pub closed_entries : (files : List (List ℕ)) (t u : Entries) → TakesIn files t u [] → u.bytes ≡ [] → u.room ≡ 0 → AreSlotsAlike (slots_in files t) (map (slot_of files) u.done.items)
+pub closed_entries : (files : List (List ℕ)) (t u : Entries) → TakesIn files t u [] → u.bytes ≡ [] → u.reserve ≡ 0 → AreSlotsAlike (slots_in files t) (map (slot_of files) u.done.items)
 closed_entries files t u same no_bytes no_room =
     slots_trans (slots_in files t) (slots_in files u) (map (slot_of files) u.done.items)
     (subst (λ (xs : List Slot). AreSlotsAlike xs (slots_in files u)) (append-nil (slots_in files t)) same.alike)

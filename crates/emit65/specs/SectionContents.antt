@@ -81,14 +81,14 @@ abbrev pub piece_of : FixupKind → piece.Piece
 piece_of (Datum width e) = piece.valued (piece.datum width) e
 piece_of (Operand width e) = piece.valued (piece.operand width) e
 piece_of (Constant e) = piece.valued piece.equated e
-piece_of (Assertion act words e) = piece.valued (piece.asserted act words) e
+piece_of (Assertion act message e) = piece.valued (piece.asserted act message) e
 piece_of (Import n) = piece.imported n
 piece_of (ForcedImport n) = piece.demanded n
 piece_of (Export must n) = piece.exported must n
 
 -- a slot for a pending piece of a statement at this location
 abbrev pub waiting : SourceLocation → Context → FixupKind → Slot
-waiting place s p = deferred (record { place = place; context = s; piece = piece_of p })
+waiting location s p = deferred (record { place = location; context = s; piece = piece_of p })
 
 -- as an entry has it, in one of these files
 abbrev pub fixup_of : List (List ℕ) → Fixup → piece.Fixup
@@ -132,7 +132,7 @@ IsPrefix names more = (later : List (List ℕ)) × (more ≡ names ++ later)
 
 -- the part that may still grow: bytes and room after them
 abbrev pub growing : Entries → List Content
-growing t = section_part t.segment (Known t.bytes) ∷ section_part t.segment (Filled t.room) ∷ []
+growing t = section_part t.segment (Known t.bytes) ∷ section_part t.segment (Filled t.reserve) ∷ []
 
 -- entries as slots, with these files
 abbrev pub slots_in : List (List ℕ) → Entries → List Slot
@@ -147,7 +147,7 @@ pub record IsAdded (old new : Entries) (e : SectionEntry) : Type 0 where
   pub done : new.done.items ≡ old.done.items ++ e ∷ []
   pub growing : growing new ≡ growing old
   pub bytes : new.bytes ≡ old.bytes
-  pub room : new.room ≡ old.room
+  pub reserve : new.reserve ≡ old.reserve
 
 -- Entries with more slots, where these are the files.
 pub record TakesIn (files : List (List ℕ)) (old new : Entries) (xs : List Slot) : Type 0 where

@@ -68,7 +68,7 @@ pub struct Entries {
     /// The segment of what may grow.
     pub segment: u32,
     pub bytes: ListVec<u8>,
-    pub room: u32,
+    pub reserve: u32,
 }
 
 /// Two numbers of bytes as one. No section has more than 32 bits hold.
@@ -91,7 +91,7 @@ impl Entries {
             done: Vec::new(alloc),
             segment: 0,
             bytes: ListVec::new(alloc),
-            room: 0,
+            reserve: 0,
         }
     }
 
@@ -107,7 +107,7 @@ impl Entries {
     fn close_bytes(&mut self) -> Result<(), AllocError>
         ensures same { OnOk result (AppendsSlots self.old self.new []) }
         ensures none { OnOk result (self.new.bytes ≡ []) }
-        ensures room { OnOk result (self.new.room ≡ self.old.room) }
+        ensures reserve { OnOk result (self.new.reserve ≡ self.old.reserve) }
     {
         if self.bytes.len() > 0 {
             let segment = self.segment;
@@ -122,13 +122,13 @@ impl Entries {
     fn close(&mut self) -> Result<(), AllocError>
         ensures same { OnOk result (AppendsSlots self.old self.new []) }
         ensures bytes { OnOk result (self.new.bytes ≡ []) }
-        ensures room { OnOk result (self.new.room ≡ 0) }
+        ensures reserve { OnOk result (self.new.reserve ≡ 0) }
     {
         self.close_bytes()?;
-        if self.room > 0 {
+        if self.reserve > 0 {
             let segment = self.segment;
-            let count = self.room;
-            self.room = 0;
+            let count = self.reserve;
+            self.reserve = 0;
             self.add(SectionEntry::Reserve { segment, count })?;
         }
         Ok(())
@@ -138,7 +138,7 @@ impl Entries {
     fn begin(&mut self, segment: u32) -> Result<(), AllocError>
         ensures same { OnOk result (AppendsSlots self.old self.new []) }
         ensures segment { OnOk result (self.new.segment ≡ segment) }
-        ensures room { OnOk result (self.old.room ≡ 0 → self.new.room ≡ 0) }
+        ensures reserve { OnOk result (self.old.reserve ≡ 0 → self.new.reserve ≡ 0) }
     {
         if self.segment == segment {
             return Ok(());
@@ -152,7 +152,7 @@ impl Entries {
     pub fn add_bytes(&mut self, segment: u32, bytes: &[u8]) -> Result<(), AllocError>
         ensures { OnOk result (AppendsSlots self.old self.new (resolved (section_part segment (Known bytes.now)) ∷ [])) }
     {
-        if self.room > 0 {
+        if self.reserve > 0 {
             self.close()?;
         }
         self.begin(segment)?;
@@ -165,7 +165,7 @@ impl Entries {
         ensures { OnOk result (AppendsSlots self.old self.new (resolved (section_part segment (Filled count)) ∷ [])) }
     {
         self.begin(segment)?;
-        self.room = sum_of(self.room, count)?;
+        self.reserve = sum_of(self.reserve, count)?;
         Ok(())
     }
 

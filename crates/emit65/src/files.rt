@@ -40,10 +40,10 @@ impl Files {
     fn same_place(&self, name: &str) -> Option<usize>
         ensures { IfSome result (λ i. slice_get (names_in self.now) i ≡ Some name.now) }
     {
-        let place = self.last?;
-        let file = self.table.get_index(place)?;
+        let index = self.last?;
+        let file = self.table.get_index(index)?;
         if file.as_str() == name {
-            Some(place)
+            Some(index)
         } else {
             None
         }
@@ -55,15 +55,15 @@ impl Files {
         ensures more { IsPrefix (names_in self.old) (names_in self.new) }
         ensures place { IfOk result (λ i. slice_get (names_in self.new) i ≡ Some name.now) }
     {
-        if let Some(place) = self.same_place(name) {
-            return Ok(place);
+        if let Some(index) = self.same_place(name) {
+            return Ok(index);
         }
-        if let Some(place) = self.table.get_index_of(name) {
-            self.last = Some(place);
-            return Ok(place);
+        if let Some(index) = self.table.get_index_of(name) {
+            self.last = Some(index);
+            return Ok(index);
         }
-        let (place, _) = self.table.insert_full(String::from_str(alloc, name)?)?;
-        self.last = Some(place);
-        Ok(place)
+        let (index, _) = self.table.insert_full(String::from_str(alloc, name)?)?;
+        self.last = Some(index);
+        Ok(index)
     }
 }

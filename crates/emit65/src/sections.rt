@@ -23,12 +23,12 @@ impl Files {
     fn pos_of(&mut self, alloc: Global, at: LocationRef<'_>) -> Result<SourcePos, AllocError>
         ensures more { IsPrefix (names_in self.old) (names_in self.new) }
         ensures listed { IfOk result (λ o. o.file < length (names_in self.new)) }
-        ensures place { IfOk result (λ o. place_by (names_in self.new) o
+        ensures location { IfOk result (λ o. place_by (names_in self.new) o
             ≡ place_in at.entry.file.now at.entry.line) }
     {
-        let place = self.place_of(alloc, at.file)?;
+        let index = self.place_of(alloc, at.file)?;
         Ok(SourcePos {
-            file: narrow(place)?,
+            file: narrow(index)?,
             line: at.line,
         })
     }

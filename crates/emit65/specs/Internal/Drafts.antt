@@ -79,7 +79,7 @@ abbrev pub export_keys : LocatedDeclaration → List ℕ
 export_keys t = exported_at t.pos t.said
 
 abbrev pub asserted_at : SourcePos → Declaration → List ℕ
-asserted_at o (Asserted act words f) = o.file ∷ []
+asserted_at o (Asserted act message f) = o.file ∷ []
 asserted_at o _ = []
 
 abbrev pub assert_keys : LocatedDeclaration → List ℕ
@@ -134,10 +134,10 @@ section_of segments n d = record {
 -- ---- Exports and assertions.
 
 abbrev pub export_by : Numbers → LocatedDeclaration → Option Export
-export_by n t = numbering.export_of (λ place. origin_of n t.pos) n.sections.keys n.imports.keys (said_at anywhere t.said)
+export_by n t = numbering.export_of (λ location. origin_of n t.pos) n.sections.keys n.imports.keys (said_at anywhere t.said)
 
 abbrev pub assert_by : Numbers → LocatedDeclaration → Option Assert
-assert_by n t = numbering.assert_of (λ place. origin_of n t.pos) n.sections.keys n.imports.keys (said_at anywhere t.said)
+assert_by n t = numbering.assert_of (λ location. origin_of n t.pos) n.sections.keys n.imports.keys (said_at anywhere t.said)
 
 -- ---- The object.
 

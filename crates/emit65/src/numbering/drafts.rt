@@ -49,8 +49,8 @@ fn add_put(
     let Some(segment) = segment_of(&entry) else {
         return Ok(());
     };
-    if let Some(place) = sections.get_index_of(&segment) {
-        let draft = &mut drafts[place];
+    if let Some(index) = sections.get_index_of(&segment) {
+        let draft = &mut drafts[index];
         draft.entries.push(entry)?;
     }
     Ok(())

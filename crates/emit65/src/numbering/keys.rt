@@ -26,11 +26,11 @@ pub struct Numbers {
     pub files: IndexSet<u32>,
 }
 
-/// A place in 32 bits. No memory holds a table that needs more.
-pub fn narrow(place: usize) -> Result<u32, AllocError>
-    ensures { IfOk result (λ n. n ≡ place) }
+/// An index in 32 bits. No memory holds a table that needs more.
+pub fn narrow(index: usize) -> Result<u32, AllocError>
+    ensures { IfOk result (λ n. n ≡ index) }
 {
-    match u32::try_from(place) {
+    match u32::try_from(index) {
         Ok(number) => Ok(number),
         Err(_) => Err(AllocError),
     }
@@ -41,7 +41,7 @@ fn number_of(keys: &IndexSet<u32>, key: u32) -> Result<u32, AllocError>
     ensures { IfOk result (λ n. n ≡ number_of keys.now.keys key) }
 {
     match keys.get_index_of(&key) {
-        Some(place) => narrow(place),
+        Some(index) => narrow(index),
         None => Ok(0),
     }
 }
@@ -52,7 +52,7 @@ pub fn origin_of(numbers: &Numbers, pos: SourcePos) -> Result<Origin, AllocError
     ensures fits { IfOk result OriginFits }
 {
     let file = match numbers.files.get_index_of(&pos.file) {
-        Some(place) => Some(narrow(place)?),
+        Some(index) => Some(narrow(index)?),
         None => None,
     };
     Ok(Origin {
@@ -121,8 +121,8 @@ fn add_name(keys: &mut IndexSet<u32>, imports: &Imports, name: &[u8]) -> Result<
     ensures { OnOk result (keys.new.keys ≡ distinct_keys keys.old.keys
         (optional_key (key_of (names_of imports.now) name.now))) }
 {
-    if let Some(place) = imports.get_index_of(name) {
-        keys.insert(narrow(place)?)?;
+    if let Some(index) = imports.get_index_of(name) {
+        keys.insert(narrow(index)?)?;
     }
     Ok(())
 }
@@ -131,12 +131,12 @@ fn add_name(keys: &mut IndexSet<u32>, imports: &Imports, name: &[u8]) -> Result<
 fn add_saying(
     keys: &mut IndexSet<u32>,
     imports: &Imports,
-    said: &Declaration,
+    declaration: &Declaration,
 ) -> Result<(), AllocError>
     ensures { OnOk result (keys.new.keys ≡ distinct_keys keys.old.keys
-        (said_imports (names_of imports.now) (said_at anywhere said.now))) }
+        (said_imports (names_of imports.now) (said_at anywhere declaration.now))) }
 {
-    match said {
+    match declaration {
         Declaration::Exported { form, .. } | Declaration::Asserted { form, .. } => {
             add_form(keys, form)
         }

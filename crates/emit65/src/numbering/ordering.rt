@@ -111,29 +111,29 @@ pub fn order_of(alloc: Global, parted: &EntriesBySection) -> Result<IndexSet<u32
     Ok(files)
 }
 
-/// The name of a file, by its place in the table.
-fn file_name(alloc: Global, table: &[String], place: u32) -> Result<ListVec<u8>, AllocError>
-    ensures name { IfOk result (λ name. name ≡ name_of (map string_bytes table.now) place) }
+/// The name of a file, by its index in the table.
+fn file_name(alloc: Global, table: &[String], index: u32) -> Result<ListVec<u8>, AllocError>
+    ensures name { IfOk result (λ name. name ≡ name_of (map string_bytes table.now) index) }
     ensures text { IfOk result (λ name. is_utf8 name ≡ true) }
 {
-    match table.get(place as usize) {
+    match table.get(index as usize) {
         Some(name) => ListVec::copy_of(alloc, name.as_str().as_bytes()),
         None => Ok(ListVec::new(alloc)),
     }
 }
 
-/// The names of files, by their places in the table.
+/// The names of files, by their indices in the table.
 pub fn file_names(
     alloc: Global,
     table: &[String],
-    places: &[u32],
+    indices: &[u32],
 ) -> Result<ListVec<ListVec<u8>>, AllocError>
-    ensures names { IfOk result (λ names. names ≡ map (name_of (map string_bytes table.now)) places.now) }
+    ensures names { IfOk result (λ names. names ≡ map (name_of (map string_bytes table.now)) indices.now) }
     ensures texts { IfOk result (AllByRecursion (λ name. is_utf8 name ≡ true)) }
 {
     let mut names = ListVec::new(alloc);
-    for place in places {
-        names.push(file_name(alloc, table, *place)?)?;
+    for index in indices {
+        names.push(file_name(alloc, table, *index)?)?;
     }
     Ok(names)
 }

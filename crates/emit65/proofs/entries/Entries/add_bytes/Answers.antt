@@ -9,7 +9,7 @@ returns c =
     let old = c.args.self.now in
     let mid = c.if-self-gt0.self in
     let begun = c.in_ok-begin.ensures in
-    let no_room : mid.room ≡ 0 = elim c.if-self-gt0.branch [ then-self-gt0+in_ok-close w ↦ rw w.self-is w.in_ok-close.ensures.room | else-self-gt0 w ↦ rw w.self-is (omega arith) ] in
+    let no_room : mid.reserve ≡ 0 = elim c.if-self-gt0.branch [ then-self-gt0+in_ok-close w ↦ rw w.self-is w.in_ok-close.ensures.reserve | else-self-gt0 w ↦ rw w.self-is (omega arith) ] in
     λ files.
     let closed : TakesIn files old mid [] = elim c.if-self-gt0.branch [ then-self-gt0+in_ok-close w ↦ rw w.self-is (w.in_ok-close.ensures.same files) | else-self-gt0 w ↦ rw w.self-is (takes_nothing files old) ] in
-    added_bytes files old c.begin.new.self _ c.args.segment c.args.bytes.now (takes_both files old mid c.begin.new.self [] [] closed (begun.same files)) begun.segment (begun.room no_room) refl refl c.in_ok-extend_from_slice.ensures.ok refl
+    added_bytes files old c.begin.new.self _ c.args.segment c.args.bytes.now (takes_both files old mid c.begin.new.self [] [] closed (begun.same files)) begun.segment (begun.reserve no_room) refl refl c.in_ok-extend_from_slice.ensures.ok refl

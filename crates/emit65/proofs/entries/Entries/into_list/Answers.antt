@@ -2,7 +2,7 @@ use Rattle.emit65.proofs.Standings.{closed_entries}
 use Rattle.emit65.proofs.entries.Entries.into_list.Goals as goal
 
 pub returns-clause-alike : goal.returns-clause-alike
-returns-clause-alike c = λ files. closed_entries files c.args.self _ (c.in_ok-close.ensures.same files) c.in_ok-close.ensures.bytes c.in_ok-close.ensures.room
+returns-clause-alike c = λ files. closed_entries files c.args.self _ (c.in_ok-close.ensures.same files) c.in_ok-close.ensures.bytes c.in_ok-close.ensures.reserve
 
 pub returns-clause-standing : goal.returns-clause-standing
 returns-clause-standing c = λ files. (c.in_ok-close.ensures.same files).standing

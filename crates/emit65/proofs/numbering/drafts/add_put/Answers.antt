@@ -7,7 +7,7 @@ use Rattle.emit65.proofs.numbering.drafts.add_put.Goals as goal
 pub returns-in_ok-push : goal.returns-in_ok-push
 returns-in_ok-push c =
     let d : SectionDraft = c.index_mut-draft.result.now in
-    one_changed (λ (d : SectionDraft). d.segment) c.in-Some.segment (pushed c.args.entry) c.args.sections.now.keys c.args.drafts.now.items c.in-Some-get_index_of.place d (record d { entries = c.push.new.self })
+    one_changed (λ (d : SectionDraft). d.segment) c.in-Some.segment (pushed c.args.entry) c.args.sections.now.keys c.args.drafts.now.items c.in-Some-get_index_of.index d (record d { entries = c.push.new.self })
     c.requires.keys c.requires.distinct c.in-Some-get_index_of.ensures.index c.index_mut-draft.ensures.value
     (ap (λ es. record d { entries = es }) (c.in_ok-push.ensures.ok))
     ∙ put_there c.args.entry c.in-Some.segment c.args.drafts.now.items (sym c.segment_of.ensures ∙ c.in-Some.is)

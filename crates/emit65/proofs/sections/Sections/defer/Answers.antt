@@ -17,5 +17,5 @@ returns c = λ xs h.
     let there : nat_lt c.in_ok-pos.pos.file (length names) ≡ true = search rules in
     let listed : stands_in (length names) (FixupEntry box) ≡ true = ap (λ (w : Fixup). nat_lt w.pos.file (length names)) held ∙ there in
     stands_put c.args.self.now _ (FixupEntry box) _ xs refl refl refl pos.more
-    (ap (λ (w : Fixup). deferred (fixup_of names w)) held ∙ ap (λ p. deferred (record { place = p; context = c.args.context; piece = piece_of c.args.piece })) pos.place)
+    (ap (λ (w : Fixup). deferred (fixup_of names w)) held ∙ ap (λ p. deferred (record { place = p; context = c.args.context; piece = piece_of c.args.piece })) pos.location)
     (c.in_ok-push.ensures names listed) h

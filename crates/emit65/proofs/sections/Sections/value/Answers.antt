@@ -12,4 +12,4 @@ returns c = λ xs h.
     let names = names_in c.pos_of.new.self in
     let entry = Value c.args.width c.args.segment c.in_ok-pos.pos c.args.form in
     let listed : stands_in (length names) entry ≡ true = search rules in
-    stands_put c.args.self.now _ entry _ xs refl refl refl pos.more (ap (λ p. resolved (section_part c.args.segment (Waiting c.args.width p c.args.form))) pos.place) (c.in_ok-push.ensures names listed) h
+    stands_put c.args.self.now _ entry _ xs refl refl refl pos.more (ap (λ p. resolved (section_part c.args.segment (Waiting c.args.width p c.args.form))) pos.location) (c.in_ok-push.ensures names listed) h

@@ -25,7 +25,7 @@ pub record Stands (bytes : List ℕ) (at : ℕ) (part : List ℕ) : Type 0 where
   pub front : List ℕ
   pub rest : List ℕ
   pub split : bytes ≡ front ++ (part ++ rest)
-  pub place : at ≡ length front
+  pub offset : at ≡ length front
   pub limit : at + length part ≤ file_limit
 
 pub first_part : (bytes : List ℕ) (at : ℕ) (a b : List ℕ) → Stands bytes at (a ++ b) → Stands bytes at a
@@ -36,7 +36,7 @@ second_part bytes at a b s = record {
   front = s.front ++ a;
   rest = s.rest;
   split = s.split ∙ ap (λ xs. s.front ++ xs) (append_assoc a b s.rest) ∙ sym (append_assoc s.front a (b ++ s.rest));
-  place = omega (arith, s.place, length-append s.front a);
+  offset = omega (arith, s.offset, length-append s.front a);
   limit = omega (arith, s.limit, length-append a b);
 }
 
@@ -168,7 +168,7 @@ list_again bytes es x =
     let number = little_bytes 4 (length es) in
     let split : bytes ≡ library_head ++ (number ++ (listed ++ x.members)) = x.spelled ∙ append_assoc library_head (number ++ listed) x.members ∙ ap (λ xs. library_head ++ xs) (append_assoc number listed x.members) in
     let len : length bytes ≡ 9 + (length listed + length x.members) = ap (length {A = ℕ}) split ∙ (let l = length-append listed x.members in omega arith) in
-    let s0 : Stands bytes 0 (library_head ++ (number ++ listed)) = record { front = []; rest = x.members; split = x.spelled; place = refl; limit = omega (arith, x.limit, len) } in
+    let s0 : Stands bytes 0 (library_head ++ (number ++ listed)) = record { front = []; rest = x.members; split = x.spelled; offset = refl; limit = omega (arith, x.limit, len) } in
     let s1 : Stands bytes 5 (number ++ listed) = second_part bytes 0 library_head (number ++ listed) s0 in
     let s2 : Stands bytes 9 listed = second_part bytes 5 number listed s1 in
     ap (λ r. (r >>= (λ u. number_at 5 bytes)) >>= (λ n. listings_at n [] 9 bytes)) (head_again bytes (number ++ (listed ++ x.members)) split)

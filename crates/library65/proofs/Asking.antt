@@ -205,7 +205,7 @@ pub record Indexed (bytes : List ℕ) (es : List Entry) : Type 0 where
   pub list : List UnplacedEntry × ℕ
   pub listed : list_at bytes ≡ Ok list
   pub placed_to : List Entry × ℕ
-  pub places : members_with_offsets [] list.1 list.0 ≡ Ok placed_to
+  pub offsets : members_with_offsets [] list.1 list.0 ≡ Ok placed_to
   pub ends : length bytes ≡ placed_to.1
   pub entries : placed_to.0 ≡ es
 
@@ -215,21 +215,21 @@ indexed bytes es e =
     let a = bound (list_at bytes) (λ l. members_with_offsets [] l.1 l.0 >>= (λ p. end_at p.1 bytes >>= (λ u. Ok p.0))) es e in
     let p = bound (members_with_offsets [] a.0.1 a.0.0) (λ p. end_at p.1 bytes >>= (λ u. Ok p.0)) es a.2 in
     let u = bound (end_at p.0.1 bytes) (λ u. Ok p.0.0) es p.2 in
-    record { list = a.0; listed = a.1; placed_to = p.0; places = p.1; ends = ended bytes p.0.1 u.0 u.1; entries = cc (u.2) }
+    record { list = a.0; listed = a.1; placed_to = p.0; offsets = p.1; ends = ended bytes p.0.1 u.0 u.1; entries = cc (u.2) }
 
 module _ (bytes : List ℕ) (k : ℕ) where
   pub list_of_index : IsBefore list_at bytes k → IsIndexPlace bytes k
   list_of_index within es e =
       let x = indexed bytes es e in
-      let begin : members_begin es (length bytes) ≡ x.list.1 = ap (members_begin es) x.ends ∙ ap (λ (ys : List Entry). members_begin ys x.placed_to.1) (sym x.entries) ∙ begins_at x.list.1 x.list.0 x.placed_to x.places in
+      let begin : members_begin es (length bytes) ≡ x.list.1 = ap (members_begin es) x.ends ∙ ap (λ (ys : List Entry). members_begin ys x.placed_to.1) (sym x.entries) ∙ begins_at x.list.1 x.list.0 x.placed_to x.offsets in
       inl (omega (arith, begin, within x.list x.listed))
 
   pub end_of_index : (list : List UnplacedEntry × ℕ) (p : List Entry × ℕ) → list_at bytes ≡ Ok list → members_with_offsets [] list.1 list.0 ≡ Ok p → 0 < p.1 → p.1 - 1 ≤ k → k ≤ p.1 → IsIndexPlace bytes k
-  end_of_index list p read places some low high es e =
+  end_of_index list p read offsets some low high es e =
       let x = indexed bytes es e in
       let same : x.list ≡ list = cc (x.listed, read) in
-      let here : members_with_offsets [] list.1 list.0 ≡ Ok x.placed_to = subst (λ (l : List UnplacedEntry × ℕ). members_with_offsets [] l.1 l.0 ≡ Ok x.placed_to) same x.places in
-      let to : x.placed_to ≡ p = cc (here, places) in
+      let here : members_with_offsets [] list.1 list.0 ≡ Ok x.placed_to = subst (λ (l : List UnplacedEntry × ℕ). members_with_offsets [] l.1 l.0 ≡ Ok x.placed_to) same x.offsets in
+      let to : x.placed_to ≡ p = cc (here, offsets) in
       let end : length bytes ≡ p.1 = x.ends ∙ ap (λ (y : List Entry × ℕ). y.1) to in
       inr (last (eq-or-lt_of_le high) end)
     where
@@ -330,4 +330,4 @@ module _ (known now : Option Files) (last_failure : LastFailure) (file : List �
   list_failed asks = asks_on known known last_failure file (IsBefore list_at) IsIndexPlace refl (λ m bytes k is there within. list_of_index bytes k within) asks
 
   pub end_failed : (list : List UnplacedEntry × ℕ) (p : List Entry × ℕ) → IfSome known (λ m. in_file (get m file) list_at ≡ Ok list) → members_with_offsets [] list.1 list.0 ≡ Ok p → 0 < p.1 → FailedWithin last_failure file (p.1 - 1) (p.1 - 1 + 1) → AsksAt known last_failure file IsIndexPlace
-  end_failed list p read places some h = asks_on known known last_failure file (IsBetween (p.1 - 1) (p.1 - 1 + 1)) IsIndexPlace refl (λ m bytes k is there b. end_of_index bytes k list p (read_at known file list_at list read m bytes is there) places some b.0 (omega (arith, b.1))) (asks_between known last_failure file (p.1 - 1) (p.1 - 1 + 1) h)
+  end_failed list p read offsets some h = asks_on known known last_failure file (IsBetween (p.1 - 1) (p.1 - 1 + 1)) IsIndexPlace refl (λ m bytes k is there b. end_of_index bytes k list p (read_at known file list_at list read m bytes is there) offsets some b.0 (omega (arith, b.1))) (asks_between known last_failure file (p.1 - 1) (p.1 - 1 + 1) h)

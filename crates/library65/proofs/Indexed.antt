@@ -316,12 +316,12 @@ index_takes bytes es is e =
     let head = head_takes bytes h.0 h.1 in
     let number = number_takes bytes 5 n.0 is h.2 in
     let listed = listings_take n.0 bytes 9 [] a.0 is number.0.limit n.2 in
-    let places = placed_takes [] a.0.1 a.0.0 p.0 listed.takes.limit p.1 in
+    let offsets = placed_takes [] a.0.1 a.0.0 p.0 listed.takes.limit p.1 in
     let end = ended bytes p.0.1 u.0 u.1 in
     let ms = listed.new in
     let at = a.0.1 in
     let found = placed_from at ms in
-    let es_is : es ≡ found = sym (let made : p.0.0 ≡ es = cc (u.2) in made) ∙ places.entries ∙ ap (placed_from at) listed.members in
+    let es_is : es ≡ found = sym (let made : p.0.0 ≡ es = cc (u.2) in made) ∙ offsets.entries ∙ ap (placed_from at) listed.members in
     let sizes : sum_by (λ (m : UnplacedEntry). m.size) a.0.0 ≡ sum_by (λ (m : UnplacedEntry). m.size) ms = ap (sum_by (λ (m : UnplacedEntry). m.size)) listed.members in
     let tail = takes_then bytes 5 9 at (little_bytes 4 n.0) (flat_map text_of ms) number.0 listed.takes in
     let all = takes_then bytes 0 5 at library_head (little_bytes 4 n.0 ++ flat_map text_of ms) head tail in
@@ -334,6 +334,6 @@ index_takes bytes es is e =
       places = subst (λ k. StandFrom k found) at_is (all_stand at ms);
       members = drop at bytes;
       spelled = all.split ∙ ap (λ xs. xs ++ drop at bytes) (sym text);
-      sizes = omega (arith, length-drop at bytes, end, places.end, sizes, all_sizes at ms);
-      limit = omega (arith, end, places.limit);
+      sizes = omega (arith, length-drop at bytes, end, offsets.end, sizes, all_sizes at ms);
+      limit = omega (arith, end, offsets.limit);
     })

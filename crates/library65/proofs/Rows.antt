@@ -41,7 +41,7 @@ pub record StandAfter (bytes : List ℕ) (es : List Entry) : Type 0 where
 pub index_stands : (bytes : List ℕ) (es : List Entry) → index_at bytes ≡ Ok es → StandAfter bytes es
 index_stands bytes es h =
     let x = indexed bytes es h in
-    let s = placed_stand x.list.1 x.list.0 [] x.placed_to x.places in
+    let s = placed_stand x.list.1 x.list.0 [] x.placed_to x.offsets in
     let all : es ≡ s.new = sym x.entries ∙ s.all in
     let row : IsRow x.list.1 es (length bytes) = subst (λ (n : ℕ). IsRow x.list.1 es n) (sym x.ends) (subst (λ (ys : List Entry). IsRow x.list.1 ys x.placed_to.1) (sym all) s.row) in
     let first = begins x.list.1 es (length bytes) row in

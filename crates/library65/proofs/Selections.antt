@@ -92,11 +92,11 @@ pub length_marks : (n : ℕ) → length (replicate n false) ≡ n
 length_marks zero = refl
 length_marks (suc n) = ap suc (length_marks n)
 
-pub marks_added : (marks : List Bool) (places : List ℕ) (place : ℕ) → place < length marks → ((i : ℕ) → get_or marks i false ≡ has_place places i) → (i : ℕ) → get_or (slice_set marks place true) i false ≡ has_place (places ++ place ∷ []) i
-marks_added marks places place within marked i = grind (arith, common_steps)
+pub marks_added : (marks : List Bool) (indices : List ℕ) (index : ℕ) → index < length marks → ((i : ℕ) → get_or marks i false ≡ has_place indices i) → (i : ℕ) → get_or (slice_set marks index true) i false ≡ has_place (indices ++ index ∷ []) i
+marks_added marks indices index within marked i = grind (arith, common_steps)
 
-pub count_added : (marks : List Bool) (place : ℕ) → place < length marks → get_or marks place false ≡ false → count_by not (slice_set marks place true) + 1 ≡ count_by not marks
-count_added marks place within new = grind (arith, common_steps)
+pub count_added : (marks : List Bool) (index : ℕ) → index < length marks → get_or marks index false ≡ false → count_by not (slice_set marks index true) + 1 ≡ count_by not marks
+count_added marks index within new = grind (arith, common_steps)
 
 -- ---- The places that are marked.
 
@@ -154,8 +154,8 @@ position_below p i (x ∷ xs) k e =
     let lt = position_step (p x) i k (length xs) (position_from p (i + 1) xs) (λ h. position_below p (i + 1) xs k h) e in
     omega arith
 
-pub exporter_below : (es : List Entry) (name : List ℕ) (place : ℕ) → first_exporter es name ≡ Some place → place < length es
-exporter_below es name place e = let below = position_below (λ (x : Entry). is_among x.exports name) 0 es place e in omega arith
+pub exporter_below : (es : List Entry) (name : List ℕ) (index : ℕ) → first_exporter es name ≡ Some index → index < length es
+exporter_below es name index e = let below = position_below (λ (x : Entry). is_among x.exports name) 0 es index e in omega arith
 
 -- ---- Tests.
 
@@ -183,15 +183,15 @@ module _ (es : List Entry) (wanted defined : Names) (found : List ℕ) where
   free name e = rw e refl
 
   -- the first exporter of a name of the set was found
-  exporter_found : IsSearched es wanted defined found (length found) → (name : List ℕ) (place : ℕ) → has name ≡ true → first_exporter es name ≡ Some place → has_place found place ≡ true
-  exporter_found done name place in_set first = grind (arith, common_steps, both, not_true, or_true, any_at)
+  exporter_found : IsSearched es wanted defined found (length found) → (name : List ℕ) (index : ℕ) → has name ≡ true → first_exporter es name ≡ Some index → has_place found index ≡ true
+  exporter_found done name index in_set first = grind (arith, common_steps, both, not_true, or_true, any_at)
 
   set_closed : IsSearched es wanted defined found (length found) → IsClosed es wanted defined has
   set_closed done = record {
     begins = λ name want not_defined. and (not (is_among defined name)) _ (free name not_defined) (or_left (is_among wanted name) _ want);
-    goes_on = λ name other place in_set first imported not_defined.
-        let at = place_at found place (exporter_found done name place in_set first) in
-        and (not (is_among defined other)) _ (free other not_defined) (or_right (is_among wanted other) _ (any_of (λ i. is_among (imports_at es i) other) found at.0 place at.2 imported));
+    goes_on = λ name other index in_set first imported not_defined.
+        let at = place_at found index (exporter_found done name index in_set first) in
+        and (not (is_among defined other)) _ (free other not_defined) (or_right (is_among wanted other) _ (any_of (λ i. is_among (imports_at es i) other) found at.0 index at.2 imported));
   }
 
   set_least : IsSearched es wanted defined found (length found) → (other : List ℕ → Bool) → IsClosed es wanted defined other → (name : List ℕ) → has name ≡ true → other name ≡ true
@@ -204,8 +204,8 @@ module _ (es : List Entry) (wanted defined : Names) (found : List ℕ) where
       let from = done.needed r.1 (place_of found r.0 r.1 r.3) in
       closed.goes_on from.0 name r.1 (from.1 other closed) from.2 r.4 not_defined)
 
-  pub searched_selected : (marks : List Bool) (places : List ℕ) → IsSearched es wanted defined found (length found) → ((i : ℕ) → get_or marks i false ≡ has_place found i) → places ≡ marked_from 0 marks → IsSelection es wanted defined places
-  searched_selected marks places done marked listed = grind (arith, common_steps, marked_places, set_closed, set_least, exporter_found, marked_rising)
+  pub searched_selected : (marks : List Bool) (indices : List ℕ) → IsSearched es wanted defined found (length found) → ((i : ℕ) → get_or marks i false ≡ has_place found i) → indices ≡ marked_from 0 marks → IsSelection es wanted defined indices
+  searched_selected marks indices done marked listed = grind (arith, common_steps, marked_places, set_closed, set_least, exporter_found, marked_rising)
 
 -- ---- Selections.
 
@@ -228,13 +228,13 @@ one_list (i ∷ a) (j ∷ b) ra rb f g =
     λ n. head n ∷ rest n
 
 pub selection_grows : GrowingSelectionLaw
-selection_grows es wanted more defined a b grown first second place there =
+selection_grows es wanted more defined a b grown first second index there =
     let closed : IsClosed es wanted defined second.has = record {
       begins = λ name want free. second.closed.begins name (grown name want) free;
       goes_on = second.closed.goes_on;
     } in
-    let from = first.exporters place there in
-    second.all from.0 place (first.least second.has closed from.0 from.1) from.2
+    let from = first.exporters index there in
+    second.all from.0 index (first.least second.has closed from.0 from.1) from.2
 
 pub one_selection : SelectionIsUnique
 one_selection es wanted defined a b first second = grind (arith, common_steps, one_list, selection_grows)
@@ -275,27 +275,27 @@ module _ (es : List Entry) (defined : Names) where
   }
 
   -- a name whose first exporter was found before
-  pub finds_again : (name : List ℕ) (place : ℕ) (old : List ℕ) → first_exporter es name ≡ Some place → has_place old place ≡ true → MarksExporters es defined (name ∷ []) old old
-  finds_again name place old first there = record {
+  pub finds_again : (name : List ℕ) (index : ℕ) (old : List ℕ) → first_exporter es name ≡ Some index → has_place old index ≡ true → MarksExporters es defined (name ∷ []) old old
+  finds_again name index old first there = record {
     following = [];
     more = sym (append-nil old);
     all = λ n i among free exported. let same = one_name name n among in
-        let is : Some place ≡ Some i = sym first ∙ ap (first_exporter es) (sym same) ∙ exported in
-        let at : place ≡ i = cc in subst (λ j. has_place old j ≡ true) at there;
+        let is : Some index ≡ Some i = sym first ∙ ap (first_exporter es) (sym same) ∙ exported in
+        let at : index ≡ i = cc in subst (λ j. has_place old j ≡ true) at there;
     only = λ i e. absurd cc;
   }
 
   -- a name whose first exporter is new
-  pub finds_new : (name : List ℕ) (place : ℕ) (old new : List ℕ) → first_exporter es name ≡ Some place → is_among defined name ≡ false → new ≡ old ++ place ∷ [] → MarksExporters es defined (name ∷ []) old new
-  finds_new name place old new first free more = record {
-    following = place ∷ [];
+  pub finds_new : (name : List ℕ) (index : ℕ) (old new : List ℕ) → first_exporter es name ≡ Some index → is_among defined name ≡ false → new ≡ old ++ index ∷ [] → MarksExporters es defined (name ∷ []) old new
+  finds_new name index old new first free more = record {
+    following = index ∷ [];
     more = more;
     all = λ n i among free_too exported. let same = one_name name n among in
-        let is : Some place ≡ Some i = sym first ∙ ap (first_exporter es) (sym same) ∙ exported in
-        let at : place ≡ i = cc in
-        let there : has_place (place ∷ []) i ≡ true = grind (arith, nat_tests) in
-        subst (λ (js : List ℕ). has_place js i ≡ true) (sym more) (place_after old (place ∷ []) i there);
-    only = λ i found. let at : i ≡ place = grind (arith, nat_tests) in (name, its_own name, free, first ∙ ap (λ j. Some j) (sym at));
+        let is : Some index ≡ Some i = sym first ∙ ap (first_exporter es) (sym same) ∙ exported in
+        let at : index ≡ i = cc in
+        let there : has_place (index ∷ []) i ≡ true = grind (arith, nat_tests) in
+        subst (λ (js : List ℕ). has_place js i ≡ true) (sym more) (place_after old (index ∷ []) i there);
+    only = λ i found. let at : i ≡ index = grind (arith, nat_tests) in (name, its_own name, free, first ∙ ap (λ j. Some j) (sym at));
   }
 
 module _ (es : List Entry) (wanted defined : Names) where
@@ -304,20 +304,20 @@ module _ (es : List Entry) (wanted defined : Names) where
   search_begins found finds = grind (arith, common_steps)
 
   -- what one member more imports was found
-  pub search_goes_on : (found new : List ℕ) (next place : ℕ) → next < length found → slice_get found next ≡ Some place → IsSearched es wanted defined found next → MarksExporters es defined (imports_at es place) found new → IsSearched es wanted defined new (next + 1)
-  search_goes_on found new next place lt at so_far finds = record {
+  pub search_goes_on : (found new : List ℕ) (next index : ℕ) → next < length found → slice_get found next ≡ Some index → IsSearched es wanted defined found next → MarksExporters es defined (imports_at es index) found new → IsSearched es wanted defined new (next + 1)
+  search_goes_on found new next index lt at so_far finds = record {
     needed = λ i there. or_true (has_place found i) (has_place finds.following i) (sym (list_any-append (nat_eq i) found finds.following) ∙ subst (λ (js : List ℕ). has_place js i ≡ true) finds.more there)
         (λ e. so_far.needed i e)
         (λ e. let r = finds.only i e in
-        let from = so_far.needed place (place_of found next place at) in
-        (r.0, (λ has closed. closed.goes_on from.0 r.0 place (from.1 has closed) from.2 r.1 r.2), r.3));
+        let from = so_far.needed index (place_of found next index at) in
+        (r.0, (λ has closed. closed.goes_on from.0 r.0 index (from.1 has closed) from.2 r.1 r.2), r.3));
     wanted_found = λ name i among free exported. grown i (so_far.wanted_found name i among free exported);
     imports_found = λ k p less there name i among free exported.
         let before : slice_get found k ≡ Some p = sym (get_kept found finds.following k (omega arith)) ∙ subst (λ (js : List ℕ). slice_get js k ≡ Some p) finds.more there in
         either (nat_eq k next)
         (λ e. let is : k ≡ next = grind (arith, nat_tests) in
-        let same : Some p ≡ Some place = sym before ∙ ap (slice_get found) is ∙ at in
-        let p_is : p ≡ place = cc in
+        let same : Some p ≡ Some index = sym before ∙ ap (slice_get found) is ∙ at in
+        let p_is : p ≡ index = cc in
         finds.all name i (subst (λ q. is_among (imports_at es q) name ≡ true) p_is among) free exported)
         (λ e. let earlier : k < next = grind (arith, nat_tests) in grown i (so_far.imports_found k p earlier before name i among free exported));
   }
@@ -326,8 +326,8 @@ module _ (es : List Entry) (wanted defined : Names) where
       grown i e = subst (λ (js : List ℕ). has_place js i ≡ true) (sym finds.more) (place_kept found finds.following i e)
 
 -- one more that wasn't found before is marked
-pub mark_sound : (f : Found) (place : ℕ) (places : Vec ℕ) → IsWellFormedTable f → get_or f.marks.items place false ≡ false → place < length f.marks.items → places.items ≡ f.places.items ++ place ∷ [] → IsWellFormedTable (record { marks = with_item f.marks place true; places = places })
-mark_sound f place places sound clear within more = record {
+pub mark_sound : (f : Found) (index : ℕ) (indices : Vec ℕ) → IsWellFormedTable f → get_or f.marks.items index false ≡ false → index < length f.marks.items → indices.items ≡ f.indices.items ++ index ∷ [] → IsWellFormedTable (record { marks = with_item f.marks index true; indices = indices })
+mark_sound f index indices sound clear within more = record {
   marks = λ i. grind (arith, common_steps);
   count = grind (arith, common_steps);
 }

@@ -35,16 +35,16 @@ none_marked es =
       size = size;
     }
 
-one_marked : (es : List Entry) (old : List ℕ) (place : ℕ) → Marked es old → place < length es → has_place old place ≡ false → Marked es (old ++ place ∷ [])
-one_marked es old place k below new =
-    let within : place < length k.marks = omega (arith, k.size) in
-    let free : get_or k.marks place false ≡ false = k.marked place ∙ new in
-    let fewer = count_added k.marks place within free in
-    let longer = length-append old (place ∷ []) in
-    let same = set_length k.marks place true in
+one_marked : (es : List Entry) (old : List ℕ) (index : ℕ) → Marked es old → index < length es → has_place old index ≡ false → Marked es (old ++ index ∷ [])
+one_marked es old index k below new =
+    let within : index < length k.marks = omega (arith, k.size) in
+    let free : get_or k.marks index false ≡ false = k.marked index ∙ new in
+    let fewer = count_added k.marks index within free in
+    let longer = length-append old (index ∷ []) in
+    let same = set_length k.marks index true in
     record {
-      marks = slice_set k.marks place true;
-      marked = marks_added k.marks old place within k.marked;
+      marks = slice_set k.marks index true;
+      marked = marks_added k.marks old index within k.marked;
       count = omega (arith, fewer, longer, same, k.count);
       size = same ∙ k.size;
     }
@@ -63,13 +63,13 @@ module _ (es : List Entry) (defined : Names) where
     where
       by : (o : Option ℕ) → first_exporter es name ≡ o → is_among defined name ≡ false → Found es defined (name ∷ []) old
       by None first free = record { new = old; finds = finds_nobody es defined name old first; marked = k }
-      by (Some place) first free =
-          either (has_place old place)
-          (λ there. record { new = old; finds = finds_again es defined name place old first there; marked = k })
+      by (Some index) first free =
+          either (has_place old index)
+          (λ there. record { new = old; finds = finds_again es defined name index old first there; marked = k })
           (λ fresh. record {
-            new = old ++ place ∷ [];
-            finds = finds_new es defined name place old (old ++ place ∷ []) first free refl;
-            marked = one_marked es old place k (exporter_below es name place first) fresh;
+            new = old ++ index ∷ [];
+            finds = finds_new es defined name index old (old ++ index ∷ []) first free refl;
+            marked = one_marked es old index k (exporter_below es name index first) fresh;
           })
 
   find_after : (before names : Names) (old mid : List ℕ) → MarksExporters es defined before old mid → Marked es mid → Found es defined (before ++ names) old
@@ -90,20 +90,20 @@ place_there (x ∷ xs) (suc k) lt = place_there xs k (omega arith)
 
 module _ (es : List Entry) (wanted defined : Names) where
   abbrev HasSelection : Type 0
-  HasSelection = (places : List ℕ) × IsSelection es wanted defined places
+  HasSelection = (indices : List ℕ) × IsSelection es wanted defined indices
 
   search_ends : (next : ℕ) (found : List ℕ) → Marked es found → IsSearched es wanted defined found next → length found ≤ next → HasSelection
   search_ends next found k so_far all =
       let done : IsSearched es wanted defined found (length found) = record {
         needed = so_far.needed;
         wanted_found = so_far.wanted_found;
-        imports_found = λ j place lt. so_far.imports_found j place (omega arith);
+        imports_found = λ j index lt. so_far.imports_found j index (omega arith);
       } in
       (marked_from 0 k.marks, searched_selected es wanted defined found k.marks (marked_from 0 k.marks) done k.marked refl)
 
   search : (n next : ℕ) (found : List ℕ) → Marked es found → IsSearched es wanted defined found next → length es ≤ next + n → HasSelection
-  search zero next found k so_far room = search_ends next found k so_far (omega (arith, k.count, k.size))
-  search (suc n) next found k so_far room =
+  search zero next found k so_far budget = search_ends next found k so_far (omega (arith, k.count, k.size))
+  search (suc n) next found k so_far budget =
       either (nat_lt next (length found))
       (λ e. (let lt : next < length found = grind (arith, nat_tests) in
       let at = place_there found next lt in

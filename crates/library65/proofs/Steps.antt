@@ -123,9 +123,9 @@ abbrev pub IsPiece : Option (List ℕ) → ℕ → ℕ → List ℕ → Type 0
 IsPiece None at size bytes = ⊥
 IsPiece (Some file) at size bytes = bytes ≡ take size (drop at file)
 
-pub told_whole : (known next : Option Files) (name : List ℕ) (at place want n size : ℕ) (old new : List ℕ) → next ≡ known → place ≡ at + length old → length old ≤ size → want ≡ min 4096 (size - length old) → n < 4096 → IfSome known (λ m. IsPieceFront (finmap.get m name) at old) → IfSome next (λ m. ReadsChunk (finmap.get m name) place want old new (Ok n)) → IfSome known (λ m. IsPiece (finmap.get m name) at size new)
-told_whole None next name at place want n size old new same there within is short front read = tt
-told_whole (Some m) next name at place want n size old new same there within is short front read =
+pub told_whole : (known next : Option Files) (name : List ℕ) (at offset want n size : ℕ) (old new : List ℕ) → next ≡ known → offset ≡ at + length old → length old ≤ size → want ≡ min 4096 (size - length old) → n < 4096 → IfSome known (λ m. IsPieceFront (finmap.get m name) at old) → IfSome next (λ m. ReadsChunk (finmap.get m name) offset want old new (Ok n)) → IfSome known (λ m. IsPiece (finmap.get m name) at size new)
+told_whole None next name at offset want n size old new same there within is short front read = tt
+told_whole (Some m) next name at offset want n size old new same there within is short front read =
     let P : ℕ → Type 0 = λ k. ReadsChunk (finmap.get m name) k want old new (Ok n) in go (finmap.get m name) front (subst P there (rw same at read))
   where
     go : (file : Option (List ℕ)) → IsPieceFront file at old → ReadsChunk file (at + length old) want old new (Ok n) → IsPiece file at size new

@@ -80,7 +80,7 @@ has_index_names e c = are_same e.exports c.exports && are_same e.imports c.impor
 
 -- the bytes of a member, all of which have to be there
 abbrev pub piece_at : ℕ → ℕ → List ℕ → Result (List ℕ) LibraryFault
-piece_at size place bytes = if nat_lt (length (take size (drop place bytes))) size then Err CutShort else Ok (take size (drop place bytes))
+piece_at size offset bytes = if nat_lt (length (take size (drop offset bytes))) size then Err CutShort else Ok (take size (drop offset bytes))
 
 -- the exports and imports of the object of an entry's member: the names that the entry has
 unfoldable pub indexed_contents : Entry → List ℕ → Result Contents LibraryFault

@@ -13,16 +13,16 @@ first_exporter es name = position_from (λ e. is_among e.exports name) 0 es
 
 -- the imports of the member at an index
 abbrev pub imports_at : List Entry → ℕ → List (List ℕ)
-imports_at es place = option_map_or (λ e. e.imports) (slice_get es place) []
+imports_at es index = option_map_or (λ e. e.imports) (slice_get es index) []
 
 abbrev pub has_place : List ℕ → ℕ → Bool
-has_place places place = list_any (nat_eq place) places
+has_place indices index = list_any (nat_eq index) indices
 
 -- A set of names that has those that are wanted and not defined, and with each name what the first member that
 -- exports it imports and isn't defined.
 pub record IsClosed (es : List Entry) (wanted defined : List (List ℕ)) (has : List ℕ → Bool) : Type 0 where
   pub begins : (name : List ℕ) → is_among wanted name ≡ true → is_among defined name ≡ false → has name ≡ true
-  pub goes_on : (name other : List ℕ) (place : ℕ) → has name ≡ true → first_exporter es name ≡ Some place → is_among (imports_at es place) other ≡ true → is_among defined other ≡ false → has other ≡ true
+  pub goes_on : (name other : List ℕ) (index : ℕ) → has name ≡ true → first_exporter es name ≡ Some index → is_among (imports_at es index) other ≡ true → is_among defined other ≡ false → has other ≡ true
 
 -- the list is strictly increasing
 abbrev pub IsRising : List ℕ → Type 0
@@ -30,13 +30,13 @@ IsRising [] = ⊤
 IsRising (i ∷ is) = AllByRecursion (λ j. i < j) is × IsRising is
 
 -- The places, rising, of the first exporters of the names in the least closed set.
-pub record IsSelection (es : List Entry) (wanted defined : List (List ℕ)) (places : List ℕ) : Type 0 where
+pub record IsSelection (es : List Entry) (wanted defined : List (List ℕ)) (indices : List ℕ) : Type 0 where
   pub has : List ℕ → Bool
   pub closed : IsClosed es wanted defined has
   pub least : (other : List ℕ → Bool) → IsClosed es wanted defined other → (name : List ℕ) → has name ≡ true → other name ≡ true
-  pub exporters : (place : ℕ) → has_place places place ≡ true → (name : List ℕ) × (has name ≡ true) × (first_exporter es name ≡ Some place)
-  pub all : (name : List ℕ) (place : ℕ) → has name ≡ true → first_exporter es name ≡ Some place → has_place places place ≡ true
-  pub rising : IsRising places
+  pub exporters : (index : ℕ) → has_place indices index ≡ true → (name : List ℕ) × (has name ≡ true) × (first_exporter es name ≡ Some index)
+  pub all : (name : List ℕ) (index : ℕ) → has name ≡ true → first_exporter es name ≡ Some index → has_place indices index ≡ true
+  pub rising : IsRising indices
 
 -- ---- What holds of selections, whatever made them.
 
@@ -48,8 +48,8 @@ SelectionIsUnique = (es : List Entry) (wanted defined : List (List ℕ)) (a b : 
 abbrev pub SelectionExists : Type 0
 SelectionExists =
     (es : List Entry) (wanted defined : List (List ℕ)) →
-    (places : List ℕ) × IsSelection es wanted defined places
+    (indices : List ℕ) × IsSelection es wanted defined indices
 
 -- where more is wanted, no fewer members are selected
 abbrev pub GrowingSelectionLaw : Type 0
-GrowingSelectionLaw = (es : List Entry) (wanted more defined : List (List ℕ)) (a b : List ℕ) → ((name : List ℕ) → is_among wanted name ≡ true → is_among more name ≡ true) → IsSelection es wanted defined a → IsSelection es more defined b → (place : ℕ) → has_place a place ≡ true → has_place b place ≡ true
+GrowingSelectionLaw = (es : List Entry) (wanted more defined : List (List ℕ)) (a b : List ℕ) → ((name : List ℕ) → is_among wanted name ≡ true → is_among more name ≡ true) → IsSelection es wanted defined a → IsSelection es more defined b → (index : ℕ) → has_place a index ≡ true → has_place b index ≡ true

@@ -25,12 +25,12 @@ pub struct Exporters<'a> {
 fn add_exports<'a>(
     by_name: &mut IndexMap<&'a [u8], usize>,
     names: &'a [ListVec<u8>],
-    place: usize,
+    index: usize,
 ) -> Result<(), AllocError>
-    ensures { OnOk result ((name : List ℕ) → get_by (λ k. bytes_eq name k.now) by_name.new ≡ (if is_among names.entry.now name then Some place else get_by (λ k. bytes_eq name k.now) by_name.old)) }
+    ensures { OnOk result ((name : List ℕ) → get_by (λ k. bytes_eq name k.now) by_name.new ≡ (if is_among names.entry.now name then Some index else get_by (λ k. bytes_eq name k.now) by_name.old)) }
 {
     for name in names {
-        by_name.insert(name.as_slice(), place)?;
+        by_name.insert(name.as_slice(), index)?;
     }
     Ok(())
 }
@@ -42,9 +42,9 @@ impl<'a> Exporters<'a> {
         ensures entries { IfOk result (λ t. t.entries.now ≡ entries.entry.now) }
     {
         let mut by_name = IndexMap::new(alloc);
-        for place in (0..entries.len()).rev() {
-            let entry = &entries[place];
-            add_exports(&mut by_name, entry.exports.as_slice(), place)?;
+        for index in (0..entries.len()).rev() {
+            let entry = &entries[index];
+            add_exports(&mut by_name, entry.exports.as_slice(), index)?;
         }
         Ok(Exporters { entries, by_name })
     }
@@ -59,10 +59,10 @@ impl<'a> Exporters<'a> {
     }
 
     /// Returns the imports of the member at an index.
-    pub fn imports(&self, place: usize) -> &'a [ListVec<u8>]
-        ensures { result.now ≡ imports_at self.now.entries.now place }
+    pub fn imports(&self, index: usize) -> &'a [ListVec<u8>]
+        ensures { result.now ≡ imports_at self.now.entries.now index }
     {
-        match self.entries.get(place) {
+        match self.entries.get(index) {
             Some(entry) => entry.imports.as_slice(),
             None => &[],
         }
@@ -75,7 +75,7 @@ pub struct Found {
     /// Whether each member was found.
     pub marks: Vec<bool>,
     /// The members in the order in which they were found.
-    pub places: Vec<usize>,
+    pub indices: Vec<usize>,
 }
 
 /// Finds the first exporter of a name that isn't defined.
@@ -93,12 +93,12 @@ fn find_name(
     }
     match exporters.get(name) {
         None => Ok(()),
-        Some(place) => {
-            if found.marks[place] {
+        Some(index) => {
+            if found.marks[index] {
                 return Ok(());
             }
-            found.places.push(place)?;
-            found.marks[place] = true;
+            found.indices.push(index)?;
+            found.marks[index] = true;
             Ok(())
         }
     }
@@ -144,31 +144,31 @@ pub fn find_all(
     found: &mut Found,
 ) -> Result<(), AllocError>
     requires stands { SearchInvariant exporters.now found.old }
-    requires none { found.old.places.items ≡ [] }
-    ensures found { OnOk result (IsSearched exporters.now.entries.now (map (λ n. n.items) wanted.now.keys) (map (λ n. n.items) defined.now.keys) found.new.places.items (length found.new.places.items)) }
+    requires none { found.old.indices.items ≡ [] }
+    ensures found { OnOk result (IsSearched exporters.now.entries.now (map (λ n. n.items) wanted.now.keys) (map (λ n. n.items) defined.now.keys) found.new.indices.items (length found.new.indices.items)) }
     ensures stands { OnOk result (SearchInvariant exporters.now found.new) }
 {
     find_wanted(exporters, defined, found, wanted.as_slice())?;
     let mut next = 0;
-    while next < found.places.len() {
-        let imports = exporters.imports(found.places[next]);
+    while next < found.indices.len() {
+        let imports = exporters.imports(found.indices[next]);
         find_imports(exporters, defined, found, imports)?;
         next += 1;
     }
     Ok(())
 }
 
-/// The places that are marked, rising.
+/// The indices that are marked, rising.
 pub fn marked_places(alloc: Global, marks: &[bool]) -> Result<Vec<usize>, AllocError>
-    ensures { IfOk result (λ places. places.items ≡ marked_from 0 marks.now) }
+    ensures { IfOk result (λ indices. indices.items ≡ marked_from 0 marks.now) }
 {
-    let mut places = Vec::new(alloc);
-    for (place, mark) in marks.iter().enumerate() {
+    let mut indices = Vec::new(alloc);
+    for (index, mark) in marks.iter().enumerate() {
         if *mark {
-            places.push(place)?;
+            indices.push(index)?;
         }
     }
-    Ok(places)
+    Ok(indices)
 }
 
 /// Returns the members that a link needs: the first exporters of the names in a least set. The set
@@ -180,14 +180,14 @@ pub fn select(
     wanted: &Names,
     defined: &Names,
 ) -> Result<Vec<usize>, LibraryFault>
-    ensures selected { IfOk result (λ places. IsSelection index.now.entries (map (λ n. n.items) wanted.now.keys) (map (λ n. n.items) defined.now.keys) places.items) }
-    ensures within { IfOk result (λ places. AllByRecursion (λ i. i < length index.now.entries) places.items) }
+    ensures selected { IfOk result (λ indices. IsSelection index.now.entries (map (λ n. n.items) wanted.now.keys) (map (λ n. n.items) defined.now.keys) indices.items) }
+    ensures within { IfOk result (λ indices. AllByRecursion (λ i. i < length index.now.entries) indices.items) }
     ensures memory { IfErr result (λ e. e ≡ LibraryFault.OutOfMemory) }
 {
     let exporters = Exporters::of(alloc, index.entries.as_slice())?;
     let mut found = Found {
         marks: vec![in alloc; false; index.entries.len()]?,
-        places: Vec::new(alloc),
+        indices: Vec::new(alloc),
     };
     find_all(&exporters, wanted, defined, &mut found)?;
     Ok(marked_places(alloc, found.marks.as_slice())?)

@@ -14,8 +14,8 @@ IsTable t = (name : List ℕ) → get_by (λ k. bytes_eq name k.now) t.by_name �
 
 -- the marked members are those that were found, each once
 pub record IsWellFormedTable (f : Found) : Type 0 where
-  pub marks : (i : ℕ) → get_or f.marks.items i false ≡ has_place f.places.items i
-  pub count : count_by not f.marks.items + length f.places.items ≡ length f.marks.items
+  pub marks : (i : ℕ) → get_or f.marks.items i false ≡ has_place f.indices.items i
+  pub count : count_by not f.marks.items + length f.indices.items ≡ length f.marks.items
 
 -- names are wanted: the first exporters of those that aren't defined are found, and no others
 pub record MarksExporters (es : List Entry) (defined names : List (List ℕ)) (old new : List ℕ) : Type 0 where
@@ -32,7 +32,7 @@ pub record SearchInvariant (t : Exporters) (f : Found) : Type 0 where
 
 -- the first exporters of the names that aren't defined are found, and no others
 pub record FindsMore (t : Exporters) (defined names : List (List ℕ)) (old new : Found) : Type 0 where
-  pub found : MarksExporters t.entries.now defined names old.places.items new.places.items
+  pub found : MarksExporters t.entries.now defined names old.indices.items new.indices.items
   pub stands : SearchInvariant t new
 
 -- a name of every closed set
@@ -44,7 +44,7 @@ IsNeeded es wanted defined name = (has : List ℕ → Bool) → IsClosed es want
 pub record IsSearched (es : List Entry) (wanted defined : List (List ℕ)) (found : List ℕ) (next : ℕ) : Type 0 where
   pub needed : (i : ℕ) → has_place found i ≡ true → (name : List ℕ) × IsNeeded es wanted defined name × (first_exporter es name ≡ Some i)
   pub wanted_found : (name : List ℕ) (i : ℕ) → is_among wanted name ≡ true → is_among defined name ≡ false → first_exporter es name ≡ Some i → has_place found i ≡ true
-  pub imports_found : (k place : ℕ) → k < next → slice_get found k ≡ Some place → (name : List ℕ) (i : ℕ) → is_among (imports_at es place) name ≡ true → is_among defined name ≡ false → first_exporter es name ≡ Some i → has_place found i ≡ true
+  pub imports_found : (k index : ℕ) → k < next → slice_get found k ≡ Some index → (name : List ℕ) (i : ℕ) → is_among (imports_at es index) name ≡ true → is_among defined name ≡ false → first_exporter es name ≡ Some i → has_place found i ≡ true
 
 -- the places, from one on, that are marked
 abbrev pub marked_from : ℕ → List Bool → List ℕ

@@ -5,9 +5,9 @@ use Rattle.library65.proofs.loading.read_piece.Goals as goal
 pub returns-clause-read : goal.returns-clause-read
 returns-clause-read g c =
     let at : c.len-len.result ≡ length c.reading.bytes.items = search rules in
-    let place : c.args.entry.now.place + c.len-len.result ≡ c.args.entry.now.place + length c.reading.bytes.items = omega arith in
+    let offset : c.args.entry.now.place + c.len-len.result ≡ c.args.entry.now.place + length c.reading.bytes.items = omega arith in
     let least : c.min-want.result ≡ min 4096 (c.args.entry.now.size - length c.reading.bytes.items) = search rules in
-    let room : length (take c.min-want.result c.reading.chunk) ≡ c.min-want.result = search rules in
+    let capacity : length (take c.min-want.result c.reading.chunk) ≡ c.min-want.result = search rules in
     let all : c.args.entry.now.size ≤ length c.read_chunk.new.bytes.items = omega arith in
     piece_whole _ c.args.file.now c.args.entry.now.place c.args.entry.now.size c.read_chunk.new.bytes.items all
-    (told_whole _ _ c.args.file.now c.args.entry.now.place (c.args.entry.now.place + c.len-len.result) (length (take c.min-want.result c.reading.chunk)) c.in_ok-n.n c.args.entry.now.size c.reading.bytes.items c.read_chunk.new.bytes.items c.reading.invariant.files place c.reading.invariant.within (room ∙ least) c.if-n-lt-CHUNK.true c.reading.invariant.read c.in_ok-n.ensures.read)
+    (told_whole _ _ c.args.file.now c.args.entry.now.place (c.args.entry.now.place + c.len-len.result) (length (take c.min-want.result c.reading.chunk)) c.in_ok-n.n c.args.entry.now.size c.reading.bytes.items c.read_chunk.new.bytes.items c.reading.invariant.files offset c.reading.invariant.within (capacity ∙ least) c.if-n-lt-CHUNK.true c.reading.invariant.read c.in_ok-n.ensures.read)

@@ -2,5 +2,5 @@ use Rattle.std.proofs.Common.{◌≡◌, ◌++◌, drop}
 use Rattle.library65.specs.Internal.Searching.{marked_from}
 use Rattle.library65.proofs.selecting.marked_places.Given as goal
 
-abbrev pub invariant-loop-place : goal.invariant-loop-place
-invariant-loop-place l = l.places.items ++ marked_from l.place (drop l.place l.marks) ≡ marked_from 0 l.marks
+abbrev pub invariant-loop-index : goal.invariant-loop-index
+invariant-loop-index l = l.indices.items ++ marked_from l.index (drop l.index l.marks) ≡ marked_from 0 l.marks

@@ -12,11 +12,11 @@ returns-clause-selected c =
     let defined = map (λ n. n.items) c.args.defined.now.keys in
     let es = c.in_ok-exporters.exporters.entries.now in
     let marks = c.find_all.new.found.marks.items in
-    let found = c.find_all.new.found.places.items in
-    let places = c.in_ok-marked_places.field-0.items in
+    let found = c.find_all.new.found.indices.items in
+    let indices = c.in_ok-marked_places.field-0.items in
     let same = c.in_ok-exporters.ensures.entries ∙ c.as_slice.ensures in
     let marked = c.in_ok-marked_places.ensures ∙ ap (marked_from 0) c.as_slice-2.ensures.value in
-    subst (λ xs. IsSelection xs wanted defined places) same (searched_selected es wanted defined found marks places c.in_ok-find_all.ensures.found c.in_ok-find_all.ensures.stands.sound.marks marked)
+    subst (λ xs. IsSelection xs wanted defined indices) same (searched_selected es wanted defined found marks indices c.in_ok-find_all.ensures.found c.in_ok-find_all.ensures.stands.sound.marks marked)
 
 pub returns-clause-within : goal.returns-clause-within
 returns-clause-within c =

@@ -167,9 +167,9 @@ first_of_pair : (x y : Reached) → ◌≡◌ {A = Result Reached PlaceFault} (O
 first_of_pair x y h = cc
 
 rows_good : (k : ℕ) (a : MemoryArea) (b : Bounds) (rs : List SegmentRow) (ss ts : List RowState) (cursor last : ℕ) → cursor ≤ b.end → rows_from k a b rs ss cursor ≡ Ok (ts, last) → IsGood k cursor b.end rs ts
-rows_good k a b [] ss ts cursor last room h = (tt, tt, tt)
-rows_good k a b (r ∷ rs) [] ts cursor last room h = grind (arith, common_steps, first_of_pair)
-rows_good k a b (r ∷ rs) (s ∷ ss) ts cursor last room h = by (is_in k r) refl h (λ c us l small e. rows_good k a b rs ss us c l small e)
+rows_good k a b [] ss ts cursor last capacity h = (tt, tt, tt)
+rows_good k a b (r ∷ rs) [] ts cursor last capacity h = grind (arith, common_steps, first_of_pair)
+rows_good k a b (r ∷ rs) (s ∷ ss) ts cursor last capacity h = by (is_in k r) refl h (λ c us l small e. rows_good k a b rs ss us c l small e)
   where
     by : (t : Bool) → is_in k r ≡ t → (if t then (row_after k a b r s cursor >>= λ x. front x.0 (rows_from k a b rs ss x.1)) else front s (rows_from k a b rs ss cursor)) ≡ Ok (ts, last) → ((c : ℕ) (us : List RowState) (l : ℕ) → c ≤ b.end → rows_from k a b rs ss c ≡ Ok (us, l) → IsGood k c b.end rs us) → IsGood k cursor b.end (r ∷ rs) ts
     by true i h again =
@@ -178,7 +178,7 @@ rows_good k a b (r ∷ rs) (s ∷ ss) ts cursor last room h = by (is_in k r) ref
         let g = bind_ok (rows_from k a b rs ss x.1) (λ y. Ok (x.0 ∷ y.0, y.1)) (ts, last) f.2 in
         let y : Reached = g.0 in
         let p : Placed k b r s cursor x = row_placed k a b r s cursor x f.1 in
-        let high : x.1 ≤ b.end = p.high room in
+        let high : x.1 ≤ b.end = p.high capacity in
         let good : IsGood k x.1 b.end rs y.0 = again x.1 y.0 y.1 high g.1 in
         let there : at_in k r x.0 ≡ p.at = ap (at_in k r) p.spot ∙ moved_there k p.at r s i in
         let size : size_in x.0 ≡ size_in s = ap size_in p.spot ∙ ap (λ o. unwrap_or o 0) (moved_size k p.at r s) in
@@ -193,7 +193,7 @@ rows_good k a b (r ∷ rs) (s ∷ ss) ts cursor last room h = by (is_in k r) ref
     by false i h again =
         let g = bind_ok (rows_from k a b rs ss cursor) (λ y. Ok (s ∷ y.0, y.1)) (ts, last) h in
         let y : Reached = g.0 in
-        let good : IsGood k cursor b.end rs y.0 = again cursor y.0 y.1 room g.1 in
+        let good : IsGood k cursor b.end rs y.0 = again cursor y.0 y.1 capacity g.1 in
         let e = first_of_pair (s ∷ y.0, y.1) (ts, last) g.2 in
         let never : is_in k r ≡ true → ⊥ = (λ j. let n : true ≡ false = sym j ∙ i in cc) in
         subst (IsGood k cursor b.end (r ∷ rs)) (ap (λ z. z.0) e)
@@ -244,18 +244,18 @@ apart_same k (r ∷ rs) [] (t ∷ ts) same h = absurd same
 apart_same k (r ∷ rs) (s ∷ ss) [] same h = absurd same
 apart_same k (r ∷ rs) (s ∷ ss) (t ∷ ts) same h = (after_same k r s t rs ss ts same.0 same.1 same.2 h.0, apart_same k rs ss ts same.2 h.1)
 
-within_of : (k : ℕ) (place : AreaPlacement) (rs : List SegmentRow) (ts : List RowState) → AllFrom k place.start rs ts → AllTo k (place.start + place.size) rs ts → AreWithin k place rs (map row_place ts)
-within_of k place [] ts f t = tt
-within_of k place (r ∷ rs) [] f t = tt
-within_of k place (r ∷ rs) (s ∷ ss) f t = ((λ i. (f.0 i, t.0 i)), within_of k place rs ss f.1 t.1)
+within_of : (k : ℕ) (placement : AreaPlacement) (rs : List SegmentRow) (ts : List RowState) → AllFrom k placement.start rs ts → AllTo k (placement.start + placement.size) rs ts → AreWithin k placement rs (map row_place ts)
+within_of k placement [] ts f t = tt
+within_of k placement (r ∷ rs) [] f t = tt
+within_of k placement (r ∷ rs) (s ∷ ss) f t = ((λ i. (f.0 i, t.0 i)), within_of k placement rs ss f.1 t.1)
 
-within_same : (k : ℕ) (place : AreaPlacement) (rs : List SegmentRow) (ss ts : List RowState) → Same k rs ss ts → AreWithin k place rs (map row_place ss) → AreWithin k place rs (map row_place ts)
-within_same k place [] ss ts same h = tt
-within_same k place (r ∷ rs) [] [] same h = tt
-within_same k place (r ∷ rs) [] (t ∷ ts) same h = absurd same
-within_same k place (r ∷ rs) (s ∷ ss) [] same h = absurd same
-within_same k place (r ∷ rs) (s ∷ ss) (t ∷ ts) same h =
-    ((λ i. let w = h.0 i in let e = same.1 i in let z = same.0 in let low = w.0 in let high = w.1 in (omega arith, omega arith)), within_same k place rs ss ts same.2 h.1)
+within_same : (k : ℕ) (placement : AreaPlacement) (rs : List SegmentRow) (ss ts : List RowState) → Same k rs ss ts → AreWithin k placement rs (map row_place ss) → AreWithin k placement rs (map row_place ts)
+within_same k placement [] ss ts same h = tt
+within_same k placement (r ∷ rs) [] [] same h = tt
+within_same k placement (r ∷ rs) [] (t ∷ ts) same h = absurd same
+within_same k placement (r ∷ rs) (s ∷ ss) [] same h = absurd same
+within_same k placement (r ∷ rs) (s ∷ ss) (t ∷ ts) same h =
+    ((λ i. let w = h.0 i in let e = same.1 i in let z = same.0 in let low = w.0 in let high = w.1 in (omega arith, omega arith)), within_same k placement rs ss ts same.2 h.1)
 
 -- all areas
 
@@ -263,7 +263,7 @@ abbrev ApartIn : List SegmentRow → ℕ → List AreaPlacement → List RowStat
 ApartIn rows j placed ss = AreApart j rows (map row_place ss)
 
 abbrev WithinIn : List SegmentRow → ℕ → List AreaPlacement → List RowState → Type 0
-WithinIn rows j placed ss = (place : AreaPlacement) → slice_get placed j ≡ Some place → AreWithin j place rows (map row_place ss)
+WithinIn rows j placed ss = (placement : AreaPlacement) → slice_get placed j ≡ Some placement → AreWithin j placement rows (map row_place ss)
 
 to_place : (b : Bounds) (last k : ℕ) (rows : List SegmentRow) (ts : List RowState) → b.start ≤ b.end → AllTo k b.end rows ts → AllTo k ((area_place b last).start + (area_place b last).size) rows ts
 to_place b last k rows ts le h = grind (arith, common_steps)
@@ -275,12 +275,12 @@ apart_kept : (script : Script) → Kept script (ApartIn script.rows)
 apart_kept script j k a placed ss ts b last less count made e q = apart_same j script.rows ss ts (rows_same j k a b script.rows ss ts b.start last (λ same. absurd (omega arith)) e) q
 
 within_made : (script : Script) → Made script (WithinIn script.rows)
-within_made script k a placed ss ts b last at count made e place here = grind (arith, common_steps, rows_good, bounds_order, get_last, within_of, to_place)
+within_made script k a placed ss ts b last at count made e placement here = grind (arith, common_steps, rows_good, bounds_order, get_last, within_of, to_place)
 
 within_kept : (script : Script) → Kept script (WithinIn script.rows)
-within_kept script j k a placed ss ts b last less count made e q place here =
-    within_same j place script.rows ss ts (rows_same j k a b script.rows ss ts b.start last (λ same. absurd (omega arith)) e)
-    (q place (sym (get_before placed (area_place b last) j (omega (arith, count))) ∙ here))
+within_kept script j k a placed ss ts b last less count made e q placement here =
+    within_same j placement script.rows ss ts (rows_same j k a b script.rows ss ts b.start last (λ same. absurd (omega arith)) e)
+    (q placement (sym (get_before placed (area_place b last) j (omega (arith, count))) ∙ here))
 
 pub none_overlap : NoOverlap
 none_overlap script needs p h k lt =
@@ -288,7 +288,7 @@ none_overlap script needs p h k lt =
     subst (AreApart k script.rows) (sym g.rows) (g.each k lt)
 
 pub all_within : AllWithin
-all_within script needs p h k place at =
+all_within script needs p h k placement at =
     let g = all_hold script needs p (WithinIn script.rows) (within_made script) (within_kept script) h in
-    let inside : k < length script.areas = omega (arith, slice_get_within p.areas k place at, (all_placed script needs p h).0) in
-    subst (AreWithin k place script.rows) (sym g.rows) (g.each k inside place at)
+    let inside : k < length script.areas = omega (arith, slice_get_within p.areas k placement at, (all_placed script needs p h).0) in
+    subst (AreWithin k placement script.rows) (sym g.rows) (g.each k inside placement at)

@@ -457,12 +457,12 @@ attribute_after : (bytes : List ℕ) (b : Block) (es : Entries) (e : ConfigEntry
 attribute_after bytes b es e row at h = omega (arith, after_place bytes h.begin, h.stands.following, perhaps_after bytes equals h.after_word at h.equals_sign)
 
 -- where an entry is wrong with an attribute that has begun, it was before, or it is an import
-wrong_before : (bytes : List ℕ) (b : Block) (es : Entries) (e : ConfigEntry) (row : List ℕ × ValueKind) (at place : ℕ) → InAttribute bytes b es e row at → at ≤ place → (v : Value) → Fits row.1 v → (ps : List ParsedTerm) (fault : Fault) → entry_fault b (with_given (record { word = row.0; value = v; parts = ps }) e) ≡ Some fault → fault ≢ AttributeMissing → IsWrong bytes place
-wrong_before bytes b es e row at place h le v fits ps fault k ne =
+wrong_before : (bytes : List ℕ) (b : Block) (es : Entries) (e : ConfigEntry) (row : List ℕ × ValueKind) (at offset : ℕ) → InAttribute bytes b es e row at → at ≤ offset → (v : Value) → Fits row.1 v → (ps : List ParsedTerm) (fault : Fault) → entry_fault b (with_given (record { word = row.0; value = v; parts = ps }) e) ≡ Some fault → fault ≢ AttributeMissing → IsWrong bytes offset
+wrong_before bytes b es e row at offset h le v fits ps fault k ne =
     let more : AttributeValue = record { word = row.0; value = v; parts = ps } in
     by b h (was_wrong b h.written row h.known e h.once (sound bytes b es e h.begin h.inside) v fits fault (ap (close b) (sym (shape_is b more e)) ∙ sym (closing_is b (with_given more e)) ∙ k) ne)
   where
-    by : (b : Block) (h : InAttribute bytes b es e row at) → (entry_fault b e ≡ Some fault) ⊎ IsValueOf b e row.0 → IsWrong bytes place
+    by : (b : Block) (h : InAttribute bytes b es e row at) → (entry_fault b e ≡ Some fault) ⊎ IsValueOf b e row.0 → IsWrong bytes offset
     by b h (inl c) = wrong_entry b es e fault h.begin h.inside (omega (arith, attribute_after bytes b es e row at h)) c ne
     by symbols h (inr i) = value_of_import es e row at h le i.0 i.1
     by memory h (inr i) = absurd i
@@ -522,9 +522,9 @@ module _ (other : List ℕ) where
       record { parts = g.parts; next = g.next; further = omega (arith, n.further, g.further); inside = g.inside; rest = g.rest }
 
   -- a text ends well, or at a `;`, if W is so
-  module _ (place : ℕ) (W : Type 0) where
+  module _ (offset : ℕ) (W : Type 0) where
     abbrev Ends : Type 0
-    Ends = IsInGrammar other ⊎ (W × GoesToWrongEnd other place)
+    Ends = IsInGrammar other ⊎ (W × GoesToWrongEnd other offset)
 
     -- if an entry is wrong, W is so
     abbrev IfWrong : Block → ConfigEntry → Type 0
@@ -538,7 +538,7 @@ module _ (other : List ℕ) where
         let n = next_token other at (125 ∷ []) (10 ∷ []) end_brace d refl refl in
         text_closes es n.next (block_ends other b es at n.next h n.stands) n.rest
 
-    entry_closes : (b : Block) (es : Entries) (e : ConfigEntry) (at : ℕ) → place ≤ at → IfWrong b e → (entry_fault b e ≡ Some AttributeMissing → ⊥) → InEntry other b es e at → drop at other ≡ 10 ∷ 59 ∷ 10 ∷ 125 ∷ 10 ∷ [] → Ends
+    entry_closes : (b : Block) (es : Entries) (e : ConfigEntry) (at : ℕ) → offset ≤ at → IfWrong b e → (entry_fault b e ≡ Some AttributeMissing → ⊥) → InEntry other b es e at → drop at other ≡ 10 ∷ 59 ∷ 10 ∷ 125 ∷ 10 ∷ [] → Ends
     entry_closes b es e at le wrong whole h d = by (entry_fault b e) refl
       where
         n : Next other semicolon at (10 ∷ 125 ∷ 10 ∷ [])
@@ -564,10 +564,10 @@ module _ (other : List ℕ) where
         ∙ ap (λ (o : Option Value). close memory (o, value_for (codes "size") e)) j
         ∙ ap (λ (o : Option Value). close memory (s, o)) k
 
-    area_closes : (u v : Value) (es : Entries) (e : ConfigEntry) (at : ℕ) → place ≤ at → IfWrong memory e → value_for (codes "start") e ≡ Some u → value_for (codes "size") e ≡ Some v → InEntry other memory es e at → drop at other ≡ 10 ∷ 59 ∷ 10 ∷ 125 ∷ 10 ∷ [] → Ends
+    area_closes : (u v : Value) (es : Entries) (e : ConfigEntry) (at : ℕ) → offset ≤ at → IfWrong memory e → value_for (codes "start") e ≡ Some u → value_for (codes "size") e ≡ Some v → InEntry other memory es e at → drop at other ≡ 10 ∷ 59 ∷ 10 ∷ 125 ∷ 10 ∷ [] → Ends
     area_closes u v es e at le wrong j k h d = entry_closes memory es e at le wrong (λ m. area_whole u v (sym (area_is e (Some u) (Some v) j k) ∙ m)) h d
 
-    size_closes : (u : Value) (es : Entries) (e : ConfigEntry) (at : ℕ) → place ≤ at → value_for (codes "start") e ≡ Some u → value_for (codes "size") e ≡ None → InEntry other memory es e at → drop at other ≡ 10 ∷ (codes "size" ++ 10 ∷ 120 ∷ 10 ∷ 59 ∷ 10 ∷ 125 ∷ 10 ∷ []) → Ends
+    size_closes : (u : Value) (es : Entries) (e : ConfigEntry) (at : ℕ) → offset ≤ at → value_for (codes "start") e ≡ Some u → value_for (codes "size") e ≡ None → InEntry other memory es e at → drop at other ≡ 10 ∷ (codes "size" ++ 10 ∷ 120 ∷ 10 ∷ 59 ∷ 10 ∷ 125 ∷ 10 ∷ []) → Ends
     size_closes u es e at le j k h d =
         let g = given_next memory es e (codes "size") (codes "size") a_sum at (59 ∷ 10 ∷ 125 ∷ 10 ∷ []) sum_filler refl (none_given (given_for (codes "size") e) k) refl refl h d in
         let with_size : AttributeValue = record { word = codes "size"; value = unknown_sum; parts = g.parts } in
@@ -578,7 +578,7 @@ module _ (other : List ℕ) where
         (λ fault c ne. absurd (open_size (Some u) small fault (sym (area_is (with_given with_size e) (Some u) (Some unknown_sum) start_is size_is) ∙ c) ne))
         start_is size_is g.inside g.rest
 
-    memory_closes : (s z : Option Value) (es : Entries) (e : ConfigEntry) (at : ℕ) → place ≤ at → IfWrong memory e → value_for (codes "start") e ≡ s → value_for (codes "size") e ≡ z → InEntry other memory es e at → drop at other ≡ 10 ∷ memory_text s z → Ends
+    memory_closes : (s z : Option Value) (es : Entries) (e : ConfigEntry) (at : ℕ) → offset ≤ at → IfWrong memory e → value_for (codes "start") e ≡ s → value_for (codes "size") e ≡ z → InEntry other memory es e at → drop at other ≡ 10 ∷ memory_text s z → Ends
     memory_closes (Some u) (Some v) es e at le wrong j k h d = area_closes u v es e at le wrong j k h d
     memory_closes (Some u) None es e at le wrong j k h d = size_closes u es e at le j k h d
     memory_closes None (Some v) es e at le wrong j k h d =
@@ -608,10 +608,10 @@ module _ (other : List ℕ) where
     right : (b : Block) (e : ConfigEntry) → entry_fault b e ≡ None → IfWrong b e
     right b e n fault k ne = absurd (no_fault fault (sym n ∙ k))
 
-    right_closes : (b : Block) (es : Entries) (e : ConfigEntry) (at : ℕ) → place ≤ at → entry_fault b e ≡ None → InEntry other b es e at → drop at other ≡ 10 ∷ 59 ∷ 10 ∷ 125 ∷ 10 ∷ [] → Ends
+    right_closes : (b : Block) (es : Entries) (e : ConfigEntry) (at : ℕ) → offset ≤ at → entry_fault b e ≡ None → InEntry other b es e at → drop at other ≡ 10 ∷ 59 ∷ 10 ∷ 125 ∷ 10 ∷ [] → Ends
     right_closes b es e at le n h d = entry_closes b es e at le (right b e n) (never (entry_fault b e) n) h d
 
-    row_closes : (o : Option Value) (es : Entries) (e : ConfigEntry) (at : ℕ) → place ≤ at → value_for (codes "load") e ≡ o → InEntry other segments es e at → drop at other ≡ 10 ∷ row_text o → Ends
+    row_closes : (o : Option Value) (es : Entries) (e : ConfigEntry) (at : ℕ) → offset ≤ at → value_for (codes "load") e ≡ o → InEntry other segments es e at → drop at other ≡ 10 ∷ row_text o → Ends
     row_closes (Some u) es e at le j h d = right_closes segments es e at le (row_is e (Some u) j) h d
     row_closes None es e at le j h d =
         let g = given_next segments es e (codes "load") (codes "load") an_area at (59 ∷ 10 ∷ 125 ∷ 10 ∷ []) area_filler refl (none_given (given_for (codes "load") e) j) refl refl h d in
@@ -627,7 +627,7 @@ module _ (other : List ℕ) where
         ∙ ap (λ o. symbol_closing o (is_some (value_for (codes "value") e))) j
         ∙ ap (λ (v : Option Value). symbol_closing o (is_some v)) k
 
-    value_closes : (kind : SymbolType) (es : Entries) (e : ConfigEntry) (at : ℕ) → symbol_closing (Some kind) true ≡ None → place ≤ at → role_for e ≡ Some kind → value_for (codes "value") e ≡ None → InEntry other symbols es e at → drop at other ≡ 10 ∷ (codes "value" ++ 10 ∷ 49 ∷ 10 ∷ 59 ∷ 10 ∷ 125 ∷ 10 ∷ []) → Ends
+    value_closes : (kind : SymbolType) (es : Entries) (e : ConfigEntry) (at : ℕ) → symbol_closing (Some kind) true ≡ None → offset ≤ at → role_for e ≡ Some kind → value_for (codes "value") e ≡ None → InEntry other symbols es e at → drop at other ≡ 10 ∷ (codes "value" ++ 10 ∷ 49 ∷ 10 ∷ 59 ∷ 10 ∷ 125 ∷ 10 ∷ []) → Ends
     value_closes kind es e at closing le j k h d =
         let g = given_next symbols es e (codes "value") (codes "value") (number_from 0 0xffffffff) at (59 ∷ 10 ∷ 125 ∷ 10 ∷ []) number_filler refl (none_given (given_for (codes "value") e) k) refl refl h d in
         let with_it : AttributeValue = record { word = codes "value"; value = number 1; parts = g.parts } in
@@ -637,7 +637,7 @@ module _ (other : List ℕ) where
         (value_is (codes "value") with_it e ∙ ap (λ (o : Option Value). option_or o (Some (number 1))) k) ∙ closing)
         g.inside g.rest
 
-    typed_closes : (o : Option SymbolType) (v : Option Value) (es : Entries) (e : ConfigEntry) (at : ℕ) → is_some o ≡ true → place ≤ at → IfWrong symbols e → role_for e ≡ o → value_for (codes "value") e ≡ v → InEntry other symbols es e at → drop at other ≡ 10 ∷ typed_text o v → Ends
+    typed_closes : (o : Option SymbolType) (v : Option Value) (es : Entries) (e : ConfigEntry) (at : ℕ) → is_some o ≡ true → offset ≤ at → IfWrong symbols e → role_for e ≡ o → value_for (codes "value") e ≡ v → InEntry other symbols es e at → drop at other ≡ 10 ∷ typed_text o v → Ends
     typed_closes None v es e at some le wrong j k h d = absurd cc
     typed_closes (Some exported) None es e at some le wrong j k h d = value_closes exported es e at refl le j k h d
     typed_closes (Some weak) None es e at some le wrong j k h d = value_closes weak es e at refl le j k h d
@@ -650,7 +650,7 @@ module _ (other : List ℕ) where
         excluded_whole : ◌≡◌ {A = Option Fault} (Some Excluded) (Some AttributeMissing) → ⊥
         excluded_whole m = cc
 
-    symbol_closes : (o v : Option Value) (es : Entries) (e : ConfigEntry) (at : ℕ) → place ≤ at → IfWrong symbols e → value_for (codes "type") e ≡ o → value_for (codes "value") e ≡ v → InEntry other symbols es e at → drop at other ≡ 10 ∷ symbol_text o v → Ends
+    symbol_closes : (o v : Option Value) (es : Entries) (e : ConfigEntry) (at : ℕ) → offset ≤ at → IfWrong symbols e → value_for (codes "type") e ≡ o → value_for (codes "value") e ≡ v → InEntry other symbols es e at → drop at other ≡ 10 ∷ symbol_text o v → Ends
     symbol_closes None v es e at le wrong j k h d =
         let g = given_next symbols es e (codes "type") (codes "type") (one_of symbol_role) at (typed_text (Some exported) v) role_filler refl (none_given (given_for (codes "type") e) j) refl refl h d in
         let with_type : AttributeValue = record { word = codes "type"; value = meant (role exported); parts = g.parts } in
@@ -663,16 +663,16 @@ module _ (other : List ℕ) where
     symbol_closes (Some u) v es e at le wrong j k h d =
         typed_closes (as_role u) v es e at (subst IsTyped j (sound other symbols es e at h)) le wrong (ap (option_and_then as_role) j) k h d
 
-    closes : (b : Block) (es : Entries) (e : ConfigEntry) (at : ℕ) → place ≤ at → IfWrong b e → InEntry other b es e at → drop at other ≡ 10 ∷ shape_text b (shape_of b e) → Ends
+    closes : (b : Block) (es : Entries) (e : ConfigEntry) (at : ℕ) → offset ≤ at → IfWrong b e → InEntry other b es e at → drop at other ≡ 10 ∷ shape_text b (shape_of b e) → Ends
     closes memory es e at le wrong h d = memory_closes (value_for (codes "start") e) (value_for (codes "size") e) es e at le wrong refl refl h d
     closes segments es e at le wrong h d = row_closes (value_for (codes "load") e) es e at le refl h d
     closes symbols es e at le wrong h d = symbol_closes (value_for (codes "type") e) (value_for (codes "value") e) es e at le wrong refl refl h d
 
     -- with one attribute more
-    more_closes : (b : Block) (es : Entries) (e : ConfigEntry) (g : AttributeValue) (at : ℕ) → place ≤ at → IfWrong b (with_given g e) → InEntry other b es (with_given g e) at → drop at other ≡ 10 ∷ shape_text b (shape_more b (shape_of b e) g.word g.value) → Ends
+    more_closes : (b : Block) (es : Entries) (e : ConfigEntry) (g : AttributeValue) (at : ℕ) → offset ≤ at → IfWrong b (with_given g e) → InEntry other b es (with_given g e) at → drop at other ≡ 10 ∷ shape_text b (shape_more b (shape_of b e) g.word g.value) → Ends
     more_closes b es e g at le wrong h d = closes b es (with_given g e) at le wrong h (d ∙ ap (λ s. 10 ∷ shape_text b s) (sym (shape_is b g e)))
 
-    value_there : (b : Block) (es : Entries) (e : ConfigEntry) (row : List ℕ × ValueKind) (at : ℕ) (f : Filler row.1) → place ≤ at → ((ps : List ParsedTerm) → IfWrong b (with_given (record { word = row.0; value = f.value; parts = ps }) e)) → InAttribute other b es e row at → drop at other ≡ 10 ∷ (f.text ++ 10 ∷ shape_text b (shape_more b (shape_of b e) row.0 f.value)) → Ends
+    value_there : (b : Block) (es : Entries) (e : ConfigEntry) (row : List ℕ × ValueKind) (at : ℕ) (f : Filler row.1) → offset ≤ at → ((ps : List ParsedTerm) → IfWrong b (with_given (record { word = row.0; value = f.value; parts = ps }) e)) → InAttribute other b es e row at → drop at other ≡ 10 ∷ (f.text ++ 10 ∷ shape_text b (shape_more b (shape_of b e) row.0 f.value)) → Ends
     value_there b es e row at f le wrong h d =
         let g = filled b es e row.0 row.1 at (shape_text b (shape_more b (shape_of b e) row.0 f.value)) f h d in
         more_closes b es e (record { word = row.0; value = f.value; parts = g.parts }) g.next (omega (arith, g.further)) (wrong g.parts) g.inside g.rest
@@ -690,7 +690,7 @@ module _ (other : List ℕ) where
         ∙ or_true (list_any (λ (p : ParsedTerm). not (is_some p.number)) ps) in
         ap (λ c. if c then Some unknown_sum else option_map number (sum_of (λ (p : ParsedTerm). p.minus) (λ (p : ParsedTerm). unwrap_or p.number 0) (ps ++ p ∷ []))) some
 
-    term_there : (b : Block) (es : Entries) (e : ConfigEntry) (a : List ℕ) (ps : List ParsedTerm) (taken : Bool) (at : ℕ) → place ≤ at → ((ps : List ParsedTerm) → IfWrong b (with_given (record { word = a; value = unknown_sum; parts = ps }) e)) → SumBegun other b es e a ps taken at → drop at other ≡ 10 ∷ 120 ∷ 10 ∷ shape_text b (shape_more b (shape_of b e) a unknown_sum) → Ends
+    term_there : (b : Block) (es : Entries) (e : ConfigEntry) (a : List ℕ) (ps : List ParsedTerm) (taken : Bool) (at : ℕ) → offset ≤ at → ((ps : List ParsedTerm) → IfWrong b (with_given (record { word = a; value = unknown_sum; parts = ps }) e)) → SumBegun other b es e a ps taken at → drop at other ≡ 10 ∷ 120 ∷ 10 ∷ shape_text b (shape_more b (shape_of b e) a unknown_sum) → Ends
     term_there b es e a ps taken at le wrong h d =
         let n = next_token other at (120 ∷ []) (10 ∷ shape_text b (shape_more b (shape_of b e) a unknown_sum)) (word (120 ∷ [])) d refl refl in
         let p : ParsedTerm = record { minus = taken; number = None; name = 120 ∷ []; at = (token other at).at } in

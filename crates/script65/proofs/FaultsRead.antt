@@ -19,8 +19,8 @@ use Rattle.script65.proofs.Written.{IsFine, attributes_read, blocks_read, entrie
 
 -- ---- Faults that are no syntax errors.
 
-fine_at : (fault : Fault) (place : ℕ) → (fault ≡ SyntaxError → ⊥) → (at : ℕ) → ◌≡◌ {A = Result Entries FaultAt} (Err (stop_at fault place)) (Err (stop_at SyntaxError at)) → ⊥
-fine_at fault place own at e = let same : stop_at fault place ≡ stop_at SyntaxError at = cc in own (ap (λ (s : FaultAt). s.fault) same)
+fine_at : (fault : Fault) (offset : ℕ) → (fault ≡ SyntaxError → ⊥) → (at : ℕ) → ◌≡◌ {A = Result Entries FaultAt} (Err (stop_at fault offset)) (Err (stop_at SyntaxError at)) → ⊥
+fine_at fault offset own at e = let same : stop_at fault offset ≡ stop_at SyntaxError at = cc in own (ap (λ (s : FaultAt). s.fault) same)
 
 name_own : NameTwice ≡ SyntaxError → ⊥
 name_own e = cc
@@ -125,7 +125,7 @@ module _ (bytes : List ℕ) where
   value_stops es b e a a_sum l at k = let never : ◌≡◌ {A = Result Value Fault} (Err SyntaxError) (Err OutOfRange) = k in absurd cc
   value_stops es b e a (number_from low high) l at k = ap (breaks.attribute_move es b e a at) k
   value_stops es b e a a_byte l at k = ap (breaks.attribute_move es b e a at) k
-  value_stops es b e a (one_of words) l at k = ap (breaks.attribute_move es b e a at) k
+  value_stops es b e a (one_of keyword_set) l at k = ap (breaks.attribute_move es b e a at) k
   value_stops es b e a an_area l at k = ap (breaks.attribute_move es b e a at) k
   value_stops es b e a a_file l at k = ap (breaks.attribute_move es b e a at) k
 

@@ -19,7 +19,7 @@ use Rattle.script65.proofs.Written.{read_of}
 abbrev pub IsAt : ℕ → Move → Type 0
 IsAt at (on es p) = ⊤
 IsAt at (done es) = ⊤
-IsAt at (stop fault place) = (place ≡ at) ⊎ (fault ≡ OutOfRange)
+IsAt at (stop fault offset) = (offset ≡ at) ⊎ (fault ≡ OutOfRange)
 
 block_word_at : (es : Entries) (l : Lexeme) (at : ℕ) → IsAt at (block_word es l at)
 block_word_at es (word w) at = go (value_of_word w blocks)
@@ -114,34 +114,34 @@ after_place bytes at = omega arith
 module _ (bytes : List ℕ) where
   -- where a fault is found, and that it is one of each text with the same tokens up to there
   record Found (es : Entries) (p : ParseState) (at : ℕ) (f : FaultAt) : Type 0 where
-    place : ℕ
-    from : at ≤ place
-    found : IsFoundAt bytes f place
-    carried : (other : List ℕ) → SameTokens bytes other place → Reads other es p at (Err f)
+    offset : ℕ
+    from : at ≤ offset
+    found : IsFoundAt bytes f offset
+    carried : (other : List ℕ) → SameTokens bytes other offset → Reads other es p at (Err f)
 
   found : (es : Entries) (p : ParseState) (at : ℕ) (f : FaultAt) → SyntaxErrorAt bytes es p at f → Found es p at f
   found _ _ _ _ (later es fs p q at f e rest) =
       let r = found fs q (token bytes at).following f rest in
-      let before : at ≤ r.place = omega (arith, after_place bytes at, r.from) in
+      let before : at ≤ r.offset = omega (arith, after_place bytes at, r.from) in
       record {
-        place = r.place;
+        offset = r.offset;
         from = before;
         found = r.found;
         carried = λ other same.
             let t = same at before in
             next es fs p q at (Err f) (ap (λ (x : Token). token_move es p x.lexeme x.at) t ∙ e) (subst (λ n. Reads other fs q n (Err f)) (sym (ap (λ (x : Token). x.following) t)) (r.carried other same));
       }
-  found _ _ _ _ (here es p at fault place e) = record {
-    place = at;
+  found _ _ _ _ (here es p at fault offset e) = record {
+    offset = at;
     from = omega arith;
     found = subst (IsAt (token bytes at).at) e (move_at es p (token bytes at).lexeme (token bytes at).at);
-    carried = λ other same. stops es p at fault place (ap (λ (x : Token). token_move es p x.lexeme x.at) (same at (omega arith)) ∙ e);
+    carried = λ other same. stops es p at fault offset (ap (λ (x : Token). token_move es p x.lexeme x.at) (same at (omega arith)) ∙ e);
   }
 
 pub no_continuation : NoContinuation
 no_continuation bytes f is =
     let r = found bytes no_entries between_blocks 0 f is in (
-      r.place,
+      r.offset,
       r.found,
       λ other es same written. (let both : ◌≡◌ {A = Result Entries FaultAt} (Ok es) (Err f) = reads_one other no_entries between_blocks 0 (Ok es) (Err f) (read_of other (Ok es) written) (r.carried other same) in absurd cc),
     )

@@ -25,7 +25,7 @@ module _ (bytes : List ℕ) where
   pub reads_one : (es : Entries) (p : ParseState) (at : ℕ) (r q : Result Entries FaultAt) → Reads bytes es p at r → Reads bytes es p at q → r ≡ q
   reads_one _ _ _ _ u (next es fs p q at r e h) k = reads_one fs q (token bytes at).following r u h (subst (λ m. Follows bytes at m u) e (follows bytes es p at u k))
   reads_one _ _ _ _ u (ends es fs p at e) k = sym (subst (λ m. Follows bytes at m u) e (follows bytes es p at u k))
-  reads_one _ _ _ _ u (stops es p at f place e) k = sym (subst (λ m. Follows bytes at m u) e (follows bytes es p at u k))
+  reads_one _ _ _ _ u (stops es p at f offset e) k = sym (subst (λ m. Follows bytes at m u) e (follows bytes es p at u k))
 
   pub entries_one : (r q : Result Entries FaultAt) → ReadsText bytes r → ReadsText bytes q → r ≡ q
   entries_one r q = by (is_too_long bytes)
@@ -115,7 +115,7 @@ module _ (bytes : List ℕ) where
 
       by : (m : Move) → token_move es p (token bytes at).lexeme (token bytes at).at ≡ m → (r : Result Entries FaultAt) × Reads bytes es p at r
       by (done fs) e = (Ok fs, ends es fs p at e)
-      by (stop f place) e = (Err (stop_at f place), stops es p at f place e)
+      by (stop f offset) e = (Err (stop_at f offset), stops es p at f offset e)
       by (on fs q) e = on_to fs q e (further at)
 
   pub reads_some : (n : ℕ) → Some_from n

@@ -74,7 +74,7 @@ as_word_own None = refl
 value_own : (takes : ValueKind) (l : Lexeme) → IfErr (value_of takes l) IsOwnFault
 value_own (number_from low high) (numeral n) = as_value_own _ (in_range low high n) (range_own low high n)
 value_own a_byte (numeral n) = as_value_own _ (in_range 0 0xff n) (range_own 0 0xff n)
-value_own (one_of words) (word w) = as_word_own (value_of_word w (keywords words))
+value_own (one_of keyword_set) (word w) = as_word_own (value_of_word w (keywords keyword_set))
 value_own an_area (word w) = tt
 value_own a_file (string s) = tt
 value_own a_file output = tt
@@ -144,7 +144,7 @@ module _ (es : Entries) (at : ℕ) where
     value_goes e a a_sum l = add_goes e a [] (part_of false at l) (part_own false at l)
     value_goes e a (number_from low high) l = give_goes e a (value_of (number_from low high) l) (value_own (number_from low high) l)
     value_goes e a a_byte l = give_goes e a (value_of a_byte l) (value_own a_byte l)
-    value_goes e a (one_of words) l = give_goes e a (value_of (one_of words) l) (value_own (one_of words) l)
+    value_goes e a (one_of keyword_set) l = give_goes e a (value_of (one_of keyword_set) l) (value_own (one_of keyword_set) l)
     value_goes e a an_area l = give_goes e a (value_of an_area l) (value_own an_area l)
     value_goes e a a_file l = give_goes e a (value_of a_file l) (value_own a_file l)
 
@@ -177,7 +177,7 @@ module _ (es : Entries) (at : ℕ) where
 
 break_own : (bytes : List ℕ) (es : Entries) (p : ParseState) (at : ℕ) (f : FaultAt) → SyntaxErrorAt bytes es p at f → is_system_error f ≡ false
 break_own bytes _ _ _ _ (later es fs p q at f e more) = break_own bytes fs q (token bytes at).following f more
-break_own bytes _ _ _ _ (here es p at fault place e) = subst Goes e (goes es (token bytes at).at p (token bytes at).lexeme)
+break_own bytes _ _ _ _ (here es p at fault offset e) = subst Goes e (goes es (token bytes at).at p (token bytes at).lexeme)
 
 read_own : (bytes : List ℕ) (r : Result Entries FaultAt) → IsRead bytes r → Own is_system_error r
 read_own bytes (Ok es) h = good es

@@ -72,7 +72,7 @@ module _ (es : Entries) (at : ℕ) where
       values a a_sum l = adds a [] (part_of false at l)
       values a (number_from low high) l = gives a (value_of (number_from low high) l)
       values a a_byte l = gives a (value_of a_byte l)
-      values a (one_of words) l = gives a (value_of (one_of words) l)
+      values a (one_of keyword_set) l = gives a (value_of (one_of keyword_set) l)
       values a an_area l = gives a (value_of an_area l)
       values a a_file l = gives a (value_of a_file l)
 

@@ -266,13 +266,13 @@ sum_agrees k a areas rows placed ss us start ts settled = by (unknown (looked k 
     by : (u : Option Term) → unknown (looked k a areas rows placed ss start) ts ≡ u → sum_unless (looked k a areas rows placed us start) ts u ≡ sum_unless (looked k a areas rows placed ss start) ts u
     by (Some t) e = refl
     by None e =
-        let places = placed ++ own_place start in
+        let placements = placed ++ own_place start in
         let all = none_found (is_known k (is_some start) rows) ts e in
-        let same = come_same (is_known k (is_some start) rows) (term_value places (map row_place ss)) (term_value places (map row_place us)) (λ t h. operand_same k (is_some start) rows places places ss us t.operand (record { before = λ j lt. refl; own = λ b. refl }) settled h) in
+        let same = come_same (is_known k (is_some start) rows) (term_value placements (map row_place ss)) (term_value placements (map row_place us)) (λ t h. operand_same k (is_some start) rows placements placements ss us t.operand (record { before = λ j lt. refl; own = λ b. refl }) settled h) in
         let plus = same (λ t. not t.minus) ts all in
         let minus = same (λ t. t.minus) ts all in
-        ap (λ n. number_or_fault a.name (difference n (come_to (λ (t : Term). t.minus) (term_value places (map row_place us)) ts))) plus
-        ∙ ap (λ n. number_or_fault a.name (difference (come_to (λ (t : Term). not t.minus) (term_value places (map row_place ss)) ts) n)) minus
+        ap (λ n. number_or_fault a.name (difference n (come_to (λ (t : Term). t.minus) (term_value placements (map row_place us)) ts))) plus
+        ∙ ap (λ n. number_or_fault a.name (difference (come_to (λ (t : Term). not t.minus) (term_value placements (map row_place ss)) ts) n)) minus
 
 bounds_agree : (k : ℕ) (a : MemoryArea) (areas : List MemoryArea) (rows : List SegmentRow) (placed : List AreaPlacement) (ss us : List RowState) → Settled k rows ss us → bounds_in (looked k a areas rows placed us None) ≡ bounds_in (looked k a areas rows placed ss None)
 bounds_agree k a areas rows placed ss us settled =
@@ -300,8 +300,8 @@ area_stops k all rows a rest placed ss f e = rw e refl
 rows_stop : (k : ℕ) (all : List MemoryArea) (rows : List SegmentRow) (a : MemoryArea) (rest : List MemoryArea) (placed : List AreaPlacement) (ss : List RowState) (b : Bounds) (f : PlaceFault) → bounds_in (looked k a all rows placed ss None) ≡ Ok b → rows_from k a b rows ss b.start ≡ Err f → areas_from k all rows (a ∷ rest) placed ss ≡ Err f
 rows_stop k all rows a rest placed ss b f e g = rw (e, g) refl
 
-range_is : (place : AreaPlacement) (last : ℕ) → place.last ≡ last → area_place (bounds_of place) last ≡ place
-range_is place last e = grind (arith, common_steps)
+range_is : (placement : AreaPlacement) (last : ℕ) → placement.last ≡ last → area_place (bounds_of placement) last ≡ placement
+range_is placement last e = grind (arith, common_steps)
 
 ranges_more : (before : List PlacedArea) (x : PlacedArea) → ranges_of (before ++ x ∷ []) ≡ ranges_of before ++ x.1 ∷ []
 ranges_more [] x = refl
@@ -442,8 +442,8 @@ abbrev RowComes : ℕ → MemoryArea → Bounds → SegmentRow → Option ℕ �
 RowComes k a b r o low = ((at : ℕ) × IsPlacedAt k a b r o low at × (at + unwrap_or o 0 ≤ b.end)) ⊎ ((f : PlaceFault) × RowFault k a b r o low f)
 
 sized_comes : (k : ℕ) (a : MemoryArea) (b : Bounds) (r : SegmentRow) (o : Option ℕ) (low : ℕ) → low ≤ b.end → MayRun k a r → RowComes k a b r o low
-sized_comes k a b r None low room may = inl (low, record { may_run = may; stands = refl }, omega arith)
-sized_comes k a b r (Some n) low room may = by (lt_or at low) (lt_or b.end (at + n))
+sized_comes k a b r None low capacity may = inl (low, record { may_run = may; stands = refl }, omega arith)
+sized_comes k a b r (Some n) low capacity may = by (lt_or at low) (lt_or b.end (at + n))
   where
     at : ℕ
     at = begin_in k b r low
@@ -457,10 +457,10 @@ sized_comes k a b r (Some n) low room may = by (lt_or at low) (lt_or b.end (at +
     by (inr le) (inr fits) = inl (at, record { may_run = may; stands = record { begins = begins; following = le; within = fits } }, fits)
 
 row_comes : (k : ℕ) (a : MemoryArea) (b : Bounds) (r : SegmentRow) (o : Option ℕ) (low : ℕ) → low ≤ b.end → RowComes k a b r o low
-row_comes k a b r o low room = by (may_or k a r)
+row_comes k a b r o low capacity = by (may_or k a r)
   where
     by : MayRun k a r ⊎ ((a.read_only ≡ true) × (r.run ≡ k) × (is_read_only r.access ≡ false)) → RowComes k a b r o low
-    by (inl may) = sized_comes k a b r o low room may
+    by (inl may) = sized_comes k a b r o low capacity may
     by (inr h) = inr (ReadOnlyArea r.name, read_only h.0 h.1 h.2)
 
 -- ---- Rows of which only those of one area are placed anew.
@@ -606,12 +606,12 @@ module _ (needs : List SegmentNeed) (k : ℕ) (a : MemoryArea) (b : Bounds) wher
       })
 
   rows_come : (xs : List PlacedRow) (low : ℕ) → low ≤ b.end → AllByRecursion (IsRow needs) xs → RowsCome needs k a b low xs
-  rows_come [] low room each = record { rows = []; fresh = tt; so = inl tt }
-  rows_come (x ∷ xs) low room each = by (is_in k x.0) refl (λ m high. rows_come xs m high each.1)
+  rows_come [] low capacity each = record { rows = []; fresh = tt; so = inl tt }
+  rows_come (x ∷ xs) low capacity each = by (is_in k x.0) refl (λ m high. rows_come xs m high each.1)
     where
       by : (t : Bool) → is_in k x.0 ≡ t → ((m : ℕ) → m ≤ b.end → RowsCome needs k a b m xs) → RowsCome needs k a b low (x ∷ xs)
-      by false i again = one_more x x xs low low (fresh_same k x) (rw i refl) (λ j. let never : true ≡ false = sym j ∙ i in absurd cc) (again low room)
-      by true i again = placed (row_comes k a b x.0 (size_of needs x.0.name) low room)
+      by false i again = one_more x x xs low low (fresh_same k x) (rw i refl) (λ j. let never : true ≡ false = sym j ∙ i in absurd cc) (again low capacity)
+      by true i again = placed (row_comes k a b x.0 (size_of needs x.0.name) low capacity)
         where
           placed : RowComes k a b x.0 (size_of needs x.0.name) low → RowsCome needs k a b low (x ∷ xs)
           placed (inl h) =
@@ -733,9 +733,9 @@ module _ (script : Script) (needs : List SegmentNeed) (have : HaveRows script ne
           placed ys stand bounds away order (inr g) = row_faults areas ys a rest b stand all bounds g
           placed ys stand bounds away order (inl g) =
               let k = length areas in
-              let place : AreaPlacement = area_place b (end_of_rows k b ys) in
-              let x : PlacedArea = (a, place) in
-              let same : b ≡ bounds_of place = (let up : b.end ≡ b.start + (b.end - b.start) = omega arith in let F : ℕ → Bounds = λ n. record { start = b.start; end = n } in ap F up) in
+              let placement : AreaPlacement = area_place b (end_of_rows k b ys) in
+              let x : PlacedArea = (a, placement) in
+              let same : b ≡ bounds_of placement = (let up : b.end ≡ b.start + (b.end - b.start) = omega arith in let F : ℕ → Bounds = λ n. record { start = b.start; end = n } in ap F up) in
               let one : AreaStands script needs areas ys x = record {
                 bounds = bounds ∙ ap Ok same;
                 rows_stand = subst (λ c. RowsStand needs k a c ys) same (stand_of needs k a b b.start ys g);

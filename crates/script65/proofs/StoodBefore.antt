@@ -38,7 +38,7 @@ word_faults None = inl refl
 value_faults : (takes : ValueKind) (l : Lexeme) → IfErr (value_of takes l) IsOfValue
 value_faults (number_from low high) (numeral n) = made_faults _ (in_range low high n) (range_faults low high n)
 value_faults a_byte (numeral n) = made_faults _ (in_range 0 0xff n) (range_faults 0 0xff n)
-value_faults (one_of words) (word w) = word_faults (value_of_word w (keywords words))
+value_faults (one_of keyword_set) (word w) = word_faults (value_of_word w (keywords keyword_set))
 value_faults an_area (word w) = tt
 value_faults a_file (string s) = tt
 value_faults a_file output = tt
@@ -136,7 +136,7 @@ module _ (bytes : List ℕ) where
   abbrev pub Following : ℕ → Move → Type 0
   Following at (on es p) = Before es p (token bytes at).following
   Following at (done es) = ⊤
-  Following at (stop fault place) = (fault ≡ SyntaxError) ⊎ HasFault bytes (stop_at fault place)
+  Following at (stop fault offset) = (fault ≡ SyntaxError) ⊎ HasFault bytes (stop_at fault offset)
 
   stood : (l : Lexeme) (at : ℕ) → (token bytes at).lexeme ≡ l → TokenAt bytes l at (token bytes at).following
   stood l at e = record { lexeme = e; following = refl }
@@ -249,18 +249,18 @@ module _ (bytes : List ℕ) where
 
   -- ---- Behind each token.
 
-  word_leads : (es : Entries) (at place : ℕ) (l : Lexeme) → (token bytes at).lexeme ≡ l → AreBlocks bytes no_entries es 0 at → Following at (breaks.block_word es l place)
-  word_leads es at place (word w) e h = by (value_of_word w blocks) refl
+  word_leads : (es : Entries) (at offset : ℕ) (l : Lexeme) → (token bytes at).lexeme ≡ l → AreBlocks bytes no_entries es 0 at → Following at (breaks.block_word es l offset)
+  word_leads es at offset (word w) e h = by (value_of_word w blocks) refl
     where
-      by : (o : Option Block) → value_of_word w blocks ≡ o → Following at (option_map_or (λ b. on es (after_block_word b)) o (stop SyntaxError place))
+      by : (o : Option Block) → value_of_word w blocks ≡ o → Following at (option_map_or (λ b. on es (after_block_word b)) o (stop SyntaxError offset))
       by None k = inl refl
       by (Some b) k = record { begin = at; written = w; blocks_before = h; stands = stood (word w) at e; known = k }
-  word_leads es at place the_end e h = tt
-  word_leads es at place _ e h = inl refl
+  word_leads es at offset the_end e h = tt
+  word_leads es at offset _ e h = inl refl
 
-  brace_leads : (es : Entries) (b : Block) (at place : ℕ) (l : Lexeme) → (token bytes at).lexeme ≡ l → BlockWord b es at → Following at (breaks.block_brace es b l place)
-  brace_leads es b at place brace e h = brace_stands b es at (token bytes at).following h (stood brace at e)
-  brace_leads es b at place _ e h = inl refl
+  brace_leads : (es : Entries) (b : Block) (at offset : ℕ) (l : Lexeme) → (token bytes at).lexeme ≡ l → BlockWord b es at → Following at (breaks.block_brace es b l offset)
+  brace_leads es b at offset brace e h = brace_stands b es at (token bytes at).following h (stood brace at e)
+  brace_leads es b at offset _ e h = inl refl
 
   name_leads : (es : Entries) (b : Block) (at : ℕ) (l : Lexeme) → (token bytes at).lexeme ≡ l → InBlock bytes b es at → Following at (breaks.entry_name es b l (token bytes at).at)
   name_leads es b at (word w) e h = by (has_name w b es) refl
@@ -271,9 +271,9 @@ module _ (bytes : List ℕ) where
   name_leads es b at end_brace e h = block_ends b es at (token bytes at).following h (stood end_brace at e)
   name_leads es b at _ e h = inl refl
 
-  colon_leads : (es : Entries) (b : Block) (f : ConfigEntry) (at place : ℕ) (l : Lexeme) → (token bytes at).lexeme ≡ l → EntryName b es f at → Following at (breaks.entry_colon es b f l place)
-  colon_leads es b f at place colon e h = colon_stands b es f at (token bytes at).following h (stood colon at e)
-  colon_leads es b f at place _ e h = inl refl
+  colon_leads : (es : Entries) (b : Block) (f : ConfigEntry) (at offset : ℕ) (l : Lexeme) → (token bytes at).lexeme ≡ l → EntryName b es f at → Following at (breaks.entry_colon es b f l offset)
+  colon_leads es b f at offset colon e h = colon_stands b es f at (token bytes at).following h (stood colon at e)
+  colon_leads es b f at offset _ e h = inl refl
 
   attribute_leads : (es : Entries) (b : Block) (f : ConfigEntry) (at : ℕ) (l : Lexeme) → (token bytes at).lexeme ≡ l → InEntry bytes b es f at → Following at (breaks.attribute_or_end es b f l (token bytes at).at)
   attribute_leads es b f at (word w) e h = by (find_keyword w (attributes b)) refl
@@ -330,7 +330,7 @@ module _ (bytes : List ℕ) where
   value_leads es b f a a_sum at h = term_leads es b f a [] false at (record { start = at; inside = h; sum = first_term })
   value_leads es b f a (number_from low high) at h = give_leads es b f (a, number_from low high) at (value_of (number_from low high) (token bytes at).lexeme) refl (λ v k. plain_value es b f a (number_from low high) at v k) h (value_faults (number_from low high) (token bytes at).lexeme)
   value_leads es b f a a_byte at h = give_leads es b f (a, a_byte) at (value_of a_byte (token bytes at).lexeme) refl (λ v k. plain_value es b f a a_byte at v k) h (value_faults a_byte (token bytes at).lexeme)
-  value_leads es b f a (one_of words) at h = give_leads es b f (a, one_of words) at (value_of (one_of words) (token bytes at).lexeme) refl (λ v k. plain_value es b f a (one_of words) at v k) h (value_faults (one_of words) (token bytes at).lexeme)
+  value_leads es b f a (one_of keyword_set) at h = give_leads es b f (a, one_of keyword_set) at (value_of (one_of keyword_set) (token bytes at).lexeme) refl (λ v k. plain_value es b f a (one_of keyword_set) at v k) h (value_faults (one_of keyword_set) (token bytes at).lexeme)
   value_leads es b f a an_area at h = give_leads es b f (a, an_area) at (value_of an_area (token bytes at).lexeme) refl (λ v k. plain_value es b f a an_area at v k) h (value_faults an_area (token bytes at).lexeme)
   value_leads es b f a a_file at h = give_leads es b f (a, a_file) at (value_of a_file (token bytes at).lexeme) refl (λ v k. plain_value es b f a a_file at v k) h (value_faults a_file (token bytes at).lexeme)
 
@@ -356,7 +356,7 @@ module _ (bytes : List ℕ) where
 
   fault_from : (es : Entries) (p : ParseState) (at : ℕ) (f : FaultAt) → Before es p at → SyntaxErrorAt bytes es p at f → (f.fault ≡ SyntaxError) ⊎ HasFault bytes f
   fault_from _ _ _ _ before (later es fs p q at f e rest) = fault_from fs q (token bytes at).following f (subst (Following at) e (moved es p at before)) rest
-  fault_from _ _ _ _ before (here es p at fault place e) = subst (Following at) e (moved es p at before)
+  fault_from _ _ _ _ before (here es p at fault offset e) = subst (Following at) e (moved es p at before)
 
   pub fault_of : (f : FaultAt) → SyntaxErrorAt bytes no_entries between_blocks 0 f → (f.fault ≡ SyntaxError) ⊎ HasFault bytes f
   fault_of f h = fault_from no_entries between_blocks 0 f (no_block no_entries 0) h

@@ -135,17 +135,17 @@ sum_same k begun rows ps qs ss us ts n a s known h = grind (arith, common_steps,
 
 -- ---- Area by area.
 
-record SumsSo (k : ℕ) (rows : List SegmentRow) (placed : List AreaPlacement) (ss : List RowState) (a : MemoryArea) (place : AreaPlacement) : Type 0 where
-  pub start : HasSum placed (map row_place ss) a.start place.start
-  pub size : HasSum placed (map row_place ss) a.size place.size
+record SumsSo (k : ℕ) (rows : List SegmentRow) (placed : List AreaPlacement) (ss : List RowState) (a : MemoryArea) (placement : AreaPlacement) : Type 0 where
+  pub start : HasSum placed (map row_place ss) a.start placement.start
+  pub size : HasSum placed (map row_place ss) a.size placement.size
   pub start_known : list_all (is_known k false rows) a.start ≡ true
   pub size_known : list_all (is_known k true rows) a.size ≡ true
-  pub start_less : place.start < 2 ^ 32
-  pub size_less : place.size < 2 ^ 32
-  pub inside : place.start + place.size ≤ 2 ^ 32
+  pub start_less : placement.start < 2 ^ 32
+  pub size_less : placement.size < 2 ^ 32
+  pub inside : placement.start + placement.size ≤ 2 ^ 32
 
 abbrev SumsIn : Script → ℕ → List AreaPlacement → List RowState → Type 0
-SumsIn script j placed ss = (a : MemoryArea) (place : AreaPlacement) → slice_get script.areas j ≡ Some a → slice_get placed j ≡ Some place → SumsSo j script.rows placed ss a place
+SumsIn script j placed ss = (a : MemoryArea) (placement : AreaPlacement) → slice_get script.areas j ≡ Some a → slice_get placed j ≡ Some placement → SumsSo j script.rows placed ss a placement
 
 -- one place more agrees with those before it
 longer_agrees : (k : ℕ) (begun : Bool) (placed : List AreaPlacement) (x : AreaPlacement) → k < length placed → Agree k begun placed (placed ++ x ∷ [])
@@ -158,9 +158,9 @@ own_agrees : (k : ℕ) (placed : List AreaPlacement) (x : AreaPlacement) (start 
 own_agrees k placed x start count same = grind (arith, common_steps, get_before, get_last)
 
 sums_made : (script : Script) → Made script (SumsIn script)
-sums_made script k a placed ss ts b last at count made e c place there here =
+sums_made script k a placed ss ts b last at count made e c placement there here =
     let same_area : a ≡ c = (let w : ◌≡◌ {A = Option MemoryArea} (Some a) (Some c) = sym at ∙ there in cc) in
-    let same_place : area_place b last ≡ place = (let w : ◌≡◌ {A = Option AreaPlacement} (Some (area_place b last)) (Some place) = sym (get_last placed k (area_place b last) count) ∙ here in cc) in
+    let same_place : area_place b last ≡ placement = (let w : ◌≡◌ {A = Option AreaPlacement} (Some (area_place b last)) (Some placement) = sym (get_last placed k (area_place b last) count) ∙ here in cc) in
     let g = summed_of (standing k script.areas script.rows a placed ss) b made in
     let starts : b.start ≡ g.start = g.spans.starts in
     let ends : b.end ≡ g.start + g.size = g.spans.ends in
@@ -169,28 +169,28 @@ sums_made script k a placed ss ts b last at count made e c place there here =
     let settled = rows_settled k k a b script.rows ss ts b.start last (omega arith) e in
     let first = found_of (standing k script.areas script.rows a placed ss) a.start g.start g.starts in
     let second = found_of (with_start (standing k script.areas script.rows a placed ss) g.start) a.size g.size g.sizes in
-    let places : List AreaPlacement = placed ++ area_place b last ∷ [] in
-    let start : HasSum places (map row_place ts) a.start g.start = sum_same k false script.rows (placed ++ own_place None) places ss ts a.start g.start (first_agrees k placed (area_place b last) count) settled first.known first.sum in
-    let size : HasSum places (map row_place ts) a.size g.size = sum_same k true script.rows (placed ++ own_place (Some g.start)) places ss ts a.size g.size (own_agrees k placed (area_place b last) g.start count starts) settled second.known second.sum in
-    let so : SumsSo k script.rows places ts a (area_place b last) = record {
-      start = subst (HasSum places (map row_place ts) a.start) (sym starts) start;
-      size = subst (HasSum places (map row_place ts) a.size) (sym width) size;
+    let placements : List AreaPlacement = placed ++ area_place b last ∷ [] in
+    let start : HasSum placements (map row_place ts) a.start g.start = sum_same k false script.rows (placed ++ own_place None) placements ss ts a.start g.start (first_agrees k placed (area_place b last) count) settled first.known first.sum in
+    let size : HasSum placements (map row_place ts) a.size g.size = sum_same k true script.rows (placed ++ own_place (Some g.start)) placements ss ts a.size g.size (own_agrees k placed (area_place b last) g.start count starts) settled second.known second.sum in
+    let so : SumsSo k script.rows placements ts a (area_place b last) = record {
+      start = subst (HasSum placements (map row_place ts) a.start) (sym starts) start;
+      size = subst (HasSum placements (map row_place ts) a.size) (sym width) size;
       start_known = first.known;
       size_known = second.known;
       start_less = omega (arith, first.less);
       size_less = omega (arith, second.less);
       inside = omega arith;
     } in
-    subst (λ x. SumsSo k script.rows places ts x place) same_area (subst (SumsSo k script.rows places ts a) same_place so)
+    subst (λ x. SumsSo k script.rows placements ts x placement) same_area (subst (SumsSo k script.rows placements ts a) same_place so)
 
 sums_kept : (script : Script) → Kept script (SumsIn script)
-sums_kept script j k a placed ss ts b last less count made e q c place there here =
+sums_kept script j k a placed ss ts b last less count made e q c placement there here =
     let inside : j < length placed = omega arith in
-    let so = q c place there (sym (get_before placed (area_place b last) j inside) ∙ here) in
+    let so = q c placement there (sym (get_before placed (area_place b last) j inside) ∙ here) in
     let settled = rows_settled j k a b script.rows ss ts b.start last (omega arith) e in
     record {
-      start = sum_same j false script.rows placed (placed ++ area_place b last ∷ []) ss ts c.start place.start (longer_agrees j false placed (area_place b last) inside) settled so.start_known so.start;
-      size = sum_same j true script.rows placed (placed ++ area_place b last ∷ []) ss ts c.size place.size (longer_agrees j true placed (area_place b last) inside) settled so.size_known so.size;
+      start = sum_same j false script.rows placed (placed ++ area_place b last ∷ []) ss ts c.start placement.start (longer_agrees j false placed (area_place b last) inside) settled so.start_known so.start;
+      size = sum_same j true script.rows placed (placed ++ area_place b last ∷ []) ss ts c.size placement.size (longer_agrees j true placed (area_place b last) inside) settled so.size_known so.size;
       start_known = so.start_known;
       size_known = so.size_known;
       start_less = so.start_less;
@@ -199,11 +199,11 @@ sums_kept script j k a placed ss ts b last less count made e q c place there her
     }
 
 pub sums_hold : SumsHold
-sums_hold script needs p h k a place at here =
+sums_hold script needs p h k a placement at here =
     let g : Holds (SumsIn script) (length script.areas) p = all_hold script needs p (SumsIn script) (sums_made script) (sums_kept script) h in
-    let so = g.each k (slice_get_within script.areas k a at) a place at here in
-    let P : List RowPlacement → Type 0 = λ rs. HasSum p.areas rs a.start place.start in
-    let Q : List RowPlacement → Type 0 = λ rs. HasSum p.areas rs a.size place.size in
+    let so = g.each k (slice_get_within script.areas k a at) a placement at here in
+    let P : List RowPlacement → Type 0 = λ rs. HasSum p.areas rs a.start placement.start in
+    let Q : List RowPlacement → Type 0 = λ rs. HasSum p.areas rs a.size placement.size in
     record {
       start = subst P (sym g.rows) so.start;
       size = subst Q (sym g.rows) so.size;

@@ -62,40 +62,40 @@ module _ (bytes : List ℕ) where
   record Reached (es : Entries) (p : ParseState) (at : ℕ) (f : FaultAt) : Type 0 where
     pub fs : Entries
     pub q : ParseState
-    pub place : ℕ
-    pub from : at ≤ place
-    pub within : place ≤ length bytes
-    pub is : moves bytes fs q place ≡ stop f.fault f.at
-    pub kept : (other : List ℕ) → Cut place bytes other → SameTokensUpTo bytes other at place
-    pub before : (other : List ℕ) → SameTokensUpTo bytes other at place → Before other es p at → Before other fs q place
-    pub reads : (other : List ℕ) (r : Result Entries FaultAt) → SameTokensUpTo bytes other at place → Reads other fs q place r → Reads other es p at r
+    pub offset : ℕ
+    pub from : at ≤ offset
+    pub within : offset ≤ length bytes
+    pub is : moves bytes fs q offset ≡ stop f.fault f.at
+    pub kept : (other : List ℕ) → Cut offset bytes other → SameTokensUpTo bytes other at offset
+    pub before : (other : List ℕ) → SameTokensUpTo bytes other at offset → Before other es p at → Before other fs q offset
+    pub reads : (other : List ℕ) (r : Result Entries FaultAt) → SameTokensUpTo bytes other at offset → Reads other fs q offset r → Reads other es p at r
 
   reached : (es : Entries) (p : ParseState) (at : ℕ) (f : FaultAt) → at ≤ length bytes → SyntaxErrorAt bytes es p at f → Reached es p at f
   reached _ _ _ _ le (later es fs p q at f e rest) =
       let solid_there : IsSolid (token bytes at).lexeme = solid es p (token bytes at).lexeme (token bytes at).at (subst Leads (sym e) tt) in
       let ends = token_within bytes at le solid_there in
       let r = reached fs q (token bytes at).following f ends.0 rest in
-      let lt : at < r.place = omega (arith, ends.1, r.from) in
+      let lt : at < r.offset = omega (arith, ends.1, r.from) in
       record {
         fs = r.fs;
         q = r.q;
-        place = r.place;
+        offset = r.offset;
         from = omega arith;
         within = r.within;
         is = r.is;
-        kept = λ other c. same_token at r.place (token_kept bytes other at r.place c r.from solid_there) (r.kept other c);
+        kept = λ other c. same_token at r.offset (token_kept bytes other at r.offset c r.from solid_there) (r.kept other c);
         before = λ other s b.
-            let t = first_token other at r.place lt s in
+            let t = first_token other at r.offset lt s in
             let there : Before other fs q (token other at).following = subst (Following other at) (ap (λ (x : Token). token_move es p x.lexeme x.at) t.0 ∙ e) (moved other es p at b) in
             r.before other t.1 (subst (Before other fs q) (ap (λ (x : Token). x.following) t.0) there);
         reads = λ other u s k.
-            let t = first_token other at r.place lt s in
+            let t = first_token other at r.offset lt s in
             next es fs p q at u (ap (λ (x : Token). token_move es p x.lexeme x.at) t.0 ∙ e) (subst (λ n. Reads other fs q n u) (sym (ap (λ (x : Token). x.following) t.0)) (r.reads other u t.1 k));
       }
-  reached _ _ _ _ le (here es p at fault place e) = record {
+  reached _ _ _ _ le (here es p at fault offset e) = record {
     fs = es;
     q = p;
-    place = at;
+    offset = at;
     from = omega arith;
     within = le;
     is = e;
@@ -111,11 +111,11 @@ module _ (bytes : List ℕ) where
     there = reached no_entries between_blocks 0 f (omega arith) h
 
     -- with the token at which a syntax error is found no text goes on
-    no_text : f.fault ≡ SyntaxError → (text : List ℕ) → SameTokensUpTo bytes text 0 there.place → token text there.place ≡ token bytes there.place → IsInGrammar text ⊎ GoesToWrongEnd text there.place → ⊥
+    no_text : f.fault ≡ SyntaxError → (text : List ℕ) → SameTokensUpTo bytes text 0 there.offset → token text there.offset ≡ token bytes there.offset → IsInGrammar text ⊎ GoesToWrongEnd text there.offset → ⊥
     no_text syntax text s t g = by g
       where
         stopped : Reads text no_entries between_blocks 0 (Err f)
-        stopped = there.reads text (Err f) s (stops there.fs there.q there.place f.fault f.at (ap (λ (x : Token). token_move there.fs there.q x.lexeme x.at) t ∙ there.is))
+        stopped = there.reads text (Err f) s (stops there.fs there.q there.offset f.fault f.at (ap (λ (x : Token). token_move there.fs there.q x.lexeme x.at) t ∙ there.is))
 
         other_fault : (g : FaultAt) → HasFault text g → ⊥
         other_fault g k =
@@ -123,27 +123,27 @@ module _ (bytes : List ℕ) where
             let same : g ≡ f = cc in
             fault_own text g k (ap (λ (s : FaultAt). s.fault) same ∙ syntax)
 
-        by : IsInGrammar text ⊎ GoesToWrongEnd text there.place → ⊥
+        by : IsInGrammar text ⊎ GoesToWrongEnd text there.offset → ⊥
         by (inl w) =
             let both : ◌≡◌ {A = Result Entries FaultAt} (Ok w.0) (Err f) = reads_one text no_entries between_blocks 0 (Ok w.0) (Err f) (written_reads text w.0 w.1) stopped in
             cc
         by (inr w) = other_fault (stop_at w.fault (token text w.at).at) (wrong_end w.block w.entries w.entry w.fault w.at w.inside w.ends w.wrong)
 
-    least : f.fault ≡ SyntaxError → IsLeast bytes there.place
+    least : f.fault ≡ SyntaxError → IsLeast bytes there.offset
     least syntax =
-        let c = closed bytes there.fs there.q there.place (there.before bytes (itself (take there.place bytes ++ 10 ∷ []) 0 there.place (there.kept (take there.place bytes ++ 10 ∷ []) (cut there.place bytes [] there.within))) (no_block no_entries 0)) in
-        let same = there.kept (take there.place bytes ++ 10 ∷ c.text) (cut there.place bytes c.text there.within) in
+        let c = closed bytes there.fs there.q there.offset (there.before bytes (itself (take there.offset bytes ++ 10 ∷ []) 0 there.offset (there.kept (take there.offset bytes ++ 10 ∷ []) (cut there.offset bytes [] there.within))) (no_block no_entries 0)) in
+        let same = there.kept (take there.offset bytes ++ 10 ∷ c.text) (cut there.offset bytes c.text there.within) in
         record {
-          other = take there.place bytes ++ 10 ∷ c.text;
+          other = take there.offset bytes ++ 10 ∷ c.text;
           same = same;
-          goes_on = c.ends (take there.place bytes ++ 10 ∷ c.text) (there.before (take there.place bytes ++ 10 ∷ c.text) same (no_block no_entries 0)) (cut_rest there.place bytes c.text there.within);
+          goes_on = c.ends (take there.offset bytes ++ 10 ∷ c.text) (there.before (take there.offset bytes ++ 10 ∷ c.text) same (no_block no_entries 0)) (cut_rest there.offset bytes c.text there.within);
           ends = no_text syntax;
         }
 
-    found_there : f.fault ≡ SyntaxError → (token bytes there.place).at ≡ f.at
-    found_there syntax = by (subst (IsAt (token bytes there.place).at) there.is (move_at there.fs there.q (token bytes there.place).lexeme (token bytes there.place).at))
+    found_there : f.fault ≡ SyntaxError → (token bytes there.offset).at ≡ f.at
+    found_there syntax = by (subst (IsAt (token bytes there.offset).at) there.is (move_at there.fs there.q (token bytes there.offset).lexeme (token bytes there.offset).at))
       where
-        by : (f.at ≡ (token bytes there.place).at) ⊎ (f.fault ≡ OutOfRange) → (token bytes there.place).at ≡ f.at
+        by : (f.at ≡ (token bytes there.offset).at) ⊎ (f.fault ≡ OutOfRange) → (token bytes there.offset).at ≡ f.at
         by (inl e) = sym e
         by (inr e) = let never : SyntaxError ≡ OutOfRange = sym syntax ∙ e in absurd cc
 
@@ -159,8 +159,8 @@ module _ (bytes : List ℕ) where
       by : (f.fault ≡ SyntaxError) ⊎ HasFault bytes f → IsFirst bytes f
       by (inr k) = numbered f k
       by (inl syntax) =
-          let same : stop_at SyntaxError (token bytes (there f h).place).at ≡ f = ap (λ n. stop_at SyntaxError n) (found_there f h syntax) ∙ ap (λ (c : Fault). stop_at c f.at) (sym syntax) in
-          subst (IsFirst bytes) same (syntax_error (there f h).place (no_fault f h syntax) (least f h syntax))
+          let same : stop_at SyntaxError (token bytes (there f h).offset).at ≡ f = ap (λ n. stop_at SyntaxError n) (found_there f h syntax) ∙ ap (λ (c : Fault). stop_at c f.at) (sym syntax) in
+          subst (IsFirst bytes) same (syntax_error (there f h).offset (no_fault f h syntax) (least f h syntax))
 
   -- ---- Only one token is the least.
 
@@ -178,9 +178,9 @@ module _ (bytes : List ℕ) where
   along x _ _ (same_token at to e rest) = omega (arith, after_token at, along x (token bytes at).following to rest)
 
   -- a text has the tokens up to a place and the one there
-  record Passes (x : List ℕ) (at place : ℕ) : Type 0 where
-    pub same : SameTokensUpTo bytes x at place
-    pub there : token x place ≡ token bytes place
+  record Passes (x : List ℕ) (at offset : ℕ) : Type 0 where
+    pub same : SameTokensUpTo bytes x at offset
+    pub there : token x offset ≡ token bytes offset
 
   in_order : (x y : List ℕ) (at p q : ℕ) → SameTokensUpTo bytes x at p → SameTokensUpTo bytes y at q → (p ≡ q) ⊎ ((Passes y at p × (p ≤ q)) ⊎ (Passes x at q × (q ≤ p)))
   in_order x y _ _ _ (no_token at) (no_token _) = inl refl
@@ -193,30 +193,30 @@ module _ (bytes : List ℕ) where
       by (inr (inl h)) = inr (inl (record { same = same_token at p d h.0.same; there = h.0.there }, h.1))
       by (inr (inr h)) = inr (inr (record { same = same_token at q e h.0.same; there = h.0.there }, h.1))
 
-  read_least : (place : ℕ) → ((f : FaultAt) → HasFault bytes f → ⊥) → IsLeast bytes place → IsRead bytes (Err (stop_at SyntaxError (token bytes place).at))
-  read_least place no_fault_there l = by some.0 some.1
+  read_least : (offset : ℕ) → ((f : FaultAt) → HasFault bytes f → ⊥) → IsLeast bytes offset → IsRead bytes (Err (stop_at SyntaxError (token bytes offset).at))
+  read_least offset no_fault_there l = by some.0 some.1
     where
       some : (r : Result Entries FaultAt) × Reads bytes no_entries between_blocks 0 r
       some = reads_some bytes (length bytes) 0 no_entries between_blocks (omega arith)
 
-      same_place : (f : FaultAt) (h : IsRead bytes (Err f)) (syntax : f.fault ≡ SyntaxError) → (place ≡ (there f h).place) ⊎ ((Passes (least f h syntax).other 0 place × (place ≤ (there f h).place)) ⊎ (Passes l.other 0 (there f h).place × ((there f h).place ≤ place))) → IsRead bytes (Err (stop_at SyntaxError (token bytes place).at))
+      same_place : (f : FaultAt) (h : IsRead bytes (Err f)) (syntax : f.fault ≡ SyntaxError) → (offset ≡ (there f h).offset) ⊎ ((Passes (least f h syntax).other 0 offset × (offset ≤ (there f h).offset)) ⊎ (Passes l.other 0 (there f h).offset × ((there f h).offset ≤ offset))) → IsRead bytes (Err (stop_at SyntaxError (token bytes offset).at))
       same_place f h syntax (inl same) =
-          let is : f ≡ stop_at SyntaxError (token bytes place).at = ap (λ (c : Fault). stop_at c f.at) syntax ∙ ap (λ n. stop_at SyntaxError n) (sym (found_there f h syntax)) ∙ ap (λ n. stop_at SyntaxError (token bytes n).at) (sym same) in
+          let is : f ≡ stop_at SyntaxError (token bytes offset).at = ap (λ (c : Fault). stop_at c f.at) syntax ∙ ap (λ n. stop_at SyntaxError n) (sym (found_there f h syntax)) ∙ ap (λ n. stop_at SyntaxError (token bytes n).at) (sym same) in
           subst (λ (f : FaultAt). IsRead bytes (Err f)) is h
-      same_place f h syntax (inr (inl k)) = absurd (l.ends (least f h syntax).other k.0.same k.0.there (goes_less (least f h syntax).other place (there f h).place k.1 (least f h syntax).goes_on))
-      same_place f h syntax (inr (inr k)) = absurd ((least f h syntax).ends l.other k.0.same k.0.there (goes_less l.other (there f h).place place k.1 l.goes_on))
+      same_place f h syntax (inr (inl k)) = absurd (l.ends (least f h syntax).other k.0.same k.0.there (goes_less (least f h syntax).other offset (there f h).offset k.1 (least f h syntax).goes_on))
+      same_place f h syntax (inr (inr k)) = absurd ((least f h syntax).ends l.other k.0.same k.0.there (goes_less l.other (there f h).offset offset k.1 l.goes_on))
 
-      by_fault : (f : FaultAt) → IsRead bytes (Err f) → (f.fault ≡ SyntaxError) ⊎ HasFault bytes f → IsRead bytes (Err (stop_at SyntaxError (token bytes place).at))
+      by_fault : (f : FaultAt) → IsRead bytes (Err f) → (f.fault ≡ SyntaxError) ⊎ HasFault bytes f → IsRead bytes (Err (stop_at SyntaxError (token bytes offset).at))
       by_fault f h (inr k) = absurd (no_fault_there f k)
-      by_fault f h (inl syntax) = same_place f h syntax (in_order l.other (least f h syntax).other 0 place (there f h).place l.same (least f h syntax).same)
+      by_fault f h (inl syntax) = same_place f h syntax (in_order l.other (least f h syntax).other 0 offset (there f h).offset l.same (least f h syntax).same)
 
-      by : (r : Result Entries FaultAt) → Reads bytes no_entries between_blocks 0 r → IsRead bytes (Err (stop_at SyntaxError (token bytes place).at))
-      by (Ok es) k = absurd (l.ends bytes (itself l.other 0 place l.same) refl (inl (es, is_read bytes (Ok es) k)))
+      by : (r : Result Entries FaultAt) → Reads bytes no_entries between_blocks 0 r → IsRead bytes (Err (stop_at SyntaxError (token bytes offset).at))
+      by (Ok es) k = absurd (l.ends bytes (itself l.other 0 offset l.same) refl (inl (es, is_read bytes (Ok es) k)))
       by (Err f) k = by_fault f (is_read bytes (Err f) k) (fault_of bytes f (is_read bytes (Err f) k))
 
   read_first : (f : FaultAt) → IsFirst bytes f → IsRead bytes (Err f)
   read_first _ (numbered f h) = is_read bytes (Err f) (fault_reads bytes f h)
-  read_first _ (syntax_error place no_fault_there l) = read_least place no_fault_there l
+  read_first _ (syntax_error offset no_fault_there l) = read_least offset no_fault_there l
 
 pub first_faults : FirstFaults
 first_faults bytes f = (first_of bytes f, read_first bytes f)

@@ -12,7 +12,7 @@ use Rattle.script65.specs.Tokens.{token}
 pub data Reads (bytes : List ℕ) : Entries → ParseState → ℕ → Result Entries FaultAt → Type 0 where
   next : (es fs : Entries) (p q : ParseState) (at : ℕ) (r : Result Entries FaultAt) → moves bytes es p at ≡ on fs q → Reads bytes fs q (token bytes at).following r → Reads bytes es p at r
   ends : (es fs : Entries) (p : ParseState) (at : ℕ) → moves bytes es p at ≡ done fs → Reads bytes es p at (Ok fs)
-  stops : (es : Entries) (p : ParseState) (at : ℕ) (fault : Fault) (place : ℕ) → moves bytes es p at ≡ stop fault place → Reads bytes es p at (Err (stop_at fault place))
+  stops : (es : Entries) (p : ParseState) (at : ℕ) (fault : Fault) (offset : ℕ) → moves bytes es p at ≡ stop fault offset → Reads bytes es p at (Err (stop_at fault offset))
 
 -- the same of a whole text
 abbrev pub ReadsText : List ℕ → Result Entries FaultAt → Type 0

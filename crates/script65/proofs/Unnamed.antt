@@ -240,7 +240,7 @@ value_holds : (es : Entries) (b : Block) (e : ConfigEntry) (a : List ℕ) (takes
 value_holds es b e a a_sum l at good kept row = part_holds es b e a [] at (part_of false at l) good kept
 value_holds es b e a (number_from low high) l at good kept row = give_holds es b e a at (value_of (number_from low high) l) good kept (no_sum b a (number_from low high) (λ h. cc) row)
 value_holds es b e a a_byte l at good kept row = give_holds es b e a at (value_of a_byte l) good kept (no_sum b a a_byte (λ h. cc) row)
-value_holds es b e a (one_of words) l at good kept row = give_holds es b e a at (value_of (one_of words) l) good kept (no_sum b a (one_of words) (λ h. cc) row)
+value_holds es b e a (one_of keyword_set) l at good kept row = give_holds es b e a at (value_of (one_of keyword_set) l) good kept (no_sum b a (one_of keyword_set) (λ h. cc) row)
 value_holds es b e a an_area l at good kept row = give_holds es b e a at (value_of an_area l) good kept (no_sum b a an_area (λ h. cc) row)
 value_holds es b e a a_file l at good kept row = give_holds es b e a at (value_of a_file l) good kept (no_sum b a a_file (λ h. cc) row)
 
@@ -279,7 +279,7 @@ reads_good bytes _ _ _ _ (next es fs p q at r e k) good kept gs h =
     let held = subst Holds e (move_holds es p (token bytes at).lexeme (token bytes at).at good kept) in
     reads_good bytes fs q (token bytes at).following r k held.0 held.1 gs h
 reads_good bytes _ _ _ _ (ends es fs p at e) good kept gs h = subst AreGood (ok_is fs gs h) (subst Holds e (move_holds es p (token bytes at).lexeme (token bytes at).at good kept))
-reads_good bytes _ _ _ _ (stops es p at f place e) good kept gs h = absurd cc
+reads_good bytes _ _ _ _ (stops es p at f offset e) good kept gs h = absurd cc
 
 entries_good : (bytes : List ℕ) (es : Entries) → ReadsText bytes (Ok es) → AreGood es
 entries_good bytes es = by (is_too_long bytes)

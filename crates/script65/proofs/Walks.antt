@@ -77,14 +77,14 @@ after_one done s x = grind (arith, common_steps)
 module _ (k : ℕ) (a : MemoryArea) (b : Bounds) (rows : List SegmentRow) (whole : Result (List RowState × ℕ) PlaceFault) where
   -- from a place on the rows and their spots are left, and the rest of the members are theirs
   pub record Walk (spots : List RowState) (cursor : ℕ) (members : List ℕ) : Type 0 where
-    pub place : ℕ
+    pub index : ℕ
     pub rs : List SegmentRow
     pub ss : List RowState
-    pub rows_there : drop place rows ≡ rs
-    pub spots_there : drop place spots ≡ ss
+    pub rows_there : drop index rows ≡ rs
+    pub spots_there : drop index spots ≡ ss
     pub count : length ss ≡ length rs
-    pub rest : members ≡ places_in k place rs
-    pub same : following (take place spots) (rows_from k a b rs ss cursor) ≡ whole
+    pub rest : members ≡ places_in k index rs
+    pub same : following (take index spots) (rows_from k a b rs ss cursor) ≡ whole
 
   -- the row at a place is the next of the area
   pub record Next (spots : List RowState) (cursor : ℕ) (m : ℕ) (members : List ℕ) : Type 0 where
@@ -135,12 +135,12 @@ module _ (k : ℕ) (a : MemoryArea) (b : Bounds) (rows : List SegmentRow) (whole
           ∙ g)
 
   pub next_member : (spots : List RowState) (cursor m : ℕ) (members : List ℕ) → Walk spots cursor (m ∷ members) → Next spots cursor m members
-  next_member spots cursor m members w = next_of spots cursor m members w.rs w.ss w.place w.rows_there w.spots_there w.count w.rest w.same
+  next_member spots cursor m members w = next_of spots cursor m members w.rs w.ss w.index w.rows_there w.spots_there w.count w.rest w.same
 
   -- the row is placed
   pub walk_on : (spots : List RowState) (cursor m : ℕ) (members : List ℕ) (n : Next spots cursor m members) (x : RowState × ℕ) → row_after k a b n.r n.s cursor ≡ Ok x → Walk (slice_set spots m x.0) x.1 members
   walk_on spots cursor m members n x e = record {
-    place = m + 1;
+    index = m + 1;
     rs = n.rs;
     ss = n.ss;
     rows_there = rw add-one (drop_suc rows m n.r n.rs n.rows_there);

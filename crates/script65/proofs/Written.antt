@@ -24,12 +24,12 @@ module _ (bytes : List ℕ) where
 
   breaks_reads : (es : Entries) (p : ParseState) (at : ℕ) (f : FaultAt) → SyntaxErrorAt bytes es p at f → Reads bytes es p at (Err f)
   breaks_reads _ _ _ f (later es fs p q at g e h) = next es fs p q at (Err f) e (breaks_reads fs q (token bytes at).following f h)
-  breaks_reads _ _ _ _ (here es p at fault place e) = stops es p at fault place e
+  breaks_reads _ _ _ _ (here es p at fault offset e) = stops es p at fault offset e
 
   reads_breaks : (es : Entries) (p : ParseState) (at : ℕ) (r : Result Entries FaultAt) → Reads bytes es p at r → (f : FaultAt) → r ≡ Err f → SyntaxErrorAt bytes es p at f
   reads_breaks _ _ _ _ (next es fs p q at r e h) f same = later es fs p q at f e (reads_breaks fs q (token bytes at).following r h f same)
   reads_breaks _ _ _ _ (ends es fs p at e) f same = absurd cc
-  reads_breaks _ _ _ _ (stops es p at fault place e) f same = let is : stop_at fault place ≡ f = cc in subst (SyntaxErrorAt bytes es p at) is (here es p at fault place e)
+  reads_breaks _ _ _ _ (stops es p at fault offset e) f same = let is : stop_at fault offset ≡ f = cc in subst (SyntaxErrorAt bytes es p at) is (here es p at fault offset e)
 
   -- ---- What is written is read.
 
@@ -37,18 +37,18 @@ module _ (bytes : List ℕ) where
   abbrev pub Follows : ℕ → Move → Result Entries FaultAt → Type 0
   Follows at (on fs q) r = Reads bytes fs q (token bytes at).following r
   Follows at (done fs) r = r ≡ Ok fs
-  Follows at (stop f place) r = r ≡ Err (stop_at f place)
+  Follows at (stop f offset) r = r ≡ Err (stop_at f offset)
 
   pub follows : (es : Entries) (p : ParseState) (at : ℕ) (r : Result Entries FaultAt) → Reads bytes es p at r → Follows at (moves bytes es p at) r
   follows _ _ _ _ (next es fs p q at r e h) = subst (λ m. Follows at m r) (sym e) h
   follows _ _ _ _ (ends es fs p at e) = subst (λ m. Follows at m (Ok fs)) (sym e) refl
-  follows _ _ _ _ (stops es p at f place e) = subst (λ m. Follows at m (Err (stop_at f place))) (sym e) refl
+  follows _ _ _ _ (stops es p at f offset e) = subst (λ m. Follows at m (Err (stop_at f offset))) (sym e) refl
 
   -- where tokens do the same, they read the same
   pub same_moves : (es fs : Entries) (p q : ParseState) (at : ℕ) (r : Result Entries FaultAt) → moves bytes es p at ≡ moves bytes fs q at → Reads bytes fs q at r → Reads bytes es p at r
   same_moves es _ p _ _ _ e (next fs gs q s at r h k) = next es gs p s at r (e ∙ h) k
   same_moves es _ p _ _ _ e (ends fs gs q at h) = ends es gs p at (e ∙ h)
-  same_moves es _ p _ _ _ e (stops fs q at f place h) = stops es p at f place (e ∙ h)
+  same_moves es _ p _ _ _ e (stops fs q at f offset h) = stops es p at f offset (e ∙ h)
 
   -- a token that stands
   pub steps : (es fs : Entries) (p q : ParseState) (l : Lexeme) (at to : ℕ) (r : Result Entries FaultAt) → TokenAt bytes l at to → token_move es p l (token bytes at).at ≡ on fs q → Reads bytes fs q to r → Reads bytes es p at r
@@ -110,7 +110,7 @@ module _ (bytes : List ℕ) where
       (passes es r fine (after_value b (with_given g e)) (after_term b e g.word g.parts) to (sum_passes es b e g.word g.parts g.value (token bytes to).lexeme (token bytes to).at v.1) k)
   value_reads es b e g (number_from low high) r fine at to v k = plain_value es b e g (number_from low high) r fine at to v.0 v.1 refl v.2 v.3 k
   value_reads es b e g a_byte r fine at to v k = plain_value es b e g a_byte r fine at to v.0 v.1 refl v.2 v.3 k
-  value_reads es b e g (one_of words) r fine at to v k = plain_value es b e g (one_of words) r fine at to v.0 v.1 refl v.2 v.3 k
+  value_reads es b e g (one_of keyword_set) r fine at to v k = plain_value es b e g (one_of keyword_set) r fine at to v.0 v.1 refl v.2 v.3 k
   value_reads es b e g an_area r fine at to v k = plain_value es b e g an_area r fine at to v.0 v.1 refl v.2 v.3 k
   value_reads es b e g a_file r fine at to v k = plain_value es b e g a_file r fine at to v.0 v.1 refl v.2 v.3 k
 
@@ -246,15 +246,15 @@ module _ (bytes : List ℕ) where
     abbrev After : ℕ → Move → Type 0
     After at (on es p) = Rest es p (token bytes at).following
     After at (done es) = es ≡ fs
-    After at (stop f place) = ⊥
+    After at (stop f offset) = ⊥
 
     stood : (l : Lexeme) (at : ℕ) → (token bytes at).lexeme ≡ l → TokenAt bytes l at (token bytes at).following
     stood l at e = record { lexeme = e; following = refl }
 
-    block_rest : (es : Entries) (at place : ℕ) (l : Lexeme) → (token bytes at).lexeme ≡ l → After at (breaks.block_word es l place) → RestBlocks es at
-    block_rest es at place (word w) e h = by (value_of_word w blocks) refl h
+    block_rest : (es : Entries) (at offset : ℕ) (l : Lexeme) → (token bytes at).lexeme ≡ l → After at (breaks.block_word es l offset) → RestBlocks es at
+    block_rest es at offset (word w) e h = by (value_of_word w blocks) refl h
       where
-        by : (o : Option Block) → value_of_word w blocks ≡ o → After at (option_map_or (λ b. on es (after_block_word b)) o (stop SyntaxError place)) → RestBlocks es at
+        by : (o : Option Block) → value_of_word w blocks ≡ o → After at (option_map_or (λ b. on es (after_block_word b)) o (stop SyntaxError offset)) → RestBlocks es at
         by None k h = absurd h
         by (Some b) k h =
             let inner = h.rest in
@@ -264,12 +264,12 @@ module _ (bytes : List ℕ) where
               blocks = block es inner.gs fs at inner.to following.end (record { written = w; block = b; after_word = (token bytes at).following; start = h.start; end = inner.end; stands = stood (word w) at e; known = k; opens = h.opens; has_entries = inner.has_entries; closes = inner.closes }) following.blocks;
               ends = following.ends;
             }
-    block_rest es at place the_end e h = record { end = at; blocks = subst (λ es. AreBlocks bytes es fs at at) (sym h) (no_block fs at); ends = e }
-    block_rest es at place _ e h = absurd h
+    block_rest es at offset the_end e h = record { end = at; blocks = subst (λ es. AreBlocks bytes es fs at at) (sym h) (no_block fs at); ends = e }
+    block_rest es at offset _ e h = absurd h
 
-    brace_rest : (es : Entries) (b : Block) (at place : ℕ) (l : Lexeme) → (token bytes at).lexeme ≡ l → After at (breaks.block_brace es b l place) → RestBrace b es at
-    brace_rest es b at place brace e h = record { start = (token bytes at).following; opens = stood brace at e; rest = h }
-    brace_rest es b at place _ e h = absurd h
+    brace_rest : (es : Entries) (b : Block) (at offset : ℕ) (l : Lexeme) → (token bytes at).lexeme ≡ l → After at (breaks.block_brace es b l offset) → RestBrace b es at
+    brace_rest es b at offset brace e h = record { start = (token bytes at).following; opens = stood brace at e; rest = h }
+    brace_rest es b at offset _ e h = absurd h
 
     -- attributes leave an entry its name and place
     keeps_name : (b : Block) (e f : ConfigEntry) (at to : ℕ) → AreAttributes bytes b e f at to → (f.name ≡ e.name) × (f.at ≡ e.at)
@@ -302,14 +302,14 @@ module _ (bytes : List ℕ) where
     name_rest es b at end_brace e h = record { gs = es; end = at; to = (token bytes at).following; has_entries = no_entry es at; closes = stood end_brace at e; rest = h }
     name_rest es b at _ e h = absurd h
 
-    colon_rest : (es : Entries) (b : Block) (f : ConfigEntry) (at place : ℕ) (l : Lexeme) → (token bytes at).lexeme ≡ l → After at (breaks.entry_colon es b f l place) → RestColon b es f at
-    colon_rest es b f at place colon e h = record { start = (token bytes at).following; colon_after = stood colon at e; rest = h }
-    colon_rest es b f at place _ e h = absurd h
+    colon_rest : (es : Entries) (b : Block) (f : ConfigEntry) (at offset : ℕ) (l : Lexeme) → (token bytes at).lexeme ≡ l → After at (breaks.entry_colon es b f l offset) → RestColon b es f at
+    colon_rest es b f at offset colon e h = record { start = (token bytes at).following; colon_after = stood colon at e; rest = h }
+    colon_rest es b f at offset _ e h = absurd h
 
-    attribute_rest : (es : Entries) (b : Block) (f : ConfigEntry) (at place : ℕ) (l : Lexeme) → (token bytes at).lexeme ≡ l → After at (breaks.attribute_or_end es b f l place) → RestAttributes b es f at
-    attribute_rest es b f at place (word w) e h = by (find_keyword w (attributes b)) refl h
+    attribute_rest : (es : Entries) (b : Block) (f : ConfigEntry) (at offset : ℕ) (l : Lexeme) → (token bytes at).lexeme ≡ l → After at (breaks.attribute_or_end es b f l offset) → RestAttributes b es f at
+    attribute_rest es b f at offset (word w) e h = by (find_keyword w (attributes b)) refl h
       where
-        once : (row : List ℕ × ValueKind) → find_keyword w (attributes b) ≡ Some row → (x : Bool) → is_given row.0 f ≡ x → After at (if x then stop AttributeTwice place else on es (after_word b f row)) → RestAttributes b es f at
+        once : (row : List ℕ × ValueKind) → find_keyword w (attributes b) ≡ Some row → (x : Bool) → is_given row.0 f ≡ x → After at (if x then stop AttributeTwice offset else on es (after_word b f row)) → RestAttributes b es f at
         once row k true x h = absurd h
         once row k false x h =
             let inner = h.rest in
@@ -319,28 +319,28 @@ module _ (bytes : List ℕ) where
             let is : IsAttribute bytes b f g at following.to = record { written = w; takes = row.1; after_word = (token bytes at).following; start = h.start; end = inner.end; stands = stood (word w) at e; known = k; once = x; equals_sign = h.equals_sign; value = inner.is_value; comma_after = following.comma_after } in
             record { f = more.f; end = more.end; to = more.to; gives = attribute f more.f g at following.to more.end is more.gives; whole = more.whole; semicolon_after = more.semicolon_after; rest = more.rest }
 
-        by : (o : Option (List ℕ × ValueKind)) → find_keyword w (attributes b) ≡ o → After at (breaks.known_attribute es b f o place) → RestAttributes b es f at
+        by : (o : Option (List ℕ × ValueKind)) → find_keyword w (attributes b) ≡ o → After at (breaks.known_attribute es b f o offset) → RestAttributes b es f at
         by None k h = absurd h
         by (Some row) k h = once row k (is_given row.0 f) refl h
-    attribute_rest es b f at place semicolon e h = by (entry_fault b f) refl h
+    attribute_rest es b f at offset semicolon e h = by (entry_fault b f) refl h
       where
-        by : (o : Option Fault) → entry_fault b f ≡ o → After at (breaks.entry_end es b f o place) → RestAttributes b es f at
+        by : (o : Option Fault) → entry_fault b f ≡ o → After at (breaks.entry_end es b f o offset) → RestAttributes b es f at
         by (Some fault) k h = absurd h
         by None k h = record { f = f; end = at; to = (token bytes at).following; gives = no_attribute f at; whole = k; semicolon_after = stood semicolon at e; rest = h }
-    attribute_rest es b f at place _ e h = absurd h
+    attribute_rest es b f at offset _ e h = absurd h
 
-    comma_rest : (es : Entries) (b : Block) (f : ConfigEntry) (at place : ℕ) (l : Lexeme) → (token bytes at).lexeme ≡ l → After at (breaks.comma_or_next es b f l place) → RestComma b es f at
-    comma_rest es b f at place comma e h = record { to = (token bytes at).following; comma_after = inl (stood comma at e); rest = h }
-    comma_rest es b f at place l e h = record { to = at; comma_after = inr refl; rest = attribute_rest es b f at place l e h }
+    comma_rest : (es : Entries) (b : Block) (f : ConfigEntry) (at offset : ℕ) (l : Lexeme) → (token bytes at).lexeme ≡ l → After at (breaks.comma_or_next es b f l offset) → RestComma b es f at
+    comma_rest es b f at offset comma e h = record { to = (token bytes at).following; comma_after = inl (stood comma at e); rest = h }
+    comma_rest es b f at offset l e h = record { to = at; comma_after = inr refl; rest = attribute_rest es b f at offset l e h }
 
-    end_rest : (es : Entries) (b : Block) (f : ConfigEntry) (a : List ℕ) (ps : List ParsedTerm) (at place : ℕ) (l : Lexeme) (o : Option Value) → sum_of_parts ps ≡ o → (token bytes at).lexeme ≡ l → After at (breaks.sum_end es b f a ps o l place) → SumEnds b es f a ps at
-    end_rest es b f a ps at place l None k e h = absurd h
-    end_rest es b f a ps at place l (Some v) k e h = record { v = v; value = k; rest = comma_rest es b (with_given (record { word = a; value = v; parts = ps }) f) at place l e h }
+    end_rest : (es : Entries) (b : Block) (f : ConfigEntry) (a : List ℕ) (ps : List ParsedTerm) (at offset : ℕ) (l : Lexeme) (o : Option Value) → sum_of_parts ps ≡ o → (token bytes at).lexeme ≡ l → After at (breaks.sum_end es b f a ps o l offset) → SumEnds b es f a ps at
+    end_rest es b f a ps at offset l None k e h = absurd h
+    end_rest es b f a ps at offset l (Some v) k e h = record { v = v; value = k; rest = comma_rest es b (with_given (record { word = a; value = v; parts = ps }) f) at offset l e h }
 
-    sign_rest : (es : Entries) (b : Block) (f : ConfigEntry) (a : List ℕ) (ps : List ParsedTerm) (at place : ℕ) (l : Lexeme) → (token bytes at).lexeme ≡ l → After at (breaks.sign_or_end es b f a ps l place) → SumEnds b es f a ps at ⊎ SignAfter b es f a ps at
-    sign_rest es b f a ps at place plus e h = inr (record { taken = false; start = (token bytes at).following; stands = stood plus at e; rest = h })
-    sign_rest es b f a ps at place minus e h = inr (record { taken = true; start = (token bytes at).following; stands = stood minus at e; rest = h })
-    sign_rest es b f a ps at place l e h = inl (end_rest es b f a ps at place l (sum_of_parts ps) refl e h)
+    sign_rest : (es : Entries) (b : Block) (f : ConfigEntry) (a : List ℕ) (ps : List ParsedTerm) (at offset : ℕ) (l : Lexeme) → (token bytes at).lexeme ≡ l → After at (breaks.sign_or_end es b f a ps l offset) → SumEnds b es f a ps at ⊎ SignAfter b es f a ps at
+    sign_rest es b f a ps at offset plus e h = inr (record { taken = false; start = (token bytes at).following; stands = stood plus at e; rest = h })
+    sign_rest es b f a ps at offset minus e h = inr (record { taken = true; start = (token bytes at).following; stands = stood minus at e; rest = h })
+    sign_rest es b f a ps at offset l e h = inl (end_rest es b f a ps at offset l (sum_of_parts ps) refl e h)
 
     -- a term, and what stands behind it
     term_rest : (es : Entries) (b : Block) (f : ConfigEntry) (a : List ℕ) (ps : List ParsedTerm) (taken : Bool) (at : ℕ) → After at (breaks.add_part es b f a ps (token bytes at).at (part_of taken (token bytes at).at (token bytes at).lexeme)) → RestTerms b es f a ps taken at
@@ -378,7 +378,7 @@ module _ (bytes : List ℕ) where
         record { value = sum.v; parts = sum.qs; end = sum.end; is_value = (sum.terms, sum.value); rest = sum.rest }
     value_rest es b f a (number_from low high) at h = give_rest es b f (a, number_from low high) at (value_of (number_from low high) (token bytes at).lexeme) (λ v k. plain (number_from low high) v at k) h
     value_rest es b f a a_byte at h = give_rest es b f (a, a_byte) at (value_of a_byte (token bytes at).lexeme) (λ v k. plain a_byte v at k) h
-    value_rest es b f a (one_of words) at h = give_rest es b f (a, one_of words) at (value_of (one_of words) (token bytes at).lexeme) (λ v k. plain (one_of words) v at k) h
+    value_rest es b f a (one_of keyword_set) at h = give_rest es b f (a, one_of keyword_set) at (value_of (one_of keyword_set) (token bytes at).lexeme) (λ v k. plain (one_of keyword_set) v at k) h
     value_rest es b f a an_area at h = give_rest es b f (a, an_area) at (value_of an_area (token bytes at).lexeme) (λ v k. plain an_area v at k) h
     value_rest es b f a a_file at h = give_rest es b f (a, a_file) at (value_of a_file (token bytes at).lexeme) (λ v k. plain a_file v at k) h
 
@@ -401,7 +401,7 @@ module _ (bytes : List ℕ) where
     read_rest : (es : Entries) (p : ParseState) (at : ℕ) (r : Result Entries FaultAt) → Reads bytes es p at r → r ≡ Ok fs → Rest es p at
     read_rest _ _ _ _ (next es gs p q at r e h) same = move_rest es p at (subst (After at) (sym e) (read_rest gs q (token bytes at).following r h same))
     read_rest _ _ _ _ (ends es gs p at e) same = let is : gs ≡ fs = cc in move_rest es p at (subst (After at) (sym e) is)
-    read_rest _ _ _ _ (stops es p at f place e) same = absurd cc
+    read_rest _ _ _ _ (stops es p at f offset e) same = absurd cc
 
   reads_written : (es : Entries) → Reads bytes no_entries between_blocks 0 (Ok es) → IsWritten bytes es
   reads_written es h = let rest = read_rest es no_entries between_blocks 0 (Ok es) h refl in record { end = rest.end; blocks = rest.blocks; ends = rest.ends }

@@ -90,7 +90,7 @@ as_word None = Err SyntaxError
 abbrev pub value_of : ValueKind → Lexeme → Result Value Fault
 value_of (number_from low high) (numeral n) = as_value number (in_range low high n)
 value_of a_byte (numeral n) = as_value byte (in_range 0 0xff n)
-value_of (one_of words) (word w) = as_word (value_of_word w (keywords words))
+value_of (one_of keyword_set) (word w) = as_word (value_of_word w (keywords keyword_set))
 value_of an_area (word w) = Ok (area w)
 value_of a_file (string s) = Ok (file s)
 value_of a_file output = Ok output_file

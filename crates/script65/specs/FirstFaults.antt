@@ -94,37 +94,37 @@ IsInGrammar text = (es : Entries) × IsWritten text es
 
 -- A continuation of the text contains the `;` of an entry that lacks no attribute but has two that exclude
 -- each other, or whose area ends after the last address.
-pub record GoesToWrongEnd (text : List ℕ) (place : ℕ) : Type 0 where
+pub record GoesToWrongEnd (text : List ℕ) (offset : ℕ) : Type 0 where
   pub block : Block
   pub entries : Entries
   pub entry : ConfigEntry
   pub fault : Fault
   pub at : ℕ
   pub inside : InEntry text block entries entry at
-  pub further : place ≤ at
+  pub further : offset ≤ at
   pub ends : (token text at).lexeme ≡ semicolon
   pub wrong : entry_fault block entry ≡ Some fault
   pub whole : fault ≢ AttributeMissing
 
 -- The attributes before an offset are wrong whatever attributes follow: they exclude each other, the area
 -- ends after the last address, or `value` is given for an import.
-pub data IsWrong (bytes : List ℕ) (place : ℕ) : Type 0 where
-  wrong_entry : (b : Block) (es : Entries) (e : ConfigEntry) (fault : Fault) (at : ℕ) → InEntry bytes b es e at → at ≤ place → entry_fault b e ≡ Some fault → fault ≢ AttributeMissing → IsWrong bytes place
-  value_of_import : (es : Entries) (e : ConfigEntry) (row : List ℕ × ValueKind) (at : ℕ) → InAttribute bytes symbols es e row at → at ≤ place → row.0 ≡ codes "value" → role_for e ≡ Some imported → IsWrong bytes place
+pub data IsWrong (bytes : List ℕ) (offset : ℕ) : Type 0 where
+  wrong_entry : (b : Block) (es : Entries) (e : ConfigEntry) (fault : Fault) (at : ℕ) → InEntry bytes b es e at → at ≤ offset → entry_fault b e ≡ Some fault → fault ≢ AttributeMissing → IsWrong bytes offset
+  value_of_import : (es : Entries) (e : ConfigEntry) (row : List ℕ × ValueKind) (at : ℕ) → InAttribute bytes symbols es e row at → at ≤ offset → row.0 ≡ codes "value" → role_for e ≡ Some imported → IsWrong bytes offset
 
 -- The least token with which no text goes on. Some text with the same tokens before it is in the grammar; or, where these are
 -- wrong already, goes on up to the `;`. None with the same tokens before it and with it does either.
-pub record IsLeast (bytes : List ℕ) (place : ℕ) : Type 0 where
+pub record IsLeast (bytes : List ℕ) (offset : ℕ) : Type 0 where
   pub other : List ℕ
-  pub same : SameTokensUpTo bytes other 0 place
-  pub goes_on : IsInGrammar other ⊎ (IsWrong bytes place × GoesToWrongEnd other place)
-  pub ends : (text : List ℕ) → SameTokensUpTo bytes text 0 place → token text place ≡ token bytes place → IsInGrammar text ⊎ GoesToWrongEnd text place → ⊥
+  pub same : SameTokensUpTo bytes other 0 offset
+  pub goes_on : IsInGrammar other ⊎ (IsWrong bytes offset × GoesToWrongEnd other offset)
+  pub ends : (text : List ℕ) → SameTokensUpTo bytes text 0 offset → token text offset ≡ token bytes offset → IsInGrammar text ⊎ GoesToWrongEnd text offset → ⊥
 
 -- A first error: one of a token by itself; or, if no token has one, a syntax error at the least token after
 -- which no continuation is a script.
 pub data IsFirst (bytes : List ℕ) : FaultAt → Type 0 where
   numbered : (f : FaultAt) → HasFault bytes f → IsFirst bytes f
-  syntax_error : (place : ℕ) → ((f : FaultAt) → HasFault bytes f → ⊥) → IsLeast bytes place → IsFirst bytes (stop_at SyntaxError (token bytes place).at)
+  syntax_error : (offset : ℕ) → ((f : FaultAt) → HasFault bytes f → ⊥) → IsLeast bytes offset → IsFirst bytes (stop_at SyntaxError (token bytes offset).at)
 
 -- these are the first faults that are read
 abbrev pub FirstFaults : Type 0

@@ -29,20 +29,20 @@ ReadingExists =
 
 -- texts with the same tokens up to a place
 abbrev pub SameTokens : List ℕ → List ℕ → ℕ → Type 0
-SameTokens bytes other place = (k : ℕ) → k ≤ place → token other k ≡ token bytes k
+SameTokens bytes other offset = (k : ℕ) → k ≤ offset → token other k ≡ token bytes k
 
 -- the error is at the token at this offset; or a number is out of range, which for a sum is reported at its
 -- last term
 abbrev pub IsFoundAt : List ℕ → FaultAt → ℕ → Type 0
-IsFoundAt bytes f place = (f.at ≡ (token bytes place).at) ⊎ (f.fault ≡ OutOfRange)
+IsFoundAt bytes f offset = (f.at ≡ (token bytes offset).at) ⊎ (f.fault ≡ OutOfRange)
 
 -- A first fault is one of the text up to a token: no text with the same tokens up to there is written by the grammar, whatever
 -- follows.
 abbrev pub NoContinuation : Type 0
 NoContinuation =
     (bytes : List ℕ) (f : FaultAt) → IsRead bytes (Err f) →
-    (place : ℕ) × IsFoundAt bytes f place
-    × ((other : List ℕ) (es : Entries) → SameTokens bytes other place → IsWritten other es → ⊥)
+    (offset : ℕ) × IsFoundAt bytes f offset
+    × ((other : List ℕ) (es : Entries) → SameTokens bytes other offset → IsWritten other es → ⊥)
 
 -- the token at the front of a text is the longest there is
 abbrev pub LongestTokens : Type 0

@@ -116,7 +116,7 @@ sum_context script before rows a = record {
 }
 
 abbrev pub bounds_of : AreaPlacement → Bounds
-bounds_of place = record { start = place.start; end = place.start + place.size }
+bounds_of placement = record { start = placement.start; end = placement.start + placement.size }
 
 -- An area has the start and the size of its sums, its rows are placed in it one after the other, and its last
 -- address is their end.

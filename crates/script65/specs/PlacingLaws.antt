@@ -50,17 +50,17 @@ NoOverlap =
 
 -- a row of an area is within it: neither before its first address nor after its last
 abbrev pub IsWithin : ℕ → AreaPlacement → SegmentRow → RowPlacement → Type 0
-IsWithin k place r p = is_in k r ≡ true → (place.start ≤ address_in k r p) × (address_in k r p + p.size ≤ place.start + place.size)
+IsWithin k placement r p = is_in k r ≡ true → (placement.start ≤ address_in k r p) × (address_in k r p + p.size ≤ placement.start + placement.size)
 
 abbrev pub AreWithin : ℕ → AreaPlacement → List SegmentRow → List RowPlacement → Type 0
-AreWithin k place (r ∷ rs) (p ∷ ps) = IsWithin k place r p × AreWithin k place rs ps
-AreWithin k place _ _ = ⊤
+AreWithin k placement (r ∷ rs) (p ∷ ps) = IsWithin k placement r p × AreWithin k placement rs ps
+AreWithin k placement _ _ = ⊤
 
 -- each row lies within its areas
 abbrev pub AllWithin : Type 0
 AllWithin =
     (script : Script) (needs : List SegmentNeed) (p : Placement) → place_of script needs ≡ Ok p →
-    (k : ℕ) (place : AreaPlacement) → slice_get p.areas k ≡ Some place → AreWithin k place script.rows p.rows
+    (k : ℕ) (placement : AreaPlacement) → slice_get p.areas k ≡ Some placement → AreWithin k placement script.rows p.rows
 
 -- ---- Areas by their sums.
 
@@ -73,21 +73,21 @@ HasSum areas rows ts n =
 -- itself. Their names are known there: those of earlier areas and of the rows in these, the sizes of all rows
 -- and, in its size, its own start. Start and size are below 2 ^ 32, and the area ends at the last address or
 -- before it.
-pub record HoldsSums (k : ℕ) (rows : List SegmentRow) (p : Placement) (a : MemoryArea) (place : AreaPlacement) : Type 0 where
-  pub start : HasSum p.areas p.rows a.start place.start
-  pub size : HasSum p.areas p.rows a.size place.size
+pub record HoldsSums (k : ℕ) (rows : List SegmentRow) (p : Placement) (a : MemoryArea) (placement : AreaPlacement) : Type 0 where
+  pub start : HasSum p.areas p.rows a.start placement.start
+  pub size : HasSum p.areas p.rows a.size placement.size
   pub start_known : list_all (is_known k false rows) a.start ≡ true
   pub size_known : list_all (is_known k true rows) a.size ≡ true
-  pub start_less : place.start < 2 ^ 32
-  pub size_less : place.size < 2 ^ 32
-  pub inside : place.start + place.size ≤ 2 ^ 32
+  pub start_less : placement.start < 2 ^ 32
+  pub size_less : placement.size < 2 ^ 32
+  pub inside : placement.start + placement.size ≤ 2 ^ 32
 
 -- each area has the start and the size of its sums
 abbrev pub SumsHold : Type 0
 SumsHold =
     (script : Script) (needs : List SegmentNeed) (p : Placement) → place_of script needs ≡ Ok p →
-    (k : ℕ) (a : MemoryArea) (place : AreaPlacement) → slice_get script.areas k ≡ Some a → slice_get p.areas k ≡ Some place →
-    HoldsSums k script.rows p a place
+    (k : ℕ) (a : MemoryArea) (placement : AreaPlacement) → slice_get script.areas k ≡ Some a → slice_get p.areas k ≡ Some placement →
+    HoldsSums k script.rows p a placement
 
 -- ---- Areas by numbers alone.
 

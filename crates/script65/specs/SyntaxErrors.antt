@@ -124,4 +124,4 @@ moves bytes es p at = token_move es p (token bytes at).lexeme (token bytes at).a
 -- All tokens from this offset on are allowed up to one, which is an error.
 pub data SyntaxErrorAt (bytes : List ℕ) : Entries → ParseState → ℕ → FaultAt → Type 0 where
   later : (es fs : Entries) (p q : ParseState) (at : ℕ) (f : FaultAt) → moves bytes es p at ≡ on fs q → SyntaxErrorAt bytes fs q (token bytes at).following f → SyntaxErrorAt bytes es p at f
-  here : (es : Entries) (p : ParseState) (at : ℕ) (fault : Fault) (place : ℕ) → moves bytes es p at ≡ stop fault place → SyntaxErrorAt bytes es p at (stop_at fault place)
+  here : (es : Entries) (p : ParseState) (at : ℕ) (fault : Fault) (offset : ℕ) → moves bytes es p at ≡ stop fault offset → SyntaxErrorAt bytes es p at (stop_at fault offset)

@@ -92,7 +92,7 @@ token_from bytes at = record {
 
 -- the token at an offset, or the next one after it
 unfoldable pub token : List ℕ → ℕ → Token
-token bytes place = token_from bytes (place + gap false (drop place bytes))
+token bytes offset = token_from bytes (offset + gap false (drop offset bytes))
 
 -- the bytes of a token
 abbrev pub token_bytes : List ℕ → Token → List ℕ

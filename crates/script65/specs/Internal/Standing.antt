@@ -6,7 +6,7 @@ use Rattle.script65.specs.AreaSums.{SumContextView}
 
 abbrev pub standing_in : code.SumContext → SumContextView
 standing_in s = record {
-  k = s.place;
+  k = s.index;
   own = s.area.now;
   areas = s.areas.now;
   rows = s.rows.now;

@@ -110,14 +110,14 @@ fn add_member(members: &mut Vec<ListVec<usize>>, area: usize, row: usize) -> Res
 fn add_row(
     members: &mut Vec<ListVec<usize>>,
     row: &SegmentRow,
-    place: usize,
+    index: usize,
 ) -> Result<(), AllocError>
     ensures { OnOk result ((k : ℕ) → slice_get members.new.items k
-        ≡ option_map (λ m. if is_in k row.now then m ++ place ∷ [] else m) (slice_get members.old.items k)) }
+        ≡ option_map (λ m. if is_in k row.now then m ++ index ∷ [] else m) (slice_get members.old.items k)) }
 {
-    add_member(members, row.run, place)?;
+    add_member(members, row.run, index)?;
     if row.load != row.run {
-        add_member(members, row.load, place)?;
+        add_member(members, row.load, index)?;
     }
     Ok(())
 }
@@ -131,8 +131,8 @@ pub fn members_of(
     ensures { IfOk result (λ v. (k : ℕ) → k < areas → slice_get v.items k ≡ Some (places_in k 0 rows.now)) }
 {
     let mut members = no_members(alloc, areas)?;
-    for (place, row) in rows.iter().enumerate() {
-        add_row(&mut members, row, place)?;
+    for (index, row) in rows.iter().enumerate() {
+        add_row(&mut members, row, index)?;
     }
     Ok(members)
 }
@@ -148,13 +148,13 @@ fn place_member(
 ) -> Result<u64, PlaceFault>
     requires row { member < length rows.now }
     requires spot { member < length spots.old }
-    requires room { cursor ≤ site.now.bounds.end }
+    requires capacity { cursor ≤ site.now.bounds.end }
     requires order { site.now.bounds.start ≤ site.now.bounds.end }
     requires small { site.now.bounds.end ≤ 8589934592 }
     ensures value { (r : SegmentRow) → (s : RowState) →
         slice_get rows.now member ≡ Some r → slice_get spots.old member ≡ Some s →
         Refines is_place_system_error (λ end. (spots.new, end)) result
-        (spots_after site.now.place site.now.area.now site.now.bounds r s cursor member spots.old) }
+        (spots_after site.now.index site.now.area.now site.now.bounds r s cursor member spots.old) }
     ensures bound { IfOk result (λ end. end ≤ site.now.bounds.end) }
 {
     let (spot, end) = site.place_row(alloc, &rows[member], spots[member], cursor)?;
@@ -170,12 +170,12 @@ fn place_area(
     members: &[usize],
     spots: &mut [RowState],
 ) -> Result<u64, PlaceFault>
-    requires members { members.now ≡ places_in site.now.place 0 rows.now }
+    requires members { members.now ≡ places_in site.now.index 0 rows.now }
     requires count { length spots.old ≡ length rows.now }
     requires order { site.now.bounds.start ≤ site.now.bounds.end }
     requires small { site.now.bounds.end ≤ 8589934592 }
     ensures { Refines is_place_system_error (λ last. (spots.new, last)) result
-        (rows_from site.now.place site.now.area.now site.now.bounds rows.now spots.old site.now.bounds.start) }
+        (rows_from site.now.index site.now.area.now site.now.bounds rows.now spots.old site.now.bounds.start) }
 {
     let mut cursor = site.bounds.start;
     for member in members {
@@ -194,43 +194,43 @@ pub fn place_areas(
 ) -> Result<ListVec<AreaPlacement>, PlaceFault>
     requires members { (k : ℕ) → k < length areas.now → slice_get members.now k ≡ Some (places_in k 0 rows.now) }
     requires count { length spots.old ≡ length rows.now }
-    ensures { Refines is_place_system_error (λ places. record { areas = places; rows = map row_place spots.new }) result
+    ensures { Refines is_place_system_error (λ placements. record { areas = placements; rows = map row_place spots.new }) result
         (areas_from 0 areas.now rows.now areas.now [] spots.old) }
 {
-    let mut places = ListVec::new(alloc);
-    for (place, area) in areas.iter().enumerate() {
+    let mut placements = ListVec::new(alloc);
+    for (index, area) in areas.iter().enumerate() {
         let bounds = SumContext {
-            place,
+            index,
             area,
             areas,
             rows,
-            area_places: places.as_slice(),
+            area_places: placements.as_slice(),
             spots,
             start: None,
         }
         .bounds(alloc)?;
         let site = AreaContext {
-            place,
+            index,
             area,
             bounds,
         };
-        let last = place_area(alloc, &site, rows, members[place].as_slice(), spots)?;
-        places.push(AreaPlacement {
+        let last = place_area(alloc, &site, rows, members[index].as_slice(), spots)?;
+        placements.push(AreaPlacement {
             start: bounds.start,
             size: bounds.end - bounds.start,
             last,
         })?;
     }
-    Ok(places)
+    Ok(placements)
 }
 
 /// The places of all rows.
 pub fn row_places(alloc: Global, spots: &[RowState]) -> Result<ListVec<RowPlacement>, AllocError>
-    ensures { IfOk result (λ places. places ≡ map row_place spots.now) }
+    ensures { IfOk result (λ placements. placements ≡ map row_place spots.now) }
 {
-    let mut places = ListVec::new(alloc);
+    let mut placements = ListVec::new(alloc);
     for spot in spots {
-        places.push(row_place(*spot))?;
+        placements.push(row_place(*spot))?;
     }
-    Ok(places)
+    Ok(placements)
 }

@@ -25,10 +25,10 @@ pub struct RowState {
     pub load: u64,
 }
 
-/// An area in which rows are placed, by its place in the script.
+/// An area in which rows are placed, by its index in the script.
 #[derive(Clone, Copy)]
 pub struct AreaContext<'a> {
-    pub place: usize,
+    pub index: usize,
     pub area: &'a MemoryArea,
     pub bounds: Bounds,
 }
@@ -48,13 +48,13 @@ fn rounded_up(at: u64, align: u32) -> u64
 
 // Where a row begins.
 #[tactic(auto, unfolding(crate::specs::Placing::begin_in))]
-fn begin_in(place: usize, bounds: Bounds, row: &SegmentRow, cursor: u64) -> u64
-    requires room { cursor ≤ 8589934592 }
+fn begin_in(index: usize, bounds: Bounds, row: &SegmentRow, cursor: u64) -> u64
+    requires capacity { cursor ≤ 8589934592 }
     requires small { bounds.start ≤ 8589934592 }
-    ensures value { result ≡ begin_in place bounds row.now cursor }
+    ensures value { result ≡ begin_in index bounds row.now cursor }
     ensures bound { result ≤ 12884901888 }
 {
-    if row.run != place {
+    if row.run != index {
         return rounded_up(cursor, row.align_load);
     }
     match row.begin {
@@ -65,13 +65,13 @@ fn begin_in(place: usize, bounds: Bounds, row: &SegmentRow, cursor: u64) -> u64
 }
 
 #[tactic(auto, unfolding(crate::specs::Placing::state_after_row))]
-fn moved(place: usize, row: &SegmentRow, at: u64, spot: RowState) -> RowState
-    ensures { result ≡ state_after_row place row.now at spot }
+fn moved(index: usize, row: &SegmentRow, at: u64, spot: RowState) -> RowState
+    ensures { result ≡ state_after_row index row.now at spot }
 {
     RowState {
         size: spot.size,
-        run: if row.run == place { at } else { spot.run },
-        load: if row.load == place { at } else { spot.load },
+        run: if row.run == index { at } else { spot.run },
+        load: if row.load == index { at } else { spot.load },
     }
 }
 
@@ -86,13 +86,13 @@ impl AreaContext<'_> {
         size: u64,
         cursor: u64,
     ) -> Result<(RowState, u64), PlaceFault>
-        requires room { cursor ≤ 8589934592 }
+        requires capacity { cursor ≤ 8589934592 }
         requires small { self.now.bounds.start ≤ 8589934592 }
         ensures value { Refines is_place_system_error (λ x. x) result
-            (sized_row self.now.place self.now.area.now self.now.bounds row.now spot (Some size) cursor) }
+            (sized_row self.now.index self.now.area.now self.now.bounds row.now spot (Some size) cursor) }
         ensures bound { IfOk result (λ x. x.1 ≤ self.now.bounds.end) }
     {
-        let at = begin_in(self.place, self.bounds, row, cursor);
+        let at = begin_in(self.index, self.bounds, row, cursor);
         if at < cursor {
             return Err(PlaceFault::StartBelow(ListVec::copy_of(alloc, row.name.as_slice())?));
         }
@@ -102,7 +102,7 @@ impl AreaContext<'_> {
             let name = ListVec::copy_of(alloc, self.area.name.as_slice())?;
             return Err(PlaceFault::Overflow(name, end - limit));
         }
-        Ok((moved(self.place, row, at, spot), at + size))
+        Ok((moved(self.index, row, at, spot), at + size))
     }
 
     /// Places a row at or after the cursor, and returns it with the next cursor.
@@ -118,14 +118,14 @@ impl AreaContext<'_> {
         requires order { self.now.bounds.start ≤ self.now.bounds.end }
         requires small { self.now.bounds.end ≤ 8589934592 }
         ensures value { Refines is_place_system_error (λ x. x) result
-            (row_after self.now.place self.now.area.now self.now.bounds row.now spot cursor) }
+            (row_after self.now.index self.now.area.now self.now.bounds row.now spot cursor) }
         ensures bound { IfOk result (λ x. x.1 ≤ self.now.bounds.end) }
     {
-        if self.area.read_only && row.run == self.place && !row.access.is_read_only() {
+        if self.area.read_only && row.run == self.index && !row.access.is_read_only() {
             return Err(PlaceFault::ReadOnlyArea(ListVec::copy_of(alloc, row.name.as_slice())?));
         }
         match spot.size {
-            None => Ok((moved(self.place, row, cursor, spot), cursor)),
+            None => Ok((moved(self.index, row, cursor, spot), cursor)),
             Some(size) => self.fit(alloc, row, spot, size, cursor),
         }
     }

@@ -16,11 +16,11 @@ use crate::sums::difference;
 use base65::ListVec;
 use std::alloc::{AllocError, Global};
 
-/// Where the sums of an area are asked for: the area and its place in the script, the script's areas and rows, where those
+/// Where the sums of an area are asked for: the area and its index in the script, the script's areas and rows, where those
 /// before it are placed, and its own start, once that is found.
 #[derive(Clone, Copy)]
 pub struct SumContext<'a> {
-    pub place: usize,
+    pub index: usize,
     pub area: &'a MemoryArea,
     pub areas: &'a [MemoryArea],
     pub rows: &'a [SegmentRow],
@@ -50,17 +50,17 @@ fn attribute_name(alloc: Global, name: &[u8], ending: &[u8]) -> Result<ListVec<u
 }
 
 impl SumContext<'_> {
-    // Where the area at another place is, as far as that is known.
-    fn area_place(&self, place: usize) -> Option<AreaPlacement>
-        ensures { result ≡ slice_get (places_there (standing_in self.now)) place }
+    // Where the area at another index is, as far as that is known.
+    fn area_place(&self, index: usize) -> Option<AreaPlacement>
+        ensures { result ≡ slice_get (places_there (standing_in self.now)) index }
     {
         match self.start {
-            Some(start) if place == self.area_places.len() => Some(AreaPlacement {
+            Some(start) if index == self.area_places.len() => Some(AreaPlacement {
                 start,
                 size: 0,
                 last: start,
             }),
-            _ => self.area_places.get(place).copied(),
+            _ => self.area_places.get(index).copied(),
         }
     }
 
@@ -69,11 +69,11 @@ impl SumContext<'_> {
     {
         match operand {
             Operand::Number(number) => u64::from(number),
-            Operand::Area(place, part) => match self.area_place(place) {
-                Some(place) => match part {
-                    AreaAttribute::Start => place.start,
-                    AreaAttribute::Size => place.size,
-                    AreaAttribute::Last => place.last,
+            Operand::Area(index, part) => match self.area_place(index) {
+                Some(placement) => match part {
+                    AreaAttribute::Start => placement.start,
+                    AreaAttribute::Size => placement.size,
+                    AreaAttribute::Last => placement.last,
                 },
                 None => 0,
             },
@@ -89,20 +89,20 @@ impl SumContext<'_> {
     }
 
     fn is_known(&self, term: Term) -> bool
-        ensures { result ≡ is_known self.now.place (is_some self.now.start) self.now.rows.now term }
+        ensures { result ≡ is_known self.now.index (is_some self.now.start) self.now.rows.now term }
     {
         match term.operand {
             Operand::Number(_) => true,
-            Operand::Area(place, part) => match part {
+            Operand::Area(index, part) => match part {
                 AreaAttribute::Start => {
-                    place < self.place || (self.start.is_some() && place == self.place)
+                    index < self.index || (self.start.is_some() && index == self.index)
                 }
-                AreaAttribute::Size | AreaAttribute::Last => place < self.place,
+                AreaAttribute::Size | AreaAttribute::Last => index < self.index,
             },
             Operand::Row(row, part) => match self.rows.get(row) {
                 Some(row) => match part {
-                    RowAttribute::Load => row.load < self.place,
-                    RowAttribute::Run => row.run < self.place,
+                    RowAttribute::Load => row.load < self.index,
+                    RowAttribute::Run => row.run < self.index,
                     RowAttribute::Size => true,
                 },
                 None => false,
@@ -128,7 +128,7 @@ impl SumContext<'_> {
     {
         match operand {
             Operand::Number(_) => Ok(ListVec::new(alloc)),
-            Operand::Area(place, part) => match self.areas.get(place) {
+            Operand::Area(index, part) => match self.areas.get(index) {
                 Some(area) => attribute_name(alloc, area.name.as_slice(), part.ending()),
                 None => attribute_name(alloc, b"", part.ending()),
             },

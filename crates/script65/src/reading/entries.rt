@@ -224,11 +224,11 @@ impl<'a> Table<'a> {
         self.entries.get_index_of(name)
     }
 
-    /// The entry at a place.
-    pub fn get(&self, place: usize) -> Option<&ConfigEntry<'a>>
-        ensures { option_map (λ e. e.now) result ≡ slice_get self.now place }
+    /// The entry at an index.
+    pub fn get(&self, index: usize) -> Option<&ConfigEntry<'a>>
+        ensures { option_map (λ e. e.now) result ≡ slice_get self.now index }
     {
-        let (_, entry) = self.entries.get_index(place)?;
+        let (_, entry) = self.entries.get_index(index)?;
         Some(entry)
     }
 

@@ -179,18 +179,18 @@ fn entry_name<'a>(
     Ok(ParseState::AfterName(block, ConfigEntry { name, at, given }))
 }
 
-// What a token does at a place: the next place, if the script doesn't end.
+// What a token does in a state: the next state, if the script doesn't end.
 fn step<'a>(
     alloc: Global,
     entries: &mut Entries<'a>,
-    place: ParseState<'a>,
+    state: ParseState<'a>,
     lexeme: Lexeme<'a>,
     at: usize,
 ) -> Result<Option<ParseState<'a>>, FaultAt>
-    requires { IsFresh entries.old place }
-    ensures { RefinesMoveOrEnd entries.new result (token_move entries.old place.entry lexeme.entry at) }
+    requires { IsFresh entries.old state }
+    ensures { RefinesMoveOrEnd entries.new result (token_move entries.old state.entry lexeme.entry at) }
 {
-    let next = match place {
+    let next = match state {
         ParseState::BetweenBlocks => match lexeme {
             Lexeme::Word(word) => match find_keyword(&BLOCKS, word.as_slice()) {
                 Some((_, block)) => ParseState::AfterBlockWord(block),
@@ -241,14 +241,14 @@ pub fn read_entries(alloc: Global, bytes: &[u8]) -> Result<Entries<'_>, FaultAt>
     if bytes.len() > 1_048_576 {
         return Err(FaultAt::new(Fault::TooLong, 0));
     }
-    let mut place = ParseState::BetweenBlocks;
+    let mut state = ParseState::BetweenBlocks;
     let mut at = 0;
     'tokens: loop {
         let token = token_at(bytes, at);
-        let Some(next) = step(alloc, &mut entries, place, token.lexeme, token.at)? else {
+        let Some(next) = step(alloc, &mut entries, state, token.lexeme, token.at)? else {
             return Ok(entries);
         };
-        place = next;
+        state = next;
         at = token.following;
     }
 }

@@ -61,11 +61,11 @@ fn area_for(
 ) -> Result<usize, FaultAt>
     ensures { result ≡ area_for entries.now word.now other entry.now }
 {
-    let place = match entry.area_for(word) {
+    let index = match entry.area_for(word) {
         Some(name) => entries.areas.place_of(name),
         None => other,
     };
-    place.ok_or(FaultAt::new(Fault::NoSuchArea, entry.at))
+    index.ok_or(FaultAt::new(Fault::NoSuchArea, entry.at))
 }
 
 fn row_from(alloc: Global, entries: &Entries, entry: &ConfigEntry) -> Result<SegmentRow, FaultAt>

@@ -43,15 +43,15 @@ fn place_of_part(table: &Table, name: &[u8], ending: &[u8]) -> Option<usize>
 fn area_named(areas: &Table, name: &[u8], part: AreaAttribute) -> Option<Operand>
     ensures { result ≡ as_area_part areas.now name.now part }
 {
-    let place = place_of_part(areas, name, part.ending())?;
-    Some(Operand::Area(place, part))
+    let index = place_of_part(areas, name, part.ending())?;
+    Some(Operand::Area(index, part))
 }
 
 fn row_named(rows: &Table, name: &[u8], part: RowAttribute) -> Option<Operand>
     ensures { result ≡ as_row_part rows.now name.now part }
 {
-    let place = place_of_part(rows, name, part.ending())?;
-    Some(Operand::Row(place, part))
+    let index = place_of_part(rows, name, part.ending())?;
+    Some(Operand::Row(index, part))
 }
 
 // Resolves a term: a number, or the name of an export, of a part of an area or of a part of a row.

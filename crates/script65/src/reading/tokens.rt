@@ -206,14 +206,14 @@ fn front(here: &[u8]) -> (Lexeme<'_>, usize)
 
 /// Returns the token at an offset, or the next one after it.
 #[tactic(auto, unfolding(crate::specs::Tokens::token))]
-pub fn token_at(bytes: &[u8], place: usize) -> Token<'_>
-    requires { place ≤ length bytes.now }
-    ensures value { result ≡ token bytes.now place }
+pub fn token_at(bytes: &[u8], offset: usize) -> Token<'_>
+    requires { offset ≤ length bytes.now }
+    ensures value { result ≡ token bytes.now offset }
     ensures within { result.following ≤ length bytes.now }
     ensures order { result.at ≤ result.following }
-    ensures some { result.lexeme ≢ the_end → place < result.following }
+    ensures some { result.lexeme ≢ the_end → offset < result.following }
 {
-    let at = place + gap_len(&bytes[place..]);
+    let at = offset + gap_len(&bytes[offset..]);
     let (lexeme, len) = front(&bytes[at..]);
     Token {
         lexeme,
@@ -222,15 +222,15 @@ pub fn token_at(bytes: &[u8], place: usize) -> Token<'_>
     }
 }
 
-/// The bytes of the token at a place.
+/// The bytes of the token at an offset.
 #[tactic(auto, using(crate::proofs::Front::none_after))]
-pub fn written(bytes: &[u8], place: usize) -> &[u8]
-    ensures { result.now ≡ token_bytes bytes.now (token bytes.now place) }
+pub fn written(bytes: &[u8], offset: usize) -> &[u8]
+    ensures { result.now ≡ token_bytes bytes.now (token bytes.now offset) }
 {
-    if place > bytes.len() {
+    if offset > bytes.len() {
         return &[];
     }
-    let token = token_at(bytes, place);
+    let token = token_at(bytes, offset);
     &bytes[token.at..token.following]
 }
 

@@ -35,8 +35,8 @@ pub fn value_of<'a>(takes: ValueKind, lexeme: Lexeme<'a>) -> Result<Value<'a>, F
         (ValueKind::Area, Lexeme::Word(word)) => Ok(Value::Area(word)),
         (ValueKind::File, Lexeme::StringLiteral(text)) => Ok(Value::File(text)),
         (ValueKind::File, Lexeme::Output) => Ok(Value::Output),
-        (ValueKind::OneOf(words), Lexeme::Word(word)) => match find_keyword(
-            keywords(words),
+        (ValueKind::OneOf(keyword_set), Lexeme::Word(word)) => match find_keyword(
+            keywords(keyword_set),
             word.as_slice(),
         ) {
             Some((_, meaning)) => Ok(Value::Said(meaning)),

@@ -120,10 +120,10 @@ pub fn attributes(block: Block) -> &'static [(&'static str, ValueKind)]
 }
 
 /// These words, and what they say.
-pub fn keywords(words: KeywordSet) -> &'static [(&'static str, KeywordValue)]
-    ensures { map (λ r. (r.0.now, r.1)) result.now ≡ keywords words }
+pub fn keywords(keyword_set: KeywordSet) -> &'static [(&'static str, KeywordValue)]
+    ensures { map (λ r. (r.0.now, r.1)) result.now ≡ keywords keyword_set }
 {
-    match words {
+    match keyword_set {
         KeywordSet::Flag => &[
             ("yes", KeywordValue::Flag(true)),
             ("no", KeywordValue::Flag(false)),

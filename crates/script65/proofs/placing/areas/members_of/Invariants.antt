@@ -2,5 +2,5 @@ use Rattle.std.proofs.Common.{◌≡◌, ◌<◌, ◌++◌, ℕ, List, Some, dro
 use Rattle.script65.specs.Placing.{places_in}
 use Rattle.script65.proofs.placing.areas.members_of.Given as goal
 
-abbrev pub invariant-loop-place : goal.invariant-loop-place
-invariant-loop-place l = (k : ℕ) → k < l.areas → (m : List ℕ) × (slice_get l.members.items k ≡ Some m) × (m ++ places_in k l.place (drop l.place l.rows) ≡ places_in k 0 l.rows)
+abbrev pub invariant-loop-index : goal.invariant-loop-index
+invariant-loop-index l = (k : ℕ) → k < l.areas → (m : List ℕ) × (slice_get l.members.items k ≡ Some m) × (m ++ places_in k l.index (drop l.index l.rows) ≡ places_in k 0 l.rows)

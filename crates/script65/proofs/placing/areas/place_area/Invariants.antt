@@ -5,6 +5,6 @@ use Rattle.script65.proofs.placing.areas.place_area.Given as goal
 
 abbrev pub invariant-loop-member : goal.invariant-loop-member
 invariant-loop-member l = record {
-  room : l.cursor ≤ l.site.bounds.end;
-  walk : Walk l.site.place l.site.area.now l.site.bounds l.rows (rows_from l.site.place l.site.area.now l.site.bounds l.rows l.initial.spots l.site.bounds.start) l.spots l.cursor (drop l.member-index l.members);
+  capacity : l.cursor ≤ l.site.bounds.end;
+  walk : Walk l.site.index l.site.area.now l.site.bounds l.rows (rows_from l.site.index l.site.area.now l.site.bounds l.rows l.initial.spots l.site.bounds.start) l.spots l.cursor (drop l.member-index l.members);
 }

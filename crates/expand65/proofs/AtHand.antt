@@ -113,7 +113,7 @@ rest_given old reader (t ∷ ts) right d calls =
     let Q : List Lexeme → Type 0 = λ l. StepReaches m (line_step k s l (front_directive l)) (gives (plain (t ∷ ts)) s) in
     given (state_in m mid) s (plain (t ∷ ts)) (step_rest m k mid (line_of (t ∷ ts)) (gives (plain (t ∷ ts)) s) refl (subst Q (sym kept) (subst P (sym d) (no_call m new.rewriter t ts calls))))) (omega arith) refl (none_more new)
 
-module _ (old : Expander) (reader : InputStack) (right : old.failed ≡ false) (bare : old.pending ≡ Nothing) (some : 0 < old.rewriter.reader.room) (fewer : reader.room ≡ old.rewriter.reader.room - 1) (outer : reader.outer ≡ old.rewriter.reader.outer) where
+module _ (old : Expander) (reader : InputStack) (right : old.failed ≡ false) (bare : old.pending ≡ Nothing) (some : 0 < old.rewriter.reader.budget) (fewer : reader.budget ≡ old.rewriter.reader.budget - 1) (outer : reader.outer ≡ old.rewriter.reader.outer) where
   as_many : length reader.outer.items ≡ length old.rewriter.reader.outer.items
   as_many = ap (λ x. length x.items) outer
 

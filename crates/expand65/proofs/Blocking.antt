@@ -39,13 +39,13 @@ some_line l m ts x = grind (arith, common_steps)
 pub line_missing : (k : BlockKind) (o : Option Files) (first reader : InputStack) (d : ℕ) (body : List (List Lexeme)) (f : ExpandFault) (p : SourceLocation) → IfSome o (Leads k d body reader first) → IfSome o (λ m. Unless (is_system_error f) (TakesInBlock (remaining_of m reader) (Err (f, p)))) → IfSome o (λ m. Unless (is_system_error f) (Block k 0 [] (remaining_of m first) (Err (f, p))))
 line_missing k x first reader d body f p h t = grind (arith, common_steps, no_line)
 
-pub line_refused : (k : BlockKind) (o : Option Files) (first reader new : InputStack) (d : ℕ) (body : List (List Lexeme)) (ts : List Lexeme) (f : ExpandFault) → IfSome o (Leads k d body reader first) → IfSome o (λ m. TakesInBlock (remaining_of m reader) (Ok (ts, remaining_of m new))) → Unless (is_system_error f) (judge k d ts ≡ refused f) → IfSome o (λ m. Unless (is_system_error f) (Block k 0 [] (remaining_of m first) (Err (f, new.place))))
+pub line_refused : (k : BlockKind) (o : Option Files) (first reader new : InputStack) (d : ℕ) (body : List (List Lexeme)) (ts : List Lexeme) (f : ExpandFault) → IfSome o (Leads k d body reader first) → IfSome o (λ m. TakesInBlock (remaining_of m reader) (Ok (ts, remaining_of m new))) → Unless (is_system_error f) (judge k d ts ≡ refused f) → IfSome o (λ m. Unless (is_system_error f) (Block k 0 [] (remaining_of m first) (Err (f, new.location))))
 line_refused k None first reader new d body ts f h t j = tt
 line_refused k (Some m) first reader new d body ts f h t j = by (is_system_error f) j
   where
-    by : (b : Bool) → Unless b (judge k d ts ≡ refused f) → Unless b (Block k 0 [] (remaining_of m first) (Err (f, new.place)))
+    by : (b : Bool) → Unless b (judge k d ts ≡ refused f) → Unless b (Block k 0 [] (remaining_of m first) (Err (f, new.location)))
     by true j = tt
-    by false j = h (Err (f, new.place)) (a_refusal d body (remaining_of m reader) (remaining_of m new) ts f (some_line (remaining_of m reader) (remaining_of m new) ts t) j)
+    by false j = h (Err (f, new.location)) (a_refusal d body (remaining_of m reader) (remaining_of m new) ts f (some_line (remaining_of m reader) (remaining_of m new) ts t) j)
 
 pub line_closes : (k : BlockKind) (o : Option Files) (first reader new : InputStack) (d : ℕ) (body : List (List Lexeme)) (ts : List Lexeme) (b : Branch) → IfSome o (Leads k d body reader first) → IfSome o (λ m. TakesInBlock (remaining_of m reader) (Ok (ts, remaining_of m new))) → judge k d ts ≡ closed b → IfSome o (λ m. Block k 0 [] (remaining_of m first) (Ok ((body, b), remaining_of m new)))
 line_closes k None first reader new d body ts b h t j = tt

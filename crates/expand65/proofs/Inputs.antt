@@ -106,10 +106,10 @@ marks_all m r = marks_own m r.top (outer_items m r.outer.items) ∙ ap (λ n. n 
 pub innermost_is : (m : Files) (r : InputStack) → innermost (remaining_of m r).items ≡ Some (mark_of r.top)
 innermost_is m r = ap innermost (own_split m r.top (outer_items m r.outer.items)) ∙ innermost_lines (remaining_in m r.top.source) (outer_items m r.outer.items) (mark_of r.top) (lines_left m r.top.source)
 
-pub entered_one : (m : Files) (old new : InputStack) (i : Input) → length old.outer.items < 256 → new.top ≡ i → new.outer.items ≡ old.outer.items ++ old.top ∷ [] → new.room ≡ old.room → new.place ≡ old.place → Ok (remaining_of m new) ≡ with_lines (remaining_in m i.source) (mark_of i) (remaining_of m old)
+pub entered_one : (m : Files) (old new : InputStack) (i : Input) → length old.outer.items < 256 → new.top ≡ i → new.outer.items ≡ old.outer.items ++ old.top ∷ [] → new.budget ≡ old.budget → new.location ≡ old.location → Ok (remaining_of m new) ≡ with_lines (remaining_in m i.source) (mark_of i) (remaining_of m old)
 entered_one m old new i h t u r p = grind (arith, common_steps, nat_tests, marks_all, outside_push, own_split)
 
-pub entered_none : (m : Files) (old : InputStack) (i : Input) → 256 ≤ length old.outer.items → Err (Nested, old.place) ≡ with_lines (remaining_in m i.source) (mark_of i) (remaining_of m old)
+pub entered_none : (m : Files) (old : InputStack) (i : Input) → 256 ≤ length old.outer.items → Err (Nested, old.location) ≡ with_lines (remaining_in m i.source) (mark_of i) (remaining_of m old)
 entered_none m old i h = grind (arith, common_steps, nat_tests, marks_all)
 
 -- ---- Inputs that are left.
@@ -120,10 +120,10 @@ dropped m old new g top e t = ap (λ x. input_items m x ++ outer_items m new) t 
 
 -- ---- At the end of the innermost input.
 
-pub not_closed : (m : Files) (r : InputStack) (n : ℕ) → remaining_in m r.top.source ≡ [] → r.top.conditions ≢ n → Err (NotClosed, r.place) ≡ without_end_mark n r.place (remaining_of m r).items
+pub not_closed : (m : Files) (r : InputStack) (n : ℕ) → remaining_in m r.top.source ≡ [] → r.top.conditions ≢ n → Err (NotClosed, r.location) ≡ without_end_mark n r.location (remaining_of m r).items
 not_closed m r n e h = grind (arith, common_steps)
 
-pub closes : (m : Files) (old new : InputStack) (n : ℕ) (more : Bool) → remaining_in m old.top.source ≡ [] → old.top.conditions ≡ n → (if more then (remaining_of m new).items else []) ≡ outer_items m old.outer.items → new.place ≡ come_back old.place old.top.back → Ok ((if more then (remaining_of m new).items else []), new.place) ≡ without_end_mark n old.place (remaining_of m old).items
+pub closes : (m : Files) (old new : InputStack) (n : ℕ) (more : Bool) → remaining_in m old.top.source ≡ [] → old.top.conditions ≡ n → (if more then (remaining_of m new).items else []) ≡ outer_items m old.outer.items → new.location ≡ come_back old.location old.top.back → Ok ((if more then (remaining_of m new).items else []), new.location) ≡ without_end_mark n old.location (remaining_of m old).items
 closes m old new n more e h i p = grind (arith, common_steps)
 
 -- the place that a reader goes back to doesn't change what is left
@@ -155,7 +155,7 @@ pub none_out : (m : Files) (old : InputStack) (p : SourceLocation) (x : Out) →
 none_out m old p x c i h = sym h ∙ one_out m old p false c ∙ ap (λ l. outside_macro l (come_back p old.top.back)) (sym i)
 
 -- an expansion is left
-pub is_out : (m : Files) (old new : InputStack) (p : SourceLocation) (x : Out) (more : Bool) → is_call old.top.source ≡ true → (if more then (remaining_of m new).items else []) ≡ outer_items m old.outer.items → new.place ≡ come_back p old.top.back → outside_macro (remaining_of m old).items p ≡ x → x ≡ Some (old.top.conditions, (if more then (remaining_of m new).items else []), new.place)
+pub is_out : (m : Files) (old new : InputStack) (p : SourceLocation) (x : Out) (more : Bool) → is_call old.top.source ≡ true → (if more then (remaining_of m new).items else []) ≡ outer_items m old.outer.items → new.location ≡ come_back p old.top.back → outside_macro (remaining_of m old).items p ≡ x → x ≡ Some (old.top.conditions, (if more then (remaining_of m new).items else []), new.location)
 is_out m old new p x more c i e h =
     sym h ∙ one_out m old p true c ∙ ap (λ l. Some (old.top.conditions, l, come_back p old.top.back)) (sym i) ∙ ap (λ q. Some (old.top.conditions, (if more then (remaining_of m new).items else []), q)) (sym e)
 
@@ -200,30 +200,30 @@ one_refused before after tail n r p f c h t = by (is_system_error f) t
 pub parted : (m : Files) (r : InputStack) → input_items m r.top ++ outer_items m r.outer.items ≡ remaining_in m r.top.source ++ (mark (mark_of r.top) ∷ outer_items m r.outer.items)
 parted m r = append_assoc (remaining_in m r.top.source) (mark (mark_of r.top) ∷ []) (outer_items m r.outer.items)
 
-pub told_taken : (o : Option Files) (old new : InputStack) (mid : LineSource) (n : NextLine) (line : StoredLine) → IfSome o (λ m. ComesNext (remaining_in m mid) n) → IfSome o (λ m. remaining_in m mid ≡ remaining_in m old.top.source) → (n ≡ AtEnd → ⊥) → IfSome o (λ m. TakesLine (remaining_in m mid) (Ok line) (remaining_in m new.top.source)) → mark_of new.top ≡ mark_of old.top → new.outer ≡ old.outer → new.place ≡ moved_by n old.place → suc new.room ≡ old.room → IfSome o (λ m. TakesNextLine (remaining_of m old) (Ok (Some (tokens_in line), remaining_of m new)))
+pub told_taken : (o : Option Files) (old new : InputStack) (mid : LineSource) (n : NextLine) (line : StoredLine) → IfSome o (λ m. ComesNext (remaining_in m mid) n) → IfSome o (λ m. remaining_in m mid ≡ remaining_in m old.top.source) → (n ≡ AtEnd → ⊥) → IfSome o (λ m. TakesLine (remaining_in m mid) (Ok line) (remaining_in m new.top.source)) → mark_of new.top ≡ mark_of old.top → new.outer ≡ old.outer → new.location ≡ moved_by n old.location → suc new.budget ≡ old.budget → IfSome o (λ m. TakesNextLine (remaining_of m old) (Ok (Some (tokens_in line), remaining_of m new)))
 told_taken x old new mid n line c s h t k u p r = grind (arith, common_steps, one_taken, parted)
 
-pub told_refused : (o : Option Files) (old : InputStack) (mid last : LineSource) (place : SourceLocation) (room : ℕ) (n : NextLine) (f : ExpandFault) → IfSome o (λ m. ComesNext (remaining_in m mid) n) → IfSome o (λ m. remaining_in m mid ≡ remaining_in m old.top.source) → (n ≡ AtEnd → ⊥) → IfSome o (λ m. TakesLine (remaining_in m mid) (Err f) (remaining_in m last)) → place ≡ moved_by n old.place → suc room ≡ old.room → IfSome o (λ m. Unless (is_system_error f) (TakesNextLine (remaining_of m old) (Err (f, place))))
-told_refused None old mid last place room n f c s h t p r = tt
-told_refused (Some m) old mid last place room n f c s h t p r =
+pub told_refused : (o : Option Files) (old : InputStack) (mid last : LineSource) (location : SourceLocation) (budget : ℕ) (n : NextLine) (f : ExpandFault) → IfSome o (λ m. ComesNext (remaining_in m mid) n) → IfSome o (λ m. remaining_in m mid ≡ remaining_in m old.top.source) → (n ≡ AtEnd → ⊥) → IfSome o (λ m. TakesLine (remaining_in m mid) (Err f) (remaining_in m last)) → location ≡ moved_by n old.location → suc budget ≡ old.budget → IfSome o (λ m. Unless (is_system_error f) (TakesNextLine (remaining_of m old) (Err (f, location))))
+told_refused None old mid last location budget n f c s h t p r = tt
+told_refused (Some m) old mid last location budget n f c s h t p r =
     let tail = mark (mark_of old.top) ∷ outer_items m old.outer.items in
-    let one = one_refused (remaining_in m mid) (remaining_in m last) tail n room old.place f c h t in
+    let one = one_refused (remaining_in m mid) (remaining_in m last) tail n budget old.location f c h t in
     let before : remaining_in m mid ++ tail ≡ (remaining_of m old).items = ap (λ l. l ++ tail) s ∙ sym (parted m old) in
-    let P : List Item → Type 0 = λ l. Unless (is_system_error f) (TakesFrom l (suc room) old.place (Err (f, moved_by n old.place))) in
-    let Q : ℕ → Type 0 = λ x. Unless (is_system_error f) (TakesFrom (remaining_of m old).items x old.place (Err (f, moved_by n old.place))) in
-    let S : SourceLocation → Type 0 = λ q. Unless (is_system_error f) (TakesFrom (remaining_of m old).items old.room old.place (Err (f, q))) in
+    let P : List Item → Type 0 = λ l. Unless (is_system_error f) (TakesFrom l (suc budget) old.location (Err (f, moved_by n old.location))) in
+    let Q : ℕ → Type 0 = λ x. Unless (is_system_error f) (TakesFrom (remaining_of m old).items x old.location (Err (f, moved_by n old.location))) in
+    let S : SourceLocation → Type 0 = λ q. Unless (is_system_error f) (TakesFrom (remaining_of m old).items old.budget old.location (Err (f, q))) in
     subst S (sym p) (subst Q r (subst P before one))
 
 -- a line of a file
-pub written_taken : (m : Files) (old new : InputStack) (n : ℕ) (ts : List Lexeme) → TakesWritten (remaining_in m old.top.source) n ts (remaining_in m new.top.source) → mark_of new.top ≡ mark_of old.top → new.outer ≡ old.outer → new.place ≡ location_at old.place n → suc new.room ≡ old.room → TakesNextLine (remaining_of m old) (Ok (Some ts, remaining_of m new))
+pub written_taken : (m : Files) (old new : InputStack) (n : ℕ) (ts : List Lexeme) → TakesWritten (remaining_in m old.top.source) n ts (remaining_in m new.top.source) → mark_of new.top ≡ mark_of old.top → new.outer ≡ old.outer → new.location ≡ location_at old.location n → suc new.budget ≡ old.budget → TakesNextLine (remaining_of m old) (Ok (Some ts, remaining_of m new))
 written_taken m old new n ts (bytes, e, read) k u p r =
     let tail = mark (mark_of old.top) ∷ outer_items m old.outer.items in
     let after = remaining_in m new.top.source in
-    let one : TakesFrom ((written n bytes ∷ after) ++ tail) (suc new.room) old.place (Ok (Some ts, remaining_input (after ++ tail) new.room (location_at old.place n))) = (Ok ts, (Ok ts, read, refl), refl) in
+    let one : TakesFrom ((written n bytes ∷ after) ++ tail) (suc new.budget) old.location (Ok (Some ts, remaining_input (after ++ tail) new.budget (location_at old.location n))) = (Ok ts, (Ok ts, read, refl), refl) in
     let items : after ++ tail ≡ (remaining_of m new).items = ap (λ x. after ++ (mark x ∷ outer_items m old.outer.items)) (sym k) ∙ ap (λ x. after ++ (mark (mark_of new.top) ∷ outer_items m x.items)) (sym u) ∙ sym (parted m new) in
     let before : (written n bytes ∷ after) ++ tail ≡ (remaining_of m old).items = ap (λ l. l ++ tail) (sym e) ∙ sym (parted m old) in
-    let P : List Item → Type 0 = λ l. TakesFrom l (suc new.room) old.place (Ok (Some ts, remaining_input (after ++ tail) new.room (location_at old.place n))) in
-    let Q : ℕ → Type 0 = λ x. TakesFrom (remaining_of m old).items x old.place (Ok (Some ts, remaining_input (after ++ tail) new.room (location_at old.place n))) in
-    let R : List Item → Type 0 = λ l. TakesFrom (remaining_of m old).items old.room old.place (Ok (Some ts, remaining_input l new.room (location_at old.place n))) in
-    let S : SourceLocation → Type 0 = λ q. TakesFrom (remaining_of m old).items old.room old.place (Ok (Some ts, remaining_input (remaining_of m new).items new.room q)) in
+    let P : List Item → Type 0 = λ l. TakesFrom l (suc new.budget) old.location (Ok (Some ts, remaining_input (after ++ tail) new.budget (location_at old.location n))) in
+    let Q : ℕ → Type 0 = λ x. TakesFrom (remaining_of m old).items x old.location (Ok (Some ts, remaining_input (after ++ tail) new.budget (location_at old.location n))) in
+    let R : List Item → Type 0 = λ l. TakesFrom (remaining_of m old).items old.budget old.location (Ok (Some ts, remaining_input l new.budget (location_at old.location n))) in
+    let S : SourceLocation → Type 0 = λ q. TakesFrom (remaining_of m old).items old.budget old.location (Ok (Some ts, remaining_input (remaining_of m new).items new.budget q)) in
     subst S (sym p) (subst R items (subst Q r (subst P before one)))

@@ -42,31 +42,31 @@ with_first m i k (j ∷ is) p q b t s at h =
     let back : come_back p i.back ≡ come_back q k.back = sym (s h.1) ∙ ap (come_back q) (sym b) in
     (at, subst (HasBack k.source) (sym b) (same_kind i.source k.source i.back t h.1), subst (AreAt m (j ∷ is)) back h.2)
 
-pub innermost_at : (m : Files) (r : InputStack) → IsInPlace m r → IsAt m r.top.source r.place
+pub innermost_at : (m : Files) (r : InputStack) → IsInPlace m r → IsAt m r.top.source r.location
 unfolding IsInPlace
-innermost_at m r h = first_of m r.top (reverse r.outer.items) r.place h
+innermost_at m r h = first_of m r.top (reverse r.outer.items) r.location h
 
-reads_so : (m : Files) (old new : InputStack) → new.top.back ≡ old.top.back → new.outer ≡ old.outer → is_file new.top.source ≡ is_file old.top.source → (HasBack old.top.source old.top.back → come_back new.place old.top.back ≡ come_back old.place old.top.back) → IsAt m new.top.source new.place → IsInPlace m old → IsInPlace m new
+reads_so : (m : Files) (old new : InputStack) → new.top.back ≡ old.top.back → new.outer ≡ old.outer → is_file new.top.source ≡ is_file old.top.source → (HasBack old.top.source old.top.back → come_back new.location old.top.back ≡ come_back old.location old.top.back) → IsAt m new.top.source new.location → IsInPlace m old → IsInPlace m new
 unfolding IsInPlace
 reads_so m old new b o t s at h =
-    let there : AreAt m (new.top ∷ reverse old.outer.items) new.place = with_first m old.top new.top (reverse old.outer.items) old.place new.place b t s at h in
-    subst (λ x. AreAt m (new.top ∷ reverse x.items) new.place) (sym o) there
+    let there : AreAt m (new.top ∷ reverse old.outer.items) new.location = with_first m old.top new.top (reverse old.outer.items) old.location new.location b t s at h in
+    subst (λ x. AreAt m (new.top ∷ reverse x.items) new.location) (sym o) there
 
 -- lines are read on in the innermost input
-pub reads_on : (m : Files) (old new : InputStack) → new.top.back ≡ old.top.back → new.outer ≡ old.outer → is_file new.top.source ≡ is_file old.top.source → new.place ≡ old.place → IsAt m new.top.source old.place → IsInPlace m old → IsInPlace m new
+pub reads_on : (m : Files) (old new : InputStack) → new.top.back ≡ old.top.back → new.outer ≡ old.outer → is_file new.top.source ≡ is_file old.top.source → new.location ≡ old.location → IsAt m new.top.source old.location → IsInPlace m old → IsInPlace m new
 reads_on m old new b o t p at h = reads_so m old new b o t (λ x. ap (λ q. come_back q old.top.back) p) (subst (IsAt m new.top.source) (sym p) at) h
 
 -- and one is taken
-pub reads_onward : (m : Files) (old new : InputStack) → new.top.back ≡ old.top.back → new.outer ≡ old.outer → is_file new.top.source ≡ is_file old.top.source → new.place ≡ next_location old.top.source old.place → IsAt m new.top.source (next_location old.top.source old.place) → IsInPlace m old → IsInPlace m new
+pub reads_onward : (m : Files) (old new : InputStack) → new.top.back ≡ old.top.back → new.outer ≡ old.outer → is_file new.top.source ≡ is_file old.top.source → new.location ≡ next_location old.top.source old.location → IsAt m new.top.source (next_location old.top.source old.location) → IsInPlace m old → IsInPlace m new
 reads_onward m old new b o t p at h =
-    reads_so m old new b o t (λ back. ap (λ q. come_back q old.top.back) p ∙ onward_back old.top.source old.place old.top.back back) (subst (IsAt m new.top.source) (sym p) at) h
+    reads_so m old new b o t (λ back. ap (λ q. come_back q old.top.back) p ∙ onward_back old.top.source old.location old.top.back back) (subst (IsAt m new.top.source) (sym p) at) h
 
 -- a line of a file is taken where it stands
-pub takes_on : (m : Files) (old new : InputStack) (p : Peeked) (ts : List Lexeme) → new.top.back ≡ old.top.back → new.outer ≡ old.outer → is_file new.top.source ≡ is_file old.top.source → new.place ≡ location_at old.place p.number → IsAtHand old.top.source p ts → (IsAt m old.top.source old.place → IsAt m new.top.source (location_at old.place p.number)) → IsInPlace m old → IsInPlace m new
+pub takes_on : (m : Files) (old new : InputStack) (p : Peeked) (ts : List Lexeme) → new.top.back ≡ old.top.back → new.outer ≡ old.outer → is_file new.top.source ≡ is_file old.top.source → new.location ≡ location_at old.location p.number → IsAtHand old.top.source p ts → (IsAt m old.top.source old.location → IsAt m new.top.source (location_at old.location p.number)) → IsInPlace m old → IsInPlace m new
 takes_on m old new p ts b o t e there at h =
     reads_so m old new b o t (λ back. ap (λ q. come_back q old.top.back) e ∙ following old.top.source old.top.back there back) (subst (IsAt m new.top.source) (sym e) (at (innermost_at m old h))) h
   where
-    following : (s : LineSource) (b : Option SourceLocation) → IsAtHand s p ts → HasBack s b → come_back (location_at old.place p.number) b ≡ come_back old.place b
+    following : (s : LineSource) (b : Option SourceLocation) → IsAtHand s p ts → HasBack s b → come_back (location_at old.location p.number) b ≡ come_back old.location b
     following s (Some q) there back = refl
     following (source.File f) None there back = absurd cc
     following (source.Call r) None there back = absurd there
@@ -74,7 +74,7 @@ takes_on m old new p ts b o t e there at h =
 
 -- ---- Inputs that are put inside others and are left.
 
-pub enters : (m : Files) (old : InputStack) (new : List Input) (i : Input) (p : SourceLocation) → new ≡ old.outer.items ++ old.top ∷ [] → IsAt m i.source p → HasBack i.source i.back → come_back p i.back ≡ old.place → IsInPlace m old → AreAt m (i ∷ reverse new) p
+pub enters : (m : Files) (old : InputStack) (new : List Input) (i : Input) (p : SourceLocation) → new ≡ old.outer.items ++ old.top ∷ [] → IsAt m i.source p → HasBack i.source i.back → come_back p i.back ≡ old.location → IsInPlace m old → AreAt m (i ∷ reverse new) p
 unfolding IsInPlace
 enters m old new i p o s k b h = grind (arith, common_steps)
 
@@ -87,11 +87,11 @@ pub stays : (m : Files) (old new : Input) (outer rest : List Input) (p q : Sourc
 stays m old new outer rest p q o l s n e h = grind (arith, common_steps)
 
 -- a reader that has gone back to a place
-pub goes_back : (m : Files) (mid new : InputStack) (p : SourceLocation) → new.top ≡ mid.top → new.outer ≡ mid.outer → new.place ≡ p → AreAt m (open_in mid) p → IsInPlace m new
+pub goes_back : (m : Files) (mid new : InputStack) (p : SourceLocation) → new.top ≡ mid.top → new.outer ≡ mid.outer → new.location ≡ p → AreAt m (open_in mid) p → IsInPlace m new
 unfolding IsInPlace
 goes_back m mid new p t o e h = grind (arith, common_steps)
 
-pub placed_in : (m : Files) (r : InputStack) → IsInPlace m r → AreAt m (open_in r) r.place
+pub placed_in : (m : Files) (r : InputStack) → IsInPlace m r → AreAt m (open_in r) r.location
 unfolding IsInPlace
 placed_in m r h = h
 
@@ -112,11 +112,11 @@ pub opened_at : (m : Files) (f : OpenFile) (p : SourceLocation) → f.name ≡ p
 opened_at m f p e l z h = record { name = e; line = z ∙ sym l; following = subst (IsFileAfter m f) (sym l) h }
 
 -- a source that is opened
-pub source_placed : (m : Files) (r : InputStack) (f : OpenFile) → r.top.source ≡ source.File f → r.top.back ≡ None → r.outer.items ≡ [] → IsFileAt m f r.place → IsInPlace m r
+pub source_placed : (m : Files) (r : InputStack) (f : OpenFile) → r.top.source ≡ source.File f → r.top.back ≡ None → r.outer.items ≡ [] → IsFileAt m f r.location → IsInPlace m r
 unfolding IsInPlace
 source_placed m r f s b o at =
-    let P : List Input → Type 0 = λ l. AreAt m (r.top ∷ reverse l) r.place in
-    subst P (sym o) (subst (λ (x : LineSource). IsAt m x r.place) (sym s) at, b)
+    let P : List Input → Type 0 = λ l. AreAt m (r.top ∷ reverse l) r.location in
+    subst P (sym o) (subst (λ (x : LineSource). IsAt m x r.location) (sym s) at, b)
 
 -- ---- Where a store tells its files.
 
@@ -142,22 +142,22 @@ stands_on_ok o p r old new e f h = let P : Option Files → Type 0 = λ x. Stand
 -- ---- The next line.
 
 -- it is taken behind the lines before
-pub line_stands : (o : Option Files) (old new : InputStack) (mid : LineSource) → new.top.back ≡ old.top.back → new.outer ≡ old.outer → is_file new.top.source ≡ is_file old.top.source → is_file mid ≡ is_file old.top.source → (IsLineOf old.top.source old.place → new.place ≡ next_location mid old.place) → IfSome o (λ m. (q : SourceLocation) → IsAt m old.top.source q → IsAt m mid q) → IfSome o (λ m. (q : SourceLocation) → IsAt m mid q → IsAt m new.top.source (next_location mid q)) → StandsIn o old → StandsIn o new
+pub line_stands : (o : Option Files) (old new : InputStack) (mid : LineSource) → new.top.back ≡ old.top.back → new.outer ≡ old.outer → is_file new.top.source ≡ is_file old.top.source → is_file mid ≡ is_file old.top.source → (IsLineOf old.top.source old.location → new.location ≡ next_location mid old.location) → IfSome o (λ m. (q : SourceLocation) → IsAt m old.top.source q → IsAt m mid q) → IfSome o (λ m. (q : SourceLocation) → IsAt m mid q → IsAt m new.top.source (next_location mid q)) → StandsIn o old → StandsIn o new
 line_stands None old new mid b k t u moves begins takes h = tt
 line_stands (Some m) old new mid b k t u moves begins takes h =
     let at = innermost_at m old h in
-    let same : next_location mid old.place ≡ next_location old.top.source old.place = ap (λ (x : Bool). if x then location_at old.place (old.place.line + 1) else old.place) u in
-    let place : new.place ≡ next_location old.top.source old.place = moves (line_of m old.top.source old.place at) ∙ same in
-    reads_onward m old new b k t place (subst (IsAt m new.top.source) same (takes old.place (begins old.place at))) h
+    let same : next_location mid old.location ≡ next_location old.top.source old.location = ap (λ (x : Bool). if x then location_at old.location (old.location.line + 1) else old.location) u in
+    let location : new.location ≡ next_location old.top.source old.location = moves (line_of m old.top.source old.location at) ∙ same in
+    reads_onward m old new b k t location (subst (IsAt m new.top.source) same (takes old.location (begins old.location at))) h
 
 -- the store fails before it
-pub reading_before : (o : Option Files) (old : InputStack) (last_failure : LastFailure) (f : ExpandFault) → is_failure f ≡ true → IfSome o (λ m. (q : SourceLocation) → IsAt m old.top.source q → is_failure f ≡ true → IsReadingAt m last_failure q) → StandsIn o old → IfSome o (λ m. IsReadingAt m last_failure old.place)
+pub reading_before : (o : Option Files) (old : InputStack) (last_failure : LastFailure) (f : ExpandFault) → is_failure f ≡ true → IfSome o (λ m. (q : SourceLocation) → IsAt m old.top.source q → is_failure f ≡ true → IsReadingAt m last_failure q) → StandsIn o old → IfSome o (λ m. IsReadingAt m last_failure old.location)
 reading_before None old last_failure f failed stops h = tt
-reading_before (Some m) old last_failure f failed stops h = stops old.place (innermost_at m old h) failed
+reading_before (Some m) old last_failure f failed stops h = stops old.location (innermost_at m old h) failed
 
 -- or within it
-pub reading_within : (o : Option Files) (old : InputStack) (mid : LineSource) (place : SourceLocation) (last_failure : LastFailure) (f : ExpandFault) → is_failure f ≡ true → IfSome o (λ m. (q : SourceLocation) → IsAt m old.top.source q → IsAt m mid q) → IfSome o (λ m. (q : SourceLocation) → IsAt m mid q → is_failure f ≡ true → IsReadingAt m last_failure (next_location mid q)) → (IsLineOf old.top.source old.place → place ≡ next_location mid old.place) → StandsIn o old → IfSome o (λ m. IsReadingAt m last_failure place)
-reading_within None old mid place last_failure f failed begins stops moves h = tt
-reading_within (Some m) old mid place last_failure f failed begins stops moves h =
+pub reading_within : (o : Option Files) (old : InputStack) (mid : LineSource) (location : SourceLocation) (last_failure : LastFailure) (f : ExpandFault) → is_failure f ≡ true → IfSome o (λ m. (q : SourceLocation) → IsAt m old.top.source q → IsAt m mid q) → IfSome o (λ m. (q : SourceLocation) → IsAt m mid q → is_failure f ≡ true → IsReadingAt m last_failure (next_location mid q)) → (IsLineOf old.top.source old.location → location ≡ next_location mid old.location) → StandsIn o old → IfSome o (λ m. IsReadingAt m last_failure location)
+reading_within None old mid location last_failure f failed begins stops moves h = tt
+reading_within (Some m) old mid location last_failure f failed begins stops moves h =
     let at = innermost_at m old h in
-    subst (IsReadingAt m last_failure) (sym (moves (line_of m old.top.source old.place at))) (stops old.place (begins old.place at) failed)
+    subst (IsReadingAt m last_failure) (sym (moves (line_of m old.top.source old.location at))) (stops old.location (begins old.location at) failed)

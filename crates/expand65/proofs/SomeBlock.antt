@@ -26,9 +26,9 @@ pub record AreFewer (is : List Item) (r : ℕ) (x : RemainingInput) : Type 0 whe
 
 -- what is left behind a line that was taken, or that none was
 abbrev pub IsTakenOf : List Item → ℕ → LineAndRest → Type 0
-IsTakenOf is room (Ok (Some ts, x)) = AreFewer is room x
-IsTakenOf is room (Ok (None, x)) = (x.items ≡ is) × (x.room ≡ room)
-IsTakenOf is room (Err e) = is_system_error e.0 ≡ false
+IsTakenOf is budget (Ok (Some ts, x)) = AreFewer is budget x
+IsTakenOf is budget (Ok (None, x)) = (x.items ≡ is) × (x.room ≡ budget)
+IsTakenOf is budget (Err e) = is_system_error e.0 ≡ false
 
 lexed_own : (q : Result (List Lexeme) LexFault) → Own is_lex_system_error q → Own is_system_error (file_line_tokens q)
 lexed_own (Ok ts) h = good ts
@@ -38,26 +38,26 @@ lexed_own (Err _) h = bad _ refl
 fitted_own : (ts : List Lexeme) → Own is_system_error (body_line_tokens ts)
 fitted_own ts = choice (nat_le (length ts) token_limit) _ _ (good ts) (bad _ refl)
 
-following_taken : (i : Item) (is : List Item) (room : ℕ) (p : SourceLocation) (q : Result (List Lexeme) ExpandFault) → weight is ≤ weight (i ∷ is) → AreLines is → Own is_system_error q → IsTakenOf (i ∷ is) (suc room) (taken_as q (remaining_input is room p))
-following_taken i is room p (Ok ts) le lines h = record { lines = lines; room = omega arith; light = le }
-following_taken i is room p (Err f) le lines h = h.own
+following_taken : (i : Item) (is : List Item) (budget : ℕ) (p : SourceLocation) (q : Result (List Lexeme) ExpandFault) → weight is ≤ weight (i ∷ is) → AreLines is → Own is_system_error q → IsTakenOf (i ∷ is) (suc budget) (taken_as q (remaining_input is budget p))
+following_taken i is budget p (Ok ts) le lines h = record { lines = lines; room = omega arith; light = le }
+following_taken i is budget p (Err f) le lines h = h.own
 
 abbrev pub HasTaken : List Item → ℕ → SourceLocation → Type 0
-HasTaken is room p = (t : LineAndRest) × TakesFrom is room p t × IsTakenOf is room t
+HasTaken is budget p = (t : LineAndRest) × TakesFrom is budget p t × IsTakenOf is budget t
 
-pub some_taken : (is : List Item) (room : ℕ) (p : SourceLocation) → AreLines is → HasTaken is room p
-some_taken [] room p lines = (Ok (None, remaining_input [] room p), refl, (refl, refl))
-some_taken (mark k ∷ is) room p lines = (Ok (None, remaining_input (mark k ∷ is) room p), refl, (refl, refl))
-some_taken (labelled ts ∷ is) room p lines = absurd lines
-some_taken (branch ts ∷ is) room p lines = absurd lines
+pub some_taken : (is : List Item) (budget : ℕ) (p : SourceLocation) → AreLines is → HasTaken is budget p
+some_taken [] budget p lines = (Ok (None, remaining_input [] budget p), refl, (refl, refl))
+some_taken (mark k ∷ is) budget p lines = (Ok (None, remaining_input (mark k ∷ is) budget p), refl, (refl, refl))
+some_taken (labelled ts ∷ is) budget p lines = absurd lines
+some_taken (branch ts ∷ is) budget p lines = absurd lines
 some_taken (written n bytes ∷ is) zero p lines = (Err (TooManyLines, location_at p n), refl, refl)
 some_taken (played e ts ∷ is) zero p lines = (Err (TooManyLines, p), refl, refl)
-some_taken (written n bytes ∷ is) (suc room) p lines =
+some_taken (written n bytes ∷ is) (suc budget) p lines =
     let q = some_reading bytes in
     let own : Own is_system_error (file_line_tokens q.0) = lexed_own q.0 (record { own = q.2 }) in
-    (taken_as (file_line_tokens q.0) (remaining_input is room (location_at p n)), (file_line_tokens q.0, (q.0, q.1, refl), refl), following_taken (written n bytes) is room (location_at p n) (file_line_tokens q.0) (omega arith) lines own)
-some_taken (played e ts ∷ is) (suc room) p lines =
-    (taken_as (body_line_tokens (substituted_line e ts)) (remaining_input is room p), (body_line_tokens (substituted_line e ts), refl, refl), following_taken (played e ts) is room p (body_line_tokens (substituted_line e ts)) (omega arith) lines (fitted_own (substituted_line e ts)))
+    (taken_as (file_line_tokens q.0) (remaining_input is budget (location_at p n)), (file_line_tokens q.0, (q.0, q.1, refl), refl), following_taken (written n bytes) is budget (location_at p n) (file_line_tokens q.0) (omega arith) lines own)
+some_taken (played e ts ∷ is) (suc budget) p lines =
+    (taken_as (body_line_tokens (substituted_line e ts)) (remaining_input is budget p), (body_line_tokens (substituted_line e ts), refl, refl), following_taken (played e ts) is budget p (body_line_tokens (substituted_line e ts)) (omega arith) lines (fitted_own (substituted_line e ts)))
 
 -- ---- What a line does to its block.
 

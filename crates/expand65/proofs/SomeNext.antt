@@ -340,7 +340,7 @@ module _ (n : ℕ) where
 
   after_on : (k : EnvironmentView) (s : State) → AreLines s.left.items → size_left s ≤ n → (t : LineAndRest) → IsTakenOf s.left.items s.left.room t → LeadsOn n (step_after k s t)
   after_on k s lines le (Ok (Some ts, x)) h = line_on k (with_remaining s x) ts (is_mislabelled ts) h.lines (let less = h.room in let light = h.light in omega arith)
-  after_on k s lines le (Ok (None, x)) (items, room) = mark_on (with_remaining s x) x.items (subst AreLines (sym items) lines) (let same = ap weight items in omega (arith, same, room))
+  after_on k s lines le (Ok (None, x)) (items, budget) = mark_on (with_remaining s x) x.items (subst AreLines (sym items) lines) (let same = ap weight items in omega (arith, same, budget))
   after_on k s lines le (Err e) h = h
 
   taken_on : (k : EnvironmentView) (s : State) → AreLines s.left.items → size_left s ≤ n → LeadsOn n (takes s.left (step_after k s))

@@ -29,7 +29,7 @@ asked_numbered n (line ∷ lines) k is h = tt
 asked_in : (m : Files) (s : LineSource) (k : InputEnd) (is : List Item) → k.is_macro ≡ is_call s → IsFile s → IsAsked (remaining_in m s ++ mark k ∷ is)
 asked_in m x k is e h = grind (arith, common_steps, asked_numbered)
 
-pub fails_before : (o : Option Files) (last_failure : LastFailure) (old : InputStack) → IsFile old.top.source → IfSome o (λ m. IsReadingAt m last_failure old.place) → IfSome o (λ m. FailsAtLine m last_failure (remaining_of m old) old.place)
+pub fails_before : (o : Option Files) (last_failure : LastFailure) (old : InputStack) → IsFile old.top.source → IfSome o (λ m. IsReadingAt m last_failure old.location) → IfSome o (λ m. FailsAtLine m last_failure (remaining_of m old) old.location)
 fails_before None last_failure old h a = tt
 fails_before (Some m) last_failure old h a =
     let is = outer_items m old.outer.items in
@@ -47,16 +47,16 @@ within_next m last_failure (source.File f) tail Replayed l h (e, (ts, (others, i
 within_next m last_failure (source.Call r) tail n l h c more same a = absurd h
 within_next m last_failure (source.Repeat r next count) tail n l h c more same a = absurd h
 
-pub fails_within : (o : Option Files) (last_failure : LastFailure) (old : InputStack) (mid : LineSource) (place : SourceLocation) (n : NextLine) → IsFile mid → IfSome o (λ m. ComesNext (remaining_in m mid) n) → IfSome o (λ m. remaining_in m mid ≡ remaining_in m old.top.source) → (n ≡ AtEnd → ⊥) → place ≡ moved_by n old.place → IfSome o (λ m. IsReadingAt m last_failure place) → IfSome o (λ m. FailsAtLine m last_failure (remaining_of m old) place)
-fails_within None last_failure old mid place n h c s more p a = tt
-fails_within (Some m) last_failure old mid place n h c s more p a =
+pub fails_within : (o : Option Files) (last_failure : LastFailure) (old : InputStack) (mid : LineSource) (location : SourceLocation) (n : NextLine) → IsFile mid → IfSome o (λ m. ComesNext (remaining_in m mid) n) → IfSome o (λ m. remaining_in m mid ≡ remaining_in m old.top.source) → (n ≡ AtEnd → ⊥) → location ≡ moved_by n old.location → IfSome o (λ m. IsReadingAt m last_failure location) → IfSome o (λ m. FailsAtLine m last_failure (remaining_of m old) location)
+fails_within None last_failure old mid location n h c s more p a = tt
+fails_within (Some m) last_failure old mid location n h c s more p a =
     let tail = mark (mark_of old.top) ∷ outer_items m old.outer.items in
     let items : (remaining_of m old).items ≡ remaining_in m mid ++ tail = parted m old ∙ ap (λ is. is ++ tail) (sym s) in
     let P : SourceLocation → Type 0 = λ q. FailsAtLine m last_failure (remaining_of m old) q in
     subst P (sym p) (within_next m last_failure mid tail n (remaining_of m old) h c more items (subst (IsReadingAt m last_failure) p a))
 
 -- a reader that stopped there
-pub stopped_so : (o : Option Files) (IsThere : Files → SourceLocation → Type 0) (old new : InputStack) (f : ExpandFault) → mark_of new.top ≡ mark_of old.top → (is_failure f ≡ true → IfSome o (λ m. IsThere m new.place)) → IfSome o (λ m. is_failure f ≡ true → HasStopped (IsThere m) old new)
+pub stopped_so : (o : Option Files) (IsThere : Files → SourceLocation → Type 0) (old new : InputStack) (f : ExpandFault) → mark_of new.top ≡ mark_of old.top → (is_failure f ≡ true → IfSome o (λ m. IsThere m new.location)) → IfSome o (λ m. is_failure f ≡ true → HasStopped (IsThere m) old new)
 stopped_so x y old new f k h = grind (arith, common_steps)
 
 -- ---- Blocks.
@@ -85,4 +85,4 @@ plainly_read k (Some m) first reader new d passed h = by (is_kept k) (passed m)
 -- a reader that stopped at a line of a block
 pub stops_on : (last_failure : LastFailure) (k : BlockKind) (o : Option Files) (first reader new : InputStack) (d : ℕ) (f : ExpandFault) → IfSome o (Fails k d reader first) → mark_of reader.top ≡ mark_of first.top → IfSome o (λ m. is_failure f ≡ true → HasStopped (FailsAtLine m last_failure (remaining_of m reader)) reader new) → IfSome o (λ m. is_failure f ≡ true → HasStopped (FailsInBlock m last_failure k 0 (remaining_of m first)) first new)
 stops_on last_failure k None first reader new d f h e s = tt
-stops_on last_failure k (Some m) first reader new d f h e s = λ failed. (let so = s failed in record { there = h last_failure new.place (at_line d (remaining_of m reader) new.place so.there); mark = so.mark ∙ e })
+stops_on last_failure k (Some m) first reader new d f h e s = λ failed. (let so = s failed in record { there = h last_failure new.location (at_line d (remaining_of m reader) new.location so.there); mark = so.mark ∙ e })

@@ -63,21 +63,21 @@ else_passed x old rd cs b e h = grind (arith, common_steps, else_by)
 pub else_refused : (o : Option Files) (old : Preprocessor) (p : SourceLocation) (cs : List Bool) (f : ExpandFault) → without_last_condition old.conditions old.reader.top.conditions ≡ Some (false, cs) → IfSome o (λ m. Unless (is_system_error f) (Block RemainingBranches 0 [] (remaining_of m old.reader) (Err (f, p)))) → IfSome o (λ m. Unless (is_system_error f) (ElseIn m old (stops (f, p))))
 else_refused x old p cs f e h = grind (arith, common_steps, else_by)
 
-pub else_none : (o : Option Files) (old : Preprocessor) → without_last_condition old.conditions old.reader.top.conditions ≡ None → IfSome o (λ m. ElseIn m old (stops (NotOpened, old.reader.place)))
+pub else_none : (o : Option Files) (old : Preprocessor) → without_last_condition old.conditions old.reader.top.conditions ≡ None → IfSome o (λ m. ElseIn m old (stops (NotOpened, old.reader.location)))
 else_none x old e = grind (arith, common_steps, else_by)
 
-pub else_twice : (o : Option Files) (old : Preprocessor) (bs : List Bool) → without_last_condition old.conditions old.reader.top.conditions ≡ Some (true, bs) → IfSome o (λ m. ElseIn m old (stops (NotOpened, old.reader.place)))
+pub else_twice : (o : Option Files) (old : Preprocessor) (bs : List Bool) → without_last_condition old.conditions old.reader.top.conditions ≡ Some (true, bs) → IfSome o (λ m. ElseIn m old (stops (NotOpened, old.reader.location)))
 else_twice x old bs e = grind (arith, common_steps, else_by)
 
 -- ---- `.local`.
 
-local_in : (m : Files) (r : Preprocessor) (ts : List Lexeme) (b : Bool) → is_call r.reader.top.source ≡ b → local_line (state_of m r) ts ≡ (if b then local_named (state_of m r) (new_names ts) else stops (NotUnderstood, r.reader.place))
+local_in : (m : Files) (r : Preprocessor) (ts : List Lexeme) (b : Bool) → is_call r.reader.top.source ≡ b → local_line (state_of m r) ts ≡ (if b then local_named (state_of m r) (new_names ts) else stops (NotUnderstood, r.reader.location))
 local_in m r ts b e = grind (arith, common_steps, innermost_is)
 
-pub no_macro : (m : Files) (r : Preprocessor) (ts : List Lexeme) → is_call r.reader.top.source ≡ false → stops (NotUnderstood, r.reader.place) ≡ local_line (state_of m r) ts
+pub no_macro : (m : Files) (r : Preprocessor) (ts : List Lexeme) → is_call r.reader.top.source ≡ false → stops (NotUnderstood, r.reader.location) ≡ local_line (state_of m r) ts
 no_macro m r ts e = sym (local_in m r ts false e)
 
-pub bad_names : (m : Files) (r : Preprocessor) (ts : List Lexeme) (f : ExpandFault) → is_call r.reader.top.source ≡ true → Unless (is_system_error f) (ok_or_unknown (new_names ts) ≡ Err f) → Unless (is_system_error f) (stops (f, r.reader.place) ≡ local_line (state_of m r) ts)
+pub bad_names : (m : Files) (r : Preprocessor) (ts : List Lexeme) (f : ExpandFault) → is_call r.reader.top.source ≡ true → Unless (is_system_error f) (ok_or_unknown (new_names ts) ≡ Err f) → Unless (is_system_error f) (stops (f, r.reader.location) ≡ local_line (state_of m r) ts)
 bad_names m r ts f e h = grind (arith, common_steps)
 
 pub names_added : (m : Files) (r : Preprocessor) (src : LineSource) (ts : List Lexeme) (names : List (List ℕ)) → is_call r.reader.top.source ≡ true → ok_or_unknown (new_names ts) ≡ Ok names → is_call src ≡ is_call r.reader.top.source → ((k : InputEnd) (is : List Item) → remaining_in m src ++ mark k ∷ is ≡ with_local_names names (remaining_in m r.reader.top.source ++ mark k ∷ is)) → goes (with_items (state_of m r) (input_items m (with_source r.reader.top src) ++ outer_items m r.reader.outer.items)) ≡ local_line (state_of m r) ts
@@ -100,7 +100,7 @@ pub stops_so : {A : Type 0} (o : Option Files) (P Q : Files → SourceLocation �
 stops_so x y z old new r f h = grind (arith, common_steps)
 
 -- where nothing was read
-pub stood : (A : Type 0) (o : Option Files) (P : Files → SourceLocation → Type 0) (reader : InputStack) (f : ExpandFault) → ((m : Files) → is_failure f ≡ true → P m reader.place) → IfSome o (λ m. StopsAt {A = A} (P m) reader reader (Err f))
+pub stood : (A : Type 0) (o : Option Files) (P : Files → SourceLocation → Type 0) (reader : InputStack) (f : ExpandFault) → ((m : Files) → is_failure f ≡ true → P m reader.location) → IfSome o (λ m. StopsAt {A = A} (P m) reader reader (Err f))
 stood x y z reader f h = grind (arith, common_steps)
 
 pub stood_inside : (A : Type 0) (o : Option Files) (P : Files → SourceLocation → Type 0) (reader : InputStack) (f : ExpandFault) → is_failure f ≡ false → IfSome o (λ m. StopsAt {A = A} (P m) reader reader (Err f))
@@ -128,8 +128,8 @@ stops_after None last_failure k old mid new ts r t e same h = tt
 stops_after (Some m) last_failure k old mid new ts (Ok x) t e same h = tt
 stops_after (Some m) last_failure k old mid new ts (Err f) t e same h = λ failed.
     let so = h failed in
-    let following = subst (λ s. StepFails m last_failure (unless_mislabelled k s ts (is_mislabelled ts)) new.place) (e m) so.there in
-    record { there = fails_taken last_failure m k old new.place (inr (Ok (Some ts, remaining_of m mid.reader), t, following)); mark = so.mark ∙ same }
+    let following = subst (λ s. StepFails m last_failure (unless_mislabelled k s ts (is_mislabelled ts)) new.location) (e m) so.there in
+    record { there = fails_taken last_failure m k old new.location (inr (Ok (Some ts, remaining_of m mid.reader), t, following)); mark = so.mark ∙ same }
 
 -- ---- Of one line.
 
@@ -147,27 +147,27 @@ fails_branch : (last_failure : LastFailure) (m : Files) (k : EnvironmentView) (r
 unfolding FailsAt
 fails_branch last_failure m k r line p h = h
 
-stops_in : {A : Type 0} (o : Option Files) (last_failure : LastFailure) (k : EnvironmentView) (old : Expander) (new : InputStack) (r : Result A ExpandFault) (pending : PendingLine) (P : Files → SourceLocation → Type 0) → old.pending ≡ pending → ((m : Files) → innermost (with_pending pending (state_of m old.rewriter)).left.items ≡ innermost (remaining_of m old.rewriter.reader).items) → ((m : Files) (p : SourceLocation) → P m p → FailsAt m last_failure k (with_pending pending (state_of m old.rewriter)) p) → IfSome o (λ m. StopsAt (P m) old.rewriter.reader new r) → IfSome o (λ m. StopsReading m last_failure k (state_in m old) r (mark_of new.top) new.place)
+stops_in : {A : Type 0} (o : Option Files) (last_failure : LastFailure) (k : EnvironmentView) (old : Expander) (new : InputStack) (r : Result A ExpandFault) (pending : PendingLine) (P : Files → SourceLocation → Type 0) → old.pending ≡ pending → ((m : Files) → innermost (with_pending pending (state_of m old.rewriter)).left.items ≡ innermost (remaining_of m old.rewriter.reader).items) → ((m : Files) (p : SourceLocation) → P m p → FailsAt m last_failure k (with_pending pending (state_of m old.rewriter)) p) → IfSome o (λ m. StopsAt (P m) old.rewriter.reader new r) → IfSome o (λ m. StopsReading m last_failure k (state_in m old) r (mark_of new.top) new.location)
 stops_in None last_failure k old new r pending P is same f h = tt
 stops_in (Some m) last_failure k old new (Ok x) pending P is same f h = tt
 stops_in (Some m) last_failure k old new (Err e) pending P is same f h = λ failed.
     let so = h failed in
     let s = with_pending pending (state_of m old.rewriter) in
-    let Q : PendingLine → Type 0 = λ b. FailsWhileReading m last_failure k (with_pending b (state_of m old.rewriter)) (mark_of new.top) new.place in
+    let Q : PendingLine → Type 0 = λ b. FailsWhileReading m last_failure k (with_pending b (state_of m old.rewriter)) (mark_of new.top) new.location in
     subst Q (sym is) (record {
       state = s;
       goes = no_step s;
-      fails = f m new.place so.there;
+      fails = f m new.location so.there;
       within = same m ∙ innermost_is m old.rewriter.reader ∙ ap Some (sym so.mark);
     })
 
-pub stops_plain : {A : Type 0} (o : Option Files) (last_failure : LastFailure) (k : EnvironmentView) (old : Expander) (new : InputStack) (r : Result A ExpandFault) → old.pending ≡ Nothing → IfSome o (λ m. StopsAt (FailsAt m last_failure k (state_of m old.rewriter)) old.rewriter.reader new r) → IfSome o (λ m. StopsReading m last_failure k (state_in m old) r (mark_of new.top) new.place)
+pub stops_plain : {A : Type 0} (o : Option Files) (last_failure : LastFailure) (k : EnvironmentView) (old : Expander) (new : InputStack) (r : Result A ExpandFault) → old.pending ≡ Nothing → IfSome o (λ m. StopsAt (FailsAt m last_failure k (state_of m old.rewriter)) old.rewriter.reader new r) → IfSome o (λ m. StopsReading m last_failure k (state_in m old) r (mark_of new.top) new.location)
 stops_plain o last_failure k old new r is h = stops_in o last_failure k old new r Nothing (λ m. FailsAt m last_failure k (state_of m old.rewriter)) is (λ m. refl) (λ m p f. f) h
 
-pub stops_rest : {A : Type 0} (o : Option Files) (last_failure : LastFailure) (k : EnvironmentView) (old : Expander) (new : InputStack) (line : StoredLine) (r : Result A ExpandFault) → old.pending ≡ Rest line → IfSome o (λ m. StopsAt (StepFails m last_failure (line_step k (state_of m old.rewriter) (tokens_in line) (front_directive (tokens_in line)))) old.rewriter.reader new r) → IfSome o (λ m. StopsReading m last_failure k (state_in m old) r (mark_of new.top) new.place)
+pub stops_rest : {A : Type 0} (o : Option Files) (last_failure : LastFailure) (k : EnvironmentView) (old : Expander) (new : InputStack) (line : StoredLine) (r : Result A ExpandFault) → old.pending ≡ Rest line → IfSome o (λ m. StopsAt (StepFails m last_failure (line_step k (state_of m old.rewriter) (tokens_in line) (front_directive (tokens_in line)))) old.rewriter.reader new r) → IfSome o (λ m. StopsReading m last_failure k (state_in m old) r (mark_of new.top) new.location)
 stops_rest o last_failure k old new line r is h = stops_in o last_failure k old new r (Rest line) (λ m. StepFails m last_failure (line_step k (state_of m old.rewriter) (tokens_in line) (front_directive (tokens_in line)))) is (λ m. refl) (λ m p. fails_rest last_failure m k old.rewriter line p) h
 
-pub stops_branch : {A : Type 0} (o : Option Files) (last_failure : LastFailure) (k : EnvironmentView) (old : Expander) (new : InputStack) (line : StoredLine) (r : Result A ExpandFault) → old.pending ≡ Branch line → IfSome o (λ m. StopsAt (StepFails m last_failure (if_line k (state_of m old.rewriter) True (tokens_in line))) old.rewriter.reader new r) → IfSome o (λ m. StopsReading m last_failure k (state_in m old) r (mark_of new.top) new.place)
+pub stops_branch : {A : Type 0} (o : Option Files) (last_failure : LastFailure) (k : EnvironmentView) (old : Expander) (new : InputStack) (line : StoredLine) (r : Result A ExpandFault) → old.pending ≡ Branch line → IfSome o (λ m. StopsAt (StepFails m last_failure (if_line k (state_of m old.rewriter) True (tokens_in line))) old.rewriter.reader new r) → IfSome o (λ m. StopsReading m last_failure k (state_in m old) r (mark_of new.top) new.location)
 stops_branch o last_failure k old new line r is h = stops_in o last_failure k old new r (Branch line) (λ m. StepFails m last_failure (if_line k (state_of m old.rewriter) True (tokens_in line))) is (λ m. refl) (λ m p. fails_branch last_failure m k old.rewriter line p) h
 
 -- ---- Of steps one after another.
@@ -187,7 +187,7 @@ pub goes_over : (m : Files) (k : EnvironmentView) (s t u : State) → SilentStep
 goes_over m k s _ _ g (no_step t) = g
 goes_over m k s t _ g (one_more _ v u h step) = one_more s v u (goes_over m k s t v g h) step
 
-pub stops_later : {A : Type 0} (B : Type 0) (o : Option Files) (last_failure : LastFailure) (k : EnvironmentView) (i e : Expander) (mark : InputEnd) (place : SourceLocation) (r : Result A ExpandFault) (f : ExpandFault) → r ≡ Err f → IfSome o (HasGone k i e) → IfSome o (λ m. StopsReading {A = B} m last_failure k (state_in m e) (Err f) mark place) → IfSome o (λ m. StopsReading m last_failure k (state_in m i) r mark place)
-stops_later x y last_failure k i e there place r f is h s = grind (arith, common_steps, goes_over)
+pub stops_later : {A : Type 0} (B : Type 0) (o : Option Files) (last_failure : LastFailure) (k : EnvironmentView) (i e : Expander) (mark : InputEnd) (location : SourceLocation) (r : Result A ExpandFault) (f : ExpandFault) → r ≡ Err f → IfSome o (HasGone k i e) → IfSome o (λ m. StopsReading {A = B} m last_failure k (state_in m e) (Err f) mark location) → IfSome o (λ m. StopsReading m last_failure k (state_in m i) r mark location)
+stops_later x y last_failure k i e there location r f is h s = grind (arith, common_steps, goes_over)
 
 -- ---- At the place of the line that was read last.

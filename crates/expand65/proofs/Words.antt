@@ -6,4 +6,4 @@ use Rattle.expand65.specs.declared.line.StoredToken.{StoredToken}
 
 -- these words are so many tokens in the bytes, whatever is put behind them
 abbrev pub AreKept : List StoredToken → List ℕ → List Lexeme → Type 0
-AreKept words bytes ts = (ws : List StoredToken) (bs : List ℕ) → cut (words ++ ws) (bytes ++ bs) ≡ ts ++ cut ws bs
+AreKept spans bytes ts = (ws : List StoredToken) (bs : List ℕ) → cut (spans ++ ws) (bytes ++ bs) ≡ ts ++ cut ws bs

@@ -46,12 +46,12 @@ pub data SilentSteps (m : Files) (k : EnvironmentView) : State → State → Typ
 
 -- The store failed in a step between a state and its next statement; this is the location of the line read
 -- last.
-pub record FailsBetweenStatements (m : Files) (last_failure : LastFailure) (k : EnvironmentView) (s : State) (place : SourceLocation) : Type 0 where
+pub record FailsBetweenStatements (m : Files) (last_failure : LastFailure) (k : EnvironmentView) (s : State) (location : SourceLocation) : Type 0 where
   pub state : State
   pub reading : SourceLocation
   pub goes : SilentSteps m k s state
   pub fails : FailsAt m last_failure k state reading
-  pub at : place ≡ last_read reading (option_and_then (λ k. k.back) (innermost state.left.items))
+  pub at : location ≡ last_read reading (option_and_then (λ k. k.back) (innermost state.left.items))
 
 -- the location of an expander after a failure of the store, given the state that it represented, if its
 -- files were read at the assumed positions
@@ -62,14 +62,14 @@ StopsBetweenStatements m last_failure k old result new =
 -- ---- The location of the input stack during a read, before it becomes that of the line read last.
 
 -- where the input stack was reading when the store failed
-pub record FailsWhileReading (m : Files) (last_failure : LastFailure) (k : EnvironmentView) (s : State) (mark : InputEnd) (place : SourceLocation) : Type 0 where
+pub record FailsWhileReading (m : Files) (last_failure : LastFailure) (k : EnvironmentView) (s : State) (mark : InputEnd) (location : SourceLocation) : Type 0 where
   pub state : State
   pub goes : SilentSteps m k s state
-  pub fails : FailsAt m last_failure k state place
+  pub fails : FailsAt m last_failure k state location
   pub within : innermost state.left.items ≡ Some mark
 
 abbrev pub StopsReading : {A : Type 0} → Files → LastFailure → EnvironmentView → State → Result A ExpandFault → InputEnd → SourceLocation → Type 0
-StopsReading m last_failure k s result mark place = IfErr result (λ e. is_failure e ≡ true → FailsWhileReading m last_failure k s mark place)
+StopsReading m last_failure k s result mark location = IfErr result (λ e. is_failure e ≡ true → FailsWhileReading m last_failure k s mark location)
 
 -- ---- Lines of files that need no expansion.
 

@@ -112,7 +112,7 @@ IsAtHand _ p ts = ⊥
 
 -- and the line budget allows it
 abbrev pub IsNextLine : InputStack → Peeked → List Lexeme → Type 0
-IsNextLine r p ts = IsAtHand r.top.source p ts × (0 < r.room)
+IsNextLine r p ts = IsAtHand r.top.source p ts × (0 < r.budget)
 
 -- the first line has these tokens and this number
 abbrev pub TakesWritten : List Item → ℕ → List Lexeme → List Item → Type 0

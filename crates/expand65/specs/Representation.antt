@@ -88,7 +88,7 @@ outer_items m [] = []
 outer_items m (i ∷ is) = outer_items m is ++ input_items m i
 
 abbrev pub remaining_of : Files → InputStack → RemainingInput
-remaining_of m r = remaining_input (input_items m r.top ++ outer_items m r.outer.items) r.room r.place
+remaining_of m r = remaining_input (input_items m r.top ++ outer_items m r.outer.items) r.budget r.location
 
 -- the result, mapped by view, satisfies the relation, with the location of an error, unless a system error
 -- occurred
@@ -149,7 +149,7 @@ open_in r = r.top ∷ reverse r.outer.items
 
 -- the open files are read at the positions that the input stack assumes
 unfoldable pub IsInPlace : Files → InputStack → Type 0
-IsInPlace m r = AreAt m (open_in r) r.place
+IsInPlace m r = AreAt m (open_in r) r.location
 
 -- the same for the files that a store tells
 abbrev pub StandsIn : Option Files → InputStack → Type 0
@@ -181,7 +181,7 @@ pub data FailsInBlock (m : Files) (last_failure : LastFailure) (k : BlockKind) :
 
 -- the input stack is at such a location, in the input in which it began
 pub record HasStopped (IsThere : SourceLocation → Type 0) (old new : InputStack) : Type 0 where
-  pub there : IsThere new.place
+  pub there : IsThere new.location
   pub mark : mark_of new.top ≡ mark_of old.top
 
 -- the location of an input stack after a failure of the store
@@ -231,7 +231,7 @@ StopsBy files old new result IsThere = StandsIn files old.reader → IfSome file
 
 -- An upper bound for the remaining lines and ends of inputs. A line may open an input.
 abbrev pub size_of : Preprocessor → ℕ
-size_of r = 3 * r.reader.room + length r.reader.outer.items
+size_of r = 3 * r.reader.budget + length r.reader.outer.items
 
 -- the weight of the pending line of an outcome
 abbrev pub weight_of : LineOutcome → ℕ
@@ -287,7 +287,7 @@ IsPositioned m e = IsInPlace m e.rewriter.reader
 
 -- the location of the line read last
 abbrev pub place_of : Expander → SourceLocation
-place_of e = e.rewriter.reader.place
+place_of e = e.rewriter.reader.location
 
 abbrev pub statement_of : Statement → ExpandedStatement
 statement_of (Label line) = label (tokens_in line)

@@ -229,7 +229,7 @@ impl InputStack {
     /// Skips plain lines, if lines of this kind aren't kept.
     fn pass_unkept(&mut self, kind: BlockKind)
         ensures passed { (m : Files) → IsPassedOver (is_kept kind) (remaining_of m self.old) (remaining_of m self.new) }
-        ensures room { self.new.room ≤ self.old.room }
+        ensures budget { self.new.budget ≤ self.old.budget }
         ensures stays { KeepsInnermost self.old self.new }
         ensures stands { (m : Files) → IsInPlace m self.old → IsInPlace m self.new }
     {
@@ -247,8 +247,8 @@ impl InputStack {
     ) -> Result<WholeBlock, ExpandFault>
         ensures read { IfSome (S.files store.old) (λ m.
             RefinesLocated (λ b. ((map tokens_in b.lines, branch_of b.end), remaining_of m self.new))
-            self.new.place result (Block kind 0 [] (remaining_of m self.old))) }
-        ensures room { OnOk result (self.new.room < self.old.room) }
+            self.new.location result (Block kind 0 [] (remaining_of m self.old))) }
+        ensures room { OnOk result (self.new.budget < self.old.budget) }
         ensures stays { KeepsInnermost self.old self.new }
         ensures stands { StandsIn (S.files store.old) self.old →
             OnOk result (StandsIn (S.files store.old) self.new) }

@@ -207,8 +207,8 @@ impl Expander {
             RepresentsState m self.now s → (result.0.now ≡ s.left.place.file) ×
             (result.1 ≡ s.left.place.line) }
     {
-        let place = &self.rewriter.reader.place;
-        (place.file.as_str(), place.line)
+        let location = &self.rewriter.reader.location;
+        (location.file.as_str(), location.line)
     }
 
     /// Returns the same location, with the file's name as it is and no copy of it.
@@ -217,7 +217,7 @@ impl Expander {
     {
         let rewriter = self.rewriter;
         let reader = rewriter.reader;
-        reader.place
+        reader.location
     }
 
     /// Expands up to the next statement or the end.
@@ -309,22 +309,22 @@ fn reader_of(alloc: Global, file: &str) -> Result<InputStack, AllocError>
         length (bytes_of m file.now) ≤ 16777216 → remaining_of m r ≡ first_left file.now
         (bytes_of m file.now)) }
     ensures stands { (m : Files) → IfOk result (IsInPlace m) }
-    ensures size { IfOk result (λ r. 3 * r.room + length r.outer.items ≤ 3145728) }
+    ensures size { IfOk result (λ r. 3 * r.budget + length r.outer.items ≤ 3145728) }
 {
     let top = Input {
         source: LineSource::File(OpenFile::new(alloc, PathString::copy_of(alloc, file)?)),
         conditions: 0,
         back: None,
     };
-    let place = SourceLocation {
+    let location = SourceLocation {
         file: PathString::copy_of(alloc, file)?,
         line: 0,
     };
     Ok(InputStack {
         top,
         outer: Vec::new(alloc),
-        room: MAX_LINES,
-        place,
+        budget: MAX_LINES,
+        location,
     })
 }
 

@@ -21,19 +21,19 @@ fn folder_of(file: &[u8]) -> &[u8]
     ensures { result.now ≡ folder_of file.now }
 {
     let mut len = 0;
-    for (place, byte) in file.iter().enumerate() {
-        len = folder_len(len, place, *byte);
+    for (offset, byte) in file.iter().enumerate() {
+        len = folder_len(len, offset, *byte);
     }
     let (folder, _) = file.split_at(len);
     folder
 }
 
 /// Updates the length of the folder's name for the byte at an index.
-fn folder_len(before: usize, place: usize, byte: u8) -> usize
-    requires { place < 2 ^ 63 }
-    ensures { result ≡ (if is_slash byte then place + 1 else before) }
+fn folder_len(before: usize, offset: usize, byte: u8) -> usize
+    requires { offset < 2 ^ 63 }
+    ensures { result ≡ (if is_slash byte then offset + 1 else before) }
 {
-    if byte == b'/' { place + 1 } else { before }
+    if byte == b'/' { offset + 1 } else { before }
 }
 
 fn begins_with_slash(name: &[u8]) -> bool

@@ -33,8 +33,8 @@ pub struct Input {
 pub struct InputStack {
     pub top: Input,
     pub outer: Vec<Input>,
-    pub room: u32,
-    pub place: SourceLocation,
+    pub budget: u32,
+    pub location: SourceLocation,
 }
 
 /// The end of a macro call: how many conditions stay open, and whether any input remains.
@@ -45,11 +45,11 @@ pub struct MacroEnd {
 }
 
 /// Moves the location to a line of its file.
-fn move_by(place: &mut SourceLocation, next: NextLine)
-    ensures { place.new ≡ moved_by next place.old }
+fn move_by(location: &mut SourceLocation, next: NextLine)
+    ensures { location.new ≡ moved_by next location.old }
 {
     if let NextLine::Numbered(line) = next {
-        place.line = line;
+        location.line = line;
     }
 }
 
@@ -62,12 +62,12 @@ impl InputStack {
         store: &mut S,
     ) -> Result<Option<StoredLine>, ExpandFault>
         ensures read { IfSome (S.files store.old) (λ m.
-            RefinesLocated (λ l. (option_map tokens_in l, remaining_of m self.new)) self.new.place result
+            RefinesLocated (λ l. (option_map tokens_in l, remaining_of m self.new)) self.new.location result
             (TakesNextLine (remaining_of m self.old))) }
         ensures spent { IfSome (S.files store.old) (λ m.
             IfOk result (λ l. IfNone l (remaining_in m self.new.top.source ≡ []))) }
-        ensures room { IfOk result (λ l. IfSome l (λ _. self.new.room < self.old.room)) }
-        ensures less { OnOk result (self.new.room ≤ self.old.room) }
+        ensures room { IfOk result (λ l. IfSome l (λ _. self.new.budget < self.old.budget)) }
+        ensures less { OnOk result (self.new.budget ≤ self.old.budget) }
         ensures stays { KeepsInnermost self.old self.new }
         ensures stands { StandsIn (S.files store.old) self.old →
             OnOk result (StandsIn (S.files store.old) self.new) }
@@ -80,11 +80,11 @@ impl InputStack {
         if next.is_end() {
             return Ok(None);
         }
-        move_by(&mut self.place, next);
-        if self.room == 0 {
+        move_by(&mut self.location, next);
+        if self.budget == 0 {
             return Err(ExpandFault::TooManyLines);
         }
-        self.room -= 1;
+        self.budget -= 1;
         let line = self.top.source.take_line(alloc, store)?;
         Ok(Some(line))
     }
@@ -96,9 +96,9 @@ impl InputStack {
         store: &mut S,
     ) -> Result<StoredLine, ExpandFault>
         ensures read { IfSome (S.files store.old) (λ m.
-            RefinesLocated (λ l. (tokens_in l, remaining_of m self.new)) self.new.place result
+            RefinesLocated (λ l. (tokens_in l, remaining_of m self.new)) self.new.location result
             (TakesInBlock (remaining_of m self.old))) }
-        ensures room { OnOk result (self.new.room < self.old.room) }
+        ensures room { OnOk result (self.new.budget < self.old.budget) }
         ensures stays { KeepsInnermost self.old self.new }
         ensures stands { StandsIn (S.files store.old) self.old →
             OnOk result (StandsIn (S.files store.old) self.new) }
@@ -116,13 +116,13 @@ impl InputStack {
     /// Pushes an input.
     pub fn enter(&mut self, input: Input) -> Result<(), ExpandFault>
         ensures entered { (m : Files) →
-            RefinesLocated (λ _. remaining_of m self.new) self.new.place result
+            RefinesLocated (λ _. remaining_of m self.new) self.new.location result
             (λ r. r ≡ with_lines (remaining_in m input.source) (mark_of input) (remaining_of m self.old)) }
-        ensures room { self.new.room ≡ self.old.room }
+        ensures room { self.new.budget ≡ self.old.budget }
         ensures outer { OnOk result (length self.new.outer.items ≡ length self.old.outer.items + 1) }
-        ensures place { self.new.place ≡ self.old.place }
+        ensures place { self.new.location ≡ self.old.location }
         ensures stands { (m : Files) (p : SourceLocation) → IsAt m input.source p →
-            HasBack input.source input.back → come_back p input.back ≡ self.old.place →
+            HasBack input.source input.back → come_back p input.back ≡ self.old.location →
             IsInPlace m self.old → OnOk result (AreAt m (open_in self.new) p) }
         ensures inside { IfErr result (λ e. is_failure e ≡ false) }
     {
@@ -140,10 +140,10 @@ impl InputStack {
         ensures left { (m : Files) →
             (if result then (remaining_of m self.new).items else []) ≡ outer_items m self.old.outer.items }
         ensures back { (p : SourceLocation) → come_back p back.new ≡ come_back (come_back p back.old) self.old.top.back }
-        ensures place { self.new.place ≡ self.old.place }
+        ensures location { self.new.location ≡ self.old.location }
         ensures stands { (m : Files) (p : SourceLocation) → AreAt m (open_in self.old) (come_back p back.old) →
             AreAt m (open_in self.new) (come_back p back.new) }
-        ensures room { self.new.room ≡ self.old.room }
+        ensures budget { self.new.budget ≡ self.old.budget }
         ensures outer { IsTrue result → length self.new.outer.items < length self.old.outer.items }
         ensures fewer { length self.new.outer.items ≤ length self.old.outer.items }
     {
@@ -165,10 +165,10 @@ impl InputStack {
     pub fn leave(&mut self, conditions: usize) -> Result<bool, ExpandFault>
         ensures left { (m : Files) →
             remaining_in m self.old.top.source ≡ [] → RefinesLocated
-            (λ more. ((if more then (remaining_of m self.new).items else []), self.new.place))
-            self.new.place result (λ r. r ≡ without_end_mark conditions self.old.place (remaining_of m self.old).items) }
+            (λ more. ((if more then (remaining_of m self.new).items else []), self.new.location))
+            self.new.location result (λ r. r ≡ without_end_mark conditions self.old.location (remaining_of m self.old).items) }
         ensures stands { (m : Files) → IsInPlace m self.old → OnOk result (IsInPlace m self.new) }
-        ensures room { self.new.room ≡ self.old.room }
+        ensures room { self.new.budget ≡ self.old.budget }
         ensures outer { IfOk result (λ more. IsTrue more →
             length self.new.outer.items < length self.old.outer.items) }
         ensures fewer { OnOk result (length self.new.outer.items ≤ length self.old.outer.items) }
@@ -186,15 +186,15 @@ impl InputStack {
     /// Closes the innermost macro call and all inputs opened in it.
     pub fn leave_macro(&mut self) -> Option<MacroEnd>
         ensures left { (m : Files) →
-            outside_macro (remaining_of m self.old).items self.old.place ≡ option_map
+            outside_macro (remaining_of m self.old).items self.old.location ≡ option_map
             (λ e. (
               e.conditions,
               (if e.more then (remaining_of m self.new).items else []),
-              self.new.place,
+              self.new.location,
             )) result }
-        ensures none { IfNone result (self.new.place ≡ self.old.place) }
+        ensures none { IfNone result (self.new.location ≡ self.old.location) }
         ensures stands { (m : Files) → IsInPlace m self.old → IfSome result (λ _. IsInPlace m self.new) }
-        ensures room { self.new.room ≡ self.old.room }
+        ensures room { self.new.budget ≡ self.old.budget }
         ensures fewer { length self.new.outer.items ≤ length self.old.outer.items }
     {
         let mut back = None;
@@ -214,13 +214,13 @@ impl InputStack {
 
     /// Restores the location of the line that included the file.
     fn go_back(&mut self, back: Option<SourceLocation>)
-        ensures place { self.new.place ≡ come_back self.old.place back }
+        ensures location { self.new.location ≡ come_back self.old.location back }
         ensures top { self.new.top ≡ self.old.top }
         ensures outer { self.new.outer ≡ self.old.outer }
-        ensures room { self.new.room ≡ self.old.room }
+        ensures budget { self.new.budget ≡ self.old.budget }
     {
-        if let Some(place) = back {
-            self.place = place;
+        if let Some(location) = back {
+            self.location = location;
         }
     }
 }
@@ -228,9 +228,9 @@ impl InputStack {
 impl InputStack {
     /// Restores the location of the including line if no line of the included file was read.
     pub fn go_back_unread(&mut self)
-        ensures place { self.new.place ≡ last_read self.old.place self.old.top.back }
+        ensures place { self.new.location ≡ last_read self.old.location self.old.top.back }
     {
-        if self.place.line == 0 {
+        if self.location.line == 0 {
             let back = self.top.back.take();
             self.go_back(back);
         }

@@ -60,15 +60,15 @@ impl StoredLine {
     pub fn copy_of(alloc: Global, tokens: &[Token<'_>]) -> Result<StoredLine, AllocError>
         ensures { IfOk result (λ line. tokens_in line ≡ lexemes tokens.now) }
     {
-        let mut words = Vec::with_capacity(alloc, tokens.len())?;
+        let mut spans = Vec::with_capacity(alloc, tokens.len())?;
         // A token has some four bytes.
         let mut bytes = Vec::with_capacity(alloc, tokens.len().saturating_mul(4))?;
         for token in tokens {
-            words.push(StoredToken::new(token.kind, 0, token.text.len())?)?;
+            spans.push(StoredToken::new(token.kind, 0, token.text.len())?)?;
             bytes.extend_from_slice(token.text)?;
         }
         Ok(StoredLine {
-            spans: ListVec::from_vec(words),
+            spans: ListVec::from_vec(spans),
             bytes: ListVec::from_vec(bytes),
         })
     }
@@ -81,12 +81,12 @@ impl StoredLine {
         ensures inside { IfErr result (λ e. is_failure e ≡ false) }
     {
         // This capacity suffices for most lines. Lines of macros are kept, so it isn't larger.
-        let mut words = Vec::with_capacity(alloc, (bytes.len() / 2 + 1).min(8))?;
-        let len = read_words(bytes, &mut words)?;
+        let mut spans = Vec::with_capacity(alloc, (bytes.len() / 2 + 1).min(8))?;
+        let len = read_words(bytes, &mut spans)?;
         let (pending, _) = bytes.split_at(len);
         let kept = Vec::from_slice(alloc, pending)?;
         Ok(StoredLine {
-            spans: ListVec::from_vec(words),
+            spans: ListVec::from_vec(spans),
             bytes: ListVec::from_vec(kept),
         })
     }
@@ -104,20 +104,20 @@ impl StoredLine {
         Ok(())
     }
 
-    /// Stores the line's tokens at the start of `room`, if they fit. Returns their number.
+    /// Stores the line's tokens at the start of `buffer`, if they fit. Returns their number.
     #[inline(always)]
-    pub fn put_in<'a>(&'a self, room: &mut [Token<'a>]) -> Option<usize>
-        ensures within { IfSome result (λ n. n ≤ length room.new) }
-        ensures tokens { IfSome result (λ n. lexemes (take n room.new) ≡ tokens_in self.now) }
+    pub fn put_in<'a>(&'a self, buffer: &mut [Token<'a>]) -> Option<usize>
+        ensures within { IfSome result (λ n. n ≤ length buffer.new) }
+        ensures tokens { IfSome result (λ n. lexemes (take n buffer.new) ≡ tokens_in self.now) }
     {
-        if self.spans.len() > room.len() {
+        if self.spans.len() > buffer.len() {
             return None;
         }
         let mut count = 0;
         let mut left = self.bytes.as_slice();
         for word in self.spans.as_slice() {
             let (token, following) = word.token(left);
-            room[count] = token;
+            buffer[count] = token;
             count += 1;
             left = following;
         }
@@ -213,9 +213,9 @@ impl StoredLine {
 
 /// Reads the tokens of a line of a file. Returns the offset of the last one's end.
 #[inline(always)]
-fn read_words(bytes: &[u8], words: &mut Vec<StoredToken>) -> Result<usize, ExpandFault>
-    requires { words.old.items ≡ [] }
-    ensures tokens { RefinesRel is_system_error (λ n. cut words.new.items (take n bytes.now)) result
+fn read_words(bytes: &[u8], spans: &mut Vec<StoredToken>) -> Result<usize, ExpandFault>
+    requires { spans.old.items ≡ [] }
+    ensures tokens { RefinesRel is_system_error (λ n. cut spans.new.items (take n bytes.now)) result
         (λ r. (q : Result (List Lexeme) LexFault) × IsRead bytes.now q × (r ≡ file_line_tokens q)) }
     ensures within { IfOk result (λ n. n ≤ length bytes.now) }
     ensures inside { IfErr result (λ e. is_failure e ≡ false) }
@@ -228,7 +228,7 @@ fn read_words(bytes: &[u8], words: &mut Vec<StoredToken>) -> Result<usize, Expan
                 let len = token.text.len();
                 let blanks = left - lexer.rest.len() - len;
                 // A line has at most 4,096 bytes, so both fit.
-                words.push(StoredToken {
+                spans.push(StoredToken {
                     kind: token.kind,
                     blanks: blanks as u32,
                     len: len as u32,

@@ -111,10 +111,10 @@ pub enum Replacement<'a> {
 
 impl Replay {
     /// Returns the argument of the parameter at an index.
-    fn argument_at(&self, place: usize) -> Replacement<'_>
-        ensures { tokens_for result ≡ argument_at (replacing_of self.now).arguments (Some place) }
+    fn argument_at(&self, index: usize) -> Replacement<'_>
+        ensures { tokens_for result ≡ argument_at (replacing_of self.now).arguments (Some index) }
     {
-        match self.arguments.as_slice().get(place) {
+        match self.arguments.as_slice().get(index) {
             Some(line) => Replacement::Tokens(line),
             None => Replacement::Nothing,
         }
@@ -126,7 +126,7 @@ impl Replay {
             (position (bytes_eq name.now) (replacing_of self.now).params) }
     {
         match self.body.params.get_index_of(name) {
-            Some(place) => self.argument_at(place),
+            Some(index) => self.argument_at(index),
             None => Replacement::Itself,
         }
     }

@@ -89,9 +89,9 @@ fn part_len(tokens: &[Token<'_>]) -> usize
     ensures within { result ≤ length tokens.now }
 {
     let mut depth = 0;
-    for (place, token) in tokens.iter().enumerate() {
+    for (index, token) in tokens.iter().enumerate() {
         if is_comma(token) && depth == 0 {
-            return place;
+            return index;
         }
         depth = braces_after(depth, token);
     }
@@ -103,9 +103,9 @@ fn closes_last(tokens: &[Token<'_>]) -> bool
     ensures { result ≡ closes_last 0 (lexemes tokens.now) }
 {
     let mut depth = 0;
-    for (place, token) in tokens.iter().enumerate() {
+    for (index, token) in tokens.iter().enumerate() {
         if closes_brace(token) && depth == 0 {
-            return place + 1 == tokens.len();
+            return index + 1 == tokens.len();
         }
         depth = braces_after(depth, token);
     }

@@ -139,7 +139,7 @@ impl Preprocessor {
         let Some(name) = string_of(tokens) else {
             return Err(ExpandFault::NotUnderstood);
         };
-        let beside = self.reader.place.file.as_str();
+        let beside = self.reader.location.file.as_str();
         let file = find_file(self.alloc, store, beside, self.folders.as_slice(), name)?;
         self.enter_file(file)
     }
@@ -152,17 +152,17 @@ impl Preprocessor {
         ensures keeps { (files : Option Files) → PreservesPositions files self.old self.new result }
         ensures inside { IfErr result (λ e. is_failure e ≡ false) }
     {
-        let place = SourceLocation {
+        let location = SourceLocation {
             file: PathString::copy_of(self.alloc, file.as_str())?,
             line: 0,
         };
-        let back = self.reader.place.copy(self.alloc)?;
+        let back = self.reader.location.copy(self.alloc)?;
         self.reader.enter(Input {
             source: LineSource::File(OpenFile::new(self.alloc, file)),
             conditions: self.conditions.len(),
             back: Some(back),
         })?;
-        self.reader.place = place;
+        self.reader.location = location;
         Ok(LineOutcome::Continue)
     }
 

@@ -155,7 +155,7 @@ fn iterations_of(value: Option<i64>) -> Result<u32, ExpandFault>
 
 /// Evaluates the expression of a count.
 fn iterations_given<K: Knows>(alloc: Global, knows: &K, count: Expr) -> Result<u32, ExpandFault>
-    ensures said { Refines is_system_error (λ n. n) result
+    ensures value { Refines is_system_error (λ n. n) result
         (iterations_of ((K.meaning knows.now).value count)) }
     ensures inside { IfErr result (λ e. is_failure e ≡ false) }
 {

@@ -187,7 +187,7 @@ impl InputStack {
         ensures ahead { IfSome result (λ p. IsNextLine self.now p (stored_lexemes tokens.new)) }
         ensures within { tokens.new.few.count ≤ 8 }
     {
-        if self.room == 0 {
+        if self.budget == 0 {
             return None;
         }
         self.top.source.peek(alloc, tokens)
@@ -198,27 +198,27 @@ impl InputStack {
     pub fn take_peeked(&mut self, line: Peeked)
         ensures taken { (m : Files) (ts : List Lexeme) → IsNextLine self.old line ts →
             TakesNextLine (remaining_of m self.old) (Ok (Some ts, remaining_of m self.new)) }
-        ensures place { self.new.place ≡ location_at self.old.place line.number }
-        ensures room { self.new.room ≡ self.old.room - 1 }
+        ensures place { self.new.location ≡ location_at self.old.location line.number }
+        ensures room { self.new.budget ≡ self.old.budget - 1 }
         ensures stays { KeepsInnermost self.old self.new }
         ensures stands { (m : Files) (ts : List Lexeme) → IsNextLine self.old line ts →
             IsInPlace m self.old → IsInPlace m self.new }
     {
         self.top.source.take_peeked(line);
-        self.room = self.room.saturating_sub(1);
-        self.place.line = line.number;
+        self.budget = self.budget.saturating_sub(1);
+        self.location.line = line.number;
     }
 
     /// Skips the next line if it comes from a file, is buffered whole and is plain. Returns whether
     /// it did.
     fn pass_line(&mut self) -> bool
         ensures passed { (m : Files) → IsTrue result → PassesPlain (remaining_of m self.old) (remaining_of m self.new) }
-        ensures room { IsTrue result → self.new.room < self.old.room }
+        ensures budget { IsTrue result → self.new.budget < self.old.budget }
         ensures stays { KeepsInnermost self.old self.new }
         ensures none { result ≡ false → self.new ≡ self.old }
         ensures stands { (m : Files) → IsInPlace m self.old → IsInPlace m self.new }
     {
-        if self.room == 0 {
+        if self.budget == 0 {
             return false;
         }
         let Some(line) = self.top.source.peek_plain() else {
@@ -231,7 +231,7 @@ impl InputStack {
     /// Skips plain lines of a file, as far as they are buffered.
     pub fn pass_plain_lines(&mut self)
         ensures passed { (m : Files) → SkipsPlainLines (remaining_of m self.old) (remaining_of m self.new) }
-        ensures room { self.new.room ≤ self.old.room }
+        ensures room { self.new.budget ≤ self.old.budget }
         ensures stays { KeepsInnermost self.old self.new }
         ensures stands { (m : Files) → IsInPlace m self.old → IsInPlace m self.new }
     {

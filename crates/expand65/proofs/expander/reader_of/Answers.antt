@@ -7,6 +7,6 @@ use Rattle.expand65.proofs.expander.reader_of.Goals as goal
 
 pub returns-clause-stands : goal.returns-clause-stands
 returns-clause-stands c = λ m.
-    (let place : SourceLocation = record { file = c.in_ok-copy_of-2.field-0; line = 0 } in
-    let reader : InputStack = record { top = record { source = source.File c.new.result; conditions = 0; back = None }; outer = c.new-2.result; room = 1048576; place = place } in
-    source_placed m reader c.new.result refl refl c.new-2.ensures.items (opened_at m c.new.result place (c.new.ensures.name ∙ c.in_ok-copy_of.ensures ∙ sym c.in_ok-copy_of-2.ensures) c.new.ensures.line refl (c.new.ensures.following m)))
+    (let location : SourceLocation = record { file = c.in_ok-copy_of-2.field-0; line = 0 } in
+    let reader : InputStack = record { top = record { source = source.File c.new.result; conditions = 0; back = None }; outer = c.new-2.result; budget = 1048576; location = location } in
+    source_placed m reader c.new.result refl refl c.new-2.ensures.items (opened_at m c.new.result location (c.new.ensures.name ∙ c.in_ok-copy_of.ensures ∙ sym c.in_ok-copy_of-2.ensures) c.new.ensures.line refl (c.new.ensures.following m)))

@@ -27,15 +27,15 @@ nothing_kept : AreKept [] [] []
 nothing_kept ws bs = refl
 
 -- a word more is kept, and the bytes up to its end
-more_kept : (words : List StoredToken) (pending : List ℕ) (ts : List Lexeme) (w : StoredToken) (t : Token) (blanks : List ℕ) → w.kind ≡ t.kind → w.blanks ≡ length blanks → w.len ≡ length t.text.now → AreKept words pending ts → AreKept (words ++ w ∷ []) (pending ++ (blanks ++ t.text.now)) (ts ++ lexeme_of t ∷ [])
-more_kept words pending ts w t blanks kind apart len h = λ ws bs.
+more_kept : (spans : List StoredToken) (pending : List ℕ) (ts : List Lexeme) (w : StoredToken) (t : Token) (blanks : List ℕ) → w.kind ≡ t.kind → w.blanks ≡ length blanks → w.len ≡ length t.text.now → AreKept spans pending ts → AreKept (spans ++ w ∷ []) (pending ++ (blanks ++ t.text.now)) (ts ++ lexeme_of t ∷ [])
+more_kept spans pending ts w t blanks kind apart len h = λ ws bs.
     let text = t.text.now in
     let bytes = blanks ++ text ++ bs in
     let here : drop w.blanks bytes ≡ text ++ bs = ap (λ n. drop n bytes) apart ∙ ap (drop (length blanks)) (append_assoc blanks text bs) ∙ drop-append_seam blanks (text ++ bs) in
     let own : take w.len (drop w.blanks bytes) ≡ text = ap (λ n. take n (drop w.blanks bytes)) len ∙ ap (take (length text)) here ∙ take-append_seam text bs in
     let following : after_word w bytes ≡ bs = ap (λ n. drop n (drop w.blanks bytes)) len ∙ ap (drop (length text)) here ∙ drop-append_seam text bs in
     let word : cut (w ∷ ws) bytes ≡ lexeme_of t ∷ cut ws bs = rw (kind, own, following) refl in
-    ap (λ l. cut l (pending ++ (blanks ++ text) ++ bs)) (append_assoc words (w ∷ []) ws) ∙ ap (cut (words ++ w ∷ ws)) (append_assoc pending (blanks ++ text) bs) ∙ h (w ∷ ws) bytes ∙ ap (λ l. ts ++ l) word ∙ sym (append_assoc ts (lexeme_of t ∷ []) (cut ws bs))
+    ap (λ l. cut l (pending ++ (blanks ++ text) ++ bs)) (append_assoc spans (w ∷ []) ws) ∙ ap (cut (spans ++ w ∷ ws)) (append_assoc pending (blanks ++ text) bs) ∙ h (w ∷ ws) bytes ∙ ap (λ l. ts ++ l) word ∙ sym (append_assoc ts (lexeme_of t ∷ []) (cut ws bs))
 
 front_more : (bytes pending rest blanks text left : List ℕ) → bytes ≡ pending ++ rest → rest ≡ blanks ++ (text ++ left) → bytes ≡ pending ++ (blanks ++ text) ++ left
 front_more bytes pending rest blanks text left e f = e ∙ ap (λ l. pending ++ l) (f ∙ sym (append_assoc blanks text left)) ∙ sym (append_assoc pending (blanks ++ text) left)
@@ -90,7 +90,7 @@ tokens-preserved c =
     let apart : IsCutOff left text following = rw c.in-Some.is at c.in_ok-token.ensures.cut in
     let kept = so_far.1 in
     let word : StoredToken = record { kind = c.in-Some.token.kind; blanks = length left - length following - length text; len = length text } in
-    let more = more_kept c.tokens.words.items kept.0 so_far.0 word c.in-Some.token apart.0 refl (apart_by left apart.0 text following apart.1) refl kept.2 in
+    let more = more_kept c.tokens.spans.items kept.0 so_far.0 word c.in-Some.token apart.0 refl (apart_by left apart.0 text following apart.1) refl kept.2 in
     record {
       short = c.tokens.invariant.short;
       so_far = (so_far.0 ++ token ∷ [], (kept.0 ++ (apart.0 ++ text), front_more c.args.bytes.now kept.0 left apart.0 text following kept.1 apart.1, rw c.in_ok-push-in-Some.ensures.items more), λ us end h. rw append_assoc (so_far.2 (token ∷ us) end (next us end h)));
@@ -102,5 +102,5 @@ returns-in-None-clause-tokens c =
     let P : List Lexeme → Type 0 = λ ts. HasTokens true c.args.bytes.now ts None in
     let end : HasTokens c.tokens.lexer.first c.tokens.lexer.rest.now [] None = rw c.in-None.is at c.in_ok-token.ensures.next in
     let kept = so_far.1 in
-    let all : cut c.tokens.words.items (take (length c.args.bytes.now - length c.tokens.lexer.rest.now) c.args.bytes.now) ≡ so_far.0 = ap (cut c.tokens.words.items) (front_len c.args.bytes.now kept.0 c.tokens.lexer.rest.now kept.1) ∙ all_kept c.tokens.words.items kept.0 so_far.0 kept.2 in
+    let all : cut c.tokens.spans.items (take (length c.args.bytes.now - length c.tokens.lexer.rest.now) c.args.bytes.now) ≡ so_far.0 = ap (cut c.tokens.spans.items) (front_len c.args.bytes.now kept.0 c.tokens.lexer.rest.now kept.1) ∙ all_kept c.tokens.spans.items kept.0 so_far.0 kept.2 in
     (Ok so_far.0, (c.tokens.invariant.short, subst P (append-nil so_far.0) (so_far.2 [] None end)), ap Ok all)

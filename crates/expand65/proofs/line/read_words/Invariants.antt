@@ -7,7 +7,7 @@ use Rattle.expand65.proofs.line.read_words.Given as goal
 abbrev pub invariant-tokens : goal.invariant-tokens
 invariant-tokens l = record {
   short : length l.bytes ≤ 4096;
-  so_far : (ts : List Lexeme) × ((pending : List ℕ) × (l.bytes ≡ pending ++ l.lexer.rest.now) × AreKept l.words.items pending ts) × ((us : List Lexeme) (end : Option LexFault) → HasTokens l.lexer.first l.lexer.rest.now us end → HasTokens true l.bytes (ts ++ us) end);
+  so_far : (ts : List Lexeme) × ((pending : List ℕ) × (l.bytes ≡ pending ++ l.lexer.rest.now) × AreKept l.spans.items pending ts) × ((us : List Lexeme) (end : Option LexFault) → HasTokens l.lexer.first l.lexer.rest.now us end → HasTokens true l.bytes (ts ++ us) end);
 }
 
 abbrev pub decreases-tokens : goal.decreases-tokens

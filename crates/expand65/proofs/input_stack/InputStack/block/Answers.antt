@@ -23,8 +23,8 @@ returns-in_err-line-clause-read g c =
     let so_far = lines_passed k o c.args.self.now c.lines.self mid c.lines.depth body c.pass_unkept.ensures.passed c.lines.invariant.so_far in
     let f = c.in_err-line.field-0.0 in
     let new = c.block_line.new.self in
-    let taken = moved_to (λ m. Unless (is_system_error f) (TakesInBlock (remaining_of m mid) (Err (f, new.place)))) o (g.S.Store.files c.lines.store) c.lines.invariant.files c.in_err-line.ensures.read in
-    rw (p.1, p.2) (line_missing k o c.args.self.now mid c.lines.depth body f new.place so_far taken)
+    let taken = moved_to (λ m. Unless (is_system_error f) (TakesInBlock (remaining_of m mid) (Err (f, new.location)))) o (g.S.Store.files c.lines.store) c.lines.invariant.files c.in_err-line.ensures.read in
+    rw (p.1, p.2) (line_missing k o c.args.self.now mid c.lines.depth body f new.location so_far taken)
 
 pub returns-in_err-end-clause-read : goal.returns-in_err-end-clause-read
 returns-in_err-end-clause-read g c =
@@ -71,7 +71,7 @@ lines-preserved g c =
     record {
       outer = c.in_ok-line.ensures.stays.outer ∙ c.pass_unkept.ensures.stays.outer ∙ c.lines.invariant.outer;
       mark = c.in_ok-line.ensures.stays.mark ∙ c.pass_unkept.ensures.stays.mark ∙ c.lines.invariant.mark;
-      room = omega (arith, c.in_ok-line.ensures.room, c.pass_unkept.ensures.room, c.lines.invariant.room);
+      budget = omega (arith, c.in_ok-line.ensures.room, c.pass_unkept.ensures.budget, c.lines.invariant.budget);
       files = c.in_ok-line.ensures.frame.files ∙ c.lines.invariant.files;
       count = search rules;
       stands = λ h. stands_on (c.lines.invariant.stands h);

@@ -10,7 +10,7 @@ abbrev pub invariant-lines : goal.invariant-lines
 invariant-lines g l = record {
   outer : l.self.outer ≡ l.fn.self.outer;
   mark : mark_of l.self.top ≡ mark_of l.fn.self.top;
-  room : l.self.room ≤ l.fn.self.room;
+  budget : l.self.budget ≤ l.fn.self.budget;
   files : g.S.Store.files l.store ≡ g.S.Store.files l.fn.store;
   count : g.S.Store.failures l.store ≡ g.S.Store.failures l.fn.store;
   stands : StandsIn (g.S.Store.files l.fn.store) l.fn.self → StandsIn (g.S.Store.files l.fn.store) l.self;
@@ -19,4 +19,4 @@ invariant-lines g l = record {
 }
 
 abbrev pub decreases-lines : goal.decreases-lines
-decreases-lines g l = l.self.room
+decreases-lines g l = l.self.budget

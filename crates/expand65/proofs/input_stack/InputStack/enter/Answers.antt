@@ -14,7 +14,7 @@ pub returns-clause-entered : goal.returns-clause-entered
 returns-clause-entered c =
     let old = c.args.self.now in
     let few : length c.args.self.now.outer.items < 256 = omega (arith, c.len.ensures, c.if-len-ge-MAX_NESTING.false) in
-    let new : InputStack = record { top = c.replace-outer.new.dest; outer = c.push.new.self; room = old.room; place = old.place } in
+    let new : InputStack = record { top = c.replace-outer.new.dest; outer = c.push.new.self; budget = old.budget; location = old.location } in
     λ m. entered_one m old new c.args.input few c.replace-outer.ensures.after (c.in_ok-push.ensures.items ∙ ap (λ i. old.outer.items ++ i ∷ []) c.replace-outer.ensures.value) refl refl
 
 pub returns-clause-stands : goal.returns-clause-stands

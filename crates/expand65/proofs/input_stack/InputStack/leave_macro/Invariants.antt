@@ -6,10 +6,10 @@ use Rattle.expand65.proofs.input_stack.InputStack.leave_macro.Given as goal
 
 abbrev pub invariant-inputs : goal.invariant-inputs
 invariant-inputs l = record {
-  so_far : (m : Files) → outside_macro (remaining_of m l.self).items (come_back l.self.place l.back) ≡ outside_macro (remaining_of m l.fn.self).items l.fn.self.place;
-  stands : (m : Files) → IsInPlace m l.fn.self → AreAt m (open_in l.self) (come_back l.self.place l.back);
-  place : l.self.place ≡ l.fn.self.place;
-  room : l.self.room ≡ l.fn.self.room;
+  so_far : (m : Files) → outside_macro (remaining_of m l.self).items (come_back l.self.location l.back) ≡ outside_macro (remaining_of m l.fn.self).items l.fn.self.location;
+  stands : (m : Files) → IsInPlace m l.fn.self → AreAt m (open_in l.self) (come_back l.self.location l.back);
+  location : l.self.location ≡ l.fn.self.location;
+  budget : l.self.budget ≡ l.fn.self.budget;
   fewer : length l.self.outer.items ≤ length l.fn.self.outer.items;
 }
 

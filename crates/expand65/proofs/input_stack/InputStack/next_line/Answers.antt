@@ -21,9 +21,9 @@ returns-in_err-line-clause-read g c =
     let mid = c.begin_line.new.self in
     let f = c.in_err-line.field-0.0 in
     let not_end : c.in_ok-next.next ≡ AtEnd → ⊥ = λ e. let t : c.is_end.result ≡ true = c.is_end.ensures.1 e in let u = c.if-is_end.false in absurd cc in
-    let more : suc (old.room - 1) ≡ old.room = omega (arith, c.if-self-eq0.false) in
+    let more : suc (old.budget - 1) ≡ old.budget = omega (arith, c.if-self-eq0.false) in
     let taken = moved_to (λ m. TakesLine (remaining_in m mid) (Err f) (remaining_in m c.take_line.new.self)) o (g.S.Store.files c.begin_line.new.store) c.in_ok-next.ensures.frame.files c.in_err-line.ensures.taken in
-    rw (p.1, p.2) (told_refused o old mid c.take_line.new.self c.move_by.new.place (old.room - 1) c.in_ok-next.next f c.in_ok-next.ensures.comes c.in_ok-next.ensures.same not_end taken c.move_by.ensures more)
+    rw (p.1, p.2) (told_refused o old mid c.take_line.new.self c.move_by.new.location (old.budget - 1) c.in_ok-next.next f c.in_ok-next.ensures.comes c.in_ok-next.ensures.same not_end taken c.move_by.ensures more)
 
 pub returns-clause-read : goal.returns-clause-read
 returns-clause-read g c =
@@ -31,9 +31,9 @@ returns-clause-read g c =
     let old = c.args.self.now in
     let mid = c.begin_line.new.self in
     let line = c.in_ok-line.line in
-    let new : InputStack = record { top = record { source = c.take_line.new.self; conditions = old.top.conditions; back = old.top.back }; outer = old.outer; room = old.room - 1; place = c.move_by.new.place } in
+    let new : InputStack = record { top = record { source = c.take_line.new.self; conditions = old.top.conditions; back = old.top.back }; outer = old.outer; budget = old.budget - 1; location = c.move_by.new.location } in
     let not_end : c.in_ok-next.next ≡ AtEnd → ⊥ = λ e. let t : c.is_end.result ≡ true = c.is_end.ensures.1 e in let u = c.if-is_end.false in absurd cc in
-    let more : suc (old.room - 1) ≡ old.room = omega (arith, c.if-self-eq0.false) in
+    let more : suc (old.budget - 1) ≡ old.budget = omega (arith, c.if-self-eq0.false) in
     let taken = moved_to (λ m. TakesLine (remaining_in m mid) (Ok line) (remaining_in m c.take_line.new.self)) o (g.S.Store.files c.begin_line.new.store) c.in_ok-next.ensures.frame.files c.in_ok-line.ensures.taken in
     let same = ap (λ b. let k : InputEnd = record { is_macro = b; conditions = old.top.conditions; back = old.top.back } in k) (c.in_ok-line.ensures.call ∙ c.in_ok-next.ensures.call) in
     told_taken o old new mid c.in_ok-next.next line c.in_ok-next.ensures.comes c.in_ok-next.ensures.same not_end taken same refl c.move_by.ensures more
@@ -43,7 +43,7 @@ returns-in_err-next-clause-stopped g c = λ stands.
     (let p = err_from_is_err_and c.from_residual.result c.from_residual.ensures.1 in
     let o = g.S.Store.files c.args.store.now in
     let old = c.args.self.now in
-    let new : InputStack = record { top = record { source = c.begin_line.new.self; conditions = old.top.conditions; back = old.top.back }; outer = old.outer; room = old.room; place = old.place } in
+    let new : InputStack = record { top = record { source = c.begin_line.new.self; conditions = old.top.conditions; back = old.top.back }; outer = old.outer; budget = old.budget; location = old.location } in
     let same = ap (λ b. let k : InputEnd = record { is_macro = b; conditions = old.top.conditions; back = old.top.back } in k) c.in_err-next.ensures.call in
     let last_failure = g.S.Store.last_failure c.begin_line.new.store in
     rw (p.1, p.2) (stopped_so o (λ m. FailsAtLine m last_failure (remaining_of m old)) old new c.in_err-next.field-0.0 same (λ failed. fails_before o last_failure old (c.in_err-next.ensures.file failed) (reading_before o old last_failure c.in_err-next.field-0.0 failed c.in_err-next.ensures.last_failure stands))))
@@ -55,32 +55,32 @@ returns-in_err-line-clause-stopped g c = λ stands.
     let old = c.args.self.now in
     let mid = c.begin_line.new.self in
     let next = c.in_ok-next.next in
-    let new : InputStack = record { top = record { source = c.take_line.new.self; conditions = old.top.conditions; back = old.top.back }; outer = old.outer; room = old.room - 1; place = c.move_by.new.place } in
+    let new : InputStack = record { top = record { source = c.take_line.new.self; conditions = old.top.conditions; back = old.top.back }; outer = old.outer; budget = old.budget - 1; location = c.move_by.new.location } in
     let not_end : c.in_ok-next.next ≡ AtEnd → ⊥ = λ e. let t : c.is_end.result ≡ true = c.is_end.ensures.1 e in let u = c.if-is_end.false in absurd cc in
     let same = ap (λ b. let k : InputEnd = record { is_macro = b; conditions = old.top.conditions; back = old.top.back } in k) (c.in_err-line.ensures.call ∙ c.in_ok-next.ensures.call) in
     let last_failure = g.S.Store.last_failure c.take_line.new.store in
     let f = c.in_err-line.field-0.0 in
     let stops = moved_to (λ m. (q : SourceLocation) → IsAt m mid q → is_failure f ≡ true → IsReadingAt m last_failure (next_location mid q)) o (g.S.Store.files c.begin_line.new.store) c.in_ok-next.ensures.frame.files c.in_err-line.ensures.last_failure in
-    let moves : IsLineOf old.top.source old.place → c.move_by.new.place ≡ next_location mid old.place = λ is. c.move_by.ensures ∙ c.in_ok-next.ensures.onward old.place is not_end in
-    rw (p.1, p.2) (stopped_so o (λ m. FailsAtLine m last_failure (remaining_of m old)) old new f same (λ failed. fails_within o last_failure old mid c.move_by.new.place next (c.in_err-line.ensures.file failed) c.in_ok-next.ensures.comes c.in_ok-next.ensures.same not_end c.move_by.ensures (reading_within o old mid c.move_by.new.place last_failure f failed c.in_ok-next.ensures.at stops moves stands))))
+    let moves : IsLineOf old.top.source old.location → c.move_by.new.location ≡ next_location mid old.location = λ is. c.move_by.ensures ∙ c.in_ok-next.ensures.onward old.location is not_end in
+    rw (p.1, p.2) (stopped_so o (λ m. FailsAtLine m last_failure (remaining_of m old)) old new f same (λ failed. fails_within o last_failure old mid c.move_by.new.location next (c.in_err-line.ensures.file failed) c.in_ok-next.ensures.comes c.in_ok-next.ensures.same not_end c.move_by.ensures (reading_within o old mid c.move_by.new.location last_failure f failed c.in_ok-next.ensures.at stops moves stands))))
 
 pub returns-then-is_end-clause-stands : goal.returns-then-is_end-clause-stands
 returns-then-is_end-clause-stands g c = λ stands.
     (let o = g.S.Store.files c.args.store.now in
     let old = c.args.self.now in
-    let new : InputStack = record { top = record { source = c.begin_line.new.self; conditions = old.top.conditions; back = old.top.back }; outer = old.outer; room = old.room; place = old.place } in
-    stands_by o (λ m. (q : SourceLocation) → IsAt m old.top.source q → IsAt m c.begin_line.new.self q) old new (λ m at h. reads_on m old new refl refl c.in_ok-next.ensures.kind refl (at old.place (innermost_at m old h)) h) c.in_ok-next.ensures.at stands)
+    let new : InputStack = record { top = record { source = c.begin_line.new.self; conditions = old.top.conditions; back = old.top.back }; outer = old.outer; budget = old.budget; location = old.location } in
+    stands_by o (λ m. (q : SourceLocation) → IsAt m old.top.source q → IsAt m c.begin_line.new.self q) old new (λ m at h. reads_on m old new refl refl c.in_ok-next.ensures.kind refl (at old.location (innermost_at m old h)) h) c.in_ok-next.ensures.at stands)
 
 pub returns-clause-stands : goal.returns-clause-stands
 returns-clause-stands g c = λ stands.
     (let o = g.S.Store.files c.args.store.now in
     let old = c.args.self.now in
     let mid = c.begin_line.new.self in
-    let new : InputStack = record { top = record { source = c.take_line.new.self; conditions = old.top.conditions; back = old.top.back }; outer = old.outer; room = old.room - 1; place = c.move_by.new.place } in
+    let new : InputStack = record { top = record { source = c.take_line.new.self; conditions = old.top.conditions; back = old.top.back }; outer = old.outer; budget = old.budget - 1; location = c.move_by.new.location } in
     let not_end : c.in_ok-next.next ≡ AtEnd → ⊥ = λ e. let t : c.is_end.result ≡ true = c.is_end.ensures.1 e in let u = c.if-is_end.false in absurd cc in
     let told = c.in_ok-next.ensures.frame.files in
     let takes = moved_to (λ m. (q : SourceLocation) → IsAt m mid q → IsAt m c.take_line.new.self (next_location mid q)) o (g.S.Store.files c.begin_line.new.store) told c.in_ok-line.ensures.at in
-    let moves : IsLineOf old.top.source old.place → c.move_by.new.place ≡ next_location mid old.place = λ is. c.move_by.ensures ∙ c.in_ok-next.ensures.onward old.place is not_end in
+    let moves : IsLineOf old.top.source old.location → c.move_by.new.location ≡ next_location mid old.location = λ is. c.move_by.ensures ∙ c.in_ok-next.ensures.onward old.location is not_end in
     line_stands o old new mid refl refl (c.in_ok-line.ensures.kind ∙ c.in_ok-next.ensures.kind) c.in_ok-next.ensures.kind moves c.in_ok-next.ensures.at takes stands)
 
 pub returns-clause-spent : goal.returns-clause-spent

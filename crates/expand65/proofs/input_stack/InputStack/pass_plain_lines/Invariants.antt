@@ -8,10 +8,10 @@ abbrev pub invariant-lines : goal.invariant-lines
 invariant-lines l = record {
   outer : l.self.outer ≡ l.fn.self.outer;
   mark : mark_of l.self.top ≡ mark_of l.fn.self.top;
-  room : l.self.room ≤ l.fn.self.room;
+  budget : l.self.budget ≤ l.fn.self.budget;
   stands : (m : Files) → IsInPlace m l.fn.self → IsInPlace m l.self;
   so_far : (m : Files) → SkipsPlainLines (remaining_of m l.fn.self) (remaining_of m l.self);
 }
 
 abbrev pub decreases-lines : goal.decreases-lines
-decreases-lines l = l.self.room
+decreases-lines l = l.self.budget

@@ -14,7 +14,7 @@ all_kept ws bs ts i h e =
     sym at_nil ∙ e ∙ append-nil (lexemes (take i ts)) ∙ all
 
 pub returns : goal.returns
-returns c = rw (c.from_vec.ensures, c.from_vec-2.ensures) (all_kept c.loop-token.words.items c.loop-token.bytes.items c.args.tokens.now c.loop-token.token-index c.loop-token-test.false (c.loop-token.invariant [] []))
+returns c = rw (c.from_vec.ensures, c.from_vec-2.ensures) (all_kept c.loop-token.spans.items c.loop-token.bytes.items c.args.tokens.now c.loop-token.token-index c.loop-token-test.false (c.loop-token.invariant [] []))
 
 pub loop-token-preserved : goal.loop-token-preserved
 loop-token-preserved c = grind (arith, common_steps)

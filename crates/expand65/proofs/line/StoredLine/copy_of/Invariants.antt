@@ -5,4 +5,4 @@ use Rattle.expand65.specs.declared.line.StoredToken.{StoredToken}
 use Rattle.expand65.proofs.line.StoredLine.copy_of.Given as goal
 
 abbrev pub invariant-loop-token : goal.invariant-loop-token
-invariant-loop-token l = (ws : List StoredToken) (bs : List ℕ) → cut (l.words.items ++ ws) (l.bytes.items ++ bs) ≡ lexemes (take l.token-index l.tokens) ++ cut ws bs
+invariant-loop-token l = (ws : List StoredToken) (bs : List ℕ) → cut (l.spans.items ++ ws) (l.bytes.items ++ bs) ≡ lexemes (take l.token-index l.tokens) ++ cut ws bs

@@ -6,6 +6,6 @@ use Rattle.expand65.proofs.line.StoredLine.put_in.Given as goal
 abbrev pub invariant-loop-word : goal.invariant-loop-word
 invariant-loop-word l = record {
   count : l.count ≡ l.word-index;
-  room : length l.room ≡ length l.initial.room;
-  so_far : lexemes (take l.count l.room) ++ cut (drop l.word-index l.word-items) l.left ≡ cut l.self.spans l.self.bytes;
+  buffer : length l.buffer ≡ length l.initial.buffer;
+  so_far : lexemes (take l.count l.buffer) ++ cut (drop l.word-index l.word-items) l.left ≡ cut l.self.spans l.self.bytes;
 }

@@ -22,7 +22,7 @@ returns-clause-turns c = λ m. names_added m c.args.self.now c.add_locals.new.se
 pub returns-clause-keeps : goal.returns-clause-keeps
 returns-clause-keeps c = λ files.
     (let old = c.args.self.now.reader in
-    let new : InputStack = record { top = record { source = c.add_locals.new.self; conditions = old.top.conditions; back = old.top.back }; outer = old.outer; room = old.room; place = old.place } in
+    let new : InputStack = record { top = record { source = c.add_locals.new.self; conditions = old.top.conditions; back = old.top.back }; outer = old.outer; budget = old.budget; location = old.location } in
     let was = sym c.is_call.ensures ∙ c.if-not-is_call.false in
     let is = c.add_locals.ensures.call ∙ was in
-    record { stands = stands_so files old new (λ m h. reads_on m old new refl refl (call_kind old.top.source new.top.source was is) refl (call_at m new.top.source old.place is) h); size = search rules })
+    record { stands = stands_so files old new (λ m h. reads_on m old new refl refl (call_kind old.top.source new.top.source was is) refl (call_at m new.top.source old.location is) h); size = search rules })

@@ -30,7 +30,7 @@ returns-then-has_macro-clause-turns g c =
     let name = header.name.items in
     let params = map (λ k. k.items) header.params.keys in
     let there = ap (λ (n : List ℕ). is_some (macro_of (macros_of old) n)) (sym c.as_slice.ensures.value) ∙ sym c.has_macro.ensures ∙ c.if-has_macro.true in
-    turns_by o (Err MacroTwice) old (λ m. definition_step (state_of m old) name params (macro_of (macros_of old) name)) (λ m. macro_line (state_of m old) ts) (λ m. macro_is (state_of m old) ts name params (macro_of (macros_of old) name) c.in_ok-name.ensures.header refl) (where_so o (λ m. StepReaches m (definition_step (state_of m old) name params (macro_of (macros_of old) name)) (stops (MacroTwice, old.reader.place))) (λ m. twice m (state_of m old) name params there))
+    turns_by o (Err MacroTwice) old (λ m. definition_step (state_of m old) name params (macro_of (macros_of old) name)) (λ m. macro_line (state_of m old) ts) (λ m. macro_is (state_of m old) ts name params (macro_of (macros_of old) name) c.in_ok-name.ensures.header refl) (where_so o (λ m. StepReaches m (definition_step (state_of m old) name params (macro_of (macros_of old) name)) (stops (MacroTwice, old.reader.location))) (λ m. twice m (state_of m old) name params there))
 
 pub returns-in_err-block-clause-turns : goal.returns-in_err-block-clause-turns
 returns-in_err-block-clause-turns g c =
@@ -38,13 +38,13 @@ returns-in_err-block-clause-turns g c =
     let o = g.S.Store.files c.args.store.now in
     let old = c.args.self.now in
     let ts = lexemes c.args.tokens.now in
-    let place = c.block.new.self.place in
+    let location = c.block.new.self.location in
     let f = c.in_err-block.field-0.0 in
     let header = c.in_ok-name.field-0 in
     let name = header.name.items in
     let params = map (λ k. k.items) header.params.keys in
     let none = is_none (macro_of (macros_of old) name) (ap (λ (n : List ℕ). is_some (macro_of (macros_of old) n)) (sym c.as_slice.ensures.value) ∙ sym c.has_macro.ensures ∙ c.if-has_macro.false) in
-    rw (p.1, p.2) (where_known o (λ m. Unless (is_system_error f) (Block Macro 0 [] (remaining_of m old.reader) (Err (f, place)))) (λ m. Unless (is_system_error f) (StepReaches m (macro_line (state_of m old) ts) (stops (f, place)))) (λ m h. subst (λ z. Unless (is_system_error f) (StepReaches m z (stops (f, place)))) (macro_is (state_of m old) ts name params None c.in_ok-name.ensures.header none) (block_refused m (state_of m old) name params f place h)) c.in_err-block.ensures.read)
+    rw (p.1, p.2) (where_known o (λ m. Unless (is_system_error f) (Block Macro 0 [] (remaining_of m old.reader) (Err (f, location)))) (λ m. Unless (is_system_error f) (StepReaches m (macro_line (state_of m old) ts) (stops (f, location)))) (λ m h. subst (λ z. Unless (is_system_error f) (StepReaches m z (stops (f, location)))) (macro_is (state_of m old) ts name params None c.in_ok-name.ensures.header none) (block_refused m (state_of m old) name params f location h)) c.in_err-block.ensures.read)
 
 pub returns-clause-turns : goal.returns-clause-turns
 returns-clause-turns g c =

@@ -7,11 +7,11 @@ use Rattle.expand65.proofs.preprocessor.Preprocessor.enter_file.Goals as goal
 
 pub returns-clause-keeps : goal.returns-clause-keeps
 returns-clause-keeps c = λ files.
-    (let place : SourceLocation = record { file = c.in_ok-copy_of.field-0; line = 0 } in
+    (let location : SourceLocation = record { file = c.in_ok-copy_of.field-0; line = 0 } in
     let mid = c.enter.new.self in
-    let new : InputStack = record { top = mid.top; outer = mid.outer; room = mid.room; place = place } in
+    let new : InputStack = record { top = mid.top; outer = mid.outer; budget = mid.budget; location = location } in
     record {
-      stands = stands_so files c.args.self.now.reader new (λ m h. goes_back m mid new place refl refl refl (c.in_ok-enter.ensures.stands m place (opened_at m c.new.result place (c.new.ensures.name ∙ sym (c.in_ok-copy_of.ensures ∙ c.as_str.ensures)) c.new.ensures.line refl (c.new.ensures.following m)) tt c.in_ok-back.ensures h));
+      stands = stands_so files c.args.self.now.reader new (λ m h. goes_back m mid new location refl refl refl (c.in_ok-enter.ensures.stands m location (opened_at m c.new.result location (c.new.ensures.name ∙ sym (c.in_ok-copy_of.ensures ∙ c.as_str.ensures)) c.new.ensures.line refl (c.new.ensures.following m)) tt c.in_ok-back.ensures h));
       size = search rules;
     })
 

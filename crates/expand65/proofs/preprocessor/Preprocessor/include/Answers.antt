@@ -40,7 +40,7 @@ returns-in_err-file-clause-stopped g c = λ names.
     let last_failure = g.S.Store.last_failure c.find_file.new.store in
     let text = sym c.string_of.ensures ∙ ap (option_map (λ (s : Bor (List ℕ)). s.now)) c.in-Some.is in
     let P : List ℕ → List (List ℕ) → Type 0 = λ beside folders. IsAmong last_failure (candidate_names beside folders name) in
-    rw (p.1, p.2) (stops_by {A = LineOutcome} o last_failure (λ m. include_file (state_of m old) name) (λ m. unless_refused (state_of m old) (ok_or_unknown (string_of ts)) (include_file (state_of m old))) old.reader old.reader (Err f) (λ m. include_is (state_of m old) ts name text) (stood LineOutcome o (λ m. StepFails m last_failure (include_file (state_of m old) name)) old.reader f (λ m failed. (refl, subst (P old.reader.place.file) c.as_slice.ensures (subst (λ b. P b c.as_slice.result.now) c.as_str-beside.ensures (c.in_err-file.ensures.last_failure (ap Err (only_error f failed)))))))))
+    rw (p.1, p.2) (stops_by {A = LineOutcome} o last_failure (λ m. include_file (state_of m old) name) (λ m. unless_refused (state_of m old) (ok_or_unknown (string_of ts)) (include_file (state_of m old))) old.reader old.reader (Err f) (λ m. include_is (state_of m old) ts name text) (stood LineOutcome o (λ m. StepFails m last_failure (include_file (state_of m old) name)) old.reader f (λ m failed. (refl, subst (P old.reader.location.file) c.as_slice.ensures (subst (λ b. P b c.as_slice.result.now) c.as_str-beside.ensures (c.in_err-file.ensures.last_failure (ap Err (only_error f failed)))))))))
 
 pub returns-clause-frame : goal.returns-clause-frame
 returns-clause-frame g c = grind (arith, common_steps)

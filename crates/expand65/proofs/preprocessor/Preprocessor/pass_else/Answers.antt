@@ -9,7 +9,7 @@ pub returns-in_err-block-in-Some-false-clause-turns : goal.returns-in_err-block-
 returns-in_err-block-in-Some-false-clause-turns g c =
     let p = err_from_is_err_and c.from_residual.result c.from_residual.ensures.1 in
     let popped = rw c.in-Some-false.field-0-test at c.in-Some-false.ensures.pops in
-    rw (p.1, p.2) (else_refused (g.S.Store.files c.args.store.now) c.args.self.now c.block.new.self.place c.pop_above.new.self c.in_err-block-in-Some-false.field-0.0 popped c.in_err-block-in-Some-false.ensures.read)
+    rw (p.1, p.2) (else_refused (g.S.Store.files c.args.store.now) c.args.self.now c.block.new.self.location c.pop_above.new.self c.in_err-block-in-Some-false.field-0.0 popped c.in_err-block-in-Some-false.ensures.read)
 
 pub returns-in_ok-block-in-Some-false-clause-turns : goal.returns-in_ok-block-in-Some-false-clause-turns
 returns-in_ok-block-in-Some-false-clause-turns g c =

@@ -37,7 +37,7 @@ returns-in_err-enter-clause-turns g c =
     let f = c.in_err-enter.field-0.0 in
     let old = c.args.self.now in
     let rd = c.block.new.self in
-    let place = c.enter.new.self.place in
+    let location = c.enter.new.self.location in
     let lines = c.in_ok-block.block.lines in
     let end = branch_of c.in_ok-block.block.end in
     let body : Body = record { params = c.args.variable; lines = lines } in
@@ -45,10 +45,10 @@ returns-in_err-enter-clause-turns g c =
     let n = c.args.count in
     let params = map (λ k. k.items) c.args.variable.keys in
     let ready = turns_ready replay body n c.in_ok-body.ensures.ok c.len-at.ensures c.new-arguments.ensures refl c.with_hasher-locals.ensures.empty refl in
-    rw (p.1, p.2) (where_known (g.S.Store.files c.args.store.now) (λ m. Block Repeat 0 [] (remaining_of m old.reader) (Ok ((map tokens_in lines, end), remaining_of m rd))) (λ m. Unless (is_system_error f) (StepReaches m (iterations_step (state_of m old) n params) (stops (f, place)))) (λ m h. let P : ℕ → Type 0 = λ i. Unless (is_system_error f) (Err (f, place) ≡ with_lines (iterations_left replay 0 n) (record { is_macro = false; conditions = i; back = None }) (remaining_of m rd)) in repeated_none m old rd replay body end n (is_system_error f) f place h ready (subst P c.len.ensures (c.in_err-enter.ensures.entered m))) c.in_ok-block.ensures.read)
+    rw (p.1, p.2) (where_known (g.S.Store.files c.args.store.now) (λ m. Block Repeat 0 [] (remaining_of m old.reader) (Ok ((map tokens_in lines, end), remaining_of m rd))) (λ m. Unless (is_system_error f) (StepReaches m (iterations_step (state_of m old) n params) (stops (f, location)))) (λ m h. let P : ℕ → Type 0 = λ i. Unless (is_system_error f) (Err (f, location) ≡ with_lines (iterations_left replay 0 n) (record { is_macro = false; conditions = i; back = None }) (remaining_of m rd)) in repeated_none m old rd replay body end n (is_system_error f) f location h ready (subst P c.len.ensures (c.in_err-enter.ensures.entered m))) c.in_ok-block.ensures.read)
 
 pub returns-clause-keeps : goal.returns-clause-keeps
 returns-clause-keeps g c =
     let mid = c.block.new.self in
     let new = c.enter.new.self in
-    record { stands = λ h. stands_so (g.S.Store.files c.args.store.now) mid new (λ m s. goes_back m new new mid.place refl refl c.enter.ensures.place (c.in_ok-enter.ensures.stands m mid.place tt refl refl s)) (c.in_ok-block.ensures.stands h); size = search rules }
+    record { stands = λ h. stands_so (g.S.Store.files c.args.store.now) mid new (λ m s. goes_back m new new mid.location refl refl c.enter.ensures.place (c.in_ok-enter.ensures.stands m mid.location tt refl refl s)) (c.in_ok-block.ensures.stands h); size = search rules }

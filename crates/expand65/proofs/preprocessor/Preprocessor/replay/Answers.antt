@@ -7,7 +7,7 @@ pub returns-clause-keeps : goal.returns-clause-keeps
 returns-clause-keeps c = λ files.
     (let old = c.args.self.now.reader in
     let new = c.enter.new.self in
-    record { stands = stands_so files old new (λ m h. goes_back m new new old.place refl refl c.enter.ensures.place (c.in_ok-enter.ensures.stands m old.place tt refl refl h)); size = search rules })
+    record { stands = stands_so files old new (λ m h. goes_back m new new old.location refl refl c.enter.ensures.place (c.in_ok-enter.ensures.stands m old.location tt refl refl h)); size = search rules })
 
 pub returns-clause-turns : goal.returns-clause-turns
 returns-clause-turns c = grind (arith, common_steps)

@@ -32,8 +32,8 @@ returns-in_err-next_line-clause-turns g c =
     let old = c.args.self.now in
     let k = g.K.Knows.meaning c.args.knows.now in
     let f = c.in_err-next_line.field-0.0 in
-    let place = c.next_line.new.self.place in
-    rw (p.1, p.2) (where_known (g.S.Store.files c.args.store.now) (λ m. Unless (is_system_error f) (TakesNextLine (remaining_of m old.reader) (Err (f, place)))) (λ m. Unless (is_system_error f) (IsStep m k (state_of m old) (stops (f, place)))) (λ m h. refused_step m k old f place h) c.in_err-next_line.ensures.read)
+    let location = c.next_line.new.self.location in
+    rw (p.1, p.2) (where_known (g.S.Store.files c.args.store.now) (λ m. Unless (is_system_error f) (TakesNextLine (remaining_of m old.reader) (Err (f, location)))) (λ m. Unless (is_system_error f) (IsStep m k (state_of m old) (stops (f, location)))) (λ m h. refused_step m k old f location h) c.in_err-next_line.ensures.read)
 
 pub returns-in-None-clause-turns : goal.returns-in-None-clause-turns
 returns-in-None-clause-turns g c =

@@ -67,7 +67,7 @@ origin_parts v m o good = (left (has_file_by v o.file) (has_file m o.file) good,
 
 parts_again : (m n i : ℕ) (o : Origin) (f : Form) → has_file m o.file ≡ true → is_within n i f ≡ true → Scanning.known_parts m n i o f ≡ Ok tt
 unfolding Scanning.known_parts
-parts_again m n i o f file places = rw (file, places) refl
+parts_again m n i o f file indices = rw (file, indices) refl
 
 -- ---- Files.
 

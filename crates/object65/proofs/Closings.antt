@@ -72,8 +72,8 @@ fill_last (Literal bytes ∷ []) n = refl
 fill_last (Fill m ∷ []) n = refl
 fill_last (Value w l f ∷ []) n = refl
 fill_last (x ∷ y ∷ xs) n =
-    let place : length (x ∷ y ∷ xs) - 1 ≡ suc (length (y ∷ xs) - 1) = omega arith in
-    ap (λ k. is_some_fill (slice_get (x ∷ y ∷ xs) k)) place ∙ fill_last (y ∷ xs) n
+    let index : length (x ∷ y ∷ xs) - 1 ≡ suc (length (y ∷ xs) - 1) = omega arith in
+    ap (λ k. is_some_fill (slice_get (x ∷ y ∷ xs) k)) index ∙ fill_last (y ∷ xs) n
 
 -- ---- The literal behind the fragments.
 
@@ -180,13 +180,13 @@ none_open ds full = rw (past ds full) refl where
       rw (one, more) (past ds (right (is_full d) (list_all is_full ds) full))
 
 -- what was found
-pub record Opened (ds : List Draft) (place : ℕ × SectionFill) : Type 0 where
+pub record Opened (ds : List Draft) (section : ℕ × SectionFill) : Type 0 where
   pub split : Split ds
-  pub here : (length split.front, room_of split.draft) ≡ place
+  pub here : (length split.front, room_of split.draft) ≡ section
 
-pub opened : (ds : List Draft) (place : ℕ × SectionFill) → open_room (map room_of ds) ≡ Ok place → Opened ds place
-opened ds place h = go (seek ds) where
-  go : (list_all is_full ds ≡ true) ⊎ Split ds → Opened ds place
+pub opened : (ds : List Draft) (section : ℕ × SectionFill) → open_room (map room_of ds) ≡ Ok section → Opened ds section
+opened ds section h = go (seek ds) where
+  go : (list_all is_full ds ≡ true) ⊎ Split ds → Opened ds section
   go (inl full) = let none = sym (none_open ds full) ∙ h in cc
   go (inr p) =
       let same = sym (ap (λ xs. open_room (map room_of xs)) p.all ∙ opens p.front p.draft p.following p.full p.free) ∙ h in

@@ -213,7 +213,7 @@ pub record Grows (n i : ℕ) (e : RawRecord) (d x : Draft) : Type 0 where
   pub fits : IsReadEntry e → FitDraft d → FitDraft x
 
 room_left : (d : Draft) (len : ℕ) (u : Unit {0}) → room_for (room_of d) len ≡ Ok u → len ≤ d.size - d.filled
-room_left d len u e = let room = wanted (nat_le len (d.size - d.filled)) BadSize u e in grind (arith, nat_tests)
+room_left d len u e = let capacity = wanted (nat_le len (d.size - d.filled)) BadSize u e in grind (arith, nat_tests)
 
 pub literal_grows : (n i : ℕ) (e : RawRecord) (d : Draft) (x : SectionFill × Fragment) → e.kind ≡ 3 → GoodDraft n i d → room_literal e.body (room_of d) ≡ Ok x → Grows n i e d (draft_with_fragment d x.1)
 unfolding room_literal
@@ -250,7 +250,7 @@ literal_grows n i e d x kind good h =
     })
 
 fragment_grows : (n i : ℕ) (e : RawRecord) (d : Draft) (f : Fragment) → GoodDraft n i d → fragment_len f ≤ d.size - d.filled → is_well_formed_fragment n i f ≡ true → last_joins (closed_fragments d) f ≡ false → ((bytes : List ℕ) → joins f (Literal bytes) ≡ false) → (IsReadEntry e → (fragment_entries f ≡ e ∷ []) × FragmentFits f) → Grows n i e d (with_fragment d (fragment_len f) f)
-fragment_grows n i e d f good room fine apart bare read = grind (arith, common_steps, shut_len, sum_by-append, list_all-append, and, shut_good, apart_push, shut_apart, last_push)
+fragment_grows n i e d f good capacity fine apart bare read = grind (arith, common_steps, shut_len, sum_by-append, list_all-append, and, shut_good, apart_push, shut_apart, last_push)
 
 fill_some : (body : List ℕ) (n : ℕ) → fill_of body ≡ Ok n → 0 < n
 fill_some body n e = grind (arith, common_steps)
@@ -357,11 +357,11 @@ goes n i e (y ∷ front) d x following full free goods filling grows =
     past n i e y (front ++ d ∷ following) (front ++ x ∷ following) goods.0 (left (is_full y) (list_all is_full front) full)
     (goes n i e front d x following (right (is_full y) (list_all is_full front) full) free goods.1 filling.1 grows)
 
-pub goes_in : (n i : ℕ) (e : RawRecord) (ds : List Draft) (place : ℕ × SectionFill) (f : Fragment) (o : Opened ds place) → AllByRecursion (GoodDraft n i) ds → Filling ds → (GoodDraft n i o.split.draft → Grows n i e o.split.draft (draft_with_fragment o.split.draft f)) → Goes n i e ds (with_piece ds place.0 f)
-goes_in n i e ds place f o goods filling grows =
+pub goes_in : (n i : ℕ) (e : RawRecord) (ds : List Draft) (section : ℕ × SectionFill) (f : Fragment) (o : Opened ds section) → AllByRecursion (GoodDraft n i) ds → Filling ds → (GoodDraft n i o.split.draft → Grows n i e o.split.draft (draft_with_fragment o.split.draft f)) → Goes n i e ds (with_piece ds section.0 f)
+goes_in n i e ds section f o goods filling grows =
     let p = o.split in
     let k = length p.front in
-    let at : k ≡ place.0 = ap (λ (x : ℕ × SectionFill). x.0) o.here in
+    let at : k ≡ section.0 = ap (λ (x : ℕ × SectionFill). x.0) o.here in
     let ok : Goes n i e (p.front ++ p.draft ∷ p.following) (p.front ++ draft_with_fragment p.draft f ∷ p.following) = goes n i e p.front p.draft (draft_with_fragment p.draft f) p.following p.full p.free (subst (AllByRecursion (GoodDraft n i)) p.all goods) (subst Filling p.all filling) grows in
-    let put : with_piece ds place.0 f ≡ p.front ++ draft_with_fragment p.draft f ∷ p.following = ap (λ j. with_piece ds j f) (sym at) ∙ ap (λ xs. with_piece xs k f) p.all ∙ piece_there p.front p.draft p.following f in
-    subst (λ (xs : List Draft). Goes n i e xs (with_piece ds place.0 f)) (sym p.all) (subst (λ (ys : List Draft). Goes n i e (p.front ++ p.draft ∷ p.following) ys) (sym put) ok)
+    let put : with_piece ds section.0 f ≡ p.front ++ draft_with_fragment p.draft f ∷ p.following = ap (λ j. with_piece ds j f) (sym at) ∙ ap (λ xs. with_piece xs k f) p.all ∙ piece_there p.front p.draft p.following f in
+    subst (λ (xs : List Draft). Goes n i e xs (with_piece ds section.0 f)) (sym p.all) (subst (λ (ys : List Draft). Goes n i e (p.front ++ p.draft ∷ p.following) ys) (sym put) ok)

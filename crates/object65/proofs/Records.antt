@@ -263,8 +263,8 @@ kept_in v at limit r bytes same h = by (nat_lt at r.begin) refl h
         let rest = drop (length r.ahead) (drop r.begin bytes) in
         let file : r.ahead ++ rest ≡ drop r.begin bytes = ap (λ ys. ys ++ rest) same ∙ take-append-drop (length r.ahead) (drop r.begin bytes) in
         let there : at ≡ r.begin + k = omega (arith, late) in
-        let place : drop at bytes ≡ drop k (drop r.begin bytes) = ap (λ n. drop n bytes) there ∙ sym (drop-drop k r.begin bytes) in
-        let body_or_cut_short : bytes_before bytes at limit ≡ xs ++ take (limit - at - length (drop k r.ahead)) rest = ap (take (limit - at)) (place ∙ ap (drop k) (sym file)) ∙ apart (limit - at) k r.ahead rest within in
+        let offset : drop at bytes ≡ drop k (drop r.begin bytes) = ap (λ n. drop n bytes) there ∙ sym (drop-drop k r.begin bytes) in
+        let body_or_cut_short : bytes_before bytes at limit ≡ xs ++ take (limit - at - length (drop k r.ahead)) rest = ap (take (limit - at)) (offset ∙ ap (drop k) (sym file)) ∙ apart (limit - at) k r.ahead rest within in
         at_is_in v at limit bytes ∙ ap (record_in v at) body_or_cut_short ∙ following v at xs (take (limit - at - length (drop k r.ahead)) rest) three (λ f e. omega (arith, enough, (front_len v xs f e).0))
 
 -- ---- What reading answers.

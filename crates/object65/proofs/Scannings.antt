@@ -83,9 +83,9 @@ assert_leads : (s : State) (body : List ℕ) → Leads s false (Scanning.scan_as
 unfolding Scanning.scan_assert
 assert_leads s body =
     let o = Scanning.outline_of s in
-    read s false _ _ (wants_astray (list_all Scanning.is_filled o.rooms)) (λ u.
+    read s false _ _ (wants_astray (list_all Scanning.is_filled o.fills)) (λ u.
     read s false _ _ (assert_free s.version body) (λ a.
-    read s false _ _ (parts_free (length o.files) (length o.rooms) (length o.imports) a.origin a.form) (λ v.
+    read s false _ _ (parts_free (length o.files) (length o.fills) (length o.imports) a.origin a.form) (λ v.
     read s false _ _ (open_free a.form) (λ w.
     (rw (some_push s.asserts a) refl, tt, refl)))))
 
@@ -153,7 +153,7 @@ value_leads : (v m n i : ℕ) (body : List ℕ) (d : Draft) → LeadsIn d (Scann
 unfolding Scanning.room_value
 value_leads v m n i body d =
     in_read d _ _ (value_free v body) (λ x is.
-    in_read d _ _ (room_free (Scanning.room_of d) (width_len x.0)) (λ u room.
+    in_read d _ _ (room_free (Scanning.room_of d) (width_len x.0)) (λ u capacity.
     in_read d _ _ (parts_free m n i x.1 x.2) (λ y there.
     in_read d _ _ (open_free x.2) (λ w fine.
     ap (λ (l : Last). Scanning.room_after (Scanning.room_of d) (width_len x.0) l) (after_value d x.0 x.1 x.2)))))
@@ -163,8 +163,8 @@ names_stay [] k d e there same = refl
 names_stay (x ∷ ds) zero d e there same = let is : x ≡ d = cc in ap (λ n. n ∷ map (λ y. y.name) ds) (same ∙ sym (ap (λ (y : Draft). y.name) is))
 names_stay (x ∷ ds) (suc k) d e there same = ap (λ ns. x.name ∷ ns) (names_stay ds k d e there same)
 
-grown_leads : (s : State) (k : ℕ) (d : Draft) → slice_get s.drafts k ≡ Some d → slice_get (map Scanning.room_of s.drafts) k ≡ Some (Scanning.room_of d) → (q : Result (SectionFill × Fragment) ObjectFault) → LeadsIn d q → Leads s false (q >>= (λ x. Ok (record (Scanning.outline_of s) { rooms = slice_set (map Scanning.room_of s.drafts) k x.0; begun = true }, item.Part k d.filled x.1)))
-grown_leads s k d there room x h = grind (arith, common_steps, names_stay, grown_name, map-set)
+grown_leads : (s : State) (k : ℕ) (d : Draft) → slice_get s.drafts k ≡ Some d → slice_get (map Scanning.room_of s.drafts) k ≡ Some (Scanning.room_of d) → (q : Result (SectionFill × Fragment) ObjectFault) → LeadsIn d q → Leads s false (q >>= (λ x. Ok (record (Scanning.outline_of s) { fills = slice_set (map Scanning.room_of s.drafts) k x.0; begun = true }, item.Part k d.filled x.1)))
+grown_leads s k d there fill x h = grind (arith, common_steps, names_stay, grown_name, map-set)
 
 part_leads : (s : State) (grow : SectionFill → Result (SectionFill × Fragment) ObjectFault) → ((d : Draft) → LeadsIn d (grow (Scanning.room_of d))) → Leads s false (Scanning.scan_part (Scanning.outline_of s) grow)
 unfolding Scanning.scan_part
@@ -174,9 +174,9 @@ part_leads s grow h = go (seek s.drafts) where
   go (inr p) =
       let k = length p.front in
       let there : slice_get s.drafts k ≡ Some p.draft = ap (λ ds. slice_get ds k) p.all ∙ draft_there p.front p.draft p.following in
-      let room : slice_get (map Scanning.room_of s.drafts) k ≡ Some (Scanning.room_of p.draft) = ap (λ ds. slice_get (map Scanning.room_of ds) k) p.all ∙ room_there p.front p.draft p.following in
+      let fill : slice_get (map Scanning.room_of s.drafts) k ≡ Some (Scanning.room_of p.draft) = ap (λ ds. slice_get (map Scanning.room_of ds) k) p.all ∙ room_there p.front p.draft p.following in
       let opening : Scanning.open_room (map Scanning.room_of s.drafts) ≡ Ok (k, Scanning.room_of p.draft) = ap (λ ds. Scanning.open_room (map Scanning.room_of ds)) p.all ∙ opens p.front p.draft p.following p.full p.free in
-      rw opening (grown_leads s k p.draft there room (grow (Scanning.room_of p.draft)) (h p.draft))
+      rw opening (grown_leads s k p.draft there fill (grow (Scanning.room_of p.draft)) (h p.draft))
 
 -- ---- Any record.
 
@@ -186,13 +186,13 @@ last_of_all v k a b c d e f g h i = grind (arith, common_steps)
 entry_leads : (s : State) (e : RawRecord) → Leads s (e.kind == 8) (Scanning.scan_entry (Scanning.outline_of s) e)
 unfolding Scanning.scan_entry
 entry_leads s e =
-    let rooms = map Scanning.room_of s.drafts in
+    let fills = map Scanning.room_of s.drafts in
     either s _ (not (is_record_kind s.version e.kind)) _ _ (λ h. refused {A = Item} OutOfOrder astray) (λ a.
     either s _ (e.kind == 1) _ _ (goes_on 1 _ refl (import_leads s e.body)) (λ b.
     either s _ (e.kind == 2) _ _ (goes_on 2 _ refl (section_leads s e.body)) (λ c.
     either s _ (e.kind == 3) _ _ (goes_on 3 _ refl (part_leads s (Scanning.room_literal e.body) (literal_leads e.body))) (λ d.
     either s _ (e.kind == 4) _ _ (goes_on 4 _ refl (part_leads s (Scanning.room_fill e.body) (fill_leads e.body))) (λ f.
-    either s _ (e.kind == 5) _ _ (goes_on 5 _ refl (part_leads s (Scanning.room_value s.version (length s.files) (length rooms) (length s.imports) e.body) (value_leads s.version (length s.files) (length rooms) (length s.imports) e.body))) (λ g.
+    either s _ (e.kind == 5) _ _ (goes_on 5 _ refl (part_leads s (Scanning.room_value s.version (length s.files) (length fills) (length s.imports) e.body) (value_leads s.version (length s.files) (length fills) (length s.imports) e.body))) (λ g.
     either s _ (e.kind == 6) _ _ (goes_on 6 _ refl (export_leads s e.body)) (λ h.
     either s _ (e.kind == 7) _ _ (goes_on 7 _ refl (assert_leads s e.body)) (λ i.
     either s _ (e.kind == 9) _ _ (goes_on 9 _ refl (file_leads s e.body)) (λ j.

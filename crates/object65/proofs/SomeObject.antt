@@ -173,8 +173,8 @@ scan_section_own o body =
 part_own : (o : Outline) (grow : SectionFill → Result (SectionFill × Fragment) ObjectFault) → ((r : SectionFill) → Own is_system_error (grow r)) → Own is_system_error (scan_part o grow)
 unfolding scan_part
 part_own o grow own =
-    next (open_room o.rooms) _ (room_own _ _) (λ place.
-    next (grow place.1) _ (own place.1) (λ grown. good _))
+    next (open_room o.fills) _ (room_own _ _) (λ section.
+    next (grow section.1) _ (own section.1) (λ grown. good _))
 
 scan_export_own : (o : Outline) (body : List ℕ) → Own is_system_error (scan_export o body)
 unfolding scan_export

@@ -89,14 +89,14 @@ file_step : (s : State) (e : RawRecord) (x : Scanning.Outline × Item) → e.kin
 unfolding Scanning.scan_file
 file_step s e x kind known r running h =
     let o = Scanning.outline_of s in
-    let u = bound (Scanning.wants (is_none o.imports && is_none o.rooms && is_none o.exports && not o.asserting) OutOfOrder) _ _ h in
-    let stands = wanted (is_none o.imports && is_none o.rooms && is_none o.exports && not o.asserting) OutOfOrder u.0 u.1 in
-    let three = left (is_none o.imports && is_none o.rooms && is_none o.exports) (not o.asserting) stands in
-    let two = left (is_none o.imports && is_none o.rooms) (is_none o.exports) three in
-    let no_imports = none_is s.imports (left (is_none o.imports) (is_none o.rooms) two) in
-    let no_drafts = none_of Scanning.room_of s.drafts (right (is_none o.imports) (is_none o.rooms) two) in
-    let no_exports = none_of (λ (y : Export). y.name) s.exports (right (is_none o.imports && is_none o.rooms) (is_none o.exports) three) in
-    let no_asserts = none_asserted s (right (is_none o.imports && is_none o.rooms && is_none o.exports) (not o.asserting) stands) in
+    let u = bound (Scanning.wants (is_none o.imports && is_none o.fills && is_none o.exports && not o.asserting) OutOfOrder) _ _ h in
+    let stands = wanted (is_none o.imports && is_none o.fills && is_none o.exports && not o.asserting) OutOfOrder u.0 u.1 in
+    let three = left (is_none o.imports && is_none o.fills && is_none o.exports) (not o.asserting) stands in
+    let two = left (is_none o.imports && is_none o.fills) (is_none o.exports) three in
+    let no_imports = none_is s.imports (left (is_none o.imports) (is_none o.fills) two) in
+    let no_drafts = none_of Scanning.room_of s.drafts (right (is_none o.imports) (is_none o.fills) two) in
+    let no_exports = none_of (λ (y : Export). y.name) s.exports (right (is_none o.imports && is_none o.fills) (is_none o.exports) three) in
+    let no_asserts = none_asserted s (right (is_none o.imports && is_none o.fills && is_none o.exports) (not o.asserting) stands) in
     let t = bound (Scanning.wants (is_file_name e.body) BadSize) _ _ u.2 in
     let short = wanted (is_file_name e.body) BadSize t.0 t.1 in
     let v = bound (Scanning.new_file s.files e.body) _ _ t.2 in
@@ -153,12 +153,12 @@ import_step : (s : State) (e : RawRecord) (x : Scanning.Outline × Item) → e.k
 unfolding Scanning.scan_import
 import_step s e x kind r running h =
     let o = Scanning.outline_of s in
-    let u = bound (Scanning.wants (is_none o.rooms && is_none o.exports && not o.asserting) OutOfOrder) _ _ h in
-    let stands = wanted (is_none o.rooms && is_none o.exports && not o.asserting) OutOfOrder u.0 u.1 in
-    let two = left (is_none o.rooms && is_none o.exports) (not o.asserting) stands in
-    let no_drafts = none_of Scanning.room_of s.drafts (left (is_none o.rooms) (is_none o.exports) two) in
-    let no_exports = none_of (λ (y : Export). y.name) s.exports (right (is_none o.rooms) (is_none o.exports) two) in
-    let no_asserts = none_asserted s (right (is_none o.rooms && is_none o.exports) (not o.asserting) stands) in
+    let u = bound (Scanning.wants (is_none o.fills && is_none o.exports && not o.asserting) OutOfOrder) _ _ h in
+    let stands = wanted (is_none o.fills && is_none o.exports && not o.asserting) OutOfOrder u.0 u.1 in
+    let two = left (is_none o.fills && is_none o.exports) (not o.asserting) stands in
+    let no_drafts = none_of Scanning.room_of s.drafts (left (is_none o.fills) (is_none o.exports) two) in
+    let no_exports = none_of (λ (y : Export). y.name) s.exports (right (is_none o.fills) (is_none o.exports) two) in
+    let no_asserts = none_asserted s (right (is_none o.fills && is_none o.exports) (not o.asserting) stands) in
     let v = bound (Scanning.new_name s.imports e.body) _ _ u.2 in
     let named = wanted (is_name e.body && not (is_among s.imports e.body)) NotCanonical v.0 v.1 in
     let names = s.imports ++ e.body ∷ [] in
@@ -280,23 +280,23 @@ unfolding Scanning.scan_part
 part_step s e x grow grows placed r running h =
     let n = length s.drafts in
     let i = length s.imports in
-    let place = bound (Scanning.open_room (map Scanning.room_of s.drafts)) _ _ h in
-    let g = bound (grow place.0.1) _ _ place.2 in
-    let o = opened s.drafts place.0 place.1 in
+    let section = bound (Scanning.open_room (map Scanning.room_of s.drafts)) _ _ h in
+    let g = bound (grow section.0.1) _ _ section.2 in
+    let o = opened s.drafts section.0 section.1 in
     let d = o.split.draft in
     let here : grow (Scanning.room_of d) ≡ Ok g.0 = ap (λ (p : ℕ × SectionFill). grow p.1) o.here ∙ g.1 in
-    let ds = with_piece s.drafts place.0.0 g.0.1 in
-    let now = goes_in n i e s.drafts place.0 g.0.1 o r.drafts r.filling (λ good. grows d g.0 good here) in
-    let exports_none = none_yet (is_none s.exports) (λ some. let none = sym (none_open s.drafts (r.exported some)) ∙ place.1 in cc) in
-    let asserts_none = none_yet (is_none s.asserts) (λ some. let none = sym (none_open s.drafts (r.asserted some)) ∙ place.1 in cc) in
+    let ds = with_piece s.drafts section.0.0 g.0.1 in
+    let now = goes_in n i e s.drafts section.0 g.0.1 o r.drafts r.filling (λ good. grows d g.0 good here) in
+    let exports_none = none_yet (is_none s.exports) (λ some. let none = sym (none_open s.drafts (r.exported some)) ∙ section.1 in cc) in
+    let asserts_none = none_yet (is_none s.asserts) (λ some. let none = sym (none_open s.drafts (r.asserted some)) ∙ section.1 in cc) in
     let no_exports = none_is s.exports exports_none in
     let no_asserts = none_is s.asserts asserts_none in
-    let item = item_is _ (item.Part place.0.0 place.0.1.filled g.0.1) x g.2 in
+    let item = item_is _ (item.Part section.0.0 section.0.1.filled g.0.1) x g.2 in
     subst (λ (j : Item). Step s (with_item s j) e) item (record {
       good = record {
         version = r.version;
         files = r.files;
-        values = values_with_piece s.version (length s.files) g.0.1 (placed d g.0 here) s.drafts place.0.0 r.values;
+        values = values_with_piece s.version (length s.files) g.0.1 (placed d g.0 here) s.drafts section.0.0 r.values;
         export_origins = r.export_origins;
         assert_origins = r.assert_origins;
         imports = r.imports;
@@ -341,13 +341,13 @@ export_step s e x kind r running h =
     let n = length s.drafts in
     let i = length s.imports in
     let names = o.exports in
-    let u = bound (Scanning.wants (list_all Scanning.is_filled o.rooms && not o.asserting) OutOfOrder) _ _ h in
-    let stands = wanted (list_all Scanning.is_filled o.rooms && not o.asserting) OutOfOrder u.0 u.1 in
-    let full = sym (all_full s.drafts) ∙ left (list_all Scanning.is_filled o.rooms) (not o.asserting) stands in
-    let no_asserts = none_asserted s (right (list_all Scanning.is_filled o.rooms) (not o.asserting) stands) in
+    let u = bound (Scanning.wants (list_all Scanning.is_filled o.fills && not o.asserting) OutOfOrder) _ _ h in
+    let stands = wanted (list_all Scanning.is_filled o.fills && not o.asserting) OutOfOrder u.0 u.1 in
+    let full = sym (all_full s.drafts) ∙ left (list_all Scanning.is_filled o.fills) (not o.asserting) stands in
+    let no_asserts = none_asserted s (right (list_all Scanning.is_filled o.fills) (not o.asserting) stands) in
     let a = bound (export_of s.version e.body) _ _ u.2 in
-    let v = bound (Scanning.known_parts (length s.files) (length o.rooms) i a.0.origin a.0.form) _ _ a.2 in
-    let parts = parts_known (length s.files) (length o.rooms) i a.0.origin a.0.form v.0 v.1 in
+    let v = bound (Scanning.known_parts (length s.files) (length o.fills) i a.0.origin a.0.form) _ _ a.2 in
+    let parts = parts_known (length s.files) (length o.fills) i a.0.origin a.0.form v.0 v.1 in
     let origin : is_well_formed_origin s.version (length s.files) a.0.origin ≡ true = and (has_file_by s.version a.0.origin.file) (has_file (length s.files) a.0.origin.file) (export_by s.version e.body a.0 a.1) parts.0 in
     let there = wanted (is_within n i a.0.form) IndexOutOfRange v.0 (known_in s a.0.form v.0 parts.1) in
     let w = bound (Scanning.new_name names a.0.name) _ _ v.2 in
@@ -409,11 +409,11 @@ assert_step s e x kind r running h =
     let o = Scanning.outline_of s in
     let n = length s.drafts in
     let i = length s.imports in
-    let u = bound (Scanning.wants (list_all Scanning.is_filled o.rooms) OutOfOrder) _ _ h in
-    let full = sym (all_full s.drafts) ∙ wanted (list_all Scanning.is_filled o.rooms) OutOfOrder u.0 u.1 in
+    let u = bound (Scanning.wants (list_all Scanning.is_filled o.fills) OutOfOrder) _ _ h in
+    let full = sym (all_full s.drafts) ∙ wanted (list_all Scanning.is_filled o.fills) OutOfOrder u.0 u.1 in
     let g = bound (assert_of s.version e.body) _ _ u.2 in
-    let v = bound (Scanning.known_parts (length s.files) (length o.rooms) i g.0.origin g.0.form) _ _ g.2 in
-    let parts = parts_known (length s.files) (length o.rooms) i g.0.origin g.0.form v.0 v.1 in
+    let v = bound (Scanning.known_parts (length s.files) (length o.fills) i g.0.origin g.0.form) _ _ g.2 in
+    let parts = parts_known (length s.files) (length o.fills) i g.0.origin g.0.form v.0 v.1 in
     let origin : is_well_formed_origin s.version (length s.files) g.0.origin ≡ true = and (has_file_by s.version g.0.origin.file) (has_file (length s.files) g.0.origin.file) (assert_by s.version e.body g.0 g.1) parts.0 in
     let w = bound (Scanning.canonical_open g.0.form) _ _ v.2 in
     let form = open_form n i g.0.form v.0 w.0 (known_in s g.0.form v.0 parts.1) w.1 in
@@ -474,9 +474,9 @@ assert_step s e x kind r running h =
 end_step : (s : State) (e : RawRecord) (x : Scanning.Outline × Item) → e.kind ≡ 8 → GoodState s → s.ended ≡ false → Scanning.scan_last (Scanning.outline_of s) e.body ≡ Ok x → Step s (with_item s x.1) e
 unfolding Scanning.scan_last
 end_step s e x kind r running h =
-    let rooms = map Scanning.room_of s.drafts in
-    let u = bound (Scanning.wants (list_all Scanning.is_filled rooms) OutOfOrder) _ _ h in
-    let full = sym (all_full s.drafts) ∙ wanted (list_all Scanning.is_filled rooms) OutOfOrder u.0 u.1 in
+    let fills = map Scanning.room_of s.drafts in
+    let u = bound (Scanning.wants (list_all Scanning.is_filled fills) OutOfOrder) _ _ h in
+    let full = sym (all_full s.drafts) ∙ wanted (list_all Scanning.is_filled fills) OutOfOrder u.0 u.1 in
     let v = bound (end_of e.body) _ _ u.2 in
     let item = item_is _ (item.End) x v.2 in
     let e_is : e ≡ end_entry = (λ k. record { kind = kind k; body = none e.body v.0 v.1 k }) in
@@ -540,8 +540,8 @@ entry_step s e x r running h =
     let m = length s.files in
     let n = length s.drafts in
     let i = length s.imports in
-    let rooms = map Scanning.room_of s.drafts in
-    let count : length rooms ≡ n = length-map s.drafts Scanning.room_of in
+    let fills = map Scanning.room_of s.drafts in
+    let count : length fills ≡ n = length-map s.drafts Scanning.room_of in
     let known = passes (not (is_record_kind s.version e.kind)) OutOfOrder _ _ h in
     let there = is_true (is_record_kind s.version e.kind) known.0 in
     let h1 = known.1 in
@@ -560,7 +560,7 @@ entry_step s e x r running h =
             | inr not_4 ↦ let h5 = sym (other (e.kind == 4) _ _ not_4) ∙ h4 in elim (either (e.kind == 5)) [
               | inl is ↦
                   let kind = same e.kind 5 is in
-                  part_step s e x (Scanning.room_value s.version m (length rooms) i e.body) (λ d y good is. value_grows s.version m n i e d y kind good (ap (λ k. Scanning.room_value s.version m k i e.body (Scanning.room_of d)) (sym count) ∙ is)) (λ d y is. value_placed s.version m (length rooms) i e.body (Scanning.room_of d) y is) r running (sym (chosen (e.kind == 5) _ _ is) ∙ h5)
+                  part_step s e x (Scanning.room_value s.version m (length fills) i e.body) (λ d y good is. value_grows s.version m n i e d y kind good (ap (λ k. Scanning.room_value s.version m k i e.body (Scanning.room_of d)) (sym count) ∙ is)) (λ d y is. value_placed s.version m (length fills) i e.body (Scanning.room_of d) y is) r running (sym (chosen (e.kind == 5) _ _ is) ∙ h5)
               | inr not_5 ↦ let h6 = sym (other (e.kind == 5) _ _ not_5) ∙ h5 in elim (either (e.kind == 6)) [
                 | inl is ↦ export_step s e x (same e.kind 6 is) r running (sym (chosen (e.kind == 6) _ _ is) ∙ h6)
                 | inr not_6 ↦ let h7 = sym (other (e.kind == 6) _ _ not_6) ∙ h6 in elim (either (e.kind == 7)) [

@@ -97,13 +97,13 @@ good_parts_in_one o h =
 good_in_one : (o : Object) → is_well_formed_object o ≡ true → is_well_formed_object (in_version_one o) ≡ true
 good_in_one o e =
     let values = list_all (λ (s : Section). list_all (has_good_origin 1 0) s.fragments) (map section_in_one o.sections) in
-    let said = list_all (λ (x : Export). is_well_formed_origin 1 0 x.origin) (map export_in_one o.exports) in
+    let exports = list_all (λ (x : Export). is_well_formed_origin 1 0 x.origin) (map export_in_one o.exports) in
     let asked = list_all (λ (x : Assert). is_well_formed_origin 1 0 x.origin) (map assert_in_one o.asserts) in
     let good_values : values ≡ true = all_kept (λ (s : Section). list_all (has_good_origin 1 0) s.fragments) section_in_one o.sections (λ s. all_kept (has_good_origin 1 0) fragment_in_one s.fragments one_origin) in
-    let good_said : said ≡ true = all_kept (λ (x : Export). is_well_formed_origin 1 0 x.origin) export_in_one o.exports (λ x. refl) in
+    let good_exports : exports ≡ true = all_kept (λ (x : Export). is_well_formed_origin 1 0 x.origin) export_in_one o.exports (λ x. refl) in
     let good_asked : asked ≡ true = all_kept (λ (x : Assert). is_well_formed_origin 1 0 x.origin) assert_in_one o.asserts (λ x. refl) in
-    let origins = and (values && said) asked (and values said good_values good_said) good_asked in
-    and (values && said && asked) (has_good_parts (in_version_one o)) origins (good_parts_in_one o (parts o e))
+    let origins = and (values && exports) asked (and values exports good_values good_exports) good_asked in
+    and (values && exports && asked) (has_good_parts (in_version_one o)) origins (good_parts_in_one o (parts o e))
 
 fits_in_one : (o : Object) → ObjectFits o → ObjectFits (in_version_one o)
 fits_in_one o h = record {

@@ -55,8 +55,8 @@ sec_at bytes = do
 
 unfoldable pub imp_at : List ℕ → Result (Form × List ℕ) ObjectFault
 imp_at bytes = do
-  place ← number_at 4 bytes
-  Ok (imp place.0, place.1)
+  index ← number_at 4 bytes
+  Ok (imp index.0, index.1)
 
 unfoldable pub prefix_at : (List ℕ → Result (Form × List ℕ) ObjectFault) → Op1 → List ℕ → Result (Form × List ℕ) ObjectFault
 prefix_at part op bytes = do

@@ -84,7 +84,7 @@ pub record Outline : Type 0 where
   pub imports : List (List ℕ)
   -- the names of the sections
   pub sections : List (List ℕ)
-  pub rooms : List SectionFill
+  pub fills : List SectionFill
   -- whether a fragment was taken
   pub begun : Bool
   -- the names of the exports
@@ -95,7 +95,7 @@ pub record Outline : Type 0 where
   pub failed : Bool
 
 abbrev pub outline_of : State → Outline
-outline_of s = record { version = s.version; files = s.files; imports = s.imports; sections = map (λ d. d.name) s.drafts; rooms = map room_of s.drafts; begun = s.begun; exports = map (λ e. e.name) s.exports; asserting = not (is_none s.asserts); ended = s.ended; failed = s.failed }
+outline_of s = record { version = s.version; files = s.files; imports = s.imports; sections = map (λ d. d.name) s.drafts; fills = map room_of s.drafts; begun = s.begun; exports = map (λ e. e.name) s.exports; asserting = not (is_none s.asserts); ended = s.ended; failed = s.failed }
 
 -- the contents of a SECTION
 abbrev pub heading : ℕ → ℕ → List ℕ → Heading
@@ -164,14 +164,14 @@ abbrev pub grow_room : Outline → ℕ → List ℕ → SectionFill → Result (
 grow_room o kind body =
     if kind == 3 then room_literal body
     else if kind == 4 then room_fill body
-    else room_value o.version (length o.files) (length o.rooms) (length o.imports) body
+    else room_value o.version (length o.files) (length o.fills) (length o.imports) body
 
 -- ---- One record.
 
 -- files come before all else; a name may be empty
 unfoldable pub scan_file : Outline → List ℕ → Result (Outline × Item) ObjectFault
 scan_file o body = do
-  u ← wants (is_none o.imports && is_none o.rooms && is_none o.exports && not o.asserting) OutOfOrder
+  u ← wants (is_none o.imports && is_none o.fills && is_none o.exports && not o.asserting) OutOfOrder
   t ← wants (is_file_name body) BadSize
   v ← new_file o.files body
   Ok (record o { files = o.files ++ body ∷ [] }, File body)
@@ -179,7 +179,7 @@ scan_file o body = do
 -- imports come before all else but files
 unfoldable pub scan_import : Outline → List ℕ → Result (Outline × Item) ObjectFault
 scan_import o body = do
-  u ← wants (is_none o.rooms && is_none o.exports && not o.asserting) OutOfOrder
+  u ← wants (is_none o.fills && is_none o.exports && not o.asserting) OutOfOrder
   v ← new_name o.imports body
   Ok (record o { imports = o.imports ++ body ∷ [] }, Import body)
 
@@ -194,21 +194,21 @@ scan_section o body = do
   h ← section_of body
   v ← new_name o.sections h.name
   w ← wants (nat_le h.align 15) NotCanonical
-  Ok (record o { sections = o.sections ++ h.name ∷ []; rooms = o.rooms ++ empty_room h.size ∷ [] }, Section h.name h.size h.align)
+  Ok (record o { sections = o.sections ++ h.name ∷ []; fills = o.fills ++ empty_room h.size ∷ [] }, Section h.name h.size h.align)
 
 -- a record of a fragment, which goes to the first section that isn't full
 unfoldable pub scan_part : Outline → (SectionFill → Result (SectionFill × Fragment) ObjectFault) → Result (Outline × Item) ObjectFault
 scan_part o grow = do
-  place ← open_room o.rooms
-  grown ← grow place.1
-  Ok (record o { rooms = slice_set o.rooms place.0 grown.0; begun = true }, Part place.0 place.1.filled grown.1)
+  section ← open_room o.fills
+  grown ← grow section.1
+  Ok (record o { fills = slice_set o.fills section.0 grown.0; begun = true }, Part section.0 section.1.filled grown.1)
 
 -- exports come after the last fragment and before all assertions
 unfoldable pub scan_export : Outline → List ℕ → Result (Outline × Item) ObjectFault
 scan_export o body = do
-  u ← wants (list_all is_filled o.rooms && not o.asserting) OutOfOrder
+  u ← wants (list_all is_filled o.fills && not o.asserting) OutOfOrder
   e ← export_of o.version body
-  v ← known_parts (length o.files) (length o.rooms) (length o.imports) e.origin e.form
+  v ← known_parts (length o.files) (length o.fills) (length o.imports) e.origin e.form
   w ← new_name o.exports e.name
   x ← canonical e.form
   Ok (record o { exports = o.exports ++ e.name ∷ [] }, Export e.name e.origin e.form)
@@ -216,15 +216,15 @@ scan_export o body = do
 -- assertions and the END come after the last fragment
 unfoldable pub scan_assert : Outline → List ℕ → Result (Outline × Item) ObjectFault
 scan_assert o body = do
-  u ← wants (list_all is_filled o.rooms) OutOfOrder
+  u ← wants (list_all is_filled o.fills) OutOfOrder
   a ← assert_of o.version body
-  v ← known_parts (length o.files) (length o.rooms) (length o.imports) a.origin a.form
+  v ← known_parts (length o.files) (length o.fills) (length o.imports) a.origin a.form
   w ← canonical_open a.form
   Ok (record o { asserting = true }, Assert a.action a.origin a.text a.form)
 
 unfoldable pub scan_last : Outline → List ℕ → Result (Outline × Item) ObjectFault
 scan_last o body = do
-  u ← wants (list_all is_filled o.rooms) OutOfOrder
+  u ← wants (list_all is_filled o.fills) OutOfOrder
   v ← end_of body
   Ok (record o { ended = true }, End)
 
@@ -235,7 +235,7 @@ scan_entry o e =
     else if e.kind == 2 then scan_section o e.body
     else if e.kind == 3 then scan_part o (room_literal e.body)
     else if e.kind == 4 then scan_part o (room_fill e.body)
-    else if e.kind == 5 then scan_part o (room_value o.version (length o.files) (length o.rooms) (length o.imports) e.body)
+    else if e.kind == 5 then scan_part o (room_value o.version (length o.files) (length o.fills) (length o.imports) e.body)
     else if e.kind == 6 then scan_export o e.body
     else if e.kind == 7 then scan_assert o e.body
     else if e.kind == 9 then scan_file o e.body
@@ -257,17 +257,17 @@ scan_end o = if o.failed then Err FailedBefore else if o.ended then Ok tt else E
 -- ---- What an item keeps to.
 
 -- a fragment is in this section, after the parts already taken
-pub record FitsIn (room : SectionFill) (place : ℕ) (f : Fragment) : Type 0 where
-  pub following : place ≡ room.filled
-  pub within : place + fragment_len f ≤ room.size
-  pub size : room.size ≤ section_limit
+pub record FitsIn (fill : SectionFill) (offset : ℕ) (f : Fragment) : Type 0 where
+  pub following : offset ≡ fill.filled
+  pub within : offset + fragment_len f ≤ fill.size
+  pub size : fill.size ≤ section_limit
 
 -- the numbers of an item are within their limits
 abbrev pub IsWithin : Outline → Item → Type 0
 IsWithin o (File name) = ⊤
 IsWithin o (Import name) = ⊤
 IsWithin o (Section name size align) = (size ≤ section_limit) × (align ≤ 15)
-IsWithin o (Part k offset f) = (room : SectionFill) × (slice_get o.rooms k ≡ Some room) × FitsIn room offset f
+IsWithin o (Part k offset f) = (fill : SectionFill) × (slice_get o.fills k ≡ Some fill) × FitsIn fill offset f
 IsWithin o (Export name origin form) = ⊤
 IsWithin o (Assert action origin text form) = is_small_text text ≡ true
 IsWithin o End = ⊤

@@ -39,7 +39,7 @@ pub fn is_kind(version: u8, kind: u8) -> bool
 /// The kind of the record with which the bytes begin, and the length of its body.
 fn decode_front(version: u8, bytes: &[u8]) -> Result<(u8, usize), ObjectFault>
     ensures read { result ≡ front_of version (take 3 bytes.now) }
-    ensures room { IfOk result (λ x. 3 ≤ length bytes.now) }
+    ensures bound { IfOk result (λ x. 3 ≤ length bytes.now) }
     ensures len { IfOk result (λ x. x.1 ≤ body_limit) }
     ensures plain { IfErr result (λ e. is_system_error e ≡ false) }
 {

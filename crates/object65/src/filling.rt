@@ -17,24 +17,24 @@ use byteorder::{ByteOrder, LittleEndian};
 use std::alloc::Global;
 
 /// Refuses what passes the section's end.
-fn check_room(room: SectionFill, len: u32) -> Result<(), ObjectFault>
-    ensures { result ≡ room_for room len }
+fn check_room(fill: SectionFill, len: u32) -> Result<(), ObjectFault>
+    ensures { result ≡ room_for fill len }
 {
     check(
-        len <= room.size.saturating_sub(room.filled),
+        len <= fill.size.saturating_sub(fill.filled),
         ObjectFault::BadSize,
     )
 }
 
 /// Returns the section with `len` more bytes.
-fn room_after(room: SectionFill, len: u32, last: Last) -> SectionFill
-    requires { room.filled + len ≤ room.size }
-    ensures { result ≡ room_after room len last }
+fn room_after(fill: SectionFill, len: u32, last: Last) -> SectionFill
+    requires { fill.filled + len ≤ fill.size }
+    ensures { result ≡ room_after fill len last }
 {
     SectionFill {
-        filled: room.filled + len,
+        filled: fill.filled + len,
         last,
-        ..room
+        ..fill
     }
 }
 
@@ -52,11 +52,11 @@ fn check_file(origin: Origin, files: usize) -> Result<(), ObjectFault>
 /// Refuses a part that names what isn't there in the object of which this is kept.
 #[tactic(auto, unfolding(crate::specs::Scanning::known_parts))]
 pub fn check_parts(kept: &ScanState, origin: Origin, form: &Norm) -> Result<(), ObjectFault>
-    ensures { result ≡ known_parts (length kept.now.files.keys) (length kept.now.rooms.items)
+    ensures { result ≡ known_parts (length kept.now.files.keys) (length kept.now.fills.items)
         (length kept.now.imports.keys) origin form.now }
 {
     check_file(origin, kept.files.len())?;
-    let is_there = are_there(form, kept.rooms.len(), kept.imports.len());
+    let is_there = are_there(form, kept.fills.len(), kept.imports.len());
     check(is_there, ObjectFault::IndexOutOfRange)
 }
 
@@ -96,36 +96,36 @@ fn read_fill(body: &[u8]) -> Result<u32, ObjectFault>
 #[tactic(auto, unfolding(crate::specs::Scanning::room_literal))]
 pub fn room_with_literal(
     alloc: Global,
-    room: SectionFill,
+    fill: SectionFill,
     body: &[u8],
 ) -> Result<(SectionFill, Fragment), ObjectFault>
-    ensures { Refines is_memory (λ x. x) result (room_literal body.now room) }
+    ensures { Refines is_memory (λ x. x) result (room_literal body.now fill) }
 {
     check(!body.is_empty(), ObjectFault::BadSize)?;
-    let left = room.size.saturating_sub(room.filled);
+    let left = fill.size.saturating_sub(fill.filled);
     check(body.len() <= left as usize, ObjectFault::BadSize)?;
-    check(room.last != Last::Short, ObjectFault::NotCanonical)?;
+    check(fill.last != Last::Short, ObjectFault::NotCanonical)?;
     let last = if body.len() % LARGEST_BODY == 0 {
         Last::Other
     } else {
         Last::Short
     };
-    let grown = room_after(room, body.len() as u32, last);
+    let grown = room_after(fill, body.len() as u32, last);
     Ok((grown, Fragment::Literal(ListVec::copy_of(alloc, body)?)))
 }
 
 /// Adds a FILL to a section.
 #[tactic(auto, unfolding(crate::specs::Scanning::room_fill))]
 pub fn room_with_fill(
-    room: SectionFill,
+    fill: SectionFill,
     body: &[u8],
 ) -> Result<(SectionFill, Fragment), ObjectFault>
-    ensures { Refines is_memory (λ x. x) result (room_fill body.now room) }
+    ensures { Refines is_memory (λ x. x) result (room_fill body.now fill) }
 {
     let count = read_fill(body)?;
-    check_room(room, count)?;
-    check(room.last != Last::Fill, ObjectFault::NotCanonical)?;
-    Ok((room_after(room, count, Last::Fill), Fragment::Fill(count)))
+    check_room(fill, count)?;
+    check(fill.last != Last::Fill, ObjectFault::NotCanonical)?;
+    Ok((room_after(fill, count, Last::Fill), Fragment::Fill(count)))
 }
 
 /// The width of a code.
@@ -169,19 +169,19 @@ fn read_value(alloc: Global, version: u8, body: &[u8]) -> Result<(Width, Origin,
 #[tactic(auto, unfolding(crate::specs::Scanning::room_value))]
 pub fn room_with_value(
     kept: &ScanState,
-    room: SectionFill,
+    fill: SectionFill,
     body: &[u8],
 ) -> Result<(SectionFill, Fragment), ObjectFault>
     ensures { Refines is_memory (λ x. x) result
-        (room_value kept.now.version (length kept.now.files.keys) (length kept.now.rooms.items)
-        (length kept.now.imports.keys) body.now room) }
+        (room_value kept.now.version (length kept.now.files.keys) (length kept.now.fills.items)
+        (length kept.now.imports.keys) body.now fill) }
 {
     let (width, origin, form) = read_value(kept.alloc, kept.version, body)?;
     let len = width_size(width);
-    check_room(room, len)?;
+    check_room(fill, len)?;
     check_parts(kept, origin, &form)?;
     check_open_form(&form)?;
-    let grown = room_after(room, len, Last::Other);
+    let grown = room_after(fill, len, Last::Other);
     let value = Fragment::Value {
         width,
         origin,

@@ -118,7 +118,7 @@ pub fn are_there(form: &Norm, sections: usize, imports: usize) -> bool
     match form.node() {
         Node::NumberNode(_) => true,
         Node::SectionOffset(section, _) => (*section as usize) < sections,
-        Node::ImportedName(place) => (*place as usize) < imports,
+        Node::ImportedName(index) => (*index as usize) < imports,
         Node::Prefix(_, part) => are_there(part, sections, imports),
         Node::Binary(_, operands) => {
             are_there(&operands.left, sections, imports)

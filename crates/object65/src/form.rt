@@ -76,7 +76,7 @@ impl Norm {
         let node = match form.node() {
             Node::NumberNode(value) => Node::NumberNode(*value),
             Node::SectionOffset(section, offset) => Node::SectionOffset(*section, *offset),
-            Node::ImportedName(place) => Node::ImportedName(*place),
+            Node::ImportedName(index) => Node::ImportedName(*index),
             Node::Prefix(op, part) => {
                 let part = Norm::copy_of(alloc, part)?;
                 Node::Prefix(*op, Box::new(alloc, part)?)

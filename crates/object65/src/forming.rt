@@ -180,8 +180,8 @@ fn read_after(
             Ok((Norm::new(Node::SectionOffset(section, offset)), rest))
         }
         0x02 => {
-            let (place, rest) = u32_at(bytes)?;
-            Ok((Norm::new(Node::ImportedName(place)), rest))
+            let (index, rest) = u32_at(bytes)?;
+            Ok((Norm::new(Node::ImportedName(index)), rest))
         }
         _ => read_operation(alloc, code, bytes, depth),
     }

@@ -35,8 +35,8 @@ pub fn read_room<S: Store>(
     ensures within { IsErrOf result StoreFault.FileError → at ≤ limit → FailedWithin (S.last_failure store.new) name.now at limit }
     ensures at_last_count { FailsAtLastCount is_store_system_error (S.failures store.old) result }
 {
-    let room = limit.saturating_sub(at);
-    let want = room.min(buf.len() as u64) as usize;
+    let remaining = limit.saturating_sub(at);
+    let want = remaining.min(buf.len() as u64) as usize;
     read_full(store, name, at, &mut buf[..want])
 }
 

@@ -116,7 +116,7 @@ impl RecordReader {
         ensures at_last_count { FailsAtLastCount is_system_error (S.failures store.old) result }
         ensures begin { OnOk result (self.new.begin ≡ at) }
         ensures none { OnErr result (self.new.ahead ≡ []) }
-        ensures room { OnOk result (length self.new.ahead ≤ limit - at) }
+        ensures remaining { OnOk result (length self.new.ahead ≤ limit - at) }
     {
         self.held = 0;
         let held = read_room(store, name, at, limit, &mut self.buffer)?;

@@ -51,7 +51,7 @@ pub struct ScanState {
     pub imports: Names,
     /// The names of the sections.
     pub sections: Names,
-    pub rooms: Vec<SectionFill>,
+    pub fills: Vec<SectionFill>,
     /// Whether a fragment was taken.
     pub begun: bool,
     /// The sections before this place are full.
@@ -72,7 +72,7 @@ pub fn take_file(kept: &mut ScanState, body: &[u8]) -> Result<Item, ObjectFault>
 {
     check(
         kept.imports.len() == 0
-            && kept.rooms.len() == 0
+            && kept.fills.len() == 0
             && kept.exports.len() == 0
             && !kept.asserting,
         ObjectFault::OutOfOrder,
@@ -90,7 +90,7 @@ pub fn take_import(kept: &mut ScanState, body: &[u8]) -> Result<Item, ObjectFaul
     ensures { RefinesScan kept.old kept.new result (scan_import (outline_in kept.old) body.now) }
 {
     check(
-        kept.rooms.len() == 0 && kept.exports.len() == 0 && !kept.asserting,
+        kept.fills.len() == 0 && kept.exports.len() == 0 && !kept.asserting,
         ObjectFault::OutOfOrder,
     )?;
     check_name(&kept.imports, body)?;
@@ -141,7 +141,7 @@ fn action_at(code: u8) -> Result<Action, ObjectFault>
 /// Reads the body of an ASSERT.
 #[tactic(auto, unfolding(crate::specs::Bodies::assert_of))]
 fn read_assert(alloc: Global, version: u8, body: &[u8]) -> Result<Assert, ObjectFault>
-    ensures said { Refines is_memory (λ a. a) result (assert_of version body.now) }
+    ensures value { Refines is_memory (λ a. a) result (assert_of version body.now) }
     ensures short { IfOk result (λ a. is_small_text a.text ≡ true) }
 {
     let (code, rest) = byte_at(body)?;
@@ -231,7 +231,7 @@ impl Scan {
                 files: IndexSet::with_hasher(alloc, seed),
                 imports: IndexSet::with_hasher(alloc, seed),
                 sections: IndexSet::with_hasher(alloc, seed),
-                rooms: Vec::new(alloc),
+                fills: Vec::new(alloc),
                 begun: false,
                 filling: 0,
                 exports: IndexSet::with_hasher(alloc, seed),

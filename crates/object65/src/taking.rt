@@ -83,19 +83,19 @@ pub fn add_name(alloc: Global, names: &mut Names, name: &[u8]) -> Result<(), Obj
     Ok(())
 }
 
-fn is_full_room(room: &SectionFill) -> bool
-    ensures { result ≡ is_filled room.now }
+fn is_full_room(fill: &SectionFill) -> bool
+    ensures { result ≡ is_filled fill.now }
 {
-    room.filled == room.size
+    fill.filled == fill.size
 }
 
 /// The place of the first section that isn't full, from a place on before which all are full.
-fn first_open(rooms: &[SectionFill], from: usize) -> usize
-    requires { from ≤ prefix_len is_filled rooms.now }
-    ensures { result ≡ prefix_len is_filled rooms.now }
+fn first_open(fills: &[SectionFill], from: usize) -> usize
+    requires { from ≤ prefix_len is_filled fills.now }
+    ensures { result ≡ prefix_len is_filled fills.now }
 {
     let mut at = from;
-    while at < rooms.len() && is_full_room(&rooms[at]) {
+    while at < fills.len() && is_full_room(&fills[at]) {
         at += 1;
     }
     at
@@ -104,14 +104,14 @@ fn first_open(rooms: &[SectionFill], from: usize) -> usize
 /// The place of the first section that isn't full, or the number of sections.
 fn open_place(kept: &mut ScanState) -> usize
     requires { IsWellFormedOutline kept.old }
-    ensures place { result ≡ prefix_len is_filled kept.old.rooms.items }
-    ensures within { result ≤ length kept.old.rooms.items }
+    ensures index { result ≡ prefix_len is_filled kept.old.fills.items }
+    ensures within { result ≤ length kept.old.fills.items }
     ensures filling { kept.new.filling ≡ result }
-    ensures rooms { kept.new.rooms ≡ kept.old.rooms }
+    ensures fills { kept.new.fills ≡ kept.old.fills }
     ensures kept { outline_in kept.new ≡ outline_in kept.old }
     ensures sound { IsWellFormedOutline kept.new }
 {
-    let at = first_open(&kept.rooms, kept.filling);
+    let at = first_open(&kept.fills, kept.filling);
     kept.filling = at;
     at
 }
@@ -119,32 +119,32 @@ fn open_place(kept: &mut ScanState) -> usize
 /// The section to which the next fragment goes, and its place.
 fn next_room(kept: &mut ScanState) -> Result<(usize, SectionFill), ObjectFault>
     requires { IsWellFormedOutline kept.old }
-    ensures room { result ≡ open_room kept.old.rooms.items }
+    ensures fill { result ≡ open_room kept.old.fills.items }
     ensures filling { IfOk result (λ x. (kept.new.filling ≡ x.0) ×
-        (x.0 < length kept.new.rooms.items)) }
+        (x.0 < length kept.new.fills.items)) }
     ensures kept { outline_in kept.new ≡ outline_in kept.old }
     ensures sound { IsWellFormedOutline kept.new }
 {
     let at = open_place(kept);
-    if at == kept.rooms.len() {
+    if at == kept.fills.len() {
         return Err(ObjectFault::OutOfOrder);
     }
-    Ok((at, kept.rooms[at]))
+    Ok((at, kept.fills[at]))
 }
 
 /// Keeps what the section that was being filled has become.
-fn put_room(kept: &mut ScanState, at: usize, room: SectionFill)
+fn put_room(kept: &mut ScanState, at: usize, fill: SectionFill)
     requires sound { IsWellFormedOutline kept.old }
     requires filling { kept.old.filling ≡ at }
-    requires within { at < length kept.old.rooms.items }
+    requires within { at < length kept.old.fills.items }
     ensures put { outline_in kept.new ≡
         record (outline_in kept.old) {
-          rooms = slice_set kept.old.rooms.items at room;
+          fills = slice_set kept.old.fills.items at fill;
           begun = true;
         } }
     ensures sound { IsWellFormedOutline kept.new }
 {
-    kept.rooms[at] = room;
+    kept.fills[at] = fill;
     kept.begun = true;
 }
 
@@ -152,15 +152,15 @@ fn put_room(kept: &mut ScanState, at: usize, room: SectionFill)
 fn grow_room(
     kept: &ScanState,
     kind: u8,
-    room: SectionFill,
+    fill: SectionFill,
     body: &[u8],
 ) -> Result<(SectionFill, Fragment), ObjectFault>
-    ensures { Refines is_memory (λ x. x) result (grow_room (outline_in kept.now) kind body.now room) }
+    ensures { Refines is_memory (λ x. x) result (grow_room (outline_in kept.now) kind body.now fill) }
 {
     match kind {
-        LITERAL => room_with_literal(kept.alloc, room, body),
-        FILL => room_with_fill(room, body),
-        _ => room_with_value(kept, room, body),
+        LITERAL => room_with_literal(kept.alloc, fill, body),
+        FILL => room_with_fill(fill, body),
+        _ => room_with_value(kept, fill, body),
     }
 }
 
@@ -171,12 +171,12 @@ fn take_part(kept: &mut ScanState, kind: u8, body: &[u8]) -> Result<Item, Object
     ensures { RefinesScan kept.old kept.new result
         (scan_part (outline_in kept.old) (grow_room (outline_in kept.old) kind body.now)) }
 {
-    let (at, room) = next_room(kept)?;
-    let (grown, fragment) = grow_room(kept, kind, room, body)?;
+    let (at, fill) = next_room(kept)?;
+    let (grown, fragment) = grow_room(kept, kind, fill, body)?;
     put_room(kept, at, grown);
     Ok(Item::Part {
         section: at,
-        offset: room.filled,
+        offset: fill.filled,
         fragment,
     })
 }
@@ -184,11 +184,11 @@ fn take_part(kept: &mut ScanState, kind: u8, body: &[u8]) -> Result<Item, Object
 /// Returns whether all sections are full.
 pub fn all_full(kept: &mut ScanState) -> bool
     requires { IsWellFormedOutline kept.old }
-    ensures full { result ≡ list_all is_filled kept.old.rooms.items }
+    ensures full { result ≡ list_all is_filled kept.old.fills.items }
     ensures kept { outline_in kept.new ≡ outline_in kept.old }
     ensures sound { IsWellFormedOutline kept.new }
 {
-    open_place(kept) == kept.rooms.len()
+    open_place(kept) == kept.fills.len()
 }
 
 /// Reads the body of a SECTION: the size, the alignment and the name.
@@ -215,12 +215,12 @@ fn add_room(kept: &mut ScanState, name: &[u8], size: u32) -> Result<(), ObjectFa
         (Ok (record (outline_in kept.old) {
           sections = map (λ n. n.items) kept.old.sections.keys ++
               name.now ∷ [];
-          rooms = kept.old.rooms.items ++ empty_room size ∷ [];
+          fills = kept.old.fills.items ++ empty_room size ∷ [];
         })) }
     ensures sound { OnOk result (IsWellFormedOutline kept.new) }
 {
     add_name(kept.alloc, &mut kept.sections, name)?;
-    kept.rooms.push(SectionFill {
+    kept.fills.push(SectionFill {
         size,
         filled: 0,
         last: Last::Other,

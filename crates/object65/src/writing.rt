@@ -95,9 +95,9 @@ fn put_form(out: &mut Vec<u8>, form: &Norm) -> Result<(), AllocError>
             put_i64(out, *value)
         }
         Node::SectionOffset(section, offset) => put_place(out, *section, *offset),
-        Node::ImportedName(place) => {
+        Node::ImportedName(index) => {
             out.push(0x02)?;
-            put_u32(out, *place)
+            put_u32(out, *index)
         }
         Node::Prefix(op, part) => {
             if let Some(code) = prefix_code(*op) {

@@ -17,11 +17,11 @@ use Rattle.object65.specs.Small.{is_small_text}
 -- ---- A scan.
 
 abbrev pub outline_in : ScanState → Outline
-outline_in k = record { version = k.version; files = map (λ n. n.items) k.files.keys; imports = map (λ n. n.items) k.imports.keys; sections = map (λ n. n.items) k.sections.keys; rooms = k.rooms.items; begun = k.begun; exports = map (λ n. n.items) k.exports.keys; asserting = k.asserting; ended = k.ended; failed = false }
+outline_in k = record { version = k.version; files = map (λ n. n.items) k.files.keys; imports = map (λ n. n.items) k.imports.keys; sections = map (λ n. n.items) k.sections.keys; fills = k.fills.items; begun = k.begun; exports = map (λ n. n.items) k.exports.keys; asserting = k.asserting; ended = k.ended; failed = false }
 
 -- all sections before the one being filled are full
 pub record IsWellFormedOutline (k : ScanState) : Type 0 where
-  pub filling : k.filling ≤ prefix_len is_filled k.rooms.items
+  pub filling : k.filling ≤ prefix_len is_filled k.fills.items
 
 -- some records lead to an object in the making of which this is kept
 pub record IsReachable (o : Outline) : Type 0 where
@@ -36,8 +36,8 @@ pub record IsIntact (k : ScanState) : Type 0 where
 
 -- the result and the effect of a call that takes a record: those of a scan, with a text whose length is one
 -- byte
-pub record RefinesScan (old new : ScanState) (result : Result Item ObjectFault) (said : Result (Outline × Item) ObjectFault) : Type 0 where
-  pub taken : Refines is_memory (λ i. (outline_in new, i)) result said
+pub record RefinesScan (old new : ScanState) (result : Result Item ObjectFault) (expected : Result (Outline × Item) ObjectFault) : Type 0 where
+  pub taken : Refines is_memory (λ i. (outline_in new, i)) result expected
   pub small : IfOk result (λ i. has_small_text i ≡ true)
   pub sound : OnOk result (IsWellFormedOutline new)
 

@@ -4,5 +4,5 @@ use Rattle.object65.proofs.taking.all_full.Goals as goal
 
 pub returns-clause-full : goal.returns-clause-full
 returns-clause-full c =
-    let rooms = c.args.kept.now.rooms in
-    rw (c.open_place.ensures.place, c.len.ensures, c.open_place.ensures.rooms, rooms.ok.0) (front-all is_filled rooms.items)
+    let fills = c.args.kept.now.fills in
+    rw (c.open_place.ensures.index, c.len.ensures, c.open_place.ensures.fills, fills.ok.0) (front-all is_filled fills.items)

@@ -5,10 +5,10 @@ use Rattle.object65.proofs.Sounds.{front-on, front-ends}
 use Rattle.object65.proofs.taking.first_open.Goals as goal
 
 pub loop-at-preserved : goal.loop-at-preserved
-loop-at-preserved c = front-on is_filled c.args.rooms.now c.loop-at.at _ c.loop-at-test.true (sym c.is_full_room.ensures ∙ c.if-is_full_room.true) c.loop-at.invariant
+loop-at-preserved c = front-on is_filled c.args.fills.now c.loop-at.at _ c.loop-at-test.true (sym c.is_full_room.ensures ∙ c.if-is_full_room.true) c.loop-at.invariant
 
 pub returns-else-is_full_room : goal.returns-else-is_full_room
-returns-else-is_full_room c = front-ends is_filled c.args.rooms.now c.loop-at.at _ (sym c.is_full_room.ensures ∙ c.if-is_full_room.false) c.loop-at.invariant
+returns-else-is_full_room c = front-ends is_filled c.args.fills.now c.loop-at.at _ (sym c.is_full_room.ensures ∙ c.if-is_full_room.false) c.loop-at.invariant
 
 pub returns-after-loop-at : goal.returns-after-loop-at
-returns-after-loop-at c = omega (arith, c.loop-at.invariant, c.loop-at-test.false, prefix_len-le-length is_filled c.args.rooms.now)
+returns-after-loop-at c = omega (arith, c.loop-at.invariant, c.loop-at-test.false, prefix_len-le-length is_filled c.args.fills.now)

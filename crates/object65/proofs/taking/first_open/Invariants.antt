@@ -4,7 +4,7 @@ use Rattle.object65.specs.Scanning.{is_filled}
 use Rattle.object65.proofs.taking.first_open.Given as goal
 
 abbrev pub invariant-loop-at : goal.invariant-loop-at
-invariant-loop-at l = l.at ≤ prefix_len is_filled l.rooms
+invariant-loop-at l = l.at ≤ prefix_len is_filled l.fills
 
 abbrev pub decreases-loop-at : goal.decreases-loop-at
-decreases-loop-at l = length l.rooms - l.at
+decreases-loop-at l = length l.fills - l.at

@@ -5,4 +5,4 @@ use Rattle.object65.proofs.taking.put_room.Goals as goal
 pub returns-clause-sound : goal.returns-clause-sound
 returns-clause-sound c =
     let k = c.args.kept.now in
-    record { filling = rw c.requires.filling (front-set is_filled k.rooms.items c.args.at c.args.room (rw c.requires.filling at c.requires.sound.filling)) }
+    record { filling = rw c.requires.filling (front-set is_filled k.fills.items c.args.at c.args.fill (rw c.requires.filling at c.requires.sound.filling)) }

@@ -72,86 +72,86 @@ parts_go_on : (ts : List Lexeme) (i j : ℕ) (p : List (List ℕ)) → HasParts 
 parts_go_on ts _ _ _ (last_part i h stop) = omega arith
 parts_go_on ts _ _ _ (next_part i j p h scope n) = omega (arith, parts_go_on ts (i + 2) j p n)
 
-phrase_goes_on : (ts : List Lexeme) (room n i j : ℕ) (t : Tree) → Phrase ts room n i j t → i < j
-phrase_goes_on ts _ _ _ _ _ (a_leaf room i t h) = omega arith
-phrase_goes_on ts _ _ _ _ _ (a_name room i j p h) = parts_go_on ts i j p h
-phrase_goes_on ts _ _ _ _ _ (a_global room i j p h n) = omega (arith, parts_go_on ts (i + 1) j p n)
-phrase_goes_on ts _ _ _ _ _ (prefixed room i j op t h p) = omega (arith, phrase_goes_on ts room 0 (i + 1) j t p)
-phrase_goes_on ts _ _ _ _ _ (enclosed room i j t h p c) = omega (arith, phrase_goes_on ts room 6 (i + 1) j t p)
-phrase_goes_on ts _ _ _ _ _ (of_level room n i j t p) = phrase_goes_on ts room n i j t p
-phrase_goes_on ts _ _ _ _ _ (joined room n i j k op t u p at level q) = omega (arith, phrase_goes_on ts room (n + 1) i j t p, phrase_goes_on ts room n (j + 1) k u q)
-phrase_goes_on ts _ _ _ _ _ (negated room i j t h p) = omega (arith, phrase_goes_on ts room 6 (i + 1) j t p)
+phrase_goes_on : (ts : List Lexeme) (depth_left n i j : ℕ) (t : Tree) → Phrase ts depth_left n i j t → i < j
+phrase_goes_on ts _ _ _ _ _ (a_leaf depth_left i t h) = omega arith
+phrase_goes_on ts _ _ _ _ _ (a_name depth_left i j p h) = parts_go_on ts i j p h
+phrase_goes_on ts _ _ _ _ _ (a_global depth_left i j p h n) = omega (arith, parts_go_on ts (i + 1) j p n)
+phrase_goes_on ts _ _ _ _ _ (prefixed depth_left i j op t h p) = omega (arith, phrase_goes_on ts depth_left 0 (i + 1) j t p)
+phrase_goes_on ts _ _ _ _ _ (enclosed depth_left i j t h p c) = omega (arith, phrase_goes_on ts depth_left 6 (i + 1) j t p)
+phrase_goes_on ts _ _ _ _ _ (of_level depth_left n i j t p) = phrase_goes_on ts depth_left n i j t p
+phrase_goes_on ts _ _ _ _ _ (joined depth_left n i j k op t u p at level q) = omega (arith, phrase_goes_on ts depth_left (n + 1) i j t p, phrase_goes_on ts depth_left n (j + 1) k u q)
+phrase_goes_on ts _ _ _ _ _ (negated depth_left i j t h p) = omega (arith, phrase_goes_on ts depth_left 6 (i + 1) j t p)
 
 -- ---- Levels.
 
 abbrev Answer : Type 0
 Answer = Result (Tree × ℕ) ExprFault
 
-abbrev HasLevel : List Lexeme → (room n i : ℕ) → Type 0
-HasLevel ts room n i = (r : Answer) × IsLevel ts room n i r
+abbrev HasLevel : List Lexeme → (depth_left n i : ℕ) → Type 0
+HasLevel ts depth_left n i = (r : Answer) × IsLevel ts depth_left n i r
 
 -- what can be read with room for one level less, where there is room
 abbrev Inside : List Lexeme → ℕ → Type 0
 Inside ts zero = ⊤
-Inside ts (suc room) = (i : ℕ) → HasLevel ts room 0 i × HasLevel ts room 6 i
+Inside ts (suc depth_left) = (i : ℕ) → HasLevel ts depth_left 0 i × HasLevel ts depth_left 6 i
 
-leaf : (ts : List Lexeme) (room i : ℕ) (o : OperandStart) (t : Tree) → opening_at ts i ≡ o → leaf_of o (text_at ts i) ≡ Some t → HasLevel ts room 0 i
-leaf ts room i o t e h = (Ok (t, i + 1), record { phrase = a_leaf room i t (ap (λ p. leaf_of p (text_at ts i)) e ∙ h); ends = level_zero ts (i + 1) })
+leaf : (ts : List Lexeme) (depth_left i : ℕ) (o : OperandStart) (t : Tree) → opening_at ts i ≡ o → leaf_of o (text_at ts i) ≡ Some t → HasLevel ts depth_left 0 i
+leaf ts depth_left i o t e h = (Ok (t, i + 1), record { phrase = a_leaf depth_left i t (ap (λ p. leaf_of p (text_at ts i)) e ∙ h); ends = level_zero ts (i + 1) })
 
-nothing : (ts : List Lexeme) (room i : ℕ) (o : OperandStart) → opening_at ts i ≡ o → (BeginsOperand o → ⊥) → HasLevel ts room 0 i
-nothing ts room i o e never = (Err OperandExpected, (i, no_operand room i (λ h. never (subst BeginsOperand e h))))
+nothing : (ts : List Lexeme) (depth_left i : ℕ) (o : OperandStart) → opening_at ts i ≡ o → (BeginsOperand o → ⊥) → HasLevel ts depth_left 0 i
+nothing ts depth_left i o e never = (Err OperandExpected, (i, no_operand depth_left i (λ h. never (subst BeginsOperand e h))))
 
-one_name : (ts : List Lexeme) (room i : ℕ) → opening_at ts i ≡ Name → (q : Result (List (List ℕ) × ℕ) ExprFault) → AreNames ts i q → HasLevel ts room 0 i
-one_name ts room i h (Ok x) n = (Ok (name false x.0, x.1), record { phrase = a_name room i x.1 x.0 n; ends = level_zero ts x.1 })
-one_name ts room i h (Err f) n = (Err OperandExpected, (n.1.0, no_name room i n.1.0 h n.1.1))
+one_name : (ts : List Lexeme) (depth_left i : ℕ) → opening_at ts i ≡ Name → (q : Result (List (List ℕ) × ℕ) ExprFault) → AreNames ts i q → HasLevel ts depth_left 0 i
+one_name ts depth_left i h (Ok x) n = (Ok (name false x.0, x.1), record { phrase = a_name depth_left i x.1 x.0 n; ends = level_zero ts x.1 })
+one_name ts depth_left i h (Err f) n = (Err OperandExpected, (n.1.0, no_name depth_left i n.1.0 h n.1.1))
 
-global_name : (ts : List Lexeme) (room i : ℕ) → opening_at ts i ≡ Scope → (q : Result (List (List ℕ) × ℕ) ExprFault) → AreNames ts (i + 1) q → HasLevel ts room 0 i
-global_name ts room i h (Ok x) n = (Ok (name true x.0, x.1), record { phrase = a_global room i x.1 x.0 h n; ends = level_zero ts x.1 })
-global_name ts room i h (Err f) n = (Err OperandExpected, (n.1.0, no_global room i n.1.0 h n.1.1))
+global_name : (ts : List Lexeme) (depth_left i : ℕ) → opening_at ts i ≡ Scope → (q : Result (List (List ℕ) × ℕ) ExprFault) → AreNames ts (i + 1) q → HasLevel ts depth_left 0 i
+global_name ts depth_left i h (Ok x) n = (Ok (name true x.0, x.1), record { phrase = a_global depth_left i x.1 x.0 h n; ends = level_zero ts x.1 })
+global_name ts depth_left i h (Err f) n = (Err OperandExpected, (n.1.0, no_global depth_left i n.1.0 h n.1.1))
 
-one_more : (room : ℕ) → room + 1 ≡ suc room
-one_more room = omega arith
+one_more : (depth_left : ℕ) → depth_left + 1 ≡ suc depth_left
+one_more depth_left = omega arith
 
-following_prefix : (ts : List Lexeme) (room i : ℕ) (op : Op1) → opening_at ts i ≡ Prefix op → (r : Answer) → IsLevel ts room 0 (i + 1) r → HasLevel ts (room + 1) 0 i
-following_prefix ts room i op e (Ok x) p = (Ok (unary op x.0, x.1), record { phrase = prefixed room i x.1 op x.0 e p.phrase; ends = p.ends })
-following_prefix ts room i op e (Err f) (k, s) = (Err f, (k, in_prefixed room i k op f e s))
+following_prefix : (ts : List Lexeme) (depth_left i : ℕ) (op : Op1) → opening_at ts i ≡ Prefix op → (r : Answer) → IsLevel ts depth_left 0 (i + 1) r → HasLevel ts (depth_left + 1) 0 i
+following_prefix ts depth_left i op e (Ok x) p = (Ok (unary op x.0, x.1), record { phrase = prefixed depth_left i x.1 op x.0 e p.phrase; ends = p.ends })
+following_prefix ts depth_left i op e (Err f) (k, s) = (Err f, (k, in_prefixed depth_left i k op f e s))
 
-by_prefix : (ts : List Lexeme) (room i : ℕ) (op : Op1) → opening_at ts i ≡ Prefix op → Inside ts room → HasLevel ts room 0 i
+by_prefix : (ts : List Lexeme) (depth_left i : ℕ) (op : Op1) → opening_at ts i ≡ Prefix op → Inside ts depth_left → HasLevel ts depth_left 0 i
 by_prefix ts zero i op e inside = (Err TooDeep, (i, too_deep i (subst OpensLevel (sym e) tt)))
-by_prefix ts (suc room) i op e inside =
+by_prefix ts (suc depth_left) i op e inside =
     let r = (inside (i + 1)).0 in
-    subst (λ (m : ℕ). HasLevel ts m 0 i) (one_more room) (following_prefix ts room i op e r.0 r.1)
+    subst (λ (m : ℕ). HasLevel ts m 0 i) (one_more depth_left) (following_prefix ts depth_left i op e r.0 r.1)
 
-closed : (ts : List Lexeme) (room i j : ℕ) (t : Tree) → opening_at ts i ≡ Parenthesis → IsPhrase ts room 6 (i + 1) j t → (b : Bool) → closes_at ts j ≡ b → HasLevel ts (room + 1) 0 i
-closed ts room i j t e p true c = (Ok (t, j + 1), record { phrase = enclosed room i j t e p.phrase c; ends = level_zero ts (j + 1) })
-closed ts room i j t e p false c = (Err ParenthesisExpected, (j, not_closed room i j t e p.phrase p.ends c))
+closed : (ts : List Lexeme) (depth_left i j : ℕ) (t : Tree) → opening_at ts i ≡ Parenthesis → IsPhrase ts depth_left 6 (i + 1) j t → (b : Bool) → closes_at ts j ≡ b → HasLevel ts (depth_left + 1) 0 i
+closed ts depth_left i j t e p true c = (Ok (t, j + 1), record { phrase = enclosed depth_left i j t e p.phrase c; ends = level_zero ts (j + 1) })
+closed ts depth_left i j t e p false c = (Err ParenthesisExpected, (j, not_closed depth_left i j t e p.phrase p.ends c))
 
-after_parenthesis : (ts : List Lexeme) (room i : ℕ) → opening_at ts i ≡ Parenthesis → (r : Answer) → IsLevel ts room 6 (i + 1) r → HasLevel ts (room + 1) 0 i
-after_parenthesis ts room i e (Ok x) p = closed ts room i x.1 x.0 e p (closes_at ts x.1) refl
-after_parenthesis ts room i e (Err f) (k, s) = (Err f, (k, in_enclosed room i k f e s))
+after_parenthesis : (ts : List Lexeme) (depth_left i : ℕ) → opening_at ts i ≡ Parenthesis → (r : Answer) → IsLevel ts depth_left 6 (i + 1) r → HasLevel ts (depth_left + 1) 0 i
+after_parenthesis ts depth_left i e (Ok x) p = closed ts depth_left i x.1 x.0 e p (closes_at ts x.1) refl
+after_parenthesis ts depth_left i e (Err f) (k, s) = (Err f, (k, in_enclosed depth_left i k f e s))
 
-by_parenthesis : (ts : List Lexeme) (room i : ℕ) → opening_at ts i ≡ Parenthesis → Inside ts room → HasLevel ts room 0 i
+by_parenthesis : (ts : List Lexeme) (depth_left i : ℕ) → opening_at ts i ≡ Parenthesis → Inside ts depth_left → HasLevel ts depth_left 0 i
 by_parenthesis ts zero i e inside = (Err TooDeep, (i, too_deep i (subst OpensLevel (sym e) tt)))
-by_parenthesis ts (suc room) i e inside =
+by_parenthesis ts (suc depth_left) i e inside =
     let r = (inside (i + 1)).1 in
-    subst (λ (m : ℕ). HasLevel ts m 0 i) (one_more room) (after_parenthesis ts room i e r.0 r.1)
+    subst (λ (m : ℕ). HasLevel ts m 0 i) (one_more depth_left) (after_parenthesis ts depth_left i e r.0 r.1)
 
-by_opening : (ts : List Lexeme) (room i : ℕ) → Inside ts room → (o : OperandStart) → opening_at ts i ≡ o → HasLevel ts room 0 i
-by_opening ts room i inside (Number v) e = leaf ts room i (Number v) (number v) e refl
-by_opening ts room i inside Here e = leaf ts room i Here here e refl
-by_opening ts room i inside Cheap e = leaf ts room i Cheap (cheap (text_at ts i)) e refl
-by_opening ts room i inside (Forward n) e = leaf ts room i (Forward n) (forward n) e refl
-by_opening ts room i inside (Backward n) e = leaf ts room i (Backward n) (backward n) e refl
-by_opening ts room i inside Name e = let q = names_at ts i in one_name ts room i e q.0 q.1
-by_opening ts room i inside Scope e = let q = names_at ts (i + 1) in global_name ts room i e q.0 q.1
-by_opening ts room i inside (Prefix op) e = by_prefix ts room i op e inside
-by_opening ts room i inside Parenthesis e = by_parenthesis ts room i e inside
-by_opening ts room i inside Negation e = nothing ts room i Negation e (λ h. h)
-by_opening ts room i inside Nothing e = nothing ts room i Nothing e (λ h. h)
+by_opening : (ts : List Lexeme) (depth_left i : ℕ) → Inside ts depth_left → (o : OperandStart) → opening_at ts i ≡ o → HasLevel ts depth_left 0 i
+by_opening ts depth_left i inside (Number v) e = leaf ts depth_left i (Number v) (number v) e refl
+by_opening ts depth_left i inside Here e = leaf ts depth_left i Here here e refl
+by_opening ts depth_left i inside Cheap e = leaf ts depth_left i Cheap (cheap (text_at ts i)) e refl
+by_opening ts depth_left i inside (Forward n) e = leaf ts depth_left i (Forward n) (forward n) e refl
+by_opening ts depth_left i inside (Backward n) e = leaf ts depth_left i (Backward n) (backward n) e refl
+by_opening ts depth_left i inside Name e = let q = names_at ts i in one_name ts depth_left i e q.0 q.1
+by_opening ts depth_left i inside Scope e = let q = names_at ts (i + 1) in global_name ts depth_left i e q.0 q.1
+by_opening ts depth_left i inside (Prefix op) e = by_prefix ts depth_left i op e inside
+by_opening ts depth_left i inside Parenthesis e = by_parenthesis ts depth_left i e inside
+by_opening ts depth_left i inside Negation e = nothing ts depth_left i Negation e (λ h. h)
+by_opening ts depth_left i inside Nothing e = nothing ts depth_left i Nothing e (λ h. h)
 
 -- ---- The operators of a level, from left to right.
 
-module _ (ts : List Lexeme) (room n : ℕ) (lower : (i : ℕ) → HasLevel ts room n i) where
+module _ (ts : List Lexeme) (depth_left n : ℕ) (lower : (i : ℕ) → HasLevel ts depth_left n i) where
   -- no operator of this level stands there: none at all, or one of another level
   none_at : (j : ℕ) → binary_at ts j ≡ None → NoOperator ts (n + 1) j
   none_at j e op at = cc
@@ -168,88 +168,88 @@ module _ (ts : List Lexeme) (room n : ℕ) (lower : (i : ℕ) → HasLevel ts ro
 
   -- whatever of this level reaches further goes on
   abbrev GoesOn : ℕ → ℕ → Type 0
-  GoesOn size i = (k : ℕ) (u : Tree) → Phrase ts room (n + 1) i k u → NoOperator ts n k → length ts ≤ size + k → HasLevel ts room (n + 1) i
+  GoesOn size i = (k : ℕ) (u : Tree) → Phrase ts depth_left (n + 1) i k u → NoOperator ts n k → length ts ≤ size + k → HasLevel ts depth_left (n + 1) i
 
-  rest_of : (size i j : ℕ) (t : Tree) → Phrase ts room (n + 1) i j t → NoOperator ts n j → length ts ≤ size + j → HasLevel ts room (n + 1) i
+  rest_of : (size i j : ℕ) (t : Tree) → Phrase ts depth_left (n + 1) i j t → NoOperator ts n j → length ts ≤ size + j → HasLevel ts depth_left (n + 1) i
   rest_of zero i j t p ends le = by (binary_at ts j) refl
     where
-      by : (o : Option Op2) → binary_at ts j ≡ o → HasLevel ts room (n + 1) i
+      by : (o : Option Op2) → binary_at ts j ≡ o → HasLevel ts depth_left (n + 1) i
       by None e = (Ok (t, j), record { phrase = p; ends = none_at j e })
       by (Some op) e = absurd (omega (arith, joins_inside ts j op e))
   rest_of (suc size) i j t p ends le = by (binary_at ts j) refl (λ k u. rest_of size i k u) (lower (j + 1))
     where
-      next : (op : Op2) → binary_at ts j ≡ Some op → level_of op ≡ n + 1 → GoesOn size i → (r : Answer) → IsLevel ts room n (j + 1) r → HasLevel ts room (n + 1) i
+      next : (op : Op2) → binary_at ts j ≡ Some op → level_of op ≡ n + 1 → GoesOn size i → (r : Answer) → IsLevel ts depth_left n (j + 1) r → HasLevel ts depth_left (n + 1) i
       next op e level more (Ok x) q =
-          let on = phrase_goes_on ts room n (j + 1) x.1 x.0 q.phrase in
-          more x.1 (binary op t x.0) (joined room n i j x.1 op t x.0 p e level q.phrase) q.ends (omega arith)
-      next op e level more (Err f) (k, s) = (Err f, (k, in_next room n i j k op t f p e level s))
+          let on = phrase_goes_on ts depth_left n (j + 1) x.1 x.0 q.phrase in
+          more x.1 (binary op t x.0) (joined depth_left n i j x.1 op t x.0 p e level q.phrase) q.ends (omega arith)
+      next op e level more (Err f) (k, s) = (Err f, (k, in_next depth_left n i j k op t f p e level s))
 
-      joins : (op : Op2) → binary_at ts j ≡ Some op → Decided (level_of op ≡ n + 1) → GoesOn size i → HasLevel ts room n (j + 1) → HasLevel ts room (n + 1) i
+      joins : (op : Op2) → binary_at ts j ≡ Some op → Decided (level_of op ≡ n + 1) → GoesOn size i → HasLevel ts depth_left n (j + 1) → HasLevel ts depth_left (n + 1) i
       joins op e (inl level) more right = next op e level more right.0 right.1
       joins op e (inr other) more right = (Ok (t, j), record { phrase = p; ends = other_at j op ends e other })
 
-      by : (o : Option Op2) → binary_at ts j ≡ o → GoesOn size i → HasLevel ts room n (j + 1) → HasLevel ts room (n + 1) i
+      by : (o : Option Op2) → binary_at ts j ≡ o → GoesOn size i → HasLevel ts depth_left n (j + 1) → HasLevel ts depth_left (n + 1) i
       by None e more right = (Ok (t, j), record { phrase = p; ends = none_at j e })
       by (Some op) e more right = joins op e (same_level op) more right
 
-  next_level : n ≤ 4 → (i : ℕ) → HasLevel ts room (n + 1) i
+  next_level : n ≤ 4 → (i : ℕ) → HasLevel ts depth_left (n + 1) i
   next_level le i = by (lower i)
     where
-      of : (r : Answer) → IsLevel ts room n i r → HasLevel ts room (n + 1) i
-      of (Ok x) p = rest_of (length ts) i x.1 x.0 (of_level room n i x.1 x.0 p.phrase) p.ends (omega arith)
-      of (Err f) (k, s) = (Err f, (k, in_first room n i k f (λ five. absurd (omega arith)) s))
+      of : (r : Answer) → IsLevel ts depth_left n i r → HasLevel ts depth_left (n + 1) i
+      of (Ok x) p = rest_of (length ts) i x.1 x.0 (of_level depth_left n i x.1 x.0 p.phrase) p.ends (omega arith)
+      of (Err f) (k, s) = (Err f, (k, in_first depth_left n i k f (λ five. absurd (omega arith)) s))
 
-      by : HasLevel ts room n i → HasLevel ts room (n + 1) i
+      by : HasLevel ts depth_left n i → HasLevel ts depth_left (n + 1) i
       by r = of r.0 r.1
 
-levels : (ts : List Lexeme) (room : ℕ) → Inside ts room → (n : ℕ) → n ≤ 5 → (i : ℕ) → HasLevel ts room n i
-levels ts room inside zero le i = by_opening ts room i inside (opening_at ts i) refl
-levels ts room inside (suc n) le i = subst (λ (m : ℕ). HasLevel ts room m i) (one_more n) (next_level ts room n (λ j. levels ts room inside n (omega arith) j) (omega arith) i)
+levels : (ts : List Lexeme) (depth_left : ℕ) → Inside ts depth_left → (n : ℕ) → n ≤ 5 → (i : ℕ) → HasLevel ts depth_left n i
+levels ts depth_left inside zero le i = by_opening ts depth_left i inside (opening_at ts i) refl
+levels ts depth_left inside (suc n) le i = subst (λ (m : ℕ). HasLevel ts depth_left m i) (one_more n) (next_level ts depth_left n (λ j. levels ts depth_left inside n (omega arith) j) (omega arith) i)
 
 -- ---- Whole expressions.
 
-after_negation : (ts : List Lexeme) (room i : ℕ) → opening_at ts i ≡ Negation → (r : Answer) → IsLevel ts room 6 (i + 1) r → HasLevel ts (room + 1) 6 i
-after_negation ts room i e (Ok x) p = (Ok (unary Not x.0, x.1), record { phrase = negated room i x.1 x.0 e p.phrase; ends = p.ends })
-after_negation ts room i e (Err f) (k, s) = (Err f, (k, in_negated room i k f e s))
+after_negation : (ts : List Lexeme) (depth_left i : ℕ) → opening_at ts i ≡ Negation → (r : Answer) → IsLevel ts depth_left 6 (i + 1) r → HasLevel ts (depth_left + 1) 6 i
+after_negation ts depth_left i e (Ok x) p = (Ok (unary Not x.0, x.1), record { phrase = negated depth_left i x.1 x.0 e p.phrase; ends = p.ends })
+after_negation ts depth_left i e (Err f) (k, s) = (Err f, (k, in_negated depth_left i k f e s))
 
-by_negation : (ts : List Lexeme) (room i : ℕ) → opening_at ts i ≡ Negation → Inside ts room → HasLevel ts room 6 i
+by_negation : (ts : List Lexeme) (depth_left i : ℕ) → opening_at ts i ≡ Negation → Inside ts depth_left → HasLevel ts depth_left 6 i
 by_negation ts zero i e inside = (Err TooDeep, (i, negation_too_deep i e))
-by_negation ts (suc room) i e inside =
+by_negation ts (suc depth_left) i e inside =
     let r = (inside (i + 1)).1 in
-    subst (λ (m : ℕ). HasLevel ts m 6 i) (one_more room) (after_negation ts room i e r.0 r.1)
+    subst (λ (m : ℕ). HasLevel ts m 6 i) (one_more depth_left) (after_negation ts depth_left i e r.0 r.1)
 
-plain : (ts : List Lexeme) (room i : ℕ) → opening_at ts i ≢ Negation → (r : Answer) → IsLevel ts room 5 i r → HasLevel ts room 6 i
-plain ts room i never (Ok x) p = (Ok x, whole_phrase ts room i x.1 x.0 p)
-plain ts room i never (Err f) (k, s) = (Err f, (k, in_first room 5 i k f (λ five. never) s))
+plain : (ts : List Lexeme) (depth_left i : ℕ) → opening_at ts i ≢ Negation → (r : Answer) → IsLevel ts depth_left 5 i r → HasLevel ts depth_left 6 i
+plain ts depth_left i never (Ok x) p = (Ok x, whole_phrase ts depth_left i x.1 x.0 p)
+plain ts depth_left i never (Err f) (k, s) = (Err f, (k, in_first depth_left 5 i k f (λ five. never) s))
 
-whole : (ts : List Lexeme) (room : ℕ) → Inside ts room → (i : ℕ) → HasLevel ts room 6 i
-whole ts room inside i = by (is_negation (opening_at ts i))
+whole : (ts : List Lexeme) (depth_left : ℕ) → Inside ts depth_left → (i : ℕ) → HasLevel ts depth_left 6 i
+whole ts depth_left inside i = by (is_negation (opening_at ts i))
   where
-    by : Decided (opening_at ts i ≡ Negation) → HasLevel ts room 6 i
-    by (inl e) = by_negation ts room i e inside
-    by (inr never) = let r = levels ts room inside 5 (omega arith) i in plain ts room i never r.0 r.1
+    by : Decided (opening_at ts i ≡ Negation) → HasLevel ts depth_left 6 i
+    by (inl e) = by_negation ts depth_left i e inside
+    by (inr never) = let r = levels ts depth_left inside 5 (omega arith) i in plain ts depth_left i never r.0 r.1
 
-inside_of : (ts : List Lexeme) (room : ℕ) → Inside ts room
+inside_of : (ts : List Lexeme) (depth_left : ℕ) → Inside ts depth_left
 inside_of ts zero = tt
-inside_of ts (suc room) = λ i. (levels ts room (inside_of ts room) 0 (omega arith) i, whole ts room (inside_of ts room) i)
+inside_of ts (suc depth_left) = λ i. (levels ts depth_left (inside_of ts depth_left) 0 (omega arith) i, whole ts depth_left (inside_of ts depth_left) i)
 
 -- no stop is want of memory
-stops_own : (ts : List Lexeme) (room n i k : ℕ) (f : ExprFault) → PhraseFailsAt ts room n i k f → is_expr_system_error f ≡ false
-stops_own ts _ _ _ _ _ (no_operand room i h) = refl
-stops_own ts _ _ _ _ _ (no_name room i k h l) = refl
-stops_own ts _ _ _ _ _ (no_global room i k h l) = refl
+stops_own : (ts : List Lexeme) (depth_left n i k : ℕ) (f : ExprFault) → PhraseFailsAt ts depth_left n i k f → is_expr_system_error f ≡ false
+stops_own ts _ _ _ _ _ (no_operand depth_left i h) = refl
+stops_own ts _ _ _ _ _ (no_name depth_left i k h l) = refl
+stops_own ts _ _ _ _ _ (no_global depth_left i k h l) = refl
 stops_own ts _ _ _ _ _ (too_deep i h) = refl
-stops_own ts _ _ _ _ _ (in_prefixed room i k op f h s) = stops_own ts room 0 (i + 1) k f s
-stops_own ts _ _ _ _ _ (in_enclosed room i k f h s) = stops_own ts room 6 (i + 1) k f s
-stops_own ts _ _ _ _ _ (not_closed room i j t h p ends c) = refl
-stops_own ts _ _ _ _ _ (in_first room n i k f h s) = stops_own ts room n i k f s
-stops_own ts _ _ _ _ _ (in_next room n i j k op t f p at level s) = stops_own ts room n (j + 1) k f s
+stops_own ts _ _ _ _ _ (in_prefixed depth_left i k op f h s) = stops_own ts depth_left 0 (i + 1) k f s
+stops_own ts _ _ _ _ _ (in_enclosed depth_left i k f h s) = stops_own ts depth_left 6 (i + 1) k f s
+stops_own ts _ _ _ _ _ (not_closed depth_left i j t h p ends c) = refl
+stops_own ts _ _ _ _ _ (in_first depth_left n i k f h s) = stops_own ts depth_left n i k f s
+stops_own ts _ _ _ _ _ (in_next depth_left n i j k op t f p at level s) = stops_own ts depth_left n (j + 1) k f s
 stops_own ts _ _ _ _ _ (negation_too_deep i h) = refl
-stops_own ts _ _ _ _ _ (in_negated room i k f h s) = stops_own ts room 6 (i + 1) k f s
+stops_own ts _ _ _ _ _ (in_negated depth_left i k f h s) = stops_own ts depth_left 6 (i + 1) k f s
 
-level_own : (ts : List Lexeme) (room n i : ℕ) (r : Answer) → IsLevel ts room n i r → IsNoSystemError is_expr_system_error r
-level_own ts room n i (Ok x) p = tt
-level_own ts room n i (Err f) (k, s) = stops_own ts room n i k f s
+level_own : (ts : List Lexeme) (depth_left n i : ℕ) (r : Answer) → IsLevel ts depth_left n i r → IsNoSystemError is_expr_system_error r
+level_own ts depth_left n i (Ok x) p = tt
+level_own ts depth_left n i (Err f) (k, s) = stops_own ts depth_left n i k f s
 
 pub some_parse : ParseExists
 some_parse ts = let r = whole ts 64 (inside_of ts 64) 0 in (r.0, r.1, level_own ts 64 6 0 r.0 r.1)

@@ -363,8 +363,8 @@ token_size first k (suc n) here t = omega arith
 token_after : (first : Bool) (line : List ℕ) (k : TokenKind) (n : ℕ) → IsToken first k n (after_blanks line) → IsReadFrom false (drop n (after_blanks line)) → IsReadFrom first line
 token_after first line k n t rest =
     let here : List ℕ = after_blanks line in
-    let room = t.longest.stands.room in
-    let size : n ≡ length (take n here) = sym (length-take-le n here room) in (
+    let within = t.longest.stands.room in
+    let size : n ≡ length (take n here) = sym (length-take-le n here within) in (
       (k, take n here) ∷ rest.0,
       rest.1,
       (
@@ -377,8 +377,8 @@ token_after first line k n t rest =
 shorter : (first : Bool) (line : List ℕ) (k : TokenKind) (n size : ℕ) → length line ≤ suc size → IsToken first k n (after_blanks line) → length (drop n (after_blanks line)) ≤ size
 shorter first line k n size le t =
     let some = token_size first k n (after_blanks line) t in
-    let room = t.longest.stands.room in
-    omega (arith, length-drop n (after_blanks line), length-drop (prefix_len is_blank line) line, room)
+    let within = t.longest.stands.room in
+    omega (arith, length-drop n (after_blanks line), length-drop (prefix_len is_blank line) line, within)
 
 read_from : (size : ℕ) (first : Bool) (line : List ℕ) → length line ≤ size → IsReadFrom first line
 read_from zero first [] le = ([], None, tt)
@@ -431,8 +431,8 @@ next_token : (first : Bool) (rest : List ℕ) (k : TokenKind) (n : ℕ) → IsTo
 unfolding token_of
 next_token first rest k n t =
     let here : List ℕ = after_blanks rest in
-    let room = t.longest.stands.room in
-    let size : n ≡ length (take n here) = sym (length-take-le n here room) in (
+    let within = t.longest.stands.room in
+    let size : n ≡ length (take n here) = sym (length-take-le n here within) in (
       Ok (Some (token_of k (take n here))),
       false,
       drop n here,

@@ -167,15 +167,15 @@ pub data LacksPart (ts : List Lexeme) : (i k : ℕ) → Type 0 where
 
 -- The tokens from i up to j are a phrase of level n, nested at most this deep. Level 0 has the prefix
 -- operators, levels 1 to 5 the binary operators, and level 6 the negation.
-pub data Phrase (ts : List Lexeme) : (room n i j : ℕ) → Tree → Type 0 where
-  a_leaf : (room i : ℕ) (t : Tree) → leaf_of (opening_at ts i) (text_at ts i) ≡ Some t → Phrase ts room 0 i (i + 1) t
-  a_name : (room i j : ℕ) (parts : List (List ℕ)) → HasParts ts i j parts → Phrase ts room 0 i j (name false parts)
-  a_global : (room i j : ℕ) (parts : List (List ℕ)) → opening_at ts i ≡ Scope → HasParts ts (i + 1) j parts → Phrase ts room 0 i j (name true parts)
-  prefixed : (room i j : ℕ) (op : Op1) (t : Tree) → opening_at ts i ≡ Prefix op → Phrase ts room 0 (i + 1) j t → Phrase ts (room + 1) 0 i j (unary op t)
-  enclosed : (room i j : ℕ) (t : Tree) → opening_at ts i ≡ Parenthesis → Phrase ts room 6 (i + 1) j t → closes_at ts j ≡ true → Phrase ts (room + 1) 0 i (j + 1) t
-  of_level : (room n i j : ℕ) (t : Tree) → Phrase ts room n i j t → Phrase ts room (n + 1) i j t
-  joined : (room n i j k : ℕ) (op : Op2) (t u : Tree) → Phrase ts room (n + 1) i j t → binary_at ts j ≡ Some op → level_of op ≡ n + 1 → Phrase ts room n (j + 1) k u → Phrase ts room (n + 1) i k (binary op t u)
-  negated : (room i j : ℕ) (t : Tree) → opening_at ts i ≡ Negation → Phrase ts room 6 (i + 1) j t → Phrase ts (room + 1) 6 i j (unary Not t)
+pub data Phrase (ts : List Lexeme) : (depth_left n i j : ℕ) → Tree → Type 0 where
+  a_leaf : (depth_left i : ℕ) (t : Tree) → leaf_of (opening_at ts i) (text_at ts i) ≡ Some t → Phrase ts depth_left 0 i (i + 1) t
+  a_name : (depth_left i j : ℕ) (parts : List (List ℕ)) → HasParts ts i j parts → Phrase ts depth_left 0 i j (name false parts)
+  a_global : (depth_left i j : ℕ) (parts : List (List ℕ)) → opening_at ts i ≡ Scope → HasParts ts (i + 1) j parts → Phrase ts depth_left 0 i j (name true parts)
+  prefixed : (depth_left i j : ℕ) (op : Op1) (t : Tree) → opening_at ts i ≡ Prefix op → Phrase ts depth_left 0 (i + 1) j t → Phrase ts (depth_left + 1) 0 i j (unary op t)
+  enclosed : (depth_left i j : ℕ) (t : Tree) → opening_at ts i ≡ Parenthesis → Phrase ts depth_left 6 (i + 1) j t → closes_at ts j ≡ true → Phrase ts (depth_left + 1) 0 i (j + 1) t
+  of_level : (depth_left n i j : ℕ) (t : Tree) → Phrase ts depth_left n i j t → Phrase ts depth_left (n + 1) i j t
+  joined : (depth_left n i j k : ℕ) (op : Op2) (t u : Tree) → Phrase ts depth_left (n + 1) i j t → binary_at ts j ≡ Some op → level_of op ≡ n + 1 → Phrase ts depth_left n (j + 1) k u → Phrase ts depth_left (n + 1) i k (binary op t u)
+  negated : (depth_left i j : ℕ) (t : Tree) → opening_at ts i ≡ Negation → Phrase ts depth_left 6 (i + 1) j t → Phrase ts (depth_left + 1) 6 i j (unary Not t)
 
 -- the token at j is no operator of level n or a tighter one
 abbrev pub NoOperator : List Lexeme → ℕ → ℕ → Type 0
@@ -192,28 +192,28 @@ OpensLevel Parenthesis = ⊤
 OpensLevel _ = ⊥
 
 -- a phrase of level n that begins at i has its first error at k
-pub data PhraseFailsAt (ts : List Lexeme) : (room n i k : ℕ) → ExprFault → Type 0 where
-  no_operand : (room i : ℕ) → (BeginsOperand (opening_at ts i) → ⊥) → PhraseFailsAt ts room 0 i i OperandExpected
-  no_name : (room i k : ℕ) → opening_at ts i ≡ Name → LacksPart ts i k → PhraseFailsAt ts room 0 i k OperandExpected
-  no_global : (room i k : ℕ) → opening_at ts i ≡ Scope → LacksPart ts (i + 1) k → PhraseFailsAt ts room 0 i k OperandExpected
+pub data PhraseFailsAt (ts : List Lexeme) : (depth_left n i k : ℕ) → ExprFault → Type 0 where
+  no_operand : (depth_left i : ℕ) → (BeginsOperand (opening_at ts i) → ⊥) → PhraseFailsAt ts depth_left 0 i i OperandExpected
+  no_name : (depth_left i k : ℕ) → opening_at ts i ≡ Name → LacksPart ts i k → PhraseFailsAt ts depth_left 0 i k OperandExpected
+  no_global : (depth_left i k : ℕ) → opening_at ts i ≡ Scope → LacksPart ts (i + 1) k → PhraseFailsAt ts depth_left 0 i k OperandExpected
   too_deep : (i : ℕ) → OpensLevel (opening_at ts i) → PhraseFailsAt ts 0 0 i i TooDeep
-  in_prefixed : (room i k : ℕ) (op : Op1) (f : ExprFault) → opening_at ts i ≡ Prefix op → PhraseFailsAt ts room 0 (i + 1) k f → PhraseFailsAt ts (room + 1) 0 i k f
-  in_enclosed : (room i k : ℕ) (f : ExprFault) → opening_at ts i ≡ Parenthesis → PhraseFailsAt ts room 6 (i + 1) k f → PhraseFailsAt ts (room + 1) 0 i k f
-  not_closed : (room i j : ℕ) (t : Tree) → opening_at ts i ≡ Parenthesis → Phrase ts room 6 (i + 1) j t → NoOperator ts 6 j → closes_at ts j ≡ false → PhraseFailsAt ts (room + 1) 0 i j ParenthesisExpected
-  in_first : (room n i k : ℕ) (f : ExprFault) → (n ≡ 5 → opening_at ts i ≢ Negation) → PhraseFailsAt ts room n i k f → PhraseFailsAt ts room (n + 1) i k f
-  in_next : (room n i j k : ℕ) (op : Op2) (t : Tree) (f : ExprFault) → Phrase ts room (n + 1) i j t → binary_at ts j ≡ Some op → level_of op ≡ n + 1 → PhraseFailsAt ts room n (j + 1) k f → PhraseFailsAt ts room (n + 1) i k f
+  in_prefixed : (depth_left i k : ℕ) (op : Op1) (f : ExprFault) → opening_at ts i ≡ Prefix op → PhraseFailsAt ts depth_left 0 (i + 1) k f → PhraseFailsAt ts (depth_left + 1) 0 i k f
+  in_enclosed : (depth_left i k : ℕ) (f : ExprFault) → opening_at ts i ≡ Parenthesis → PhraseFailsAt ts depth_left 6 (i + 1) k f → PhraseFailsAt ts (depth_left + 1) 0 i k f
+  not_closed : (depth_left i j : ℕ) (t : Tree) → opening_at ts i ≡ Parenthesis → Phrase ts depth_left 6 (i + 1) j t → NoOperator ts 6 j → closes_at ts j ≡ false → PhraseFailsAt ts (depth_left + 1) 0 i j ParenthesisExpected
+  in_first : (depth_left n i k : ℕ) (f : ExprFault) → (n ≡ 5 → opening_at ts i ≢ Negation) → PhraseFailsAt ts depth_left n i k f → PhraseFailsAt ts depth_left (n + 1) i k f
+  in_next : (depth_left n i j k : ℕ) (op : Op2) (t : Tree) (f : ExprFault) → Phrase ts depth_left (n + 1) i j t → binary_at ts j ≡ Some op → level_of op ≡ n + 1 → PhraseFailsAt ts depth_left n (j + 1) k f → PhraseFailsAt ts depth_left (n + 1) i k f
   negation_too_deep : (i : ℕ) → opening_at ts i ≡ Negation → PhraseFailsAt ts 0 6 i i TooDeep
-  in_negated : (room i k : ℕ) (f : ExprFault) → opening_at ts i ≡ Negation → PhraseFailsAt ts room 6 (i + 1) k f → PhraseFailsAt ts (room + 1) 6 i k f
+  in_negated : (depth_left i k : ℕ) (f : ExprFault) → opening_at ts i ≡ Negation → PhraseFailsAt ts depth_left 6 (i + 1) k f → PhraseFailsAt ts (depth_left + 1) 6 i k f
 
 -- a phrase that no operator follows
-pub record IsPhrase (ts : List Lexeme) (room n i j : ℕ) (t : Tree) : Type 0 where
-  pub phrase : Phrase ts room n i j t
+pub record IsPhrase (ts : List Lexeme) (depth_left n i j : ℕ) (t : Tree) : Type 0 where
+  pub phrase : Phrase ts depth_left n i j t
   pub ends : NoOperator ts n j
 
 -- the result for the tokens from i on: a phrase of level n that no operator follows, or the first error
-abbrev pub IsLevel : List Lexeme → (room n i : ℕ) → Result (Tree × ℕ) ExprFault → Type 0
-IsLevel ts room n i (Ok x) = IsPhrase ts room n i x.1 x.0
-IsLevel ts room n i (Err f) = (k : ℕ) × PhraseFailsAt ts room n i k f
+abbrev pub IsLevel : List Lexeme → (depth_left n i : ℕ) → Result (Tree × ℕ) ExprFault → Type 0
+IsLevel ts depth_left n i (Ok x) = IsPhrase ts depth_left n i x.1 x.0
+IsLevel ts depth_left n i (Err f) = (k : ℕ) × PhraseFailsAt ts depth_left n i k f
 
 -- the result for all tokens: an expression at their start with its number of tokens, or the first error
 abbrev pub IsParsed : List Lexeme → Result (Tree × ℕ) ExprFault → Type 0

@@ -83,8 +83,8 @@ IsFront ts f = (option_map lexeme_of f.first ≡ slice_get ts 0) × (option_map 
 -- ---- The stored tokens of a line.
 
 abbrev pub stored_lexemes : LineTokens → List Lexeme
-stored_lexemes t = lexemes (option_map_or (λ many. many.items) t.many (take t.few.count t.few.room))
+stored_lexemes t = lexemes (option_map_or (λ many. many.items) t.many (take t.few.count t.few.tokens))
 
 -- no token yet, and capacity for a few
 abbrev pub HoldsNothing : LineTokens → Type 0
-HoldsNothing t = (t.few.count ≡ 0) × (t.many ≡ None) × (length t.few.room ≡ 8)
+HoldsNothing t = (t.few.count ≡ 0) × (t.many ≡ None) × (length t.few.tokens ≡ 8)

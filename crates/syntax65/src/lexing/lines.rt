@@ -19,7 +19,7 @@ const FEW_TOKENS: usize = 8;
 /// Storage for a few tokens, and how many it contains.
 #[derive(Drop)]
 pub struct FewTokens<'a> {
-    pub room: [Token<'a>; FEW_TOKENS],
+    pub tokens: [Token<'a>; FEW_TOKENS],
     pub count: usize,
 }
 
@@ -42,7 +42,7 @@ impl<'a> LineTokens<'a> {
         };
         LineTokens {
             few: FewTokens {
-                room: [blank; FEW_TOKENS],
+                tokens: [blank; FEW_TOKENS],
                 count: 0,
             },
             many: None,
@@ -56,7 +56,7 @@ impl<'a> LineTokens<'a> {
     {
         match &self.many {
             Some(many) => many.as_slice(),
-            None => &self.few.room[..self.few.count],
+            None => &self.few.tokens[..self.few.count],
         }
     }
 
@@ -76,11 +76,11 @@ impl<'a> LineTokens<'a> {
             match lexer.next()? {
                 Some(token) => {
                     if self.few.count >= FEW_TOKENS {
-                        let few = self.few.room;
+                        let few = self.few.tokens;
                         self.many = Some(read_many(alloc, few, token, lexer)?);
                         return Ok(());
                     }
-                    self.few.room[self.few.count] = token;
+                    self.few.tokens[self.few.count] = token;
                     self.few.count += 1;
                 }
                 None => return Ok(()),

@@ -124,9 +124,9 @@ impl fmt::Display for AsmFault {
     ghost output = { λ e. Some (display_text e) };
 
     fn fmt<W: fmt::Write>(&self, f: &mut fmt::Formatter<W>) -> fmt::Result {
-        let words = self.words();
+        let message = self.words();
         let name = ByteDisplay(self.name());
-        write!(f, "{words}{name}")
+        write!(f, "{message}{name}")
     }
 }
 

@@ -17,7 +17,7 @@ pub filled_more : (file : Option (List ℕ)) (at done n len : ℕ) (buf new : Li
 filled_more None at done n len buf new e f within before read = absurd read
 filled_more (Some bytes) at done n len buf new e f within before read =
     let split : drop done (drop at bytes) ≡ drop (at + done) bytes = drop-drop done at bytes in
-    let room : done ≤ length buf = omega arith in
+    let capacity : done ≤ length buf = omega arith in
     let front : take done (put_mid done len buf new) ≡ take done buf = take_at (take done buf) _ done (omega (arith, length-take done buf)) in
     let rest : drop done (put_mid done len buf new) ≡ new ++ post_of done len buf = drop_at (take done buf) _ done (omega (arith, length-take done buf)) in
     let more : take n (new ++ post_of done len buf) ≡ take n new = take-append-le n new _ within in
@@ -31,8 +31,8 @@ pub filled_full : (file : Option (List ℕ)) (at done n len : ℕ) (buf new : Li
 filled_full None at done n len buf new e f within full before read = absurd read
 filled_full (Some bytes) at done n len buf new e f within full before read =
     let more = filled_more (Some bytes) at done n len buf new e f within before read in
-    let room : length (put_mid done len buf new) ≤ length (drop at bytes) = rw full at more.0 in
-    record { count = full ∙ sym (min-eq_left room); front = more.1 }
+    let capacity : length (put_mid done len buf new) ≤ length (drop at bytes) = rw full at more.0 in
+    record { count = full ∙ sym (min-eq_left capacity); front = more.1 }
 
 -- the same where the files may not be known
 pub told_more : (known next : Option Files) (name : List ℕ) (at done n len : ℕ) (buf new : List ℕ) → next ≡ known → done + length new ≡ length buf → len ≡ length new → n ≤ length new → IfSome known (λ m. FilledTo (map.get m name) at done buf) → IfSome next (λ m. ReadsAt (map.get m name) (at + done) new (Ok n)) → IfSome known (λ m. FilledTo (map.get m name) at (done + n) (put_mid done len buf new))

@@ -41,7 +41,7 @@ impl Model for MemStore {
 
 /// Finds the index of the file with this name.
 fn place(files: &[File], name: &[u8]) -> Option<usize>
-    ensures place { result ≡ place_of name.now files.now }
+    ensures index { result ≡ place_of name.now files.now }
     ensures bound { IfSome result (λ i. i < length files.now) }
 {
     for (i, file) in files.iter().enumerate() {

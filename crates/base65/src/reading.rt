@@ -21,7 +21,7 @@ fn read_chunk<S: Store>(
     bytes: &mut Vec<u8>,
 ) -> Result<usize, StoreFault>
     requires want { want ≤ 4096 }
-    requires room { at < 2 ^ 63 }
+    requires limit { at < 2 ^ 63 }
     ensures read { IfSome (S.files store.old) (λ m. ReadsChunk (map.get m name.now) at want bytes.old.items bytes.new.items result) }
     ensures bytes { IfSome (S.files store.old) (λ m. HoldsBytes (map.get m name.now) result) }
     ensures grown { IfOk result (λ n. (n ≤ want) × (length bytes.new.items ≡ length bytes.old.items + n)) }

@@ -7,12 +7,12 @@ use Rattle.base65.proofs.Places.{set_there, get_nowhere, get_somewhere, named_at
 use Rattle.base65.proofs.mem_store.extend_file.Goals as goal
 
 pub returns-in-None-clause-appended : goal.returns-in-None-clause-appended
-returns-in-None-clause-appended c = (get_nowhere c.args.files.now.items c.args.name.now (cc (c.in-None.ensures.place, c.deref.ensures.value)), refl)
+returns-in-None-clause-appended c = (get_nowhere c.args.files.now.items c.args.name.now (cc (c.in-None.ensures.index, c.deref.ensures.value)), refl)
 
 pub returns-in_err-extend_from_slice-in-Some-clause-appended : goal.returns-in_err-extend_from_slice-in-Some-clause-appended
 returns-in_err-extend_from_slice-in-Some-clause-appended c =
     let p = err_from_is_err_and c.from_residual.result c.from_residual.ensures.1 in
-    let at : place_of c.args.name.now c.args.files.now.items ≡ Some c.in-Some.i = cc (c.in-Some.ensures.place, c.deref.ensures.value) in
+    let at : place_of c.args.name.now c.args.files.now.items ≡ Some c.in-Some.i = cc (c.in-Some.ensures.index, c.deref.ensures.value) in
     let was = get_somewhere c.args.files.now.items c.args.name.now c.in-Some.i c.index_mut-file.result.now at c.index_mut-file.ensures.value in
     rw (p.1, p.2)
     (set_there c.args.files.now.items c.args.name.now c.in-Some.i _ at (named_at c.args.files.now.items c.args.name.now c.in-Some.i c.index_mut-file.result.now at c.index_mut-file.ensures.value)
@@ -21,7 +21,7 @@ returns-in_err-extend_from_slice-in-Some-clause-appended c =
 
 pub returns-in_ok-extend_from_slice-in-Some-clause-appended : goal.returns-in_ok-extend_from_slice-in-Some-clause-appended
 returns-in_ok-extend_from_slice-in-Some-clause-appended c =
-    let at : place_of c.args.name.now c.args.files.now.items ≡ Some c.in-Some.i = cc (c.in-Some.ensures.place, c.deref.ensures.value) in (
+    let at : place_of c.args.name.now c.args.files.now.items ≡ Some c.in-Some.i = cc (c.in-Some.ensures.index, c.deref.ensures.value) in (
       c.index_mut-file.result.now.bytes.items,
       record {
         was = get_somewhere c.args.files.now.items c.args.name.now c.in-Some.i c.index_mut-file.result.now at c.index_mut-file.ensures.value;

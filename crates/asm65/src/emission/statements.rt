@@ -104,6 +104,7 @@ fn next_form(forms: &mut IntoIter<Option<Norm>>) -> Option<Norm>
 }
 
 /// Emits an element of a list at once if its form is final and has no error, else defers it.
+#[inline(always)]
 fn enter_element(
     alloc: Global,
     assembler: &mut Assembler,

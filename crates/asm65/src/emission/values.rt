@@ -152,7 +152,7 @@ pub enum ValueUse {
 }
 
 /// Emits a value if its form is final and has no error. Returns whether it did.
-#[inline(never)]
+#[inline(always)]
 pub fn put_value(
     alloc: Global,
     assembler: &mut Assembler,

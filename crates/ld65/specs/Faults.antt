@@ -39,7 +39,7 @@ is_failure _ = false
 abbrev pub is_system_error : LinkCommandFault → Bool
 is_system_error e = is_memory e || is_failure e
 
--- the error of the command for an error at the object at an index of the command line: one of the object's
+-- the error of the command for an error at the object with this index among the inputs: one of the object's
 -- own is named by the index
 abbrev pub refusal_at : ℕ → LinkFault → LinkCommandFault
 refusal_at k (link.Malformed f) = Object k f
@@ -64,7 +64,7 @@ link_message (link.NoValue s) = line_message (location_name s) s.line (link_word
 link_message (link.Assertion s text) = line_message (location_name s) s.line (link_words (link.Assertion s text))
 link_message f = file_message (codes "ld65") (link_words f)
 
--- the name of the input at a place of the line
+-- the name of the input with this index among the inputs
 abbrev pub input_name_at : List (List ℕ) → ℕ → List ℕ
 input_name_at inputs k = get_or inputs k []
 

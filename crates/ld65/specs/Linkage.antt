@@ -122,7 +122,7 @@ AreNeeded s m library before es r =
 abbrev pub index_in : Files → List ℕ → Result (List Entry) LibraryFault
 index_in m library = in_library (get m library) index_at
 
--- the needed members of a library at an index of the command line, added to other modules
+-- the needed members of a library, the input with this index among the inputs, added to other modules
 abbrev pub IsLibraryInput : Script → Files → ℕ → List Module → List ℕ → Result (List Module) LinkCommandFault → Type 0
 IsLibraryInput s m k before library r = AndThen (as_library k (index_in m library)) (AreNeeded s m library before) r
 
@@ -140,12 +140,12 @@ abbrev pub ByKind : Bool → Type 0 → Type 0 → Type 0
 ByKind true Library Object = Library
 ByKind false Library Object = Object
 
--- the modules after an input at an index of the command line
+-- the modules after the input with this index among the inputs
 abbrev pub IsInput : Script → Files → ℕ → List Module → List ℕ → Result (List Module) LinkCommandFault → Type 0
 IsInput s m k before name r =
     ByKind (is_library_in m name) (IsLibraryInput s m k before name r) (r ≡ with_file s m k before name)
 
--- The modules after inputs, of which the first has this index in the command line; or the first error of the
+-- The modules after inputs, of which the first has this index among all of the inputs; or the first error of the
 -- first input that has one.
 abbrev pub AreInputs : Script → Files → ℕ → List Module → List (List ℕ) → Result (List Module) LinkCommandFault → Type 0
 AreInputs s m k before [] r = r ≡ Ok before

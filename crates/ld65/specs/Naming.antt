@@ -22,19 +22,19 @@ use Rattle.ld65.specs.Faults.{is_failure}
 
 -- ---- One input, after the modules of those before it.
 
--- the front of the input at this index of the command line, by which it is a library or an object
+-- the front of the input with this index among the inputs, by which it is a library or an object
 abbrev pub IsOfFront : LastFailure → ℕ → List ℕ → LinkCommandFault → Type 0
-IsOfFront last_failure index name e = (e ≡ Object index object.FileError) × FailedWithin last_failure name 0 4
+IsOfFront last_failure input_index name e = (e ≡ Object input_index object.FileError) × FailedWithin last_failure name 0 4
 
 -- an object
 abbrev pub IsOfObject : LastFailure → ℕ → List ℕ → LinkCommandFault → Type 0
-IsOfObject last_failure index name e = (e ≡ Object index object.FileError) × FailedOn last_failure name
+IsOfObject last_failure input_index name e = (e ≡ Object input_index object.FileError) × FailedOn last_failure name
 
 -- The index of a library: where its bytes have one, the failed call asked for a place in front of the members, or for the
 -- last byte or the end of the file, where the index is compared with that.
 abbrev pub IsOfIndex : Option Files → LastFailure → ℕ → List ℕ → LinkCommandFault → Type 0
-IsOfIndex known last_failure index name e =
-    (e ≡ Library index library.FileError) × FailedOn last_failure name × AsksAt known last_failure name IsIndexPlace
+IsOfIndex known last_failure input_index name e =
+    (e ≡ Library input_index library.FileError) × FailedOn last_failure name × AsksAt known last_failure name IsIndexPlace
 
 -- this member, whose bytes the failed call asked for
 abbrev pub IsOfMember : LastFailure → List ℕ → Entry → LinkCommandFault → Type 0
@@ -61,23 +61,23 @@ pub record IsOfNeeded (known : Option Files) (s : Script) (before : List Module)
 
 -- a library's index, or one of its members
 abbrev pub IsOfLibrary : Option Files → Script → List Module → LastFailure → ℕ → List ℕ → LinkCommandFault → Type 0
-IsOfLibrary known s before last_failure index name e = IsOfIndex known last_failure index name e ⊎ IsOfNeeded known s before last_failure name e
+IsOfLibrary known s before last_failure input_index name e = IsOfIndex known last_failure input_index name e ⊎ IsOfNeeded known s before last_failure name e
 
 -- an input: its front; or it is an object; or it is a library, whose index or member that is
 abbrev pub IsOfInput : Option Files → Script → List Module → LastFailure → ℕ → List ℕ → LinkCommandFault → Type 0
-IsOfInput known s before last_failure index name e =
-    IsOfFront last_failure index name e
-    ⊎ (IfSome known (λ m. is_library_in m name ≡ false) × IsOfObject last_failure index name e)
-    ⊎ (IfSome known (λ m. is_library_in m name ≡ true) × IsOfLibrary known s before last_failure index name e)
+IsOfInput known s before last_failure input_index name e =
+    IsOfFront last_failure input_index name e
+    ⊎ (IfSome known (λ m. is_library_in m name ≡ false) × IsOfObject last_failure input_index name e)
+    ⊎ (IfSome known (λ m. is_library_in m name ≡ true) × IsOfLibrary known s before last_failure input_index name e)
 
 -- ---- The line.
 
 -- one of these inputs, at its turn: those before it give modules
 abbrev pub IsOfInputs : Option Files → Script → List Module → LastFailure → List (List ℕ) → LinkCommandFault → Type 0
 IsOfInputs known s first last_failure inputs e =
-    (index : ℕ) × (name : List ℕ) × (slice_get inputs index ≡ Some name)
-    × (before : List Module) × IfSome known (λ m. AreInputs s m 0 first (take index inputs) (Ok before))
-    × IsOfInput known s before last_failure index name e
+    (input_index : ℕ) × (name : List ℕ) × (slice_get inputs input_index ≡ Some name)
+    × (before : List Module) × IfSome known (λ m. AreInputs s m 0 first (take input_index inputs) (Ok before))
+    × IsOfInput known s before last_failure input_index name e
 
 -- the script, for which the failed call asked
 abbrev pub IsOfScript : LastFailure → List ℕ → LinkCommandFault → Type 0

@@ -128,9 +128,9 @@ fn feed_file<S: Store>(
     input: &Named<'_>,
 ) -> Result<(), LinkCommandFault>
     requires { is_open linker.old ≡ false }
-    ensures fed { FeedsFile (S.files store.old) input.now.index input.now.name.now linker.old linker.new result }
+    ensures fed { FeedsFile (S.files store.old) input.now.input_index input.now.name.now linker.old linker.new result }
     ensures frame { FeedFrame S.files S.failures S.last_failure
-        (λ _ b. NamesFailure (IsOfObject b input.now.index input.now.name.now))
+        (λ _ b. NamesFailure (IsOfObject b input.now.input_index input.now.name.now))
         store.old store.new linker.old linker.new result }
 {
     let object = ObjectInput {
@@ -142,7 +142,7 @@ fn feed_file<S: Store>(
     };
     match feed_object(store, linker, reader, &object) {
         Ok(()) => Ok(()),
-        Err(fault) => Err(LinkCommandFault::of_input(input.index, fault)),
+        Err(fault) => Err(LinkCommandFault::of_input(input.input_index, fault)),
     }
 }
 
@@ -155,16 +155,16 @@ fn feed_input<S: Store>(
     input: &Named<'_>,
 ) -> Result<(), LinkCommandFault>
     requires { is_open linker.old ≡ false }
-    ensures fed { FeedsInput (S.files store.old) input.now.index input.now.name.now linker.old linker.new result }
+    ensures fed { FeedsInput (S.files store.old) input.now.input_index input.now.name.now linker.old linker.new result }
     ensures frame { FeedFrame S.files S.failures S.last_failure
         (λ before b. NamesFailure (IsOfInput (S.files store.old) linker.old.script before b
-        input.now.index input.now.name.now))
+        input.now.input_index input.now.name.now))
         store.old store.new linker.old linker.new result }
 {
     match is_library(store, input.name) {
         Ok(true) => feed_library(alloc, store, linker, input),
         Ok(false) => feed_file(store, linker, reader, input),
-        Err(fault) => Err(LinkCommandFault::Object(input.index, fault)),
+        Err(fault) => Err(LinkCommandFault::Object(input.input_index, fault)),
     }
 }
 
@@ -183,8 +183,14 @@ fn feed_inputs<S: Store>(
         store.old store.new linker.old linker.new result }
 {
     let mut reader = RecordReader::new();
-    for (index, name) in inputs.iter().enumerate() {
-        feed_input(alloc, store, linker, &mut reader, &Named { index, name })?;
+    for (input_index, name) in inputs.iter().enumerate() {
+        feed_input(
+            alloc,
+            store,
+            linker,
+            &mut reader,
+            &Named { input_index, name },
+        )?;
     }
     Ok(())
 }

@@ -19,10 +19,10 @@ use link65::Linker;
 use object65::RecordReader;
 use std::alloc::{AllocError, Global};
 
-/// An input of the command line: its index and its name.
+/// An input: its index among the inputs, and its name.
 #[derive(Clone, Copy)]
 pub struct Named<'a> {
-    pub index: usize,
+    pub input_index: usize,
     pub name: &'a str,
 }
 
@@ -32,15 +32,15 @@ fn index_of<S: Store>(
     store: &mut S,
     input: &Named<'_>,
 ) -> Result<Index, LinkCommandFault>
-    ensures read { IfSome (S.files store.old) (λ m. Refines is_system_error (λ x. x.entries) result (as_library input.now.index (index_in m input.now.name.now))) }
+    ensures read { IfSome (S.files store.old) (λ m. Refines is_system_error (λ x. x.entries) result (as_library input.now.input_index (index_in m input.now.name.now))) }
     ensures within { IfOk result (λ x. AllByRecursion (λ e. e.place + e.size ≤ file_limit) x.entries) }
     ensures frame { NamedStoreFrame S.files S.failures S.last_failure
-        (λ b. NamesFailure (IsOfIndex (S.files store.old) b input.now.index input.now.name.now))
+        (λ b. NamesFailure (IsOfIndex (S.files store.old) b input.now.input_index input.now.name.now))
         store.old store.new result }
 {
     match read_index(alloc, store, input.name) {
         Ok(index) => Ok(index),
-        Err(fault) => Err(LinkCommandFault::Library(input.index, fault)),
+        Err(fault) => Err(LinkCommandFault::Library(input.input_index, fault)),
     }
 }
 
@@ -124,10 +124,10 @@ pub fn feed_library<S: Store>(
     input: &Named<'_>,
 ) -> Result<(), LinkCommandFault>
     requires { is_open linker.old ≡ false }
-    ensures fed { FeedsLibrary (S.files store.old) input.now.index input.now.name.now linker.old linker.new result }
+    ensures fed { FeedsLibrary (S.files store.old) input.now.input_index input.now.name.now linker.old linker.new result }
     ensures frame { FeedFrame S.files S.failures S.last_failure
         (λ before b. NamesFailure (IsOfLibrary (S.files store.old) linker.old.script before b
-        input.now.index input.now.name.now))
+        input.now.input_index input.now.name.now))
         store.old store.new linker.old linker.new result }
 {
     let index = index_of(alloc, store, input)?;

@@ -61,7 +61,7 @@ FeedsObject known i old new r =
 abbrev pub FeedsBy : Option Files → (Files → List Module → Result (List Module) LinkCommandFault → Type 0) → LinkerView → LinkerView → Result (Unit {0}) LinkCommandFault → Type 0
 FeedsBy known Reads old new r = (before : List Module) → IsFed old before → LeadsBy is_system_error (λ u modules. IsFed new modules) known (λ m. Reads m before) r
 
--- the object that takes a whole file was fed, the input at a place of the line
+-- the object that takes a whole file was fed, the input with this index among the inputs
 abbrev pub FeedsFile : Option Files → ℕ → List ℕ → LinkerView → LinkerView → Result (Unit {0}) LinkCommandFault → Type 0
 FeedsFile known k name old new r = FeedsBy known (λ m before q. with_file old.script m k before name ≡ q) old new r
 

@@ -8,31 +8,31 @@ use Rattle.ld65.proofs.linking.feed_input.Goals as goal
 pub returns-in-Ok-true-clause-frame : goal.returns-in-Ok-true-clause-frame
 returns-in-Ok-true-clause-frame g c =
     let name = c.args.input.now.name.now in
-    let index = c.args.input.now.index in
+    let input_index = c.args.input.now.input_index in
     let known = g.S.Store.files c.args.store.now in
     let now = g.S.Store.files c.is_library.new.store in
     let s = c.args.linker.now.script in
     let front = c.in-Ok-true.ensures in
     let read = rw c.in-Ok-true.field-0-test at front.read in
-    after_others (λ before b. NamesFailure (IsOfInput known s before b index name)) (λ before b. NamesFailure (IsOfLibrary now s before b index name)) _ _ _ _ _ _ c.feed_library.result
-    (λ modules stands. (modules, stands, by_library known now s index name front.frame.files modules _ c.feed_library.result (kind known name true read)))
+    after_others (λ before b. NamesFailure (IsOfInput known s before b input_index name)) (λ before b. NamesFailure (IsOfLibrary now s before b input_index name)) _ _ _ _ _ _ c.feed_library.result
+    (λ modules stands. (modules, stands, by_library known now s input_index name front.frame.files modules _ c.feed_library.result (kind known name true read)))
     (front_read _ name _ _ _ _ c.requires front.frame) c.feed_library.ensures.frame
 
 pub returns-in-Ok-false-clause-frame : goal.returns-in-Ok-false-clause-frame
 returns-in-Ok-false-clause-frame g c =
     let name = c.args.input.now.name.now in
-    let index = c.args.input.now.index in
+    let input_index = c.args.input.now.input_index in
     let known = g.S.Store.files c.args.store.now in
     let s = c.args.linker.now.script in
     let front = c.in-Ok-false.ensures in
     let read = rw c.in-Ok-false.field-0-test at front.read in
-    after_others (λ before b. NamesFailure (IsOfInput known s before b index name)) (λ _ b. NamesFailure (IsOfObject b index name)) _ _ _ _ _ _ c.feed_file.result
-    (λ modules stands. (modules, stands, by_object known s index name modules _ c.feed_file.result (kind known name false read)))
+    after_others (λ before b. NamesFailure (IsOfInput known s before b input_index name)) (λ _ b. NamesFailure (IsOfObject b input_index name)) _ _ _ _ _ _ c.feed_file.result
+    (λ modules stands. (modules, stands, by_object known s input_index name modules _ c.feed_file.result (kind known name false read)))
     (front_read _ name _ _ _ _ c.requires front.frame) c.feed_file.ensures.frame
 
 pub returns-in-Err-clause-frame : goal.returns-in-Err-clause-frame
 returns-in-Err-clause-frame g c =
     let name = c.args.input.now.name.now in
-    let index = c.args.input.now.index in
-    front_unread (λ before b. IsOfInput (g.S.Store.files c.args.store.now) c.args.linker.now.script before b index name) name _ _ _ index c.in-Err.fault
+    let input_index = c.args.input.now.input_index in
+    front_unread (λ before b. IsOfInput (g.S.Store.files c.args.store.now) c.args.linker.now.script before b input_index name) name _ _ _ input_index c.in-Err.fault
     (λ modules e h. inl h) c.in-Err.ensures.frame c.in-Err.ensures.within

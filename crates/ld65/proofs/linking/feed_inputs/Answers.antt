@@ -8,23 +8,23 @@ use Rattle.ld65.proofs.linking.feed_inputs.Goals as goal
 pub returns-in_err-feed_input-clause-fed : goal.returns-in_err-feed_input-clause-fed
 returns-in_err-feed_input-clause-fed g c =
     let p = err_from_is_err_and c.from_residual.result c.from_residual.ensures.1 in
-    let inv = c.loop-index.invariant in
+    let inv = c.loop-input_index.invariant in
     let names = map (λ s. s.now) c.args.inputs.now in
-    rw (p.1, p.2) (refused_input _ names c.loop-index.index _ _ c.args.linker.now c.loop-index.linker c.feed_input.new.linker c.in_err-feed_input.field-0.0 inv.kept.files (name_at c.args.inputs.now c.loop-index.index _ c.loop-index-test.true) inv.kept.keeps.script inv.stands c.in_err-feed_input.ensures.fed)
+    rw (p.1, p.2) (refused_input _ names c.loop-input_index.input_index _ _ c.args.linker.now c.loop-input_index.linker c.feed_input.new.linker c.in_err-feed_input.field-0.0 inv.kept.files (name_at c.args.inputs.now c.loop-input_index.input_index _ c.loop-input_index-test.true) inv.kept.keeps.script inv.stands c.in_err-feed_input.ensures.fed)
 
 pub returns-in_err-feed_input-clause-frame : goal.returns-in_err-feed_input-clause-frame
 returns-in_err-feed_input-clause-frame g c =
     let p = err_from_is_err_and c.from_residual.result c.from_residual.ensures.1 in
-    let inv = c.loop-index.invariant in
+    let inv = c.loop-input_index.invariant in
     let names = map (λ s. s.now) c.args.inputs.now in
-    rw (p.1, p.2) (after_others _ _ _ _ _ _ _ _ (Err c.in_err-feed_input.field-0.0) (of_inputs _ _ names c.loop-index.index _ c.args.linker.now c.loop-index.linker (name_there c.args.inputs.now c.loop-index.index _ c.loop-index-test.true) inv.kept.files inv.kept.keeps.script inv.turned _ c.in_err-feed_input.field-0.0) inv.kept c.in_err-feed_input.ensures.frame)
+    rw (p.1, p.2) (after_others _ _ _ _ _ _ _ _ (Err c.in_err-feed_input.field-0.0) (of_inputs _ _ names c.loop-input_index.input_index _ c.args.linker.now c.loop-input_index.linker (name_there c.args.inputs.now c.loop-input_index.input_index _ c.loop-input_index-test.true) inv.kept.files inv.kept.keeps.script inv.turned _ c.in_err-feed_input.field-0.0) inv.kept c.in_err-feed_input.ensures.frame)
 
-pub loop-index-preserved : goal.loop-index-preserved
-loop-index-preserved g c =
-    let inv = c.loop-index.invariant in
+pub loop-input_index-preserved : goal.loop-input_index-preserved
+loop-input_index-preserved g c =
+    let inv = c.loop-input_index.invariant in
     let names = map (λ s. s.now) c.args.inputs.now in
     record {
       kept = after_others _ _ _ _ _ _ _ _ (Ok tt) (λ modules stands. let m = inv.stands modules stands in (m.0, m.1, λ h. tt)) inv.kept c.in_ok-feed_input.ensures.frame;
-      stands = following_more _ names c.loop-index.index _ _ c.args.linker.now c.loop-index.linker c.feed_input.new.linker inv.kept.files (name_at c.args.inputs.now c.loop-index.index _ c.loop-index-test.true) inv.kept.keeps.script inv.stands c.in_ok-feed_input.ensures.fed;
-      turned = next_input _ _ names c.loop-index.index _ c.args.linker.now c.loop-index.linker (name_there c.args.inputs.now c.loop-index.index _ c.loop-index-test.true) inv.kept.files inv.kept.keeps.script inv.turned c.feed_input.new.linker c.in_ok-feed_input.ensures.fed;
+      stands = following_more _ names c.loop-input_index.input_index _ _ c.args.linker.now c.loop-input_index.linker c.feed_input.new.linker inv.kept.files (name_at c.args.inputs.now c.loop-input_index.input_index _ c.loop-input_index-test.true) inv.kept.keeps.script inv.stands c.in_ok-feed_input.ensures.fed;
+      turned = next_input _ _ names c.loop-input_index.input_index _ c.args.linker.now c.loop-input_index.linker (name_there c.args.inputs.now c.loop-input_index.input_index _ c.loop-input_index-test.true) inv.kept.files inv.kept.keeps.script inv.turned c.feed_input.new.linker c.in_ok-feed_input.ensures.fed;
     }

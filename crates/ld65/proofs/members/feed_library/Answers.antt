@@ -17,7 +17,7 @@ returns-in_err-index-clause-frame g c =
 pub returns-in_err-entry_indices-clause-frame : goal.returns-in_err-entry_indices-clause-frame
 returns-in_err-entry_indices-clause-frame g c =
     let p = err_from_is_err_and c.from_residual-in_err-entry_indices.result c.from_residual-in_err-entry_indices.ensures.1 in
-    rw (p.1, p.2) (after_others _ _ _ _ _ _ _ _ (Err c.in_err-entry_indices.field-0.0) (λ modules stands. (modules, stands, λ h. h)) (read_left _ _ _ _ _ c.in_ok-index.index c.requires c.in_ok-index.ensures.frame) (unasked (λ before b. IsOfLibrary (g.S.Store.files c.args.store.now) c.args.linker.now.script before b c.args.input.now.index c.args.input.now.name.now) _ _ _ c.in_err-entry_indices.ensures.cause))
+    rw (p.1, p.2) (after_others _ _ _ _ _ _ _ _ (Err c.in_err-entry_indices.field-0.0) (λ modules stands. (modules, stands, λ h. h)) (read_left _ _ _ _ _ c.in_ok-index.index c.requires c.in_ok-index.ensures.frame) (unasked (λ before b. IsOfLibrary (g.S.Store.files c.args.store.now) c.args.linker.now.script before b c.args.input.now.input_index c.args.input.now.name.now) _ _ _ c.in_err-entry_indices.ensures.cause))
 
 pub loop-entry_index-init : goal.loop-entry_index-init
 loop-entry_index-init g c = record {
@@ -56,7 +56,7 @@ returns-in_err-feed_member-clause-fed g c =
     let library = c.args.input.now.name.now in
     let entries = c.as_slice-entries.result.now in
     let e = c.in_err-feed_member.field-0.0 in
-    rw (p.1, p.2) (library_fed _ c.args.input.now.index library c.in_ok-index.index.entries entries c.in_ok-entry_indices.entry_indices.items c.as_slice-entry_index-items.result.now c.args.linker.now c.feed_member.new.linker (Err e) c.as_slice-entries.ensures c.as_slice-entry_index-items.ensures.value c.in_ok-index.ensures.read c.in_ok-entry_indices.ensures.chosen
+    rw (p.1, p.2) (library_fed _ c.args.input.now.input_index library c.in_ok-index.index.entries entries c.in_ok-entry_indices.entry_indices.items c.as_slice-entry_index-items.result.now c.args.linker.now c.feed_member.new.linker (Err e) c.as_slice-entries.ensures c.as_slice-entry_index-items.ensures.value c.in_ok-index.ensures.read c.in_ok-entry_indices.ensures.chosen
     (turn_refused _ _ library entries c.as_slice-entry_index-items.result.now c.loop-entry_index.entry_index-index _ c.args.linker.now c.loop-entry_index.linker c.feed_member.new.linker (omega arith) inv.kept.files inv.kept.keeps.script inv.stands e
     (entry_there _ library entries _ c.in-Some.entry.now c.loop-entry_index.linker c.feed_member.new.linker (Err e) c.in-Some.ensures c.in_err-feed_member.ensures.fed)))
 
@@ -68,12 +68,12 @@ returns-in_err-feed_member-clause-frame g c =
     let entries = c.as_slice-entries.result.now in
     let entry_indices = c.as_slice-entry_index-items.result.now in
     let e = c.in_err-feed_member.field-0.0 in
-    rw (p.1, p.2) (after_others _ _ _ _ _ _ _ _ (Err e) (of_needed _ c.args.input.now.index library entries entry_indices c.loop-entry_index.entry_index-index _ c.in-Some.entry.now c.args.linker.now c.loop-entry_index.linker _ e c.args.input.now.index (rw c.as_slice-entries.ensures c.in_ok-index.ensures.read) (rw (c.as_slice-entries.ensures, c.as_slice-entry_index-items.ensures.value) c.in_ok-entry_indices.ensures.chosen) (omega arith) c.in-Some.ensures inv.turned) inv.kept c.in_err-feed_member.ensures.frame)
+    rw (p.1, p.2) (after_others _ _ _ _ _ _ _ _ (Err e) (of_needed _ c.args.input.now.input_index library entries entry_indices c.loop-entry_index.entry_index-index _ c.in-Some.entry.now c.args.linker.now c.loop-entry_index.linker _ e c.args.input.now.input_index (rw c.as_slice-entries.ensures c.in_ok-index.ensures.read) (rw (c.as_slice-entries.ensures, c.as_slice-entry_index-items.ensures.value) c.in_ok-entry_indices.ensures.chosen) (omega arith) c.in-Some.ensures inv.turned) inv.kept c.in_err-feed_member.ensures.frame)
 
 pub returns-clause-fed : goal.returns-clause-fed
 returns-clause-fed g c =
     let library = c.args.input.now.name.now in
     let entries = c.as_slice-entries.result.now in
     let entry_indices = c.as_slice-entry_index-items.result.now in
-    library_fed _ c.args.input.now.index library c.in_ok-index.index.entries entries c.in_ok-entry_indices.entry_indices.items entry_indices c.args.linker.now c.loop-entry_index.linker (Ok tt) c.as_slice-entries.ensures c.as_slice-entry_index-items.ensures.value c.in_ok-index.ensures.read c.in_ok-entry_indices.ensures.chosen
+    library_fed _ c.args.input.now.input_index library c.in_ok-index.index.entries entries c.in_ok-entry_indices.entry_indices.items entry_indices c.args.linker.now c.loop-entry_index.linker (Ok tt) c.as_slice-entries.ensures c.as_slice-entry_index-items.ensures.value c.in_ok-index.ensures.read c.in_ok-entry_indices.ensures.chosen
     (after_all _ library entries entry_indices c.loop-entry_index.entry_index-index c.args.linker.now c.loop-entry_index.linker (omega arith) c.loop-entry_index.invariant.stands)

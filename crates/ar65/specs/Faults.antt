@@ -21,7 +21,7 @@ is_failure _ = false
 abbrev pub is_system_error : ArchiveFault → Bool
 is_system_error e = is_memory e || is_failure e
 
--- the name of the FILE at an index of the line
+-- the name of the FILE with this index among the FILEs
 abbrev pub file_name_at : List (List ℕ) → ℕ → List ℕ
 file_name_at files k = get_or files k []
 

@@ -20,7 +20,7 @@ use Rattle.ar65.specs.declared.members.MemberFile.{MemberFile}
 use Rattle.ar65.specs.declared.fault.ArchiveFault.{ArchiveFault}
 use Rattle.ar65.specs.declared.fault.ArchiveFault.TheVariants as refusal
 
--- the faults of the parts as the command's; a FILE is named by its index in the line
+-- the faults of the parts as the command's; a FILE is named by its index among the FILEs
 abbrev pub as_library : {A : Type 0} → Result A LibraryFault → Result A ArchiveFault
 as_library (Ok x) = Ok x
 as_library (Err e) = Err (refusal.Library e)
@@ -55,7 +55,7 @@ library_or_empty (Some bytes) = library_at bytes
 abbrev pub with_file : Files → List Member → List ℕ → Result (List Member) LibraryFault
 with_file m ms file = in_file (get m file) (with_new_member ms (member_name file))
 
--- those of FILEs in order, the first of them at an index of the line
+-- those of FILEs in order, of which the first has this index among all of the FILEs
 abbrev pub with_files : Files → List Member → ℕ → List (List ℕ) → Result (List Member) ArchiveFault
 with_files m ms k [] = Ok ms
 with_files m ms k (file ∷ files) = as_file k (with_file m ms file) >>= (λ ns. with_files m ns (k + 1) files)

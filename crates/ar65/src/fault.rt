@@ -12,12 +12,12 @@ use cli65::{ArchiveArgs, file_message};
 use library65::LibraryFault;
 use std::alloc::{AllocError, Global};
 
-/// An error of the librarian.
+/// An error of the librarian. FILEs are counted as in `ArchiveArgs::files`; the first has the index 0.
 #[derive(Drop)]
 pub enum ArchiveFault {
     /// The library can't be read, isn't valid, has no such member or would be too long.
     Library(LibraryFault),
-    /// The file at this index of the command line can't be read or can't be a member.
+    /// The FILE with this index among the FILEs can't be read or can't be a member.
     File(usize, LibraryFault),
 }
 
@@ -66,7 +66,7 @@ pub fn error_message(
     line: &ArchiveArgs<'_>,
     refusal: &ArchiveFault,
 ) -> Result<ListVec<u8>, AllocError>
-    ensures { IfOk result (λ text. text ≡ error_message (archiving line.now) refusal.now) }
+    ensures { IfOk result (λ message. message ≡ error_message (archiving line.now) refusal.now) }
 {
     if refusal.is_memory() {
         return join(
@@ -81,10 +81,10 @@ pub fn error_message(
             fault_text(alloc, fault)?.as_slice(),
         ),
         ArchiveFault::File(index, fault) => {
-            let message = fault_text(alloc, fault)?;
+            let text = fault_text(alloc, fault)?;
             match line.files.as_slice().get(*index) {
-                Some(name) => file_message(alloc, name.as_bytes(), message.as_slice()),
-                None => file_message(alloc, b"", message.as_slice()),
+                Some(name) => file_message(alloc, name.as_bytes(), text.as_slice()),
+                None => file_message(alloc, b"", text.as_slice()),
             }
         }
     }

@@ -1,4 +1,4 @@
--- Any words are a line, or bad arguments.
+-- Any arguments are a command line, or bad arguments.
 use Rattle.std.proofs.Common.{◌+◌, ℕ, List, [], ◌∷◌, take, drop, Option, Some, None, Result, Ok, Err, refl}
 use Rattle.std.specs.Prelude.{◌==◌, codes}
 use Rattle.std.specs.List.{position}

@@ -49,7 +49,7 @@ module _ (a : App) (is : a ≡ bin65) (args : List Text) where
       let at : HasKind (fault_of bin65 args) e = subst (λ (b : App). HasKind (fault_of b args) e) is (has free) in
       refuses (fault_of bin65 args) (subcommand_of bin65 args) (kind_of e) at
 
--- what is refused of words is refused of their line
+-- what is refused of arguments is refused of their line
 pub refused_line : (args : List Text) (e : LineFault) → RefinesErr is_system_error e (clap_matches args) → RefinesErr is_system_error e (line_of args)
 unfolding line_of
 refused_line args e refused = grind (arith, common_steps)

@@ -1,4 +1,4 @@
--- The line that words are, by what clap states of the command.
+-- The command line that arguments are, by what clap states of the command.
 use Rattle.std.specs.Prelude.{ℕ, List, [], ◌∷◌, Option, Some, None, Result, Ok, Err, codes, unwrap_or, option_map, map, if◌then◌else◌}
 use Rattle.std.specs.Str.{bytes_eq}
 use Rattle.clap.specs.Words.{Kinds, Row, Text, all_of, first_of, fault_of, subcommand_of}
@@ -20,7 +20,7 @@ abbrev pub unless_kinds : {A : Type 0} → Kinds → A → Result A LineFault
 unless_kinds [] x = Ok x
 unless_kinds (k ∷ ks) x = Err BadArguments
 
--- the subcommand that clap finds in the words, with its matches, where it takes them
+-- the subcommand that clap finds in the arguments, with its matches, where it takes them
 unfoldable pub clap_matches : List Text → Result (Option (Text × List Row)) LineFault
 clap_matches args = unless_kinds (fault_of bin65 args) (subcommand_of bin65 args)
 
@@ -80,7 +80,7 @@ assembling_of rows = do
     source = argument_value (codes "source") rows;
   })
 
--- the operation of a word: `r`, `d`, `t` or `x`
+-- the operation of an argument: `r`, `d`, `t` or `x`
 unfoldable pub operation_of : Text → Result Operation LineFault
 operation_of arg =
     if bytes_eq arg (codes "r") then Ok Replace
@@ -119,7 +119,7 @@ abbrev pub command_of_matches : Option (Text × List Row) → Result CommandView
 command_of_matches None = Err BadArguments
 command_of_matches (Some p) = said_by p.0 p.1
 
--- the line that the words are, or why they are none
+-- the command line that the arguments are, or why they are none
 unfoldable pub line_of : List Text → Result CommandView LineFault
 line_of args = clap_matches args >>= command_of_matches
 

@@ -9,7 +9,7 @@ abbrev pub of_kind : ErrorKind → LineFault
 of_kind kind.OutOfMemory = OutOfMemory
 of_kind _ = BadArguments
 
--- the faults that the words don't decide
+-- the faults that the arguments don't decide
 abbrev pub is_system_error : LineFault → Bool
 is_system_error OutOfMemory = true
 is_system_error BadArguments = false

@@ -51,7 +51,7 @@ fn define<'a>(text: &'a str) -> Result<Define<'a>, LineFault>
     }
 }
 
-/// Returns the index of the first `=`.
+/// Returns the offset of the first `=`.
 fn place_of_equal(bytes: &[u8]) -> Option<usize>
     ensures offset { result ≡ position (λ b. b == 61) bytes.now }
     ensures inside { IfSome result (λ i. i < length bytes.now) }

@@ -1,4 +1,4 @@
-//! The command line: the line that words are, by what `clap` states of the command, or why they are none; and the
+//! The command line: the one that arguments are, by what `clap` states of the command, or why they are none; and the
 //! texts that commands print.
 #![tactic(auto)]
 

@@ -1,4 +1,4 @@
-//! The line that words are.
+//! Parses command lines.
 
 ghost use Rattle.std.specs.Prelude.{◌≡◌, IfOk, map, option_map};
 ghost use Rattle.clap.specs.Words.{found_of, rows_of, first_of};
@@ -15,7 +15,7 @@ use clap::ArgMatches;
 use std::alloc::{AllocError, Global};
 use std::convert::AsStr;
 
-/// The line that words are; the first is the program's name. Words that are no line are bad arguments.
+/// Parses `args`, whose first argument is the program's name. Returns `BadArguments` if they are no command line.
 #[tactic(auto, unfolding(crate::specs::Line::line_of))]
 pub fn read_line<'a, A: AsStr>(alloc: Global, args: &'a [A]) -> Result<Line<'a>, LineFault>
     ensures { Refines is_system_error view result (line_of (map A.text args.entry.now)) }
@@ -66,7 +66,7 @@ fn link_line<'a>(alloc: Global, own: &ArgMatches<'a>) -> Result<LinkArgs<'a>, Al
     })
 }
 
-/// The operation of a word.
+/// Returns the operation of an argument.
 #[tactic(auto, unfolding(crate::specs::Line::operation_of))]
 fn operation_of(arg: &str) -> Result<Operation, LineFault>
     ensures { Refines is_system_error (λ operation. operation) result (operation_of arg.now) }

@@ -59,13 +59,13 @@ fn print_write_error<E: Write>(
     ensures failed { (file : OutputFile) → unwritten.fault ≡ StoreFault.FileError → slice_get outputs.now unwritten.index ≡ Some file →
         PrintsText (E.contents err.old.writer.now) (E.contents err.new.writer.now) (file_error_line file.name) (not err.new.has_failed) }
 {
-    let message: &[u8] = match unwritten.fault {
+    let suffix: &[u8] = match unwritten.fault {
         StoreFault::OutOfMemory => return print_out_of_memory(err, memory_name),
         StoreFault::FileNotFound => b": Error: file not found\n",
         StoreFault::FileError => b": Error: file error\n",
     };
     match outputs.get(unwritten.index) {
-        Some(output) => print_all(err, &[output.name.as_str().as_bytes(), message]),
+        Some(output) => print_all(err, &[output.name.as_str().as_bytes(), suffix]),
         None => false,
     }
 }

@@ -36,7 +36,7 @@ pub only_memory_fails : (known new : Option Files) (line : CommandView) (last_fa
 unfolding FailsLine
 only_memory_fails None new line last_failure out err_old err_new out_refused err_refused status Q same e quiet p = tt
 only_memory_fails (Some m) new line last_failure out err_old err_new out_refused err_refused status Q same e quiet p = λ _.
-    inl (record { out = []; err = line_memory line; why = inr (refl, refl); printed = says m new out err_old err_new (line_memory line) out_refused err_refused status same e quiet p })
+    inl (record { out = []; err = line_memory line; why = inr (refl, refl); performed = says m new out err_old err_new (line_memory line) out_refused err_refused status same e quiet p })
 
 -- an outcome that was computed is carried out, and a call failed: while files were read, or while the outcome's were written
 pub line_fails : (known mid new : Option Files) (fo fm fn : ℕ) (line : CommandView) (o : Outcome) (asked last_failure : LastFailure) (io : Streams) (status : Status) → mid ≡ known → fo ≤ fm → IfSome known (λ m. ComputesOutcome line m asked fo fm o) → (o.outputs ≡ [] → IfSome mid (λ m. PerformsOutcome o m new io status)) → (o.outputs ≡ [] → last_failure ≡ asked) → IfSome mid (λ m. fm < fn → StopsWriting o m new last_failure io status) → IfSome known (λ m. HasFailed fo fn → FailsLine line m new last_failure io status)
@@ -53,7 +53,7 @@ line_fails (Some m) mid new fo fm fn line o asked last_failure io status same ea
           out = why.0;
           err = why.1;
           why = subst W (sym (kept none)) why.2;
-          printed = subst (λ (x : Outcome). PerformsOutcome x m new io status) why.3 (rw same at performs none);
+          performed = subst (λ (x : Outcome). PerformsOutcome x m new io status) why.3 (rw same at performs none);
         })
 
     while_writing : IsFittingOutcome line m o ⊎ (o ≡ failing (line_memory line)) → StopsWriting o m new last_failure io status → RunFails (IsFittingOutcome line) (SaysWhy line) m new last_failure io status
@@ -84,14 +84,14 @@ line_failed fo fm fn o status early fails rose failing_so = by
     by (inl later) = by_moment later (eq-or-lt_of_le early)
     by (inr at) = failing_so (fails (inr at))
 
--- ---- Words.
+-- ---- Arguments.
 
 pub failed_words : (known new : Option Files) (fo fn : ℕ) (args : List (List ℕ)) (line : CommandView) (last_failure : LastFailure) (io : Streams) (status : Status) → line_of args ≡ Ok line → IfSome known (λ m. HasFailed fo fn → FailsLine line m new last_failure io status) → IfSome known (λ m. HasFailed fo fn → FailsWords fo args m new last_failure io status)
 unfolding FailsWords
 failed_words None new fo fn args line last_failure io status e h = tt
 failed_words (Some m) new fo fn args line last_failure io status e h = λ some. rw e (inl (h some))
 
--- words that are no line, or for which memory ran out
+-- arguments that are no command line, or for which memory ran out
 pub refused_fails : (known new : Option Files) (count : ℕ) (args : List (List ℕ)) (e : LineFault) (last_failure : LastFailure) (out err_old err_new : Option (List ℕ)) (out_refused err_refused : Bool) (status : Status) → new ≡ known → status ≡ Failure → RefinesErr is_line_system_error e (line_of args) → out_refused ≡ false → PrintsText err_old err_new (line_message_of e) (not err_refused) → IfSome known (λ m. HasFailed count count → FailsWords count args m new last_failure (streams out out out_refused err_old err_new err_refused) status)
 unfolding FailsWords
 refused_fails None new count args e last_failure out err_old err_new out_refused err_refused status same f h quiet p = tt

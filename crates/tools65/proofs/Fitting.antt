@@ -52,7 +52,7 @@ unfolding WordsObjectFits
 words_fit None new fo fn args line io status e h = tt
 words_fit (Some m) new fo fn args line io status e h = λ none. rw e (inl (h none))
 
--- words that are no line, or for which memory ran out
+-- arguments that are no command line, or for which memory ran out
 pub refused_fit : (known new : Option Files) (args : List (List ℕ)) (e : LineFault) (out err_old err_new : Option (List ℕ)) (out_refused err_refused : Bool) (status : Status) (Q : Type 0) → new ≡ known → status ≡ Failure → RefinesErr is_line_system_error e (line_of args) → out_refused ≡ false → PrintsText err_old err_new (line_message_of e) (not err_refused) → IfSome known (λ m. Q → WordsObjectFits args m new (streams out out out_refused err_old err_new err_refused) status)
 unfolding WordsObjectFits
 refused_fit None new args e out err_old err_new out_refused err_refused status Q same f h quiet p = tt

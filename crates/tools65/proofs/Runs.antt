@@ -66,7 +66,7 @@ pub line_run : (known new : Option Files) (fo fn : ℕ) (args : List (List ℕ))
 line_run None new fo fn args line io status e h = tt
 line_run (Some m) new fo fn args line io status e h = λ none. rw e (inl (h none))
 
--- words that are no line, or for which memory ran out
+-- arguments that are no command line, or for which memory ran out
 pub refused_words : (known new : Option Files) (args : List (List ℕ)) (e : LineFault) (out err_old err_new : Option (List ℕ)) (out_refused err_refused : Bool) (status : Status) (Q : Type 0) → new ≡ known → status ≡ Failure → RefinesErr is_line_system_error e (line_of args) → out_refused ≡ false → PrintsText err_old err_new (line_message_of e) (not err_refused) → IfSome known (λ m. Q → RunsCommand args m new (streams out out out_refused err_old err_new err_refused) status)
 refused_words None new args e out err_old err_new out_refused err_refused status Q same f h quiet p = tt
 refused_words (Some m) new args BadArguments out err_old err_new out_refused err_refused status Q same f h quiet p =

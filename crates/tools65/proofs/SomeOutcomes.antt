@@ -1,4 +1,4 @@
--- Whatever words and files are, there is exactly one thing that the words do as a command; and sources have an image, or none.
+-- Whatever arguments and files are, there is exactly one thing that the arguments do as a command; and sources have an image, or none.
 use Rattle.std.proofs.Common.{◌≡◌, ◌⊎◌, ◌<◌, ◌≤◌, inl, inr, ℕ, zero, suc, ◌++◌, Bool, true, false, List, length, take, Option, Some, None, Result, Ok, Err, refl, sym, ap, subst, arith, get_or, nat_eq, ◌-◌}
 use Rattle.std.specs.Prelude.{codes}
 use Rattle.std.proofs.Math.Nat.{eq-or-lt_of_le}

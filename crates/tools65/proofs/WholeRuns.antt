@@ -146,7 +146,7 @@ module _ (l : Linking) (m : Files) (s : Script) (xs : List Source) (k : SelectsS
       carried (inl does) = inl (does_whole o does)
       carried (inr same) = inr same
 
--- ---- Lines and words.
+-- ---- Lines and arguments.
 
 module _ (m : Files) (new : Option Files) (io : Streams) (status : Status) where
   links_whole : (line : CommandView) (l : Linking) → RunSatisfies (IsOutcomeOfCommand line) (line_memory line) m new io status → line ≡ link l → LinksWhole l m new io status
@@ -178,7 +178,7 @@ pub line_whole : (known new : Option Files) (fo fn : ℕ) (line : CommandView) (
 line_whole None new fo fn line io status h = tt
 line_whole (Some m) new fo fn line io status h = λ none. line_links m new io status line (h none)
 
--- words that were run
+-- arguments that were run
 pub words_whole : (known new : Option Files) (fo fn : ℕ) (args : List (List ℕ)) (io : Streams) (status : Status) → IfSome known (λ m. NoneFailed fo fn → RunsCommand args m new io status) → IfSome known (λ m. NoneFailed fo fn → WordsLinkWhole (line_of args) m new io status)
 words_whole None new fo fn args io status h = tt
 words_whole (Some m) new fo fn args io status h = λ none. words_link m new io status (line_of args) (h none)

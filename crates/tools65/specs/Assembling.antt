@@ -24,7 +24,7 @@ IsOutputName (Some given) source name = name ≡ given
 
 -- a message at a line, or after the source's name if no line was read
 abbrev pub said_at : List ℕ → SourceLocation → List ℕ → List ℕ
-said_at source p message = if nat_eq p.line 0 then file_message source message else line_message p.file p.line message
+said_at source p text = if nat_eq p.line 0 then file_message source text else line_message p.file p.line text
 
 -- why a source has no object
 abbrev pub asm_message : List ℕ → LocatedFault → List ℕ

@@ -63,7 +63,7 @@ IsOutcomeOfCommand (assemble a) m o = AssemblesSource a m o
 IsOutcomeOfCommand (link l) m o = IsLinkOutcome l m o
 IsOutcomeOfCommand (archive a) m o = ArchivesFiles a m o
 
--- the outcome of words as a command, given the files
+-- the outcome of arguments as a command, given the files
 abbrev pub IsOutcomeOfArgs : Result CommandView LineFault → Files → Outcome → Type 0
 IsOutcomeOfArgs (Ok line) m o = IsOutcomeOfCommand line m o
 IsOutcomeOfArgs (Err e) m o = o ≡ failing (line_message_of e)

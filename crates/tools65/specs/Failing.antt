@@ -32,7 +32,7 @@ pub record StopsReading (Why : List ℕ → List ℕ → Type 0) (old : Files) (
   pub out : List ℕ
   pub err : List ℕ
   pub why : Why out err
-  pub printed : PerformsOutcome (refusing out err) old new io status
+  pub performed : PerformsOutcome (refusing out err) old new io status
 
 -- A run in which a call failed: while it read files, or while it wrote those of the outcome that they give. The last failed
 -- call asked for a name, where the store tells which.

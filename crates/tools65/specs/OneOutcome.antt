@@ -8,11 +8,11 @@ use Rattle.output65.specs.declared.outcome.Outcome.{Outcome}
 use Rattle.tools65.specs.Command.{IsOutcomeOfArgs}
 use Rattle.tools65.specs.Failing.{SaysFailure}
 
--- words, and a parsed command line, have at most one outcome: texts, files and status
+-- arguments, and a parsed command line, have at most one outcome: texts, files and status
 abbrev pub OutcomeIsUnique : Type 0
 OutcomeIsUnique = (parsed : Result CommandView LineFault) (m : Files) (a b : Outcome) → IsOutcomeOfArgs parsed m a → IsOutcomeOfArgs parsed m b → a ≡ b
 
--- Whatever words and files are, there is one thing that the words do as a command, and no other.
+-- Whatever arguments and files are, there is one thing that the arguments do as a command, and no other.
 abbrev pub OutcomeExists : Type 0
 OutcomeExists =
     (args : List (List ℕ)) (m : Files) →

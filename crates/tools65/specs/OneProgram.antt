@@ -175,7 +175,7 @@ WordsLinkWhole parsed m new io status =
     (l : Linking) → parsed ≡ Ok (link l)
     → LinksWhole l m new io status ⊎ PerformsOutcome (failing line_memory_message) m new io status
 
--- Clause `done` implies clause `one_program`: for words, and for a parsed command line.
+-- Clause `done` implies clause `one_program`: for arguments, and for a parsed command line.
 abbrev pub RunsLaw : Type 0
 RunsLaw =
     (args : List (List ℕ)) (m : Files) (new : Option Files) (io : Streams) (status : Status) →

@@ -83,7 +83,7 @@ fn archive_outcome(
     }
 }
 
-/// Runs a command line on a library, and returns its outcome.
+/// Returns the outcome of a command line of the librarian. Writes nothing.
 pub fn compute_archive<S: Store>(
     alloc: Global,
     line: &ArchiveArgs<'_>,

@@ -45,8 +45,9 @@ fn compute<S: Store>(alloc: Global, line: &Line<'_>, store: &mut S) -> Result<Ou
     }
 }
 
-/// Runs a command line over two streams, and returns the status. Everything is computed first; then the texts are printed,
-/// and then the files are written. After an error no file is written, and after a stream has failed nothing is written to it.
+/// Runs the command line `line`, printing to `out` and `err`, and returns the status. Everything is computed first; then the
+/// texts are printed, and then the files are written. After an error no file is written, and after a stream has failed
+/// nothing is written to it.
 pub fn run_line_with_streams<S: Store, W: Write, E: Write>(
     alloc: Global,
     line: &Line<'_>,
@@ -81,7 +82,7 @@ pub fn run_line_with_streams<S: Store, W: Write, E: Write>(
     }
 }
 
-/// Runs a command line over two writers, and returns the status.
+/// Runs the command line `line`, printing to `out` and `err`, and returns the status.
 pub fn run_line<S: Store, W: Write, E: Write>(
     alloc: Global,
     line: &Line<'_>,
@@ -113,7 +114,8 @@ pub fn run_line<S: Store, W: Write, E: Write>(
     )
 }
 
-/// Runs arguments over two streams, the first being the program's name, and returns the status.
+/// Runs the command line `args`, whose first argument is the program's name, printing to `out` and `err`, and returns the
+/// status.
 pub fn run_with_streams<A: AsStr, S: Store, W: Write, E: Write>(
     alloc: Global,
     args: &[A],
@@ -148,7 +150,8 @@ pub fn run_with_streams<A: AsStr, S: Store, W: Write, E: Write>(
     }
 }
 
-/// Runs arguments over two writers, the first being the program's name, and returns the status.
+/// Runs the command line `args`, whose first argument is the program's name, printing to `out` and `err`, and returns the
+/// status.
 pub fn run<A: AsStr, S: Store, W: Write, E: Write>(
     alloc: Global,
     args: &[A],

@@ -15,18 +15,18 @@ pub fn asm_message(
     source: &str,
     refusal: &Diagnostic,
 ) -> Result<ListVec<u8>, AllocError>
-    ensures { IfOk result (λ text. text ≡ asm_message source.now (placed_of refusal.now)) }
+    ensures { IfOk result (λ message. message ≡ asm_message source.now (placed_of refusal.now)) }
 {
-    let mut message = ListVec::new(alloc);
-    message.extend_from_slice(refusal.fault.words().as_bytes())?;
-    message.extend_from_slice(refusal.fault.name())?;
+    let mut text = ListVec::new(alloc);
+    text.extend_from_slice(refusal.fault.words().as_bytes())?;
+    text.extend_from_slice(refusal.fault.name())?;
     if refusal.line == 0 {
-        return file_message(alloc, source.as_bytes(), message.as_slice());
+        return file_message(alloc, source.as_bytes(), text.as_slice());
     }
     line_message(
         alloc,
         refusal.file_name().as_bytes(),
         refusal.line as usize,
-        message.as_slice(),
+        text.as_slice(),
     )
 }

@@ -97,8 +97,8 @@ fn overlay(image: &mut [u8], at: usize, bytes: &[u8])
     ensures { OverlaysBytes image.old at bytes.now image.new }
 {
     if at < image.len() {
-        let capacity = image.len() - at;
-        let len = bytes.len().min(capacity);
+        let remaining = image.len() - at;
+        let len = bytes.len().min(remaining);
         image[at..at + len].copy_from_slice(&bytes[..len]);
     }
 }

@@ -137,7 +137,7 @@ pub fn place_of(names: &SegmentNames, name: &[u8]) -> Option<usize>
     names.get_index_of(name)
 }
 
-/// The index of the segment of a name, which is begun where there is none.
+/// Returns the index of the segment of a name. If there is none, one is begun.
 fn segment_at(growing: &mut ProgramBuilder, name: &[u8]) -> Result<usize, AllocError>
     requires { NamesResolve growing.old }
     ensures added { OnOk result (IsGrown growing.new (having (growth_in growing.old) (with_name name.now (segments_from growing.old.contents.items)))) }
@@ -192,8 +192,8 @@ fn add_part(growing: &mut ProgramBuilder, k: usize, fragment: Fragment) -> Resul
     let owner = growing.members.len();
     let at = growing.segment_indices[k];
     let len = fragment_size(&fragment);
-    let placement = &mut growing.sections[k];
-    placement.size = sum(placement.size, len)?;
+    let section = &mut growing.sections[k];
+    section.size = sum(section.size, len)?;
     add_fragment(&mut growing.contents[at], owner, len, fragment)?;
     Ok(())
 }

@@ -44,16 +44,16 @@ fn address_text(number: u64) -> ArrayVec<u8, 16>
 }
 
 /// `  segment offset size`
-fn add_section_line(text: &mut ListVec<u8>, placement: &SectionPlace) -> Result<(), AllocError>
-    ensures { OnOk result (text.new ≡ text.old ++ section_line placement.now) }
+fn add_section_line(text: &mut ListVec<u8>, section: &SectionPlace) -> Result<(), AllocError>
+    ensures { OnOk result (text.new ≡ text.old ++ section_line section.now) }
 {
-    let offset = address_text(placement.offset);
-    let size = address_text(placement.size);
+    let offset = address_text(section.offset);
+    let size = address_text(section.size);
     add_all(
         text,
         &[
             b"  ",
-            placement.segment.as_slice(),
+            section.segment.as_slice(),
             b" ",
             offset.as_slice(),
             b" ",
@@ -68,8 +68,8 @@ fn add_member_lines(text: &mut ListVec<u8>, member: &LinkedModule) -> Result<(),
     ensures { OnOk result (text.new ≡ text.old ++ member_lines member.now) }
 {
     add_all(text, &[member.name.as_slice(), b"\n"])?;
-    for placement in member.sections.as_slice() {
-        add_section_line(text, placement)?;
+    for section in member.sections.as_slice() {
+        add_section_line(text, section)?;
     }
     Ok(())
 }

@@ -121,12 +121,12 @@ pub fn runs_of<'a>(
 }
 
 /// Returns the run address of a section: its offset after the address of its row.
-fn address_of(runs: &Runs<'_>, placement: &SectionPlace) -> i64
-    ensures { result ≡ address_in runs.now placement.now }
+fn address_of(runs: &Runs<'_>, section: &SectionPlace) -> i64
+    ensures { result ≡ address_in runs.now section.now }
 {
-    match runs.get(placement.segment.as_slice()) {
-        Some(run) => run.wrapping_add(placement.offset).cast_signed(),
-        None => placement.offset.cast_signed(),
+    match runs.get(section.segment.as_slice()) {
+        Some(run) => run.wrapping_add(section.offset).cast_signed(),
+        None => section.offset.cast_signed(),
     }
 }
 

@@ -42,10 +42,10 @@ returns c =
     let among : at < length (names_in g) = place_within (bytes_eq s.0.segment) (names_in g) at s.2 in
     let count : length (names_in g) ≡ length cs = ap length c.requires.names ∙ length-map cs (λ x. x.name) in
     let held : at < length cs = omega (arith, among, count) in
-    let was : c.index_mut-placement.result.now ≡ s.0 = same_item secs k c.index_mut-placement.result.now s.0 within c.index_mut-placement.ensures.value s.1 in
-    let idx = c.index_mut-placement.result.now in
+    let was : c.index_mut-section.result.now ≡ s.0 = same_item secs k c.index_mut-section.result.now s.0 within c.index_mut-section.ensures.value s.1 in
+    let idx = c.index_mut-section.result.now in
     let lengthened =
-    ap (λ (n : ℕ). slice_set secs k (record { segment = idx.segment; offset = idx.offset; size = n })) (c.in_ok-placement.ensures ∙ ap (λ l. idx.size + l) c.fragment_size-len.ensures)
+    ap (λ (n : ℕ). slice_set secs k (record { segment = idx.segment; offset = idx.offset; size = n })) (c.in_ok-section.ensures ∙ ap (λ l. idx.size + l) c.fragment_size-len.ensures)
     ∙ ap (λ (p : SectionPlace). slice_set secs k (longer p (fragment_len f))) was in
     let added = λ (x : SegmentContent) (there : slice_get cs at ≡ Some x). (let same = same_item cs at c.index_mut.result.now x held c.index_mut.ensures.value there in
     map-set segment_from cs at c.add_fragment.new.content ∙ ap (slice_set (segments_from cs) at) (c.in_ok-add_fragment.ensures.grown ∙ ap (λ (y : SegmentContent). with_cells (fragment_len f) (fragment_cells c.len-owner.result f) (segment_from y)) same)) in

@@ -244,7 +244,7 @@ operand_trees_are (operands.IndirectY e) = refl
 pub trees_are : (x : Statement) → ((width : Width) (items : List Item) → x ≡ statement.Values width items → ⊥) → trees_of x ≡ optional_tree (first_tree x) ++ optional_tree (second_tree x)
 trees_are (statement.Values width items) h = absurd (h width items refl)
 trees_are (statement.Constant n e) h = refl
-trees_are (statement.Assert e act message) h = refl
+trees_are (statement.Assert e action text) h = refl
 trees_are (statement.Instruction m operand) h = operand_trees_are operand ∙ sym (append-nil (optional_tree (operand_tree operand)))
 trees_are (statement.Reserve n v) h = refl
 trees_are (statement.Align n v) h = refl

@@ -70,10 +70,10 @@ pub sound_of : (v : Inside) (gs : List Segment) (i : ℕ) → v.segments.items �
 sound_of v gs i e at lt within names kept = record { current = rw (e, at) lt; ends = rw e within; names = rw e names; kept = rw e kept }
 
 pub sound_grown : (w v : Inside) (count alignment : ℕ) → IsSoundCursor w → (segment_at w.segments.items w.current).end + count ≤ section_limit → v.segments.items ≡ grown_at w.segments.items w.current count alignment → v.current ≡ w.current → v.names ≡ w.names → v.kept ≡ w.kept → IsSoundCursor v
-sound_grown w v count alignment sound capacity e at names kept =
+sound_grown w v count alignment sound fits e at names kept =
     let gs = grown_at w.segments.items w.current count alignment in
     let long = grown_length w.segments.items w.current count alignment in
-    sound_of v gs w.current e at (rw long sound.current) (grown_within w.segments.items w.current count alignment capacity sound.ends)
+    sound_of v gs w.current e at (rw long sound.current) (grown_within w.segments.items w.current count alignment fits sound.ends)
     (rw names (sound.names ∙ sym (grown_names w.segments.items w.current count alignment))) (rw (kept, long) sound.kept)
 
 pub sound_begun : (w v : Inside) (n : List ℕ) (g : Segment) → IsSoundCursor w → g.name ≡ n → g.end ≡ 0 → v.segments.items ≡ w.segments.items ++ g ∷ [] → v.current ≡ length w.segments.items → v.kept ≡ w.kept → map (λ k. k.items) v.names.keys ≡ map (λ k. k.items) w.names.keys ++ n ∷ [] → IsSoundCursor v

@@ -50,7 +50,7 @@ HasFinal y s e o = ⊤
 -- of the one or two expressions of a statement other than a list, the first and the second
 abbrev pub first_tree : Statement → Option Tree
 first_tree (statement.Constant n e) = Some e
-first_tree (statement.Assert e act message) = Some e
+first_tree (statement.Assert e action text) = Some e
 first_tree (statement.Instruction m operand) = operand_tree operand
 first_tree (statement.Reserve n v) = Some n
 first_tree (statement.Align n v) = Some n

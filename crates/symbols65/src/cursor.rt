@@ -223,7 +223,7 @@ impl Cursor {
         alignment: u32,
     ) -> Result<(), AllocError>
         requires few { length self.old.segments < 4294967295 }
-        requires capacity { (context_of self.old).offset + count ≤ section_limit }
+        requires fits { (context_of self.old).offset + count ≤ section_limit }
         ensures { OnOk result (self.new ≡ record self.old {
           segments = segments_after self.old.segments self.old.current count alignment
               statement.now;
@@ -266,7 +266,7 @@ impl Cursor {
         statement: &Statement,
         measure: StatementLayout,
     ) -> Result<(), AllocError>
-        requires capacity { (context_of self.old).offset + measure.length ≤ section_limit }
+        requires fits { (context_of self.old).offset + measure.length ≤ section_limit }
         requires numbers { HasNumbers (table_of symbols.now) self.old }
         ensures { OnOk result (self.new ≡ cursor_with_bytes (table_of symbols.now)
             self.old statement.now measure.length measure.alignment) }

@@ -97,7 +97,7 @@ fn fit(cursor: &Cursor, length: usize) -> Result<u32, AsmFault>
 
 /// What a statement without bytes places.
 fn nothing(cursor: &Cursor) -> StatementLayout
-    ensures capacity { nat_lt section_limit
+    ensures fits { nat_lt section_limit
         ((context_of cursor.now).offset + 0) ≡ false }
     ensures length { result.length ≡ 0 }
     ensures size { result.size ≡ own_size cursor.now }
@@ -121,7 +121,7 @@ pub fn lay_out_statement(
     ensures measured { Refines is_memory (λ a. a.measured) result (layout_result
         (table_of before.entry.symbols.now) before.entry.cursor.now
         statement.now) }
-    ensures capacity { IfOk result (λ a.
+    ensures fits { IfOk result (λ a.
         (context_of before.entry.cursor.now).offset + a.measured.length ≤ section_limit) }
     ensures form { IfOk result (λ a. HasFinal (table_of before.entry.symbols.now)
         (context_of before.entry.cursor.now) (first_tree statement.now) a.form) }
@@ -149,7 +149,7 @@ pub fn measure_instruction(
     ensures measured { Refines is_memory (λ a. a.measured) result (layout_result
         (table_of before.entry.symbols.now) before.entry.cursor.now
         (Instruction mnemonic operand.now)) }
-    ensures capacity { IfOk result (λ a.
+    ensures fits { IfOk result (λ a.
         (context_of before.entry.cursor.now).offset + a.measured.length ≤ section_limit) }
     ensures form { IfOk result (λ a. HasFinal (table_of before.entry.symbols.now)
         (context_of before.entry.cursor.now) (operand_tree operand.now) a.form) }

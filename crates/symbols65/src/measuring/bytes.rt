@@ -60,9 +60,9 @@ pub fn check_unread(
     Ok(())
 }
 
-/// Returns a value as an index up to `count`.
+/// Returns a value as a number of bytes up to `count`.
 fn place_in(count: usize, value: i64) -> Result<usize, AsmFault>
-    ensures index { Refines is_memory (λ n. n) result
+    ensures count { Refines is_memory (λ n. n) result
         (unless_fault (when (not (is_within count value)) BadPart) (byte_count (Some value))) }
     ensures within { IfOk result (λ n. n ≤ count) }
 {

@@ -85,7 +85,7 @@ pub fn definition_of(symbols: &Symbols, context: Context, name: &Name) -> Option
 pub enum Binding {
     /// The definition at this index.
     Defined(usize),
-    /// An import, by its place among the imports in the order in which they were first named.
+    /// The import at this index, in the order in which imports were first named.
     Imported(usize),
 }
 

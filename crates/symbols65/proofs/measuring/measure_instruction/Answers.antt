@@ -44,8 +44,8 @@ returns-clause-measured c =
     let found = subst (λ (o : Option Tree). IsEvaluated y (context_of w) (own_size w) o c.in_ok-found.found) c.operand_value.ensures c.in_ok-found.ensures.found in
     measured_named y w (Instruction c.args.mnemonic c.args.operand.now) (naming_is y w c.args.mnemonic c.args.operand.now _ c.operand_value.ensures ∙ c.in_ok-found.ensures.scopes) ∙ c.in_ok-measured.ensures y found
 
-pub returns-clause-capacity : goal.returns-clause-capacity
-returns-clause-capacity c =
+pub returns-clause-fits : goal.returns-clause-fits
+returns-clause-fits c =
     let y = table_of c.args.before.symbols.now in
     let w = c.args.before.cursor.now in
     let found = subst (λ (o : Option Tree). IsEvaluated y (context_of w) (own_size w) o c.in_ok-found.found) c.operand_value.ensures c.in_ok-found.ensures.found in

@@ -131,22 +131,22 @@ numbers_enter old x location s width ns bytes value_part feeds count t h =
 pub says_nothing : (x : Sections) → AppendsSlot x x (resolved (declaration_content []))
 says_nothing x xs h = held_stand xs [] (declaration_content [] ∷ []) x (alike_sym (declaration_content [] ∷ []) [] (empty_alike 0 false)) refl (subst (λ (ys : List Slot). RepresentsSlots ys x) (sym (append-nil xs)) h)
 
-so_used : (location : SourceLocation) (s : Context) (act : Action) (message : List ℕ) (v : ℤ) → (v ≡ pos 0 → ⊥) → value_result location s (asserted act message) (lit v) ≡ Ok (quietly (declaration_content []))
-so_used location s action.Error message (pos zero) h = absurd (h refl)
-so_used location s action.Warning message (pos zero) h = absurd (h refl)
-so_used location s action.Error message (pos (suc n)) h = refl
-so_used location s action.Warning message (pos (suc n)) h = refl
-so_used location s action.Error message (negsuc n) h = refl
-so_used location s action.Warning message (negsuc n) h = refl
+so_used : (location : SourceLocation) (s : Context) (act : Action) (text : List ℕ) (v : ℤ) → (v ≡ pos 0 → ⊥) → value_result location s (asserted act text) (lit v) ≡ Ok (quietly (declaration_content []))
+so_used location s action.Error text (pos zero) h = absurd (h refl)
+so_used location s action.Warning text (pos zero) h = absurd (h refl)
+so_used location s action.Error text (pos (suc n)) h = refl
+so_used location s action.Warning text (pos (suc n)) h = refl
+so_used location s action.Error text (negsuc n) h = refl
+so_used location s action.Warning text (negsuc n) h = refl
 
 -- an assertion that is so whatever statements follow
-pub so_enters : (old : Assembler) (location : SourceLocation) (s : Context) (act : Action) (message : List ℕ) (e : Tree) (v : ℤ) → (v ≡ pos 0 → ⊥) → IsFinal (table_of old.symbols) s e (lit v) → EmitsPieces location s (valued (asserted act message) e ∷ []) old old
-so_enters old location s act message e v h final = fed_enters old old.sections location s (valued (asserted act message) e) (declaration_content []) refl (says_nothing old.sections) (final_settles (table_of old.symbols) location s (asserted act message) e (lit v) (declaration_content []) final (so_used location s act message v h))
+pub so_enters : (old : Assembler) (location : SourceLocation) (s : Context) (act : Action) (text : List ℕ) (e : Tree) (v : ℤ) → (v ≡ pos 0 → ⊥) → IsFinal (table_of old.symbols) s e (lit v) → EmitsPieces location s (valued (asserted act text) e ∷ []) old old
+so_enters old location s act text e v h final = fed_enters old old.sections location s (valued (asserted act text) e) (declaration_content []) refl (says_nothing old.sections) (final_settles (table_of old.symbols) location s (asserted act text) e (lit v) (declaration_content []) final (so_used location s act text v h))
 
 -- one that may be so
-pub assertion_tried : (old : Assembler) (location : SourceLocation) (s : Context) (act : Action) (message : List ℕ) (e : Tree) (f : Form) (v : ℤ) → IsFinal (table_of old.symbols) s e f → literal_in (Ok f) ≡ Some v → (b : Bool) → (b ≡ true → v ≡ pos 0 → ⊥) → EmitsIfResolved location s (valued (asserted act message) e) old old b
-assertion_tried old location s act message e f v final is true other = so_enters old location s act message e v (other refl) (subst (IsFinal (table_of old.symbols) s e) (literal_is f v is) final)
-assertion_tried old location s act message e f v final is false other = refl
+pub assertion_tried : (old : Assembler) (location : SourceLocation) (s : Context) (act : Action) (text : List ℕ) (e : Tree) (f : Form) (v : ℤ) → IsFinal (table_of old.symbols) s e f → literal_in (Ok f) ≡ Some v → (b : Bool) → (b ≡ true → v ≡ pos 0 → ⊥) → EmitsIfResolved location s (valued (asserted act text) e) old old b
+assertion_tried old location s act text e f v final is true other = so_enters old location s act text e v (other refl) (subst (IsFinal (table_of old.symbols) s e) (literal_is f v is) final)
+assertion_tried old location s act text e f v final is false other = refl
 
 -- ---- At once, or later.
 

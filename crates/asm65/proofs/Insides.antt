@@ -145,19 +145,19 @@ inside_said : (r : Result (List Declaration) AsmFault) → IsInside r → IsInsi
 inside_said (Ok ss) h = tt
 inside_said (Err e) h = h
 
-inside_decided : (act : Action) (location : SourceLocation) (message : List ℕ) (f : Form) → IsInside (decided_assertion act location message f)
-inside_decided action.Error location message (lit (pos zero)) = refl
-inside_decided action.Error location message (lit (pos (suc n))) = tt
-inside_decided action.Error location message (lit _) = tt
-inside_decided action.Warning location message (lit v) = tt
-inside_decided action.Error location message (sec k v) = inside_written location (Asserted action.Error location message (sec k v) ∷ [])
-inside_decided action.Error location message (imp k) = inside_written location (Asserted action.Error location message (imp k) ∷ [])
-inside_decided action.Error location message (prefix_form op f) = inside_written location (Asserted action.Error location message (prefix_form op f) ∷ [])
-inside_decided action.Error location message (binary_form op f g) = inside_written location (Asserted action.Error location message (binary_form op f g) ∷ [])
-inside_decided action.Warning location message (sec k v) = inside_written location (Asserted action.Warning location message (sec k v) ∷ [])
-inside_decided action.Warning location message (imp k) = inside_written location (Asserted action.Warning location message (imp k) ∷ [])
-inside_decided action.Warning location message (prefix_form op f) = inside_written location (Asserted action.Warning location message (prefix_form op f) ∷ [])
-inside_decided action.Warning location message (binary_form op f g) = inside_written location (Asserted action.Warning location message (binary_form op f g) ∷ [])
+inside_decided : (act : Action) (location : SourceLocation) (text : List ℕ) (f : Form) → IsInside (decided_assertion act location text f)
+inside_decided action.Error location text (lit (pos zero)) = refl
+inside_decided action.Error location text (lit (pos (suc n))) = tt
+inside_decided action.Error location text (lit _) = tt
+inside_decided action.Warning location text (lit v) = tt
+inside_decided action.Error location text (sec k v) = inside_written location (Asserted action.Error location text (sec k v) ∷ [])
+inside_decided action.Error location text (imp k) = inside_written location (Asserted action.Error location text (imp k) ∷ [])
+inside_decided action.Error location text (prefix_form op f) = inside_written location (Asserted action.Error location text (prefix_form op f) ∷ [])
+inside_decided action.Error location text (binary_form op f g) = inside_written location (Asserted action.Error location text (binary_form op f g) ∷ [])
+inside_decided action.Warning location text (sec k v) = inside_written location (Asserted action.Warning location text (sec k v) ∷ [])
+inside_decided action.Warning location text (imp k) = inside_written location (Asserted action.Warning location text (imp k) ∷ [])
+inside_decided action.Warning location text (prefix_form op f) = inside_written location (Asserted action.Warning location text (prefix_form op f) ∷ [])
+inside_decided action.Warning location text (binary_form op f g) = inside_written location (Asserted action.Warning location text (binary_form op f g) ∷ [])
 
 inside_used : (location : SourceLocation) (s : Context) (why : Purpose) (f : Form) → IsInside (value_result location s why f)
 inside_used location s (piece.datum w) f = inside_part s.segment (value_part w location f) (inside_stored w location f)
@@ -165,7 +165,7 @@ inside_used location s (piece.operand w) f =
     inside_part s.segment (operand_form w s f >>= value_part w location)
     (inside_then (operand_form w s f) (value_part w location) (inside_branch w s f) (inside_stored w location))
 inside_used location s piece.equated f = tt
-inside_used location s (piece.asserted act message) f = inside_then (decided_assertion act location message f) _ (inside_decided act location message f) (λ ss. tt)
+inside_used location s (piece.asserted act text) f = inside_then (decided_assertion act location text f) _ (inside_decided act location text f) (λ ss. tt)
 
 inside_import : (y : Symbols) (n : List ℕ) → IsInside (import_fault y n)
 inside_import y n = by (definition_index y (named 0 n)) refl

@@ -205,13 +205,13 @@ module _ (location : SourceLocation) (s : Context) (m : StatementLayout) (old ne
 -- ---- Statements by what they are not.
 
 -- a statement of the other kinds puts nothing into a section
-pub puts_nothing : (x : Statement) → ((m : Mnemonic) (o : Operand) → x ≡ Instruction m o → ⊥) → ((w : Width) (items : List Item) → x ≡ Values w items → ⊥) → ((n : Tree) (v : Option Tree) → x ≡ Reserve n v → ⊥) → ((n : Tree) (v : Option Tree) → x ≡ Align n v → ⊥) → ((bytes : Option (List ℕ)) (start len : Option Tree) → x ≡ Incbin bytes start len → ⊥) → ((e : Tree) (act : Action) (message : List ℕ) → x ≡ Assert e act message → ⊥) → is_put x ≡ false
+pub puts_nothing : (x : Statement) → ((m : Mnemonic) (o : Operand) → x ≡ Instruction m o → ⊥) → ((w : Width) (items : List Item) → x ≡ Values w items → ⊥) → ((n : Tree) (v : Option Tree) → x ≡ Reserve n v → ⊥) → ((n : Tree) (v : Option Tree) → x ≡ Align n v → ⊥) → ((bytes : Option (List ℕ)) (start len : Option Tree) → x ≡ Incbin bytes start len → ⊥) → ((e : Tree) (action : Action) (text : List ℕ) → x ≡ Assert e action text → ⊥) → is_put x ≡ false
 puts_nothing (Instruction m o) i v r a f s = absurd (i m o refl)
 puts_nothing (Values w items) i v r a f s = absurd (v w items refl)
 puts_nothing (Reserve n e) i v r a f s = absurd (r n e refl)
 puts_nothing (Align n e) i v r a f s = absurd (a n e refl)
 puts_nothing (Incbin bytes start len) i v r a f s = absurd (f bytes start len refl)
-puts_nothing (Assert e act message) i v r a f s = absurd (s e act message refl)
+puts_nothing (Assert e action text) i v r a f s = absurd (s e action text refl)
 puts_nothing x i v r a f s = refl
 
 -- one that names nothing either adds nothing
@@ -221,7 +221,7 @@ adds_nothing location s m a (Values w items) put l c u e b p i g f x = absurd cc
 adds_nothing location s m a (Reserve n v) put l c u e b p i g f x = absurd cc
 adds_nothing location s m a (Align n v) put l c u e b p i g f x = absurd cc
 adds_nothing location s m a (Incbin bytes start len) put l c u e b p i g f x = absurd cc
-adds_nothing location s m a (Assert v act message) put l c u e b p i g f x = absurd cc
+adds_nothing location s m a (Assert v action text) put l c u e b p i g f x = absurd cc
 adds_nothing location s m a (Label n) put l c u e b p i g f x = absurd (l n refl)
 adds_nothing location s m a (CheapLabel n) put l c u e b p i g f x = absurd (c n refl)
 adds_nothing location s m a UnnamedLabel put l c u e b p i g f x = absurd (u refl)

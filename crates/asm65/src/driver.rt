@@ -1,4 +1,4 @@
-//! From the lines of a source to statements that are taken.
+//! Assembles the statements of a source's lines.
 
 ghost use Rattle.std.specs.Prelude.{◌≡◌, false, Err, IfErr, ◌<◌, IfOk, IfSome, Ok, OnOk, if◌then◌else◌};
 ghost use Rattle.base65.specs.Store.{PropagatesIoError};
@@ -278,7 +278,7 @@ fn take_next<S: Store>(
 }
 
 /// Assembles the statements of the next line if it comes from a file and expansion doesn't change it.
-/// Returns whether it did.
+/// Returns whether it assembled them.
 #[inline(always)]
 fn take_at_hand<S: Store>(alloc: Global, store: &mut S, run: &mut Run) -> Result<bool, AsmFault>
     requires { IsRunning run.old }

@@ -55,7 +55,7 @@ fn bytes_beside<S: Store>(
     }
 }
 
-/// Returns the error that a part of a file has whatever the file contains.
+/// Checks the start and length of an `.incbin` as far as possible without its file.
 #[inline(never)]
 fn check_range(alloc: Global, assembler: &Assembler, range: IncbinRange<'_>) -> Result<(), AsmFault>
     ensures checked { (count : ℕ) (t : State) → Represents count t assembler.now →
@@ -70,8 +70,8 @@ fn check_range(alloc: Global, assembler: &Assembler, range: IncbinRange<'_>) -> 
     check_unread(alloc, before, range)
 }
 
-/// Reads the bytes of an `.incbin` into its statement. The file is read only if the statement has no error whatever the file
-/// contains.
+/// Reads the bytes of an `.incbin` into its statement. The file is read only if the statement has no error that is
+/// independent of the file.
 #[inline(never)]
 fn with_bytes<S: Store>(
     alloc: Global,

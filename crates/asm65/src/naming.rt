@@ -34,11 +34,11 @@ pub enum NameUse {
     Imported,
     /// Imported even if nothing uses it.
     ForcedImport,
-    /// Exported if it is defined; it is an error if it `must` be and isn't.
+    /// Exported if it is defined. If it isn't: an error if `must`, else nothing.
     Exported { must: bool },
 }
 
-/// Returns the piece of a name that is deferred.
+/// Returns the fixup for a name that a directive mentions.
 fn piece_of(alloc: Global, mention: NameUse, name: &[u8]) -> Result<FixupKind, AllocError>
     ensures { IfOk result (λ p. piece_of p ≡ name_use_piece mention name.now) }
 {

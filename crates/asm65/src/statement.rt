@@ -69,7 +69,8 @@ struct LaidOut {
     analysis: Analysis,
 }
 
-/// Returns the error of a statement, which is dropped here: so the code for valid statements has no drop.
+/// Drops a rejected statement and returns the error. It is a function of its own so that the code for valid statements has
+/// no drop.
 #[inline(never)]
 fn refused(_statement: Statement, fault: AsmFault) -> Result<(), AsmFault>
     ensures { result ≡ Err fault }
@@ -77,7 +78,8 @@ fn refused(_statement: Statement, fault: AsmFault) -> Result<(), AsmFault>
     Err(fault)
 }
 
-/// Returns the error of an instruction, whose operand is dropped here.
+/// Drops the operand of a rejected instruction and returns the error. It is a function of its own so that the code for valid
+/// instructions has no drop.
 #[inline(never)]
 fn refused_operand(_operand: Operand, fault: AsmFault) -> Result<(), AsmFault>
     ensures { result ≡ Err fault }

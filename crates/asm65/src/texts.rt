@@ -33,7 +33,8 @@ pub fn is_system_error(fault: &AsmFault) -> bool
 /// The error for which a source has no object, with its location. The line is 0 if none was read.
 #[derive(Drop)]
 pub struct Diagnostic {
-    /// The file of the line, or the source if no line was read; none if memory ran out or the source couldn't be opened.
+    /// The file of the line, or the source if no line was read; none if memory ran out, or if the store failed when the
+    /// source was opened.
     pub file: Option<PathString>,
     pub line: u32,
     pub fault: AsmFault,

@@ -116,9 +116,9 @@ abbrev pub EmitsIfResolved : SourceLocation → Context → piece.Piece → Asse
 EmitsIfResolved location s p old new false = new ≡ old
 EmitsIfResolved location s p old new true = EmitsPieces location s (p ∷ []) old new
 
--- the purpose of a value that is used so; an assertion has this action and text
+-- the purpose of a value with this use; an assertion has this action and text
 abbrev pub purpose_of : ValueUse → Action → List ℕ → piece.Purpose
-purpose_of (use_of.Element width) action text = piece.datum width
+purpose_of (use_of.Datum width) action text = piece.datum width
 purpose_of (use_of.Operand width) action text = piece.operand width
 purpose_of use_of.Assertion action text = piece.asserted action text
 
@@ -147,7 +147,7 @@ is_put (Values width items) = true
 is_put (Reserve n v) = true
 is_put (Align n v) = true
 is_put (Incbin bytes start len) = true
-is_put (Assert e act message) = true
+is_put (Assert e action text) = true
 is_put _ = false
 
 -- what a statement here defines and opens is not there yet

@@ -119,7 +119,7 @@ fn enter_element(
         (valued (datum width) value ∷ []) assembler.old assembler.new) }
     ensures tables { KeepsTables assembler.old assembler.new }
 {
-    if put_value(alloc, assembler, site, form, ValueUse::Element(width))? {
+    if put_value(alloc, assembler, site, form, ValueUse::Datum(width))? {
         return Ok(());
     }
     defer(assembler, site, FixupKind::Datum { width, value })

@@ -143,15 +143,16 @@ pub fn defer(
     assembler.sections.defer(site.at, site.context, piece)
 }
 
-/// The use of a value: an element of a list or an operand, which is stored, or an assertion.
+/// The use of a value: it is stored as an element of a list or as an operand, or it is asserted.
 #[derive(Clone, Copy)]
 pub enum ValueUse {
-    Element(Width),
+    Datum(Width),
     Operand(Width),
     Assertion,
 }
 
-/// Emits a value if its form is final and has no error. Returns whether it did.
+/// Emits a value if its form is final and has no error. Returns whether it did. If it didn't, the caller defers the value, so
+/// a fixup is built only if it is needed.
 #[inline(always)]
 pub fn put_value(
     alloc: Global,
@@ -172,7 +173,7 @@ pub fn put_value(
     let segment = site.context.segment;
     let sections = &mut assembler.sections;
     match value_use {
-        ValueUse::Element(width) => put_form(sections, segment, width, site.at, form),
+        ValueUse::Datum(width) => put_form(sections, segment, width, site.at, form),
         ValueUse::Operand(width) => put_operand(alloc, sections, site, width, form),
         // An assertion that holds emits nothing.
         ValueUse::Assertion => match literal_of(&form) {

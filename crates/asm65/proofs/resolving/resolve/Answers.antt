@@ -15,10 +15,10 @@ pub returns-in_ok-form-in-Assertion-clause-more : goal.returns-in_ok-form-in-Ass
 returns-in_ok-form-in-Assertion-clause-more c =
     let location = place_here c.args.spot in
     let s = c.args.fixup.context in
-    let act = c.in-Assertion.action in
-    let message = c.in-Assertion.text in
+    let action = c.in-Assertion.action in
+    let text = c.in-Assertion.text in
     let f = c.in_ok-form-in-Assertion.form in
-    names_stay is_memory (made_at c.args.spot) (names_of c.args.exported.now) c.use_assertion.result (value_result location s (asserted act message) f) (none_asserted location s act message f) (c.use_assertion.ensures.made s)
+    names_stay is_memory (made_at c.args.spot) (names_of c.args.exported.now) c.use_assertion.result (value_result location s (asserted action text) f) (none_asserted location s action text f) (c.use_assertion.ensures.made s)
 
 pub returns-in-Some-defined-clause-made : goal.returns-in-Some-defined-clause-made
 returns-in-Some-defined-clause-made c = rw c.in-Export.is (c.resolve_export.ensures.made c.in-Export.must c.args.fixup.context)

@@ -16,16 +16,16 @@ use Rattle.asm65.specs.Internal.AssemblerState.{IsPut, EmitsIfResolved, operand_
 use Rattle.asm65.proofs.Enterings.{assertion_tried, datum_tried, operand_tried}
 use Rattle.asm65.proofs.emission.values.put_value.Goals as goal
 
-pub returns-in-Element-clause-put : goal.returns-in-Element-clause-put
-returns-in-Element-clause-put c = λ e action text h.
+pub returns-in-Datum-clause-put : goal.returns-in-Datum-clause-put
+returns-in-Datum-clause-put c = λ e action text h.
     let old : Assembler = c.args.assembler.now in
     let new = c.put_form.new.sections in
     let location : SourceLocation = place_in c.args.site.at.file.now c.args.site.at.line in
     let s : Context = c.args.site.context in
-    let width = c.in-Element.width in
+    let width = c.in-Datum.width in
     let f : Form = c.in-Some.form in
     let final : IsFinal (table_of old.symbols) s e f = within_final (table_of old.symbols) s e f (subst (HasFinal (table_of old.symbols) s (Some e)) c.in-Some.is h) in
-    rw c.in-Element.is (ok_with (IsPut old.sections new s.segment (value_part width location f)) (EmitsIfResolved location s (valued (datum width) e) old (record old { sections = new })) c.put_form.result
+    rw c.in-Datum.is (ok_with (IsPut old.sections new s.segment (value_part width location f)) (EmitsIfResolved location s (valued (datum width) e) old (record old { sections = new })) c.put_form.result
     (λ b put. datum_tried old new location s width e f b final put) c.put_form.ensures)
 
 pub returns-in-Operand-clause-put : goal.returns-in-Operand-clause-put
